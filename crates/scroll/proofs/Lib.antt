@@ -1,0 +1,4 @@
+pub mod SeenLemmas
+pub mod LeafLemmas
+pub mod NumberLeaves
+pub mod RunLemmas

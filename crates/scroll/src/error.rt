@@ -1,0 +1,50 @@
+// What is refused.
+ghost use Rattle.std.specs.Prelude.{◌≡◌};
+ghost use Rattle.scroll.specs.declared.error.Error.TheVariants.{IO};
+
+use std::{fmt, io, result};
+
+/// Why a read or a write was refused.
+///
+/// No error takes memory, [`Custom`](Error::Custom) aside, whose text its maker allocates.
+#[derive(Debug, Drop)]
+pub enum Error {
+    /// A type of `size` bytes was asked of, or for, only `len` bytes.
+    TooBig { size: usize, len: usize },
+    /// An offset in bytes that lies past the end.
+    BadOffset(usize),
+    /// Bytes that spell no value, `size` of them or at the place `size`, as the reader says, and why.
+    BadInput { size: usize, msg: &'static str },
+    /// What a type of one's own says.
+    Custom(String),
+    /// A fault of a stream.
+    IO(io::Error),
+    /// There was no memory for the answer.
+    NoMemory,
+}
+
+/// What a call answers that refuses by [`Error`].
+pub type Result<T> = result::Result<T, Error>;
+
+impl fmt::Display for Error {
+    fn fmt<W: fmt::Write>(&self, f: &mut fmt::Formatter<W>) -> fmt::Result {
+        match self {
+            Error::TooBig { size, len } => write!(f, "type is too big ({size}) for {len}"),
+            Error::BadOffset(offset) => write!(f, "bad offset {offset}"),
+            Error::BadInput { size, msg } => write!(f, "bad input {msg} ({size})"),
+            Error::Custom(text) => write!(f, "{text}"),
+            Error::IO(error) => write!(f, "{error}"),
+            Error::NoMemory => write!(f, "out of memory"),
+        }
+    }
+}
+
+impl std::error::Error for Error {}
+
+impl From<io::Error> for Error {
+    ghost from_gives = { λ error e. e ≡ IO error };
+
+    fn from(error: io::Error) -> Error {
+        Error::IO(error)
+    }
+}

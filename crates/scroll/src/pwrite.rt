@@ -1,0 +1,63 @@
+// Writes at a place.
+ghost use Rattle.std.specs.Prelude.{◌≡◌, ℕ, List, length, IfOk, IfErr};
+ghost use Rattle.scroll.specs.Writes.{WritesAt, RefusesWriteAt};
+ghost use Rattle.scroll.specs.declared.error.Error.TheVariants.{BadOffset};
+
+use crate::ctx::TryIntoCtx;
+use crate::error::Error;
+
+/// Writes values of any type that implements [`TryIntoCtx`] to a byte slice.
+///
+/// An offset counts bytes from the start of the slice. One past its end is refused by `E::from(Error::BadOffset(offset))`,
+/// which for `E = Error` is that error itself, and then nothing changes; one at its end writes to the empty target. Every
+/// other refusal is the type's own, which says what it leaves. The bytes before the offset always stay, and so does the
+/// slice's length.
+pub trait Pwrite<Ctx: Copy, E> {
+    // The bytes of the target.
+    ghost target: { Self → List ℕ };
+
+    // Holds where two values stand for the same target.
+    ghost same_target: { Self → Self → Type 0 };
+
+    // Holds of a place past the end and each error that may be given for it.
+    ghost past_end: { ℕ → E → Type 0 };
+
+    /// Writes `n` at `offset` in the context `ctx`, and answers its size in bytes.
+    ///
+    /// ```rust
+    /// let mut bytes = [0u8; 8];
+    /// let mut target = &mut bytes[..];
+    /// target.pwrite_with(0xbeefbeefu32, 0, LE)?;
+    /// assert_eq!(rt; bytes[..].pread_with::<u32>(0, LE)?, 0xbeefbeef);
+    /// ```
+    fn pwrite_with<N: TryIntoCtx<Ctx, Error = E> + Drop>(
+        &mut self,
+        n: N,
+        offset: usize,
+        ctx: Ctx,
+    ) -> Result<usize, E>
+        ensures wrote { IfOk result (WritesAt (N.writes ctx n) (target self.old) offset (target self.new)) }
+        ensures refused { IfErr result (RefusesWriteAt (N.refuses ctx n) past_end (target self.old) offset (target self.new)) }
+        ensures len { length (target self.new) ≡ length (target self.old) }
+        ensures same { same_target self.old self.new };
+}
+
+impl<'d, Ctx: Copy, E: From<Error>> Pwrite<Ctx, E> for &'d mut [u8] {
+    ghost target = { λ t. t.now };
+
+    ghost same_target = { λ old new. new.ghost_name ≡ old.ghost_name };
+
+    ghost past_end = { λ offset e. E.from_gives (BadOffset offset) e };
+
+    fn pwrite_with<N: TryIntoCtx<Ctx, Error = E> + Drop>(
+        &mut self,
+        n: N,
+        offset: usize,
+        ctx: Ctx,
+    ) -> Result<usize, E> {
+        if offset > self.len() {
+            return Err(E::from(Error::BadOffset(offset)));
+        }
+        n.try_into_ctx(&mut self[offset..], ctx)
+    }
+}

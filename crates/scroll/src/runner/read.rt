@@ -1,0 +1,53 @@
+// The reads of a run.
+ghost use Rattle.std.specs.Prelude.{◌≡◌, ℕ, ◌+◌, IfOk, IfErr, OnErr, MatchResult};
+ghost use Rattle.scroll.specs.Reads.{ReadsAt, RefusesAt};
+ghost use Rattle.scroll.specs.Runs.{Reads, Refuses, ReadStep, IsBadOffset, place_of, moved};
+ghost use Rattle.scroll.specs.declared.error.Error.TheVariants.{BadOffset};
+
+use super::{Answer, Kind, Place, Value, Width};
+use crate::endian::Endian;
+use crate::error::{Error, Result};
+use crate::pread::Pread;
+use crate::source::ReadFrom;
+use std::result;
+
+// Answers a read, and moves a cursor that it uses by the size of what was read.
+pub fn read(buffer: &[u8], cursor: &mut usize, place: Place, kind: Kind) -> Answer
+    ensures { ReadStep buffer.now cursor.old place kind result cursor.new }
+{
+    match read_value(buffer, cursor, place, kind) {
+        Ok(value) => Answer::Read(value),
+        Err(error) => Answer::Refused(error),
+    }
+}
+
+fn read_value(buffer: &[u8], cursor: &mut usize, place: Place, kind: Kind) -> Result<Value>
+    ensures read { IfOk result (λ x. (n : ℕ) × ReadsAt (Reads kind) buffer.now (place_of place cursor.old) x n × (cursor.new ≡ moved place cursor.old n)) }
+    ensures refused { IfErr result (RefusesAt (Refuses kind) IsBadOffset buffer.now (place_of place cursor.old)) }
+    ensures stays { OnErr result (cursor.new ≡ cursor.old) }
+{
+    let Kind::Number(width, order) = kind;
+    let number = match width {
+        Width::U8 => u128::from(read_at::<Endian, Error, u8>(buffer, cursor, place, order)?),
+        Width::U16 => u128::from(read_at::<Endian, Error, u16>(buffer, cursor, place, order)?),
+        Width::U32 => u128::from(read_at::<Endian, Error, u32>(buffer, cursor, place, order)?),
+        Width::U64 => u128::from(read_at::<Endian, Error, u64>(buffer, cursor, place, order)?),
+    };
+    Ok(Value::Unsigned(number))
+}
+
+// Reads a value of any type at the place of a command.
+fn read_at<'b, Ctx: Copy, E: From<Error>, N: ReadFrom<&'b [u8], Ctx, Error = E>>(
+    buffer: &'b [u8],
+    cursor: &mut usize,
+    place: Place,
+    ctx: Ctx,
+) -> result::Result<N, E>
+    ensures read { IfOk result (λ x. (n : ℕ) × ReadsAt (N.reads ctx) buffer.now (place_of place cursor.old) x n × (cursor.new ≡ moved place cursor.old n)) }
+    ensures refused { IfErr result (RefusesAt (N.refuses ctx) (λ o e. E.from_gives (BadOffset o) e) buffer.now (place_of place cursor.old)) }
+    ensures stays { OnErr result (cursor.new ≡ cursor.old) }
+{
+    match place {
+        Place::At(offset) => buffer.pread_with(offset, ctx),
+    }
+}

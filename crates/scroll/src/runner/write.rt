@@ -1,0 +1,60 @@
+// The writes of a run.
+ghost use Rattle.std.specs.Prelude.{◌≡◌, ℕ, ◌+◌, length, IfOk, OnOk, OnErr, MatchResult};
+ghost use Rattle.scroll.specs.History.{seen};
+ghost use Rattle.scroll.specs.Leaves.{pieces, WritesLeaves};
+ghost use Rattle.scroll.specs.Runs.{WriteStep, leaves_of, place_of, moved};
+ghost use Rattle.scroll.specs.Writes.{AnswersWrite};
+ghost use Rattle.scroll.specs.declared.error.Error.TheVariants.{BadOffset};
+
+use super::{Answer, Place, Put};
+use crate::ctx::TryIntoCtx;
+use crate::error::{Error, Result};
+use crate::pwrite::Pwrite;
+
+// Answers a write, and moves a cursor that it uses by the size of what was written.
+pub fn write(buffer: &mut [u8], cursor: &mut usize, place: Place, put: Put) -> Answer
+    ensures answer { WriteStep buffer.old cursor.old place (leaves_of put) result cursor.new }
+    ensures after { buffer.new ≡ seen buffer.old (pieces (length buffer.old) (place_of place cursor.old) (leaves_of put)) }
+{
+    match write_value(buffer, cursor, place, put) {
+        Ok(size) => Answer::Wrote(size),
+        Err(error) => Answer::Refused(error),
+    }
+}
+
+fn write_value(buffer: &mut [u8], cursor: &mut usize, place: Place, put: Put) -> Result<usize>
+    ensures wrote { WritesLeaves buffer.old (place_of place cursor.old) (leaves_of put) buffer.new result }
+    ensures moves { IfOk result (λ n. cursor.new ≡ moved place cursor.old n) }
+    ensures stays { OnErr result (cursor.new ≡ cursor.old) }
+{
+    match put {
+        Put::U8(x, order) => write_at(buffer, cursor, place, x, order),
+        Put::U16(x, order) => write_at(buffer, cursor, place, x, order),
+        Put::U32(x, order) => write_at(buffer, cursor, place, x, order),
+        Put::U64(x, order) => write_at(buffer, cursor, place, x, order),
+    }
+}
+
+// The buffer as a target of `Pwrite`, which writes through a reference to a slice.
+#[derive(Drop)]
+struct Target<'b> {
+    bytes: &'b mut [u8],
+}
+
+// Writes a value of any type at the place of a command.
+fn write_at<Ctx: Copy, N: TryIntoCtx<Ctx, Error = Error> + Drop>(
+    buffer: &mut [u8],
+    cursor: &mut usize,
+    place: Place,
+    n: N,
+    ctx: Ctx,
+) -> Result<usize>
+    ensures wrote { AnswersWrite (N.writes ctx n) (N.refuses ctx n) (λ o e. e ≡ BadOffset o) buffer.old (place_of place cursor.old) buffer.new result }
+    ensures moves { IfOk result (λ size. cursor.new ≡ moved place cursor.old size) }
+    ensures stays { OnErr result (cursor.new ≡ cursor.old) }
+{
+    let target = &mut Target { bytes: buffer };
+    match place {
+        Place::At(offset) => target.bytes.pwrite_with(n, offset, ctx),
+    }
+}

@@ -1,0 +1,51 @@
+// What is read from, and what can be read from it.
+ghost use Rattle.std.specs.Prelude.{ℕ, ◌+◌, ◌≤◌, List, length, IfOk, IfErr};
+
+use crate::ctx::TryFromCtx;
+
+/// A source of bytes: a byte slice.
+pub trait Source: Copy {
+    // The bytes.
+    ghost bytes: { Self → List ℕ };
+}
+
+impl<'a> Source for &'a [u8] {
+    ghost bytes = { λ source. source.now };
+}
+
+/// What can be read from a source `S`: each type that implements [`TryFromCtx`], and no other.
+///
+/// The bound stands in the place of `TryFromCtx<'a, Ctx>` in the methods of [`Pread`](crate::Pread), whose bounds cannot
+/// name the trait's lifetime. Implement `TryFromCtx`; this trait then comes by itself.
+pub trait ReadFrom<S: Source, Ctx: Copy>: Sized {
+    /// What the type refuses with.
+    type Error;
+
+    // Holds of a context, a source, and each value and size that may be given for them.
+    ghost reads: { Ctx → List ℕ → Self → ℕ → Type 0 };
+
+    // Holds of a context, a source, and each error that may be given for them.
+    ghost refuses: { Ctx → List ℕ → Self.Error → Type 0 };
+
+    /// The value at the front of `from`, and how many bytes it takes.
+    fn read_from(from: S, ctx: Ctx) -> Result<(Self, usize), Self::Error>
+        ensures read { IfOk result (λ read. reads ctx (S.bytes from) read.0 read.1) }
+        ensures refused { IfErr result (λ e. refuses ctx (S.bytes from) e) };
+
+    // The size is at most one more than the source has bytes.
+    ghost reads_bounded: { (ctx : Ctx) (source : List ℕ) (x : Self) (n : ℕ) → reads ctx source x n → n ≤ length source + 1 };
+}
+
+impl<'a, Ctx: Copy, N: TryFromCtx<'a, Ctx>> ReadFrom<&'a [u8], Ctx> for N {
+    type Error = N::Error;
+
+    ghost reads = { N.reads };
+
+    ghost refuses = { N.refuses };
+
+    ghost reads_bounded = { N.reads_bounded };
+
+    fn read_from(from: &'a [u8], ctx: Ctx) -> Result<(N, usize), N::Error> {
+        N::try_from_ctx(from, ctx)
+    }
+}
