@@ -1,0 +1,23 @@
+-- What the words of a line spell.
+use Rattle.std.specs.Prelude.{◌≡◌, ◌<◌, ◌⊎◌, ℕ, List, [], length, Ok, codes}
+use Rattle.hex.specs.Hex.{decode_of}
+use Rattle.scroll.specs.declared.endian.Endian.{Endian}
+use Rattle.scroll.specs.declared.endian.Endian.TheVariants.{Little, Big}
+use Rattle.scroll.specs.declared.runner.Width.{Width}
+use Rattle.scroll.specs.declared.runner.Width.TheVariants.{U8, U16, U32, U64}
+
+-- a word spells bytes: none by `-`, or each by two hexadecimal digits of either case
+abbrev pub SpellsBytes : List ℕ → List ℕ → Type 0
+SpellsBytes word bytes = ((word ≡ codes "-") × (bytes ≡ [])) ⊎ ((0 < length word) × (decode_of word ≡ Ok bytes))
+
+-- the word of a type of number
+abbrev pub width_word : Width → List ℕ
+width_word U8 = codes "u8"
+width_word U16 = codes "u16"
+width_word U32 = codes "u32"
+width_word U64 = codes "u64"
+
+-- the word of a byte order
+abbrev pub order_word : Endian → List ℕ
+order_word Little = codes "le"
+order_word Big = codes "be"

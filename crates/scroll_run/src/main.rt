@@ -1,0 +1,28 @@
+//! Reads lines of commands from standard input, runs them over a buffer, and prints the answers.
+//!
+//! The exit status is 0 where all commands were answered, 2 for a bad input, 3 for want of memory, and 4 for a fault of
+//! standard input or output.
+#![tactic(auto)]
+
+mod answers;
+mod commands;
+mod input;
+mod lines;
+mod output;
+pub mod session;
+//TEST
+//mod tests;
+mod words;
+
+use std::process::ExitCode;
+
+const FAULT: u8 = 4;
+
+fn main(rt: HostRuntime) -> ExitCode {
+    let mut input = rt.stdin();
+    let mut output = rt.stdout();
+    match session::session(rt.alloc(), &mut input, &mut output) {
+        Ok(status) => ExitCode::from(status),
+        Err(_) => ExitCode::from(FAULT),
+    }
+}

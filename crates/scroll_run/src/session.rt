@@ -1,0 +1,81 @@
+//! A whole session.
+use crate::answers::print_answers;
+use crate::input::{MOST_READ, ReadError, read_input};
+use crate::lines::{Script, Stop, parse_script};
+use crate::output::write_output;
+use scroll::runner::run;
+use std::alloc::{AllocError, Global};
+use std::io;
+use std::io::{Read, Write};
+
+// The statuses that a session answers.
+const ANSWERED: u8 = 0;
+const BAD_INPUT: u8 = 2;
+const NO_MEMORY: u8 = 3;
+
+// What a session prints, and its status.
+#[derive(Drop)]
+struct Outcome {
+    text: String,
+    status: u8,
+}
+
+/// Runs the session that the reader gives, and writes what it answers.
+///
+/// The answer is the session's status. An error is one of the reader or of the writer.
+pub fn session<R: Read, W: Write>(alloc: Global, input: &mut R, output: &mut W) -> io::Result<u8> {
+    let outcome = match read_input(alloc, input) {
+        Ok(bytes) => answer_input(alloc, &bytes),
+        Err(ReadError::NoMemory) => Err(AllocError),
+        Err(ReadError::Io(error)) => return Err(error),
+    };
+    match &outcome {
+        Ok(outcome) => {
+            write_output(output, outcome.text.as_bytes())?;
+            Ok(outcome.status)
+        }
+        Err(_) => {
+            write_output(output, b"out of memory\n")?;
+            Ok(NO_MEMORY)
+        }
+    }
+}
+
+// What an input is answered with.
+fn answer_input(alloc: Global, input: &[u8]) -> Result<Outcome, AllocError> {
+    if input.len() >= MOST_READ {
+        return Ok(Outcome {
+            text: String::from_str(alloc, "input too long\n")?,
+            status: BAD_INPUT,
+        });
+    }
+    match parse_script(alloc, input) {
+        Ok(script) => Ok(Outcome {
+            text: run_script(alloc, script)?,
+            status: ANSWERED,
+        }),
+        Err(Stop::BadLine(number)) => Ok(Outcome {
+            text: format!(in alloc; "bad line {number}\n")?,
+            status: BAD_INPUT,
+        }),
+        Err(Stop::NoMemory) => Err(AllocError),
+    }
+}
+
+// Runs the commands of a script, and prints what they answer and leave.
+fn run_script(alloc: Global, script: Script) -> Result<String, AllocError> {
+    let Script {
+        mut buffer,
+        mut cursor,
+        commands: lines,
+    } = script;
+    let mut commands = Vec::with_capacity(alloc, lines.len())?;
+    for line in &lines {
+        commands.push(line.command())?;
+    }
+    let mut answers = Vec::new(alloc);
+    match run(alloc, buffer.as_mut_slice(), &mut cursor, &commands, &mut answers) {
+        Ok(()) => print_answers(alloc, &answers, &buffer, cursor),
+        Err(_) => Err(AllocError),
+    }
+}

@@ -1,0 +1,103 @@
+//! The words of a line.
+ghost use Rattle.std.specs.Prelude.{◌≡◌, ◌<◌, ◌^◌, IfOk, IsTrue, ◌↔◌, MatchOption, SomeIff, ℕ, List};
+ghost use Rattle.std.specs.Str.Parse.{IsNumeral, digits_value};
+ghost use Rattle.scroll.specs.declared.endian.Endian.{Endian};
+ghost use Rattle.scroll.specs.declared.runner.Width.{Width};
+ghost use Rattle.scroll_run.specs.Words.{SpellsBytes, width_word, order_word};
+
+use hex::FromHexError;
+use scroll::Endian;
+use scroll::runner::Width;
+use std::alloc::{AllocError, Global};
+use std::str;
+
+/// The number that a word of digits spells, where it is below 2^128.
+pub fn parse_number(word: &[u8]) -> Option<u128>
+    ensures { SomeIff result (IsNumeral 10 word.now × (digits_value 10 word.now < 2 ^ 128)) (digits_value 10 word.now) }
+{
+    let text = digits(word)?;
+    match text.parse() {
+        Ok(number) => Some(number),
+        Err(_) => None,
+    }
+}
+
+/// The number that a word of digits spells, where it is below 2^64.
+pub fn parse_usize(word: &[u8]) -> Option<usize>
+    ensures { SomeIff result (IsNumeral 10 word.now × (digits_value 10 word.now < 2 ^ 64)) (digits_value 10 word.now) }
+{
+    let text = digits(word)?;
+    match text.parse() {
+        Ok(number) => Some(number),
+        Err(_) => None,
+    }
+}
+
+// The text of a word that is one digit or more.
+fn digits(word: &[u8]) -> Option<&str>
+    ensures { MatchOption result (¬ (IsNumeral 10 word.now)) (λ text. (text.now ≡ word.now) × IsNumeral 10 word.now) }
+{
+    if !is_numeral(word) {
+        return None;
+    }
+    match str::from_utf8(word) {
+        Ok(text) => Some(text),
+        Err(_) => None,
+    }
+}
+
+// Whether a word is one digit or more.
+fn is_numeral(word: &[u8]) -> bool
+    ensures { IsTrue result ↔ IsNumeral 10 word.now }
+{
+    if word.is_empty() {
+        return false;
+    }
+    for byte in word {
+        if !byte.is_ascii_digit() {
+            return false;
+        }
+    }
+    true
+}
+
+/// The bytes that a word spells: none by `-`, or each by two hexadecimal digits of either case.
+pub fn parse_bytes(alloc: Global, word: &[u8]) -> Result<Option<Vec<u8>>, AllocError>
+    ensures { IfOk result (λ found. MatchOption found ((bytes : List ℕ) → ¬ (SpellsBytes word.now bytes)) (λ bytes. SpellsBytes word.now bytes.items)) }
+{
+    if word == b"-".as_slice() {
+        return Ok(Some(Vec::new(alloc)));
+    }
+    if word.is_empty() {
+        return Ok(None);
+    }
+    match hex::decode(alloc, word) {
+        Ok(bytes) => Ok(Some(bytes)),
+        Err(FromHexError::OutOfMemory) => Err(AllocError),
+        Err(_) => Ok(None),
+    }
+}
+
+/// The type of a number that a word names.
+pub fn parse_width(word: &[u8]) -> Option<Width>
+    ensures { MatchOption result ((width : Width) → ¬ (word.now ≡ width_word width)) (λ width. word.now ≡ width_word width) }
+{
+    match word {
+        b"u8" => Some(Width::U8),
+        b"u16" => Some(Width::U16),
+        b"u32" => Some(Width::U32),
+        b"u64" => Some(Width::U64),
+        _ => None,
+    }
+}
+
+/// The byte order that a word names.
+pub fn parse_order(word: &[u8]) -> Option<Endian>
+    ensures { MatchOption result ((order : Endian) → ¬ (word.now ≡ order_word order)) (λ order. word.now ≡ order_word order) }
+{
+    match word {
+        b"le" => Some(Endian::Little),
+        b"be" => Some(Endian::Big),
+        _ => None,
+    }
+}
