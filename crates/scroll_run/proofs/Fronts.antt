@@ -10,7 +10,7 @@ use Rattle.scroll_run.specs.Output.{AppendsFront}
 pub front_moves : (all done rest : List ℕ) (n : ℕ) → all ≡ done ++ rest → all ≡ (done ++ take n rest) ++ take (length rest - n) (drop n rest)
 front_moves all done rest n e =
     e ∙ ap (λ l. done ++ l) (sym (take-append-drop n rest)) ∙ sym (append_assoc done (take n rest) (drop n rest))
-      ∙ ap (λ l. (done ++ take n rest) ++ l) (sym (take_rest rest n))
+    ∙ ap (λ l. (done ++ take n rest) ++ l) (sym (take_rest rest n))
 
 pub appends_front : (old new : Option (List ℕ)) (all done rest : List ℕ) → all ≡ done ++ rest → Appends old new done → AppendsFront old new all
 appends_front old new all done rest e h =

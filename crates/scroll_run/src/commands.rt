@@ -46,12 +46,21 @@ impl Written {
 
 /// The command that a line spells. `None` is for a bad line.
 pub fn parse_command(alloc: Global, line: &[u8]) -> Result<Option<CommandLine>, AllocError> {
-    let words: Vec<&[u8]> = line.split(|byte| *byte == b' ').collect(alloc)?;
+    let words = split_words(alloc, line)?;
     Ok(match words.as_slice() {
         [b"pread", place, kind @ ..] => read_line(place, kind),
         [b"pwrite", place, kind @ ..] => write_line(place, kind),
         _ => None,
     })
+}
+
+// The words of a line, each up to a space or to the line's end.
+fn split_words(alloc: Global, line: &[u8]) -> Result<Vec<&[u8]>, AllocError> {
+    let mut words = Vec::new(alloc);
+    for word in line.split(|byte| *byte == b' ') {
+        words.push(word)?;
+    }
+    Ok(words)
 }
 
 // The read that the words of a place and of a kind spell.

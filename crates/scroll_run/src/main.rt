@@ -10,8 +10,8 @@ mod input;
 mod lines;
 mod output;
 pub mod session;
-//TEST
-//mod tests;
+#[cfg(test)]
+mod tests;
 mod words;
 
 use std::process::ExitCode;

@@ -10,7 +10,9 @@ use std::io::{Read, Write};
 
 // The statuses that a session answers.
 const ANSWERED: u8 = 0;
+
 const BAD_INPUT: u8 = 2;
+
 const NO_MEMORY: u8 = 3;
 
 // What a session prints, and its status.
@@ -74,7 +76,13 @@ fn run_script(alloc: Global, script: Script) -> Result<String, AllocError> {
         commands.push(line.command())?;
     }
     let mut answers = Vec::new(alloc);
-    match run(alloc, buffer.as_mut_slice(), &mut cursor, &commands, &mut answers) {
+    match run(
+        alloc,
+        buffer.as_mut_slice(),
+        &mut cursor,
+        &commands,
+        &mut answers,
+    ) {
         Ok(()) => print_answers(alloc, &answers, &buffer, cursor),
         Err(_) => Err(AllocError),
     }

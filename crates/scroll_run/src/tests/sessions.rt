@@ -1,0 +1,163 @@
+// What sessions answer.
+use crate::session::session;
+use std::alloc::Global;
+use std::process::Abort;
+use std::test::Fail;
+
+// Runs the session of an input, and asserts its output and its status.
+fn expect_session(
+    rt: &impl Abort,
+    alloc: Global,
+    input: &[u8],
+    wanted: &str,
+    wanted_status: u8,
+) -> Result<(), Fail> {
+    let mut input = input;
+    let mut output = Vec::new(alloc);
+    let status = session(alloc, &mut input, &mut output)?;
+    assert!(rt; output.as_slice() == wanted.as_bytes(), "{wanted}");
+    assert_eq!(rt; status, wanted_status, "{wanted}");
+    Ok(())
+}
+
+#[test]
+fn commands_are_answered(rt: HostRuntime) -> Result<(), Fail> {
+    for (input, wanted) in [
+        ("buffer -\ncursor 0\n", "buffer -\ncursor 0\n"),
+        (
+            "buffer deadbeef\ncursor 0\npread 0 u32 be\npread 0 u32 le\npread 1 u16 be\n",
+            "number 3735928559\nnumber 4022250974\nnumber 44478\nbuffer deadbeef\ncursor 0\n",
+        ),
+        (
+            "buffer 0000000000000000\ncursor 0\npwrite 0 u64 be 72623859790382856\npread 0 u64 le\npread 6 u32 be\npread 8 u8 le\npwrite 9 u8 le 0\n",
+            "wrote 8\nnumber 578437695752307201\nerror type is too big (4) for 2\nerror type is too big (1) for 0\nerror bad offset 9\nbuffer 0102030405060708\ncursor 0\n",
+        ),
+        (
+            "buffer 000000000000000000000000\ncursor 7\npwrite 11 u8 be 255\npwrite 0 u16 le 258\npwrite 2 u32 le 16909060\npwrite 4 u64 be 0\npread 0 u64 be\n",
+            "wrote 1\nwrote 2\nwrote 4\nwrote 8\nnumber 144401073983979520\nbuffer 020104030000000000000000\ncursor 7\n",
+        ),
+    ] {
+        expect_session(&rt, rt.alloc(), input.as_bytes(), wanted, 0)?;
+    }
+    Ok(())
+}
+
+#[test]
+fn numerals_and_bytes_in_other_spellings(rt: HostRuntime) -> Result<(), Fail> {
+    for (input, wanted) in [
+        ("buffer -\ncursor 0", "buffer -\ncursor 0\n"),
+        (
+            "buffer Aa0F\ncursor 0000000000000000000000018446744073709551615",
+            "buffer aa0f\ncursor 18446744073709551615\n",
+        ),
+        (
+            "buffer 0000\ncursor 00\npwrite 00000000000000000000000000000001 u8 le 00000000000000000000000000000000000000000000255\npread 01 u8 be",
+            "wrote 1\nnumber 255\nbuffer 00ff\ncursor 0\n",
+        ),
+        (
+            "buffer 0000000000000000\ncursor 0\npwrite 0 u64 be 18446744073709551615\npread 18446744073709551615 u8 le\n",
+            "wrote 8\nerror bad offset 18446744073709551615\nbuffer ffffffffffffffff\ncursor 0\n",
+        ),
+    ] {
+        expect_session(&rt, rt.alloc(), input.as_bytes(), wanted, 0)?;
+    }
+    Ok(())
+}
+
+#[test]
+fn first_two_lines_are_bad(rt: HostRuntime) -> Result<(), Fail> {
+    for (input, wanted) in [
+        ("", "bad line 1\n"),
+        ("\n", "bad line 1\n"),
+        ("\nbuffer -\ncursor 0\n", "bad line 1\n"),
+        ("buffer 0\ncursor 0\n", "bad line 1\n"),
+        ("buffer 0g\ncursor 0\n", "bad line 1\n"),
+        ("buffer --\ncursor 0\n", "bad line 1\n"),
+        ("buffer \ncursor 0\n", "bad line 1\n"),
+        ("buffer\ncursor 0\n", "bad line 1\n"),
+        ("buffer  -\ncursor 0\n", "bad line 1\n"),
+        (" buffer -\ncursor 0\n", "bad line 1\n"),
+        ("buffer - \ncursor 0\n", "bad line 1\n"),
+        ("buffer - -\ncursor 0\n", "bad line 1\n"),
+        ("buffer -\r\ncursor 0\n", "bad line 1\n"),
+        ("Buffer -\ncursor 0\n", "bad line 1\n"),
+        ("cursor 0\nbuffer -\n", "bad line 1\n"),
+        ("buffer -\n", "bad line 2\n"),
+        ("buffer -\n\n", "bad line 2\n"),
+        ("buffer 00\ncursor 18446744073709551616\n", "bad line 2\n"),
+        ("buffer -\ncursor +0\n", "bad line 2\n"),
+        ("buffer -\ncursor -0\n", "bad line 2\n"),
+        ("buffer -\ncursor\n", "bad line 2\n"),
+        ("buffer -\ncursor 0 \n", "bad line 2\n"),
+        ("buffer -\ncursor 0\r\n", "bad line 2\n"),
+        ("buffer -\ncursor 0x1\n", "bad line 2\n"),
+    ] {
+        expect_session(&rt, rt.alloc(), input.as_bytes(), wanted, 2)?;
+    }
+    Ok(())
+}
+
+#[test]
+fn a_command_is_bad(rt: HostRuntime) -> Result<(), Fail> {
+    for line in [
+        "",
+        "pread",
+        "pread 0",
+        "pread 0 u8",
+        "pread 0 u8 ",
+        "pread 0 u8 le ",
+        "pread 0 u8 le 0",
+        "pread  0 u8 le",
+        "pread 0  u8 le",
+        " pread 0 u8 le",
+        "pread 0 u8 le\r",
+        "pread 0\tu8 le",
+        "pread 0 U8 le",
+        "pread 0 u8 LE",
+        "pread 0 u8 ne",
+        "pread +0 u8 le",
+        "pread -0 u8 le",
+        "pread 18446744073709551616 u8 le",
+        "pread 0 i8 le",
+        "pread 0 u128 le",
+        "pread 0 cstr",
+        "gread u8 le",
+        "gwrite u8 le 0",
+        "write 0 u8 le 0",
+        "pwrite 0 u8 le",
+        "pwrite 0 u8 le ",
+        "pwrite 0 u8 le 256",
+        "pwrite 0 u8 le +1",
+        "pwrite 0 u8 le -0",
+        "pwrite 0 u8 le -1",
+        "pwrite 0 u8 le 0 0",
+        "pwrite 0 u16 be 65536",
+        "pwrite 0 u32 be 4294967296",
+        "pwrite 0 u64 be 18446744073709551616",
+        "pwrite 0 u64 be 340282366920938463463374607431768211456",
+        "pwrite 0 bytes -",
+    ] {
+        let input = format!(in rt.alloc(); "buffer 00\ncursor 0\npwrite 0 u8 le 1\n{line}\n")?;
+        expect_session(&rt, rt.alloc(), input.as_bytes(), "bad line 4\n", 2)?;
+    }
+    Ok(())
+}
+
+#[test]
+fn the_first_bad_line_is_told(rt: HostRuntime) -> Result<(), Fail> {
+    let input = "buffer 00\ncursor 0\npread 0 u8 le\n\npread 0 u8\n";
+    expect_session(&rt, rt.alloc(), input.as_bytes(), "bad line 4\n", 2)
+}
+
+#[test]
+fn length_is_tested_before_the_lines(rt: HostRuntime) -> Result<(), Fail> {
+    for (length, wanted) in [
+        (65_536, "bad line 1\n"),
+        (65_537, "input too long\n"),
+        (65_538, "input too long\n"),
+    ] {
+        let input = vec![in rt.alloc(); b'0'; length]?;
+        expect_session(&rt, rt.alloc(), input.as_slice(), wanted, 2)?;
+    }
+    Ok(())
+}
