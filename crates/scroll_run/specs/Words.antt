@@ -1,10 +1,15 @@
 -- What the words of a line spell.
-use Rattle.std.specs.Prelude.{◌≡◌, ◌<◌, ◌⊎◌, ℕ, List, [], length, Ok, codes}
+use Rattle.std.specs.Prelude.{◌≡◌, ◌<◌, ◌⊎◌, ℕ, List, [], length, Ok, codes, ◌==◌}
+use Rattle.std.specs.List.{slice_split}
 use Rattle.hex.specs.Hex.{decode_of}
 use Rattle.scroll.specs.declared.endian.Endian.{Endian}
 use Rattle.scroll.specs.declared.endian.Endian.TheVariants.{Little, Big}
 use Rattle.scroll.specs.declared.runner.Width.{Width}
 use Rattle.scroll.specs.declared.runner.Width.TheVariants.{U8, U16, U32, U64}
+
+-- the words of a line: what stands before, between and after its spaces
+abbrev pub words_of : List ℕ → List (List ℕ)
+words_of line = slice_split (λ b. b == 32) line
 
 -- a word spells bytes: none by `-`, or each by two hexadecimal digits of either case
 abbrev pub SpellsBytes : List ℕ → List ℕ → Type 0

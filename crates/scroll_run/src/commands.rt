@@ -1,8 +1,14 @@
 //! The lines of commands.
-ghost use Rattle.std.specs.Prelude.{◌≡◌, ◌<◌, ◌^◌, SomeIff};
+ghost use Rattle.std.specs.Prelude.{◌≡◌, ◌<◌, ◌^◌, ℕ, List, IfOk, MatchOption, SomeIff, map};
 ghost use Rattle.std.specs.Str.Parse.{IsNumeral, digits_value};
 ghost use Rattle.scroll.specs.Runs.{bytes_in};
-ghost use Rattle.scroll_run.specs.Commands.{put_of};
+ghost use Rattle.scroll.specs.declared.runner.Command.{Command};
+ghost use Rattle.scroll.specs.declared.runner.Kind.{Kind};
+ghost use Rattle.scroll.specs.declared.runner.Place.{Place};
+ghost use Rattle.scroll.specs.declared.runner.Put.{Put};
+ghost use Rattle.scroll_run.specs.Commands.{SpellsPlace, SpellsKind, SpellsPut, SpellsCommand, number_put, put_of, command_of, verb_word};
+ghost use Rattle.scroll_run.specs.declared.commands.Verb.{Verb};
+ghost use Rattle.scroll_run.specs.Words.{words_of};
 
 use crate::words::{parse_number, parse_order, parse_usize, parse_width};
 use scroll::Endian;
@@ -25,9 +31,20 @@ pub enum Written {
     Number(Put),
 }
 
+// What a command does.
+#[derive(Clone, Copy)]
+enum Verb {
+    // Reads at a place.
+    Pread,
+    // Writes at a place.
+    Pwrite,
+}
+
 impl CommandLine {
     /// The command of the line.
-    pub fn command(&self) -> Command {
+    pub fn command(&self) -> Command
+        ensures { result ≡ command_of self.now }
+    {
         match self {
             CommandLine::Read(place, kind) => Command::Read(*place, *kind),
             CommandLine::Write(place, written) => Command::Write(*place, written.put()),
@@ -37,7 +54,9 @@ impl CommandLine {
 
 impl Written {
     // What is written, as a command has it.
-    fn put(&self) -> Put {
+    fn put(&self) -> Put
+        ensures { result ≡ put_of self.now }
+    {
         match self {
             Written::Number(put) => *put,
         }
@@ -45,17 +64,17 @@ impl Written {
 }
 
 /// The command that a line spells. `None` is for a bad line.
-pub fn parse_command(alloc: Global, line: &[u8]) -> Result<Option<CommandLine>, AllocError> {
+pub fn parse_command(alloc: Global, line: &[u8]) -> Result<Option<CommandLine>, AllocError>
+    ensures { IfOk result (λ found. MatchOption found ((c : Command) → ¬ (SpellsCommand (words_of line.now) c)) (λ x. SpellsCommand (words_of line.now) (command_of x))) }
+{
     let words = split_words(alloc, line)?;
-    Ok(match words.as_slice() {
-        [b"pread", place, kind @ ..] => read_line(place, kind),
-        [b"pwrite", place, kind @ ..] => write_line(place, kind),
-        _ => None,
-    })
+    Ok(parse_words(&words))
 }
 
 // The words of a line, each up to a space or to the line's end.
-fn split_words(alloc: Global, line: &[u8]) -> Result<Vec<&[u8]>, AllocError> {
+fn split_words(alloc: Global, line: &[u8]) -> Result<Vec<&[u8]>, AllocError>
+    ensures { IfOk result (λ words. map (λ word. word.now) words.items ≡ words_of line.now) }
+{
     let mut words = Vec::new(alloc);
     for word in line.split(|byte| *byte == b' ') {
         words.push(word)?;
@@ -63,34 +82,59 @@ fn split_words(alloc: Global, line: &[u8]) -> Result<Vec<&[u8]>, AllocError> {
     Ok(words)
 }
 
-// The read that the words of a place and of a kind spell.
-fn read_line(place: &[u8], kind: &[&[u8]]) -> Option<CommandLine> {
-    Some(CommandLine::Read(parse_place(place)?, parse_kind(kind)?))
+// The command that words spell.
+fn parse_words(words: &[&[u8]]) -> Option<CommandLine>
+    ensures { let texts = map (λ word. word.now) words.now in MatchOption result ((c : Command) → ¬ (SpellsCommand texts c)) (λ x. SpellsCommand texts (command_of x)) }
+{
+    let (verb, rest) = words.split_first()?;
+    match parse_verb(verb)? {
+        Verb::Pread => {
+            let (place, kind) = parse_place(rest)?;
+            Some(CommandLine::Read(place, parse_kind(kind)?))
+        }
+        Verb::Pwrite => {
+            let (place, put) = parse_place(rest)?;
+            Some(CommandLine::Write(place, parse_written(put)?))
+        }
+    }
 }
 
-// The write that the words of a place, of a kind and of a value spell.
-fn write_line(place: &[u8], kind: &[&[u8]]) -> Option<CommandLine> {
-    Some(CommandLine::Write(parse_place(place)?, parse_written(kind)?))
+// The verb that a word is.
+fn parse_verb(word: &[u8]) -> Option<Verb>
+    ensures { MatchOption result ((verb : Verb) → ¬ (word.now ≡ verb_word verb)) (λ verb. word.now ≡ verb_word verb) }
+{
+    match word {
+        b"pread" => Some(Verb::Pread),
+        b"pwrite" => Some(Verb::Pwrite),
+        _ => None,
+    }
 }
 
-// The place that a word spells.
-fn parse_place(word: &[u8]) -> Option<Place> {
-    Some(Place::At(parse_usize(word)?))
+// The place that the first of the words spells, and the words behind it.
+fn parse_place<'w, 'a>(words: &'w [&'a [u8]]) -> Option<(Place, &'w [&'a [u8]])>
+    ensures { let texts = map (λ word. word.now) words.now in MatchOption result ((at : Place) (rest : List (List ℕ)) → ¬ (SpellsPlace texts at rest)) (λ p. SpellsPlace texts p.0 (map (λ word. word.now) p.1.now)) }
+{
+    let (word, rest) = words.split_first()?;
+    Some((Place::At(parse_usize(word)?), rest))
 }
 
 // The kind that words spell.
-fn parse_kind(words: &[&[u8]]) -> Option<Kind> {
+fn parse_kind(words: &[&[u8]]) -> Option<Kind>
+    ensures { let texts = map (λ word. word.now) words.now in MatchOption result ((kind : Kind) → ¬ (SpellsKind texts kind)) (λ kind. SpellsKind texts kind) }
+{
     match words {
         [width, order] => Some(Kind::Number(parse_width(width)?, parse_order(order)?)),
         _ => None,
     }
 }
 
-// The kind and the value that words spell.
-fn parse_written(words: &[&[u8]]) -> Option<Written> {
+// What is written, as words spell it.
+fn parse_written(words: &[&[u8]]) -> Option<Written>
+    ensures { let texts = map (λ word. word.now) words.now in MatchOption result ((put : Put) → ¬ (SpellsPut texts put)) (λ x. SpellsPut texts (put_of x)) }
+{
     match words {
         [width, order, value] => {
-            let put = parse_put(parse_width(width)?, parse_order(order)?, value)?;
+            let put = parse_number_put(parse_width(width)?, parse_order(order)?, value)?;
             Some(Written::Number(put))
         }
         _ => None,
@@ -98,8 +142,8 @@ fn parse_written(words: &[&[u8]]) -> Option<Written> {
 }
 
 // The number of a width that a word spells.
-fn parse_put(width: Width, order: Endian, word: &[u8]) -> Option<Put>
-    ensures { SomeIff result (IsNumeral 10 word.now × (digits_value 10 word.now < 256 ^ bytes_in width)) (put_of width order (digits_value 10 word.now)) }
+fn parse_number_put(width: Width, order: Endian, word: &[u8]) -> Option<Put>
+    ensures { SomeIff result (IsNumeral 10 word.now × (digits_value 10 word.now < 256 ^ bytes_in width)) (number_put width order (digits_value 10 word.now)) }
 {
     let number = parse_number(word)?;
     let put = match width {
