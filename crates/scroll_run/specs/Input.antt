@@ -1,5 +1,5 @@
 -- Why there is no input.
-use Rattle.std.specs.Prelude.{◌≡◌, ◌≢◌, ⊤}
+use Rattle.std.specs.Prelude.{◌≢◌, ⊤}
 use Rattle.std.specs.IoError.{error_kind}
 use Rattle.std.specs.declared.io.ErrorKind.TheVariants as kind
 use Rattle.scroll_run.specs.declared.input.ReadError.{ReadError}

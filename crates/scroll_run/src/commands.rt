@@ -10,7 +10,7 @@ ghost use Rattle.scroll_run.specs.Commands.{SpellsPlace, SpellsKind, SpellsPut, 
 ghost use Rattle.scroll_run.specs.declared.commands.Verb.{Verb};
 ghost use Rattle.scroll_run.specs.Words.{words_of};
 
-use crate::words::{parse_number, parse_order, parse_usize, parse_width};
+use crate::words::{parse_number, parse_order, parse_usize, parse_width, split};
 use scroll::Endian;
 use scroll::runner::{Command, Kind, Place, Put, Width};
 use std::alloc::{AllocError, Global};
@@ -67,19 +67,8 @@ impl Written {
 pub fn parse_command(alloc: Global, line: &[u8]) -> Result<Option<CommandLine>, AllocError>
     ensures { IfOk result (λ found. MatchOption found ((c : Command) → ¬ (SpellsCommand (words_of line.now) c)) (λ x. SpellsCommand (words_of line.now) (command_of x))) }
 {
-    let words = split_words(alloc, line)?;
+    let words = split(alloc, line, b' ')?;
     Ok(parse_words(&words))
-}
-
-// The words of a line, each up to a space or to the line's end.
-fn split_words(alloc: Global, line: &[u8]) -> Result<Vec<&[u8]>, AllocError>
-    ensures { IfOk result (λ words. map (λ word. word.now) words.items ≡ words_of line.now) }
-{
-    let mut words = Vec::new(alloc);
-    for word in line.split(|byte| *byte == b' ') {
-        words.push(word)?;
-    }
-    Ok(words)
 }
 
 // The command that words spell.

@@ -1,9 +1,10 @@
 //! The lines of an input.
-ghost use Rattle.std.specs.Prelude.{◌≡◌};
+ghost use Rattle.std.specs.Prelude.{◌≡◌, ℕ, List, IfOk, MatchOption, MatchResult, map};
+ghost use Rattle.scroll_run.specs.Lines.{lines_of, without_feed, SpellScript, SpellsBuffer, SpellsCursor, SpellCommands, Stops, StopsCommands};
 ghost use Rattle.scroll_run.specs.declared.lines.Stop.TheVariants.{NoMemory};
 
 use crate::commands::{CommandLine, parse_command};
-use crate::words::{parse_bytes, parse_usize};
+use crate::words::{parse_bytes, parse_usize, split};
 use std::alloc::{AllocError, AllocFailed, Global};
 
 /// Why the lines of an input are not run.
@@ -43,20 +44,40 @@ pub struct Script {
 }
 
 /// What the lines of an input say, each up to its line feed, which the last one need not have.
-pub fn parse_script(alloc: Global, input: &[u8]) -> Result<Script, Stop> {
-    let text = input.strip_suffix(b"\n").unwrap_or(input);
-    let mut lines = text.split(|byte| *byte == b'\n');
-    let first = lines.next().ok_or(Stop::BadLine(1))?;
-    let buffer = parse_buffer(alloc, first)?.ok_or(Stop::BadLine(1))?;
-    let second = lines.next().ok_or(Stop::BadLine(2))?;
-    let cursor = parse_cursor(second).ok_or(Stop::BadLine(2))?;
-    let mut commands = Vec::new(alloc);
-    let mut number = 2usize;
-    for line in lines {
-        number = number.saturating_add(1);
-        let command = parse_command(alloc, line)?.ok_or(Stop::BadLine(number))?;
-        commands.push(command)?;
+pub fn parse_script(alloc: Global, input: &[u8]) -> Result<Script, Stop>
+    ensures { MatchResult result (SpellScript (lines_of input.now)) (Stops (lines_of input.now)) }
+{
+    let lines = split(alloc, without_last_feed(input), b'\n')?;
+    parse_lines(alloc, &lines)
+}
+
+// The input without a line feed at its end.
+fn without_last_feed(input: &[u8]) -> &[u8]
+    ensures { result.now ≡ without_feed input.now }
+{
+    match input {
+        [text @ .., b'\n'] => text,
+        _ => input,
     }
+}
+
+// What lines say.
+fn parse_lines(alloc: Global, lines: &[&[u8]]) -> Result<Script, Stop>
+    ensures { let texts = map (λ line. line.now) lines.now in MatchResult result (SpellScript texts) (Stops texts) }
+{
+    let Some((first, rest)) = lines.split_first() else {
+        return Err(Stop::BadLine(1));
+    };
+    let Some(buffer) = parse_buffer(alloc, first)? else {
+        return Err(Stop::BadLine(1));
+    };
+    let Some((second, rest)) = rest.split_first() else {
+        return Err(Stop::BadLine(2));
+    };
+    let Some(cursor) = parse_cursor(second) else {
+        return Err(Stop::BadLine(2));
+    };
+    let commands = parse_commands(alloc, rest)?;
     Ok(Script {
         buffer,
         cursor,
@@ -65,7 +86,9 @@ pub fn parse_script(alloc: Global, input: &[u8]) -> Result<Script, Stop> {
 }
 
 // The bytes of a `buffer` line. `None` is for a bad line.
-fn parse_buffer(alloc: Global, line: &[u8]) -> Result<Option<Vec<u8>>, AllocError> {
+fn parse_buffer(alloc: Global, line: &[u8]) -> Result<Option<Vec<u8>>, AllocError>
+    ensures { IfOk result (λ found. MatchOption found ((bytes : List ℕ) → ¬ (SpellsBuffer line.now bytes)) (λ bytes. SpellsBuffer line.now bytes.items)) }
+{
     match line.strip_prefix(b"buffer ") {
         Some(word) => parse_bytes(alloc, word),
         None => Ok(None),
@@ -73,6 +96,22 @@ fn parse_buffer(alloc: Global, line: &[u8]) -> Result<Option<Vec<u8>>, AllocErro
 }
 
 // The number of a `cursor` line. `None` is for a bad line.
-fn parse_cursor(line: &[u8]) -> Option<usize> {
+fn parse_cursor(line: &[u8]) -> Option<usize>
+    ensures { MatchOption result ((n : ℕ) → ¬ (SpellsCursor line.now n)) (SpellsCursor line.now) }
+{
     parse_usize(line.strip_prefix(b"cursor ")?)
+}
+
+// The commands of lines that begin at the third line.
+fn parse_commands(alloc: Global, lines: &[&[u8]]) -> Result<Vec<CommandLine>, Stop>
+    ensures { let texts = map (λ line. line.now) lines.now in MatchResult result (λ commands. SpellCommands texts commands.items) (StopsCommands texts) }
+{
+    let mut commands = Vec::new(alloc);
+    for line in lines {
+        match parse_command(alloc, line)? {
+            Some(command) => commands.push(command)?,
+            None => return Err(Stop::BadLine(commands.len() + 3)),
+        }
+    }
+    Ok(commands)
 }

@@ -1,5 +1,6 @@
-//! The words of a line.
-ghost use Rattle.std.specs.Prelude.{◌≡◌, ◌<◌, ◌^◌, IfOk, IsTrue, ◌↔◌, MatchOption, SomeIff, ℕ, List};
+//! Lines and words, and what a word spells.
+ghost use Rattle.std.specs.Prelude.{◌≡◌, ◌<◌, ◌^◌, IfOk, IsTrue, ◌↔◌, MatchOption, SomeIff, ℕ, List, ◌==◌, map};
+ghost use Rattle.std.specs.List.{slice_split};
 ghost use Rattle.std.specs.Str.Parse.{IsNumeral, digits_value};
 ghost use Rattle.scroll.specs.declared.endian.Endian.{Endian};
 ghost use Rattle.scroll.specs.declared.runner.Width.{Width};
@@ -10,6 +11,17 @@ use scroll::Endian;
 use scroll::runner::Width;
 use std::alloc::{AllocError, Global};
 use std::str;
+
+/// The parts of a text before, between and after its separators.
+pub fn split(alloc: Global, text: &[u8], separator: u8) -> Result<Vec<&[u8]>, AllocError>
+    ensures { IfOk result (λ parts. map (λ part. part.now) parts.items ≡ slice_split (λ b. b == separator) text.now) }
+{
+    let mut parts = Vec::new(alloc);
+    for part in text.split(|byte| *byte == separator) {
+        parts.push(part)?;
+    }
+    Ok(parts)
+}
 
 /// The number that a word of digits spells, where it is below 2^128.
 pub fn parse_number(word: &[u8]) -> Option<u128>

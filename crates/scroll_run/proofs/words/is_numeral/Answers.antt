@@ -1,7 +1,6 @@
-use Rattle.std.proofs.Common.{rules, arith, ℕ, ◌<◌, length, get_or}
+use Rattle.std.proofs.Common.{rules, arith}
 use Rattle.std.proofs.lemmas.Grind.{common_steps}
 use Rattle.std.proofs.lemmas.Str.Parse.{digit_at, numerals_by_value, tells_by_index}
-use Rattle.std.specs.Int.{IsInRange}
 use borrow.Author.Count.{below_more}
 use Rattle.scroll_run.proofs.words.is_numeral.Goals as goal
 

@@ -1,0 +1,75 @@
+-- What the lines of an input spell.
+use Rattle.std.specs.Prelude.{◌≡◌, ◌<◌, ◌+◌, ◌-◌, ◌^◌, ◌++◌, ◌==◌, ⊤, ℕ, zero, suc, List, [], ◌∷◌, length, slice_index, slice_index_or, take, codes, if◌then◌else◌}
+use Rattle.std.specs.List.{slice_split}
+use Rattle.scroll.specs.declared.runner.Command.{Command}
+use Rattle.scroll_run.specs.Commands.{SpellsCommand, SpellsNumber, command_of}
+use Rattle.scroll_run.specs.Words.{SpellsBytes, words_of}
+use Rattle.scroll_run.specs.declared.commands.CommandLine.{CommandLine}
+use Rattle.scroll_run.specs.declared.lines.Script.{Script}
+use Rattle.scroll_run.specs.declared.lines.Stop.{Stop}
+use Rattle.scroll_run.specs.declared.lines.Stop.TheVariants.{BadLine, NoMemory}
+
+-- an input without a line feed at its end
+abbrev pub without_feed : List ℕ → List ℕ
+without_feed input = if slice_index input (length input - 1) == 10 then take (length input - 1) input else input
+
+-- the lines of an input: what stands before, between and after its line feeds, of which one at its end ends the last line
+abbrev pub lines_of : List ℕ → List (List ℕ)
+lines_of input = slice_split (λ b. b == 10) (without_feed input)
+
+-- a line spells the first buffer
+abbrev pub SpellsBuffer : List ℕ → List ℕ → Type 0
+SpellsBuffer line bytes = (word : List ℕ) × (line ≡ codes "buffer " ++ word) × SpellsBytes word bytes
+
+-- a line spells the first cursor
+abbrev pub SpellsCursor : List ℕ → ℕ → Type 0
+SpellsCursor line n = (word : List ℕ) × (line ≡ codes "cursor " ++ word) × SpellsNumber (2 ^ 64) word n
+
+-- lines spell commands, one each
+abbrev pub SpellCommands : List (List ℕ) → List CommandLine → Type 0
+SpellCommands [] [] = ⊤
+SpellCommands (line ∷ lines) (c ∷ cs) = SpellsCommand (words_of line) (command_of c) × SpellCommands lines cs
+SpellCommands [] (c ∷ cs) = ⊥
+SpellCommands (line ∷ lines) [] = ⊥
+
+-- lines spell a script: a buffer, a cursor and commands
+pub record SpellScript (lines : List (List ℕ)) (script : Script) : Type 0 where
+  pub first : List ℕ
+  pub second : List ℕ
+  pub rest : List (List ℕ)
+  pub lines_are : lines ≡ first ∷ second ∷ rest
+  pub buffer : SpellsBuffer first script.buffer.items
+  pub cursor : SpellsCursor second script.cursor
+  pub commands : SpellCommands rest script.commands.items
+
+-- a line spells some command
+abbrev pub IsCommand : List ℕ → Type 0
+IsCommand line = (c : Command) × SpellsCommand (words_of line) c
+
+-- a line, counted from 0, spells something
+abbrev pub IsGoodLine : ℕ → List ℕ → Type 0
+IsGoodLine zero line = (bytes : List ℕ) × SpellsBuffer line bytes
+IsGoodLine (suc zero) line = (n : ℕ) × SpellsCursor line n
+IsGoodLine (suc (suc i)) line = IsCommand line
+
+-- there is a line at this place, counted from 0, and it spells something
+abbrev pub HasGoodLine : List (List ℕ) → ℕ → Type 0
+HasGoodLine lines i = (i < length lines) × IsGoodLine i (slice_index_or lines i [])
+
+-- the line at this place, counted from 1, is the first that is missing or spells nothing
+pub record IsFirstBadLine (lines : List (List ℕ)) (k : ℕ) : Type 0 where
+  pub counted : 0 < k
+  pub good : (i : ℕ) → i + 1 < k → HasGoodLine lines i
+  pub bad : ¬ (HasGoodLine lines (k - 1))
+
+-- why the lines of an input are not run
+abbrev pub Stops : List (List ℕ) → Stop → Type 0
+Stops lines (BadLine k) = IsFirstBadLine lines k
+Stops lines NoMemory = ⊤
+
+-- why the lines of commands, which begin at the third line, are not run
+abbrev pub StopsCommands : List (List ℕ) → Stop → Type 0
+StopsCommands lines (BadLine k) =
+    (i : ℕ) × (k ≡ i + 3) × (i < length lines)
+    × ((j : ℕ) → j < i → IsCommand (slice_index_or lines j [])) × (¬ (IsCommand (slice_index_or lines i [])))
+StopsCommands lines NoMemory = ⊤
