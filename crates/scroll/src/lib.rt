@@ -8,6 +8,8 @@ mod pread;
 mod pwrite;
 pub mod runner;
 mod source;
+#[cfg(test)]
+mod tests;
 
 pub use crate::endian::{BE, Endian, LE, NATIVE, NETWORK};
 pub use crate::error::{Error, Result};
