@@ -1,3 +1,5 @@
+pub mod SumLemmas
+pub mod NumberLemmas
 pub mod SeenLemmas
 pub mod LeafLemmas
 pub mod NumberLeaves

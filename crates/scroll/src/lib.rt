@@ -4,6 +4,8 @@
 pub mod ctx;
 mod endian;
 mod error;
+mod greater;
+pub mod laws;
 mod pread;
 mod pwrite;
 pub mod runner;
@@ -13,6 +15,7 @@ mod tests;
 
 pub use crate::endian::{BE, Endian, LE, NATIVE, NETWORK};
 pub use crate::error::{Error, Result};
+pub use crate::greater::{Cread, Cwrite};
 pub use crate::pread::Pread;
 pub use crate::pwrite::Pwrite;
 pub use crate::source::{ReadFrom, Source};

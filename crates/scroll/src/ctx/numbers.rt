@@ -5,6 +5,7 @@ ghost use Rattle.scroll.specs.declared.error.Error.TheVariants.{TooBig};
 
 use crate::error::{Error, Result};
 
+mod bits128;
 mod bits16;
 mod bits32;
 mod bits64;
