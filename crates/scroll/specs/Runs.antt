@@ -1,5 +1,5 @@
 -- What a list of commands answers over a buffer, and what it leaves.
-use Rattle.std.specs.Prelude.{◌≡◌, ◌<◌, ℕ, ◌++◌, List, [], ◌∷◌, length, take, Ok, Err}
+use Rattle.std.specs.Prelude.{◌≡◌, ◌<◌, ℕ, ◌+◌, ◌++◌, List, [], ◌∷◌, length, take, Ok, Err}
 use Rattle.scroll.specs.Bytes.{RefusesShort}
 use Rattle.scroll.specs.History.{Piece, seen}
 use Rattle.scroll.specs.Leaves.{pieces, AnswersLeaves}
@@ -73,10 +73,12 @@ leaves_of (put.I128 x order) = signed_bytes order 16 x ∷ []
 -- where a command acts
 abbrev pub place_of : Place → ℕ → ℕ
 place_of (place.At offset) cursor = offset
+place_of place.Cursor cursor = cursor
 
 -- the cursor after an accepted command of this size
 abbrev pub moved : Place → ℕ → ℕ → ℕ
 moved (place.At offset) cursor size = cursor
+moved place.Cursor cursor size = cursor + size
 
 -- the answer of a read of this kind, and the cursor after it
 abbrev pub ReadStep : List ℕ → ℕ → Place → Kind → Answer → ℕ → Type 0

@@ -18,6 +18,8 @@ mod write;
 pub enum Place {
     /// At an offset in bytes from the start of the buffer.
     At(usize),
+    /// At the cursor, which an accepted command then moves by the size of what it read or wrote.
+    Cursor,
 }
 
 /// The type of a number.

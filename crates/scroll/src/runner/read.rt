@@ -54,5 +54,6 @@ fn read_at<'b, Ctx: Copy, E: From<Error>, N: ReadFrom<&'b [u8], Ctx, Error = E>>
 {
     match place {
         Place::At(offset) => buffer.pread_with(offset, ctx),
+        Place::Cursor => buffer.gread_with(cursor, ctx),
     }
 }

@@ -62,5 +62,6 @@ fn write_at<Ctx: Copy, N: TryIntoCtx<Ctx, Error = Error> + Drop>(
     let target = &mut Target { bytes: buffer };
     match place {
         Place::At(offset) => target.bytes.pwrite_with(n, offset, ctx),
+        Place::Cursor => target.bytes.gwrite_with(n, cursor, ctx),
     }
 }
