@@ -31,7 +31,10 @@ bytes_in width.U64 = 8
 
 -- the value and the size that a kind reads
 abbrev pub Reads : Kind → List ℕ → Value → ℕ → Type 0
-Reads (kind.Number w order) source (value.Unsigned x) n = ReadsNumber (bytes_in w) order source x n
+Reads (kind.Number width.U8 order) source (value.Unsigned x) n = ReadsNumber 1 order source x n
+Reads (kind.Number width.U16 order) source (value.Unsigned x) n = ReadsNumber 2 order source x n
+Reads (kind.Number width.U32 order) source (value.Unsigned x) n = ReadsNumber 4 order source x n
+Reads (kind.Number width.U64 order) source (value.Unsigned x) n = ReadsNumber 8 order source x n
 
 -- the error that a kind refuses with
 abbrev pub Refuses : Kind → List ℕ → Error → Type 0

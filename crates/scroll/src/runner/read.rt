@@ -27,13 +27,12 @@ fn read_value(buffer: &[u8], cursor: &mut usize, place: Place, kind: Kind) -> Re
     ensures stays { OnErr result (cursor.new ≡ cursor.old) }
 {
     let Kind::Number(width, order) = kind;
-    let number = match width {
-        Width::U8 => u128::from(read_at::<Endian, Error, u8>(buffer, cursor, place, order)?),
-        Width::U16 => u128::from(read_at::<Endian, Error, u16>(buffer, cursor, place, order)?),
-        Width::U32 => u128::from(read_at::<Endian, Error, u32>(buffer, cursor, place, order)?),
-        Width::U64 => u128::from(read_at::<Endian, Error, u64>(buffer, cursor, place, order)?),
-    };
-    Ok(Value::Unsigned(number))
+    match width {
+        Width::U8 => read_at(buffer, cursor, place, order).map(|x: u8| Value::Unsigned(x.into())),
+        Width::U16 => read_at(buffer, cursor, place, order).map(|x: u16| Value::Unsigned(x.into())),
+        Width::U32 => read_at(buffer, cursor, place, order).map(|x: u32| Value::Unsigned(x.into())),
+        Width::U64 => read_at(buffer, cursor, place, order).map(|x: u64| Value::Unsigned(x.into())),
+    }
 }
 
 // Reads a value of any type at the place of a command.
