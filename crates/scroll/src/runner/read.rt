@@ -11,12 +11,16 @@ use crate::pread::Pread;
 use crate::source::ReadFrom;
 use std::result;
 
-// Answers a read, and moves a cursor that it uses by the size of what was read.
+// Answers a read. A cursor that it uses moves by the size of what was read, once the answer's value stands.
 pub fn read(buffer: &[u8], cursor: &mut usize, place: Place, kind: Kind) -> Answer
     ensures { ReadStep buffer.now cursor.old place kind result cursor.new }
 {
-    match read_value(buffer, cursor, place, kind) {
-        Ok(value) => Answer::Read(value),
+    let mut after = *cursor;
+    match read_value(buffer, &mut after, place, kind) {
+        Ok(value) => {
+            *cursor = after;
+            Answer::Read(value)
+        }
         Err(error) => Answer::Refused(error),
     }
 }
@@ -36,8 +40,8 @@ fn read_value(buffer: &[u8], cursor: &mut usize, place: Place, kind: Kind) -> Re
         Width::I32 => read_at(buffer, cursor, place, order).map(|x: i32| Value::Signed(x.into())),
         Width::U64 => read_at(buffer, cursor, place, order).map(|x: u64| Value::Unsigned(x.into())),
         Width::I64 => read_at(buffer, cursor, place, order).map(|x: i64| Value::Signed(x.into())),
-        Width::U128 => read_at(buffer, cursor, place, order).map(|x: u128| Value::Unsigned(x)),
-        Width::I128 => read_at(buffer, cursor, place, order).map(|x: i128| Value::Signed(x)),
+        Width::U128 => read_at(buffer, cursor, place, order).map(Value::Unsigned),
+        Width::I128 => read_at(buffer, cursor, place, order).map(Value::Signed),
     }
 }
 

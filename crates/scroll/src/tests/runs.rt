@@ -9,6 +9,7 @@ use std::process::Abort;
 fn is_same(a: &Answer, b: &Answer) -> bool {
     match (a, b) {
         (Answer::Read(Value::Unsigned(x)), Answer::Read(Value::Unsigned(y))) => x == y,
+        (Answer::Read(Value::Signed(x)), Answer::Read(Value::Signed(y))) => x == y,
         (Answer::Wrote(x), Answer::Wrote(y)) => x == y,
         (
             Answer::Refused(Error::TooBig { size, len }),
@@ -97,6 +98,57 @@ fn four_numbers(rt: HostRuntime) {
         ],
         [255, 2, 0xca, 0xfe, 1, 0, 0, 0],
         5,
+    );
+}
+
+#[test]
+fn numbers_at_the_cursor(rt: HostRuntime) {
+    let here = Place::Cursor;
+    check_run(
+        &rt,
+        rt.alloc(),
+        [0; 8],
+        0,
+        &[
+            Command::Write(here, Put::I32(-3000, LE)),
+            Command::Read(here, Kind::Number(Width::U8, LE)),
+            Command::Write(here, Put::I64(1, BE)),
+            Command::Read(Place::At(0), Kind::Number(Width::I32, LE)),
+            Command::Write(Place::At(6), Put::I16(-2, BE)),
+            Command::Read(here, Kind::Number(Width::I128, LE)),
+            Command::Write(here, Put::I8(-1, BE)),
+            Command::Read(here, Kind::Number(Width::I16, BE)),
+            Command::Read(here, Kind::Number(Width::U8, BE)),
+        ],
+        &[
+            Answer::Wrote(4),
+            Answer::Read(Value::Unsigned(0)),
+            Answer::Refused(Error::TooBig { size: 8, len: 3 }),
+            Answer::Read(Value::Signed(-3000)),
+            Answer::Wrote(2),
+            Answer::Refused(Error::TooBig { size: 16, len: 3 }),
+            Answer::Wrote(1),
+            Answer::Read(Value::Signed(-2)),
+            Answer::Refused(Error::TooBig { size: 1, len: 0 }),
+        ],
+        [0x48, 0xf4, 0xff, 0xff, 0, 0xff, 0xff, 0xfe],
+        8,
+    );
+    check_run(
+        &rt,
+        rt.alloc(),
+        [1],
+        usize::MAX,
+        &[
+            Command::Read(here, Kind::Number(Width::U8, LE)),
+            Command::Write(here, Put::U128(0, LE)),
+        ],
+        &[
+            Answer::Refused(Error::BadOffset(usize::MAX)),
+            Answer::Refused(Error::BadOffset(usize::MAX)),
+        ],
+        [1],
+        usize::MAX,
     );
 }
 
