@@ -1,3 +1,6 @@
+pub mod SumLemmas
+pub mod NumberLemmas
+pub mod BulkLemmas
 pub mod SeenLemmas
 pub mod LeafLemmas
 pub mod NumberLeaves

@@ -1,9 +1,9 @@
 -- What a list of commands answers over a buffer, and what it leaves.
-use Rattle.std.specs.Prelude.{◌≡◌, ◌<◌, ℕ, ◌++◌, List, [], ◌∷◌, length, take, Ok, Err}
+use Rattle.std.specs.Prelude.{◌≡◌, ◌<◌, ℕ, ◌+◌, ◌++◌, List, [], ◌∷◌, length, take, Ok, Err}
 use Rattle.scroll.specs.Bytes.{RefusesShort}
 use Rattle.scroll.specs.History.{Piece, seen}
 use Rattle.scroll.specs.Leaves.{pieces, AnswersLeaves}
-use Rattle.scroll.specs.Numbers.{ReadsNumber, number_bytes}
+use Rattle.scroll.specs.Numbers.{ReadsNumber, ReadsSigned, number_bytes, signed_bytes}
 use Rattle.scroll.specs.Reads.{ReadsAt, RefusesAt}
 use Rattle.scroll.specs.declared.error.Error.{Error}
 use Rattle.scroll.specs.declared.error.Error.TheVariants.{BadOffset}
@@ -25,13 +25,29 @@ use Rattle.scroll.specs.declared.runner.Width.TheVariants as width
 -- how many bytes a number of a width has
 abbrev pub bytes_in : Width → ℕ
 bytes_in width.U8 = 1
+bytes_in width.I8 = 1
 bytes_in width.U16 = 2
+bytes_in width.I16 = 2
 bytes_in width.U32 = 4
+bytes_in width.I32 = 4
 bytes_in width.U64 = 8
+bytes_in width.I64 = 8
+bytes_in width.U128 = 16
+bytes_in width.I128 = 16
 
 -- the value and the size that a kind reads
 abbrev pub Reads : Kind → List ℕ → Value → ℕ → Type 0
-Reads (kind.Number w order) source (value.Unsigned x) n = ReadsNumber (bytes_in w) order source x n
+Reads (kind.Number width.U8 order) source (value.Unsigned x) n = ReadsNumber 1 order source x n
+Reads (kind.Number width.I8 order) source (value.Signed x) n = ReadsSigned 1 order source x n
+Reads (kind.Number width.U16 order) source (value.Unsigned x) n = ReadsNumber 2 order source x n
+Reads (kind.Number width.I16 order) source (value.Signed x) n = ReadsSigned 2 order source x n
+Reads (kind.Number width.U32 order) source (value.Unsigned x) n = ReadsNumber 4 order source x n
+Reads (kind.Number width.I32 order) source (value.Signed x) n = ReadsSigned 4 order source x n
+Reads (kind.Number width.U64 order) source (value.Unsigned x) n = ReadsNumber 8 order source x n
+Reads (kind.Number width.I64 order) source (value.Signed x) n = ReadsSigned 8 order source x n
+Reads (kind.Number width.U128 order) source (value.Unsigned x) n = ReadsNumber 16 order source x n
+Reads (kind.Number width.I128 order) source (value.Signed x) n = ReadsSigned 16 order source x n
+Reads what source x n = ⊥
 
 -- the error that a kind refuses with
 abbrev pub Refuses : Kind → List ℕ → Error → Type 0
@@ -44,17 +60,25 @@ IsBadOffset place e = e ≡ BadOffset place
 -- the leaves of what is written
 abbrev pub leaves_of : Put → List (List ℕ)
 leaves_of (put.U8 x order) = number_bytes order 1 x ∷ []
+leaves_of (put.I8 x order) = signed_bytes order 1 x ∷ []
 leaves_of (put.U16 x order) = number_bytes order 2 x ∷ []
+leaves_of (put.I16 x order) = signed_bytes order 2 x ∷ []
 leaves_of (put.U32 x order) = number_bytes order 4 x ∷ []
+leaves_of (put.I32 x order) = signed_bytes order 4 x ∷ []
 leaves_of (put.U64 x order) = number_bytes order 8 x ∷ []
+leaves_of (put.I64 x order) = signed_bytes order 8 x ∷ []
+leaves_of (put.U128 x order) = number_bytes order 16 x ∷ []
+leaves_of (put.I128 x order) = signed_bytes order 16 x ∷ []
 
 -- where a command acts
 abbrev pub place_of : Place → ℕ → ℕ
 place_of (place.At offset) cursor = offset
+place_of place.Cursor cursor = cursor
 
 -- the cursor after an accepted command of this size
 abbrev pub moved : Place → ℕ → ℕ → ℕ
 moved (place.At offset) cursor size = cursor
+moved place.Cursor cursor size = cursor + size
 
 -- the answer of a read of this kind, and the cursor after it
 abbrev pub ReadStep : List ℕ → ℕ → Place → Kind → Answer → ℕ → Type 0

@@ -87,3 +87,18 @@ pub trait IntoCtx<Ctx: Copy>: Sized {
     // The bytes behind those that are needed stay.
     ghost leaves_keeps: { (ctx : Ctx) (x : Self) (old new : List ℕ) → leaves ctx x old new → drop (need ctx) new ≡ drop (need ctx) old };
 }
+
+/// A type whose size in a context is known before there is a value.
+pub trait SizeWith<Ctx> {
+    // How many bytes a value takes.
+    ghost size: { Ctx → ℕ };
+
+    /// How many bytes a value takes in this context.
+    ///
+    /// ```rust
+    /// assert_eq!(rt; u64::size_with(&LE), 8);
+    /// ```
+    fn size_with(ctx: &Ctx) -> usize
+        requires { size ctx.now < 2 ^ 64 }
+        ensures { result ≡ size ctx.now };
+}

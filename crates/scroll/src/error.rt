@@ -42,9 +42,9 @@ impl fmt::Display for Error {
 impl std::error::Error for Error {}
 
 impl From<io::Error> for Error {
-    ghost from_gives = { λ error e. e ≡ IO error };
+    ghost from_gives = { λ fault e. e ≡ IO fault };
 
-    fn from(error: io::Error) -> Error {
-        Error::IO(error)
+    fn from(fault: io::Error) -> Error {
+        Error::IO(fault)
     }
 }

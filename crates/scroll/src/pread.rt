@@ -1,6 +1,6 @@
-// Reads at a place.
-ghost use Rattle.std.specs.Prelude.{ℕ, List, IfOk, IfErr};
-ghost use Rattle.scroll.specs.Reads.{ReadsSome, RefusesAt};
+// Reads at a place, and with a cursor.
+ghost use Rattle.std.specs.Prelude.{◌≡◌, ℕ, List, IfOk, IfErr, OnOk, OnErr};
+ghost use Rattle.scroll.specs.Reads.{ReadsSome, ReadsBetween, ReadsAll, RefusesAt, StopsAt, ByDefault};
 ghost use Rattle.scroll.specs.declared.error.Error.TheVariants.{BadOffset};
 
 use crate::error::Error;
@@ -15,6 +15,19 @@ pub trait Pread<'a, Ctx: Copy, E>: Source {
     // Holds of a place past the end and each error that may be given for it.
     ghost past_end: { ℕ → E → Type 0 };
 
+    /// Reads a value at `offset` in the default context, which for numbers is the machine's byte order.
+    ///
+    /// ```rust
+    /// let bytes = [0x7fu8; 1];
+    /// let byte = bytes[..].pread::<u8>(0)?;
+    /// assert_eq!(rt; byte, 127);
+    /// ```
+    fn pread<N: ReadFrom<Self, Ctx, Error = E>>(self, offset: usize) -> Result<N, E>
+    where
+        Ctx: Default,
+        ensures read { IfOk result (λ x. ByDefault Ctx.is_default (λ ctx. ReadsSome (N.reads ctx) (Self.bytes self) offset x)) }
+        ensures refused { IfErr result (λ e. ByDefault Ctx.is_default (λ ctx. RefusesAt (N.refuses ctx) past_end (Self.bytes self) offset e)) };
+
     /// Reads a value at `offset` in the context `ctx`.
     ///
     /// ```rust
@@ -25,20 +38,146 @@ pub trait Pread<'a, Ctx: Copy, E>: Source {
     fn pread_with<N: ReadFrom<Self, Ctx, Error = E>>(self, offset: usize, ctx: Ctx) -> Result<N, E>
         ensures read { IfOk result (ReadsSome (N.reads ctx) (Self.bytes self) offset) }
         ensures refused { IfErr result (RefusesAt (N.refuses ctx) past_end (Self.bytes self) offset) };
+
+    /// Reads a value at `offset` in the default context, and moves `offset` by its size. On an error `offset` stays.
+    ///
+    /// ```rust
+    /// let bytes = [0x7fu8; 1];
+    /// let offset = &mut 0;
+    /// let byte = bytes[..].gread::<u8>(offset)?;
+    /// assert_eq!(rt; byte, 127);
+    /// assert_eq!(rt; *offset, 1);
+    /// ```
+    fn gread<N: ReadFrom<Self, Ctx, Error = E>>(self, offset: &mut usize) -> Result<N, E>
+    where
+        Ctx: Default,
+        ensures read { IfOk result (λ x. ByDefault Ctx.is_default (λ ctx. ReadsBetween (N.reads ctx) (Self.bytes self) offset.old offset.new x)) }
+        ensures refused { IfErr result (λ e. ByDefault Ctx.is_default (λ ctx. RefusesAt (N.refuses ctx) past_end (Self.bytes self) offset.old e)) }
+        ensures stays { OnErr result (offset.new ≡ offset.old) };
+
+    /// Reads a value at `offset` in the context `ctx`, and moves `offset` by its size. On an error `offset` stays.
+    ///
+    /// ```rust
+    /// let bytes: [u8; 2] = [0xde, 0xad];
+    /// let offset = &mut 0;
+    /// let dead: u16 = bytes[..].gread_with(offset, BE)?;
+    /// assert_eq!(rt; dead, 0xdead);
+    /// assert_eq!(rt; *offset, 2);
+    /// ```
+    fn gread_with<N: ReadFrom<Self, Ctx, Error = E>>(
+        self,
+        offset: &mut usize,
+        ctx: Ctx,
+    ) -> Result<N, E>
+        ensures read { IfOk result (ReadsBetween (N.reads ctx) (Self.bytes self) offset.old offset.new) }
+        ensures refused { IfErr result (RefusesAt (N.refuses ctx) past_end (Self.bytes self) offset.old) }
+        ensures stays { OnErr result (offset.new ≡ offset.old) };
+
+    /// Reads as many values as `inout` has elements, one after the other from `offset`, in the default context, and moves
+    /// `offset` behind the last. On an error it is as with [`gread_inout_with`](Pread::gread_inout_with).
+    ///
+    /// ```rust
+    /// let bytes: [u8; 2] = [0x48, 0x49];
+    /// let mut values = [0u8; 2];
+    /// let offset = &mut 0;
+    /// bytes[..].gread_inout(offset, &mut values)?;
+    /// assert_eq!(rt; values, bytes);
+    /// assert_eq!(rt; *offset, 2);
+    /// ```
+    fn gread_inout<N: ReadFrom<Self, Ctx, Error = E> + Drop>(
+        self,
+        offset: &mut usize,
+        inout: &mut [N],
+    ) -> Result<(), E>
+    where
+        Ctx: Default,
+        ensures read { OnOk result (ByDefault Ctx.is_default (λ ctx. ReadsAll (N.reads ctx) (Self.bytes self) offset.old inout.new offset.new)) }
+        ensures stopped { IfErr result (λ e. ByDefault Ctx.is_default (λ ctx. StopsAt (N.reads ctx) (N.refuses ctx) past_end (Self.bytes self) offset.old offset.new inout.old inout.new e)) };
+
+    /// Reads as many values as `inout` has elements, one after the other from `offset`, in the context `ctx`, and moves
+    /// `offset` behind the last.
+    ///
+    /// On an error the elements already read stand, the others are as before, and `offset` stands behind the last that was
+    /// read, or where it was if none was. With no element the call succeeds at any offset.
+    ///
+    /// ```rust
+    /// let bytes: [u8; 2] = [0x48, 0x49];
+    /// let mut values = [0u8; 2];
+    /// let offset = &mut 0;
+    /// bytes[..].gread_inout_with(offset, &mut values, LE)?;
+    /// assert_eq!(rt; values, bytes);
+    /// assert_eq!(rt; *offset, 2);
+    /// ```
+    fn gread_inout_with<N: ReadFrom<Self, Ctx, Error = E> + Drop>(
+        self,
+        offset: &mut usize,
+        inout: &mut [N],
+        ctx: Ctx,
+    ) -> Result<(), E>
+        ensures read { OnOk result (ReadsAll (N.reads ctx) (Self.bytes self) offset.old inout.new offset.new) }
+        ensures stopped { IfErr result (StopsAt (N.reads ctx) (N.refuses ctx) past_end (Self.bytes self) offset.old offset.new inout.old inout.new) };
 }
 
 impl<'a, Ctx: Copy, E: From<Error>> Pread<'a, Ctx, E> for &'a [u8] {
     ghost past_end = { λ offset e. E.from_gives (BadOffset offset) e };
+
+    fn pread<N: ReadFrom<Self, Ctx, Error = E>>(self, offset: usize) -> Result<N, E>
+    where
+        Ctx: Default,
+    {
+        self.pread_with(offset, Ctx::default())
+    }
 
     fn pread_with<N: ReadFrom<Self, Ctx, Error = E>>(
         self,
         offset: usize,
         ctx: Ctx,
     ) -> Result<N, E> {
-        if offset > self.len() {
-            return Err(E::from(Error::BadOffset(offset)));
+        let mut offset = offset;
+        self.gread_with(&mut offset, ctx)
+    }
+
+    fn gread<N: ReadFrom<Self, Ctx, Error = E>>(self, offset: &mut usize) -> Result<N, E>
+    where
+        Ctx: Default,
+    {
+        self.gread_with(offset, Ctx::default())
+    }
+
+    fn gread_with<N: ReadFrom<Self, Ctx, Error = E>>(
+        self,
+        offset: &mut usize,
+        ctx: Ctx,
+    ) -> Result<N, E> {
+        let start = *offset;
+        if start > self.len() {
+            return Err(E::from(Error::BadOffset(start)));
         }
-        let (value, _size) = N::read_from(&self[offset..], ctx)?;
+        let (value, size) = N::read_from(&self[start..], ctx)?;
+        *offset = start + size;
         Ok(value)
+    }
+
+    fn gread_inout<N: ReadFrom<Self, Ctx, Error = E> + Drop>(
+        self,
+        offset: &mut usize,
+        inout: &mut [N],
+    ) -> Result<(), E>
+    where
+        Ctx: Default,
+    {
+        self.gread_inout_with(offset, inout, Ctx::default())
+    }
+
+    fn gread_inout_with<N: ReadFrom<Self, Ctx, Error = E> + Drop>(
+        self,
+        offset: &mut usize,
+        inout: &mut [N],
+        ctx: Ctx,
+    ) -> Result<(), E> {
+        for i in 0..inout.len() {
+            inout[i] = self.gread_with(offset, ctx)?;
+        }
+        Ok(())
     }
 }

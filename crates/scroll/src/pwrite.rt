@@ -1,5 +1,6 @@
-// Writes at a place.
-ghost use Rattle.std.specs.Prelude.{◌≡◌, ℕ, List, length, IfOk, IfErr};
+// Writes at a place, and with a cursor.
+ghost use Rattle.std.specs.Prelude.{◌≡◌, ℕ, ◌+◌, List, length, IfOk, IfErr, OnErr};
+ghost use Rattle.scroll.specs.Reads.{ByDefault};
 ghost use Rattle.scroll.specs.Writes.{WritesAt, RefusesWriteAt};
 ghost use Rattle.scroll.specs.declared.error.Error.TheVariants.{BadOffset};
 
@@ -22,6 +23,27 @@ pub trait Pwrite<Ctx: Copy, E> {
     // Holds of a place past the end and each error that may be given for it.
     ghost past_end: { ℕ → E → Type 0 };
 
+    /// Writes `n` at `offset` in the default context, which for numbers is the machine's byte order, and answers its size in
+    /// bytes.
+    ///
+    /// ```rust
+    /// let mut bytes = [0u8; 8];
+    /// let mut target = &mut bytes[..];
+    /// target.pwrite(0xbeefbeefu32, 0)?;
+    /// assert_eq!(rt; bytes[..].pread::<u32>(0)?, 0xbeefbeef);
+    /// ```
+    fn pwrite<N: TryIntoCtx<Ctx, Error = E> + Drop>(
+        &mut self,
+        n: N,
+        offset: usize,
+    ) -> Result<usize, E>
+    where
+        Ctx: Default,
+        ensures wrote { IfOk result (λ size. ByDefault Ctx.is_default (λ ctx. WritesAt (N.writes ctx n) (target self.old) offset (target self.new) size)) }
+        ensures refused { IfErr result (λ e. ByDefault Ctx.is_default (λ ctx. RefusesWriteAt (N.refuses ctx n) past_end (target self.old) offset (target self.new) e)) }
+        ensures len { length (target self.new) ≡ length (target self.old) }
+        ensures same { same_target self.old self.new };
+
     /// Writes `n` at `offset` in the context `ctx`, and answers its size in bytes.
     ///
     /// ```rust
@@ -40,6 +62,54 @@ pub trait Pwrite<Ctx: Copy, E> {
         ensures refused { IfErr result (RefusesWriteAt (N.refuses ctx n) past_end (target self.old) offset (target self.new)) }
         ensures len { length (target self.new) ≡ length (target self.old) }
         ensures same { same_target self.old self.new };
+
+    /// Writes `n` at `offset` in the default context, answers its size in bytes, and moves `offset` by it. On an error
+    /// `offset` stays.
+    ///
+    /// ```rust
+    /// let mut bytes = [0u8; 8];
+    /// let mut target = &mut bytes[..];
+    /// let offset = &mut 0;
+    /// target.gwrite(0xbeefbeefu32, offset)?;
+    /// assert_eq!(rt; *offset, 4);
+    /// ```
+    fn gwrite<N: TryIntoCtx<Ctx, Error = E> + Drop>(
+        &mut self,
+        n: N,
+        offset: &mut usize,
+    ) -> Result<usize, E>
+    where
+        Ctx: Default,
+        ensures wrote { IfOk result (λ size. ByDefault Ctx.is_default (λ ctx. WritesAt (N.writes ctx n) (target self.old) offset.old (target self.new) size)) }
+        ensures refused { IfErr result (λ e. ByDefault Ctx.is_default (λ ctx. RefusesWriteAt (N.refuses ctx n) past_end (target self.old) offset.old (target self.new) e)) }
+        ensures moves { IfOk result (λ size. offset.new ≡ offset.old + size) }
+        ensures stays { OnErr result (offset.new ≡ offset.old) }
+        ensures len { length (target self.new) ≡ length (target self.old) }
+        ensures same { same_target self.old self.new };
+
+    /// Writes `n` at `offset` in the context `ctx`, answers its size in bytes, and moves `offset` by it. On an error
+    /// `offset` stays.
+    ///
+    /// ```rust
+    /// let mut bytes = [0u8; 8];
+    /// let mut target = &mut bytes[..];
+    /// let offset = &mut 0;
+    /// target.gwrite_with(0xbeefbeefu32, offset, LE)?;
+    /// target.gwrite_with(1u16, offset, BE)?;
+    /// assert_eq!(rt; *offset, 6);
+    /// ```
+    fn gwrite_with<N: TryIntoCtx<Ctx, Error = E> + Drop>(
+        &mut self,
+        n: N,
+        offset: &mut usize,
+        ctx: Ctx,
+    ) -> Result<usize, E>
+        ensures wrote { IfOk result (WritesAt (N.writes ctx n) (target self.old) offset.old (target self.new)) }
+        ensures refused { IfErr result (RefusesWriteAt (N.refuses ctx n) past_end (target self.old) offset.old (target self.new)) }
+        ensures moves { IfOk result (λ size. offset.new ≡ offset.old + size) }
+        ensures stays { OnErr result (offset.new ≡ offset.old) }
+        ensures len { length (target self.new) ≡ length (target self.old) }
+        ensures same { same_target self.old self.new };
 }
 
 impl<'d, Ctx: Copy, E: From<Error>> Pwrite<Ctx, E> for &'d mut [u8] {
@@ -48,6 +118,17 @@ impl<'d, Ctx: Copy, E: From<Error>> Pwrite<Ctx, E> for &'d mut [u8] {
     ghost same_target = { λ old new. new.ghost_name ≡ old.ghost_name };
 
     ghost past_end = { λ offset e. E.from_gives (BadOffset offset) e };
+
+    fn pwrite<N: TryIntoCtx<Ctx, Error = E> + Drop>(
+        &mut self,
+        n: N,
+        offset: usize,
+    ) -> Result<usize, E>
+    where
+        Ctx: Default,
+    {
+        self.pwrite_with(n, offset, Ctx::default())
+    }
 
     fn pwrite_with<N: TryIntoCtx<Ctx, Error = E> + Drop>(
         &mut self,
@@ -59,5 +140,28 @@ impl<'d, Ctx: Copy, E: From<Error>> Pwrite<Ctx, E> for &'d mut [u8] {
             return Err(E::from(Error::BadOffset(offset)));
         }
         n.try_into_ctx(&mut self[offset..], ctx)
+    }
+
+    fn gwrite<N: TryIntoCtx<Ctx, Error = E> + Drop>(
+        &mut self,
+        n: N,
+        offset: &mut usize,
+    ) -> Result<usize, E>
+    where
+        Ctx: Default,
+    {
+        self.gwrite_with(n, offset, Ctx::default())
+    }
+
+    fn gwrite_with<N: TryIntoCtx<Ctx, Error = E> + Drop>(
+        &mut self,
+        n: N,
+        offset: &mut usize,
+        ctx: Ctx,
+    ) -> Result<usize, E> {
+        let start = *offset;
+        let size = self.pwrite_with(n, start, ctx)?;
+        *offset = start + size;
+        Ok(size)
     }
 }

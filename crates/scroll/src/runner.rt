@@ -18,15 +18,23 @@ mod write;
 pub enum Place {
     /// At an offset in bytes from the start of the buffer.
     At(usize),
+    /// At the cursor, which an accepted command then moves by the size of what it read or wrote.
+    Cursor,
 }
 
 /// The type of a number.
 #[derive(Clone, Copy, Debug)]
 pub enum Width {
     U8,
+    I8,
     U16,
+    I16,
     U32,
+    I32,
     U64,
+    I64,
+    U128,
+    I128,
 }
 
 /// What a command reads.
@@ -40,9 +48,15 @@ pub enum Kind {
 #[derive(Clone, Copy, Debug)]
 pub enum Put {
     U8(u8, Endian),
+    I8(i8, Endian),
     U16(u16, Endian),
+    I16(i16, Endian),
     U32(u32, Endian),
+    I32(i32, Endian),
     U64(u64, Endian),
+    I64(i64, Endian),
+    U128(u128, Endian),
+    I128(i128, Endian),
 }
 
 /// A read or a write.
@@ -59,6 +73,8 @@ pub enum Command {
 pub enum Value {
     /// An unsigned number of any width.
     Unsigned(u128),
+    /// A signed number of any width.
+    Signed(i128),
 }
 
 /// What a command is answered with.

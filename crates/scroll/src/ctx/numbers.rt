@@ -1,14 +1,19 @@
-// Whole numbers. Each file below has the two types of a width, whose implementations differ in the width and the sign
-// alone.
+// Whole numbers, a file for each type. The files differ in the type, the width and the words for a sign alone.
 ghost use Rattle.std.specs.Prelude.{◌≡◌, ◌≤◌, ◌<◌, ◌++◌, length, drop, OnOk, IfErr};
 ghost use Rattle.scroll.specs.declared.error.Error.TheVariants.{TooBig};
 
 use crate::error::{Error, Result};
 
-mod bits16;
-mod bits32;
-mod bits64;
-mod bits8;
+mod i128;
+mod i16;
+mod i32;
+mod i64;
+mod i8;
+mod u128;
+mod u16;
+mod u32;
+mod u64;
+mod u8;
 
 // Tells whether `len` bytes are enough for a number of `width` bytes.
 #[inline]

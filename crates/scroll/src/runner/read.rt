@@ -11,12 +11,16 @@ use crate::pread::Pread;
 use crate::source::ReadFrom;
 use std::result;
 
-// Answers a read, and moves a cursor that it uses by the size of what was read.
+// Answers a read. A cursor that it uses moves by the size of what was read, once the answer's value stands.
 pub fn read(buffer: &[u8], cursor: &mut usize, place: Place, kind: Kind) -> Answer
     ensures { ReadStep buffer.now cursor.old place kind result cursor.new }
 {
-    match read_value(buffer, cursor, place, kind) {
-        Ok(value) => Answer::Read(value),
+    let mut after = *cursor;
+    match read_value(buffer, &mut after, place, kind) {
+        Ok(value) => {
+            *cursor = after;
+            Answer::Read(value)
+        }
         Err(error) => Answer::Refused(error),
     }
 }
@@ -27,13 +31,18 @@ fn read_value(buffer: &[u8], cursor: &mut usize, place: Place, kind: Kind) -> Re
     ensures stays { OnErr result (cursor.new ≡ cursor.old) }
 {
     let Kind::Number(width, order) = kind;
-    let number = match width {
-        Width::U8 => u128::from(read_at::<Endian, Error, u8>(buffer, cursor, place, order)?),
-        Width::U16 => u128::from(read_at::<Endian, Error, u16>(buffer, cursor, place, order)?),
-        Width::U32 => u128::from(read_at::<Endian, Error, u32>(buffer, cursor, place, order)?),
-        Width::U64 => u128::from(read_at::<Endian, Error, u64>(buffer, cursor, place, order)?),
-    };
-    Ok(Value::Unsigned(number))
+    match width {
+        Width::U8 => read_at(buffer, cursor, place, order).map(|x: u8| Value::Unsigned(x.into())),
+        Width::I8 => read_at(buffer, cursor, place, order).map(|x: i8| Value::Signed(x.into())),
+        Width::U16 => read_at(buffer, cursor, place, order).map(|x: u16| Value::Unsigned(x.into())),
+        Width::I16 => read_at(buffer, cursor, place, order).map(|x: i16| Value::Signed(x.into())),
+        Width::U32 => read_at(buffer, cursor, place, order).map(|x: u32| Value::Unsigned(x.into())),
+        Width::I32 => read_at(buffer, cursor, place, order).map(|x: i32| Value::Signed(x.into())),
+        Width::U64 => read_at(buffer, cursor, place, order).map(|x: u64| Value::Unsigned(x.into())),
+        Width::I64 => read_at(buffer, cursor, place, order).map(|x: i64| Value::Signed(x.into())),
+        Width::U128 => read_at(buffer, cursor, place, order).map(Value::Unsigned),
+        Width::I128 => read_at(buffer, cursor, place, order).map(Value::Signed),
+    }
 }
 
 // Reads a value of any type at the place of a command.
@@ -49,5 +58,6 @@ fn read_at<'b, Ctx: Copy, E: From<Error>, N: ReadFrom<&'b [u8], Ctx, Error = E>>
 {
     match place {
         Place::At(offset) => buffer.pread_with(offset, ctx),
+        Place::Cursor => buffer.gread_with(cursor, ctx),
     }
 }

@@ -29,9 +29,15 @@ fn write_value(buffer: &mut [u8], cursor: &mut usize, place: Place, put: Put) ->
 {
     match put {
         Put::U8(x, order) => write_at(buffer, cursor, place, x, order),
+        Put::I8(x, order) => write_at(buffer, cursor, place, x, order),
         Put::U16(x, order) => write_at(buffer, cursor, place, x, order),
+        Put::I16(x, order) => write_at(buffer, cursor, place, x, order),
         Put::U32(x, order) => write_at(buffer, cursor, place, x, order),
+        Put::I32(x, order) => write_at(buffer, cursor, place, x, order),
         Put::U64(x, order) => write_at(buffer, cursor, place, x, order),
+        Put::I64(x, order) => write_at(buffer, cursor, place, x, order),
+        Put::U128(x, order) => write_at(buffer, cursor, place, x, order),
+        Put::I128(x, order) => write_at(buffer, cursor, place, x, order),
     }
 }
 
@@ -56,5 +62,6 @@ fn write_at<Ctx: Copy, N: TryIntoCtx<Ctx, Error = Error> + Drop>(
     let target = &mut Target { bytes: buffer };
     match place {
         Place::At(offset) => target.bytes.pwrite_with(n, offset, ctx),
+        Place::Cursor => target.bytes.gwrite_with(n, cursor, ctx),
     }
 }

@@ -1,0 +1,117 @@
+// Signed numbers of two bytes.
+ghost use Rattle.std.specs.Prelude.{◌≡◌, ◌++◌, drop};
+ghost use Rattle.std.proofs.Common.{rules};
+ghost use Rattle.scroll.specs.Bytes.{RefusesShort, LeavesShort};
+ghost use Rattle.scroll.specs.Numbers.{signed_number, signed_bytes, ReadsSigned, WritesSigned};
+ghost use Rattle.scroll.specs.NumberLaws.{signed_bytes-keeps, WritesSigned-keeps};
+
+use super::{check_room, put_front};
+use crate::ctx::{FromCtx, IntoCtx, SizeWith, TryFromCtx, TryIntoCtx};
+use crate::endian::Endian;
+use crate::error::{Error, Result};
+
+impl FromCtx<Endian> for i16 {
+    ghost need = { λ _. 2 };
+
+    ghost makes = { λ order source x. x ≡ signed_number order 2 source };
+
+    fn from_ctx(this: &[u8], ctx: Endian) -> i16 {
+        let bytes = [this[0], this[1]];
+        match ctx {
+            Endian::Little => i16::from_le_bytes(bytes),
+            Endian::Big => i16::from_be_bytes(bytes),
+        }
+    }
+}
+
+impl<'a> TryFromCtx<'a, Endian> for i16 {
+    type Error = Error;
+
+    ghost reads = { ReadsSigned 2 };
+
+    ghost refuses = { λ _. RefusesShort 2 };
+
+    ghost reads_bounded = { λ order source x n h. Prim.search rules };
+
+    fn try_from_ctx(from: &'a [u8], ctx: Endian) -> Result<(i16, usize)> {
+        check_room(2, from.len())?;
+        Ok((i16::from_ctx(from, ctx), 2))
+    }
+}
+
+impl IntoCtx<Endian> for i16 {
+    ghost need = { λ _. 2 };
+
+    ghost leaves = { λ order x old new. new ≡ signed_bytes order 2 x ++ drop 2 old };
+
+    ghost leaves_keeps = { signed_bytes-keeps 2 };
+
+    fn into_ctx(self, dst: &mut [u8], ctx: Endian) {
+        match ctx {
+            Endian::Little => put_front(dst, self.to_le_bytes()),
+            Endian::Big => put_front(dst, self.to_be_bytes()),
+        }
+    }
+}
+
+impl TryIntoCtx<Endian> for i16 {
+    type Error = Error;
+
+    ghost writes = { WritesSigned 2 };
+
+    ghost refuses = { λ _ _. LeavesShort 2 };
+
+    ghost writes_bounded = { λ order x old new n h. Prim.search rules };
+
+    ghost writes_keeps = { WritesSigned-keeps 2 };
+
+    fn try_into_ctx(self, dst: &mut [u8], ctx: Endian) -> Result<usize> {
+        check_room(2, dst.len())?;
+        self.into_ctx(dst, ctx);
+        Ok(2)
+    }
+}
+
+impl<'n> IntoCtx<Endian> for &'n i16 {
+    ghost need = { λ _. 2 };
+
+    ghost leaves = { λ order x old new. new ≡ signed_bytes order 2 x.now ++ drop 2 old };
+
+    ghost leaves_keeps = { λ order x. signed_bytes-keeps 2 order x.now };
+
+    fn into_ctx(self, dst: &mut [u8], ctx: Endian) {
+        (*self).into_ctx(dst, ctx)
+    }
+}
+
+impl<'n> TryIntoCtx<Endian> for &'n i16 {
+    type Error = Error;
+
+    ghost writes = { λ order x. WritesSigned 2 order x.now };
+
+    ghost refuses = { λ _ _. LeavesShort 2 };
+
+    ghost writes_bounded = { λ order x old new n h. Prim.search rules };
+
+    ghost writes_keeps = { λ order x. WritesSigned-keeps 2 order x.now };
+
+    fn try_into_ctx(self, dst: &mut [u8], ctx: Endian) -> Result<usize> {
+        (*self).try_into_ctx(dst, ctx)
+    }
+}
+
+impl SizeWith<Endian> for i16 {
+    ghost size = { λ _. 2 };
+
+    fn size_with(_ctx: &Endian) -> usize {
+        2
+    }
+}
+
+impl SizeWith<()> for i16 {
+    ghost size = { λ _. 2 };
+
+    fn size_with(_ctx: &()) -> usize {
+        2
+    }
+}

@@ -1,0 +1,117 @@
+// Signed numbers of four bytes.
+ghost use Rattle.std.specs.Prelude.{◌≡◌, ◌++◌, drop};
+ghost use Rattle.std.proofs.Common.{rules};
+ghost use Rattle.scroll.specs.Bytes.{RefusesShort, LeavesShort};
+ghost use Rattle.scroll.specs.Numbers.{signed_number, signed_bytes, ReadsSigned, WritesSigned};
+ghost use Rattle.scroll.specs.NumberLaws.{signed_bytes-keeps, WritesSigned-keeps};
+
+use super::{check_room, put_front};
+use crate::ctx::{FromCtx, IntoCtx, SizeWith, TryFromCtx, TryIntoCtx};
+use crate::endian::Endian;
+use crate::error::{Error, Result};
+
+impl FromCtx<Endian> for i32 {
+    ghost need = { λ _. 4 };
+
+    ghost makes = { λ order source x. x ≡ signed_number order 4 source };
+
+    fn from_ctx(this: &[u8], ctx: Endian) -> i32 {
+        let bytes = [this[0], this[1], this[2], this[3]];
+        match ctx {
+            Endian::Little => i32::from_le_bytes(bytes),
+            Endian::Big => i32::from_be_bytes(bytes),
+        }
+    }
+}
+
+impl<'a> TryFromCtx<'a, Endian> for i32 {
+    type Error = Error;
+
+    ghost reads = { ReadsSigned 4 };
+
+    ghost refuses = { λ _. RefusesShort 4 };
+
+    ghost reads_bounded = { λ order source x n h. Prim.search rules };
+
+    fn try_from_ctx(from: &'a [u8], ctx: Endian) -> Result<(i32, usize)> {
+        check_room(4, from.len())?;
+        Ok((i32::from_ctx(from, ctx), 4))
+    }
+}
+
+impl IntoCtx<Endian> for i32 {
+    ghost need = { λ _. 4 };
+
+    ghost leaves = { λ order x old new. new ≡ signed_bytes order 4 x ++ drop 4 old };
+
+    ghost leaves_keeps = { signed_bytes-keeps 4 };
+
+    fn into_ctx(self, dst: &mut [u8], ctx: Endian) {
+        match ctx {
+            Endian::Little => put_front(dst, self.to_le_bytes()),
+            Endian::Big => put_front(dst, self.to_be_bytes()),
+        }
+    }
+}
+
+impl TryIntoCtx<Endian> for i32 {
+    type Error = Error;
+
+    ghost writes = { WritesSigned 4 };
+
+    ghost refuses = { λ _ _. LeavesShort 4 };
+
+    ghost writes_bounded = { λ order x old new n h. Prim.search rules };
+
+    ghost writes_keeps = { WritesSigned-keeps 4 };
+
+    fn try_into_ctx(self, dst: &mut [u8], ctx: Endian) -> Result<usize> {
+        check_room(4, dst.len())?;
+        self.into_ctx(dst, ctx);
+        Ok(4)
+    }
+}
+
+impl<'n> IntoCtx<Endian> for &'n i32 {
+    ghost need = { λ _. 4 };
+
+    ghost leaves = { λ order x old new. new ≡ signed_bytes order 4 x.now ++ drop 4 old };
+
+    ghost leaves_keeps = { λ order x. signed_bytes-keeps 4 order x.now };
+
+    fn into_ctx(self, dst: &mut [u8], ctx: Endian) {
+        (*self).into_ctx(dst, ctx)
+    }
+}
+
+impl<'n> TryIntoCtx<Endian> for &'n i32 {
+    type Error = Error;
+
+    ghost writes = { λ order x. WritesSigned 4 order x.now };
+
+    ghost refuses = { λ _ _. LeavesShort 4 };
+
+    ghost writes_bounded = { λ order x old new n h. Prim.search rules };
+
+    ghost writes_keeps = { λ order x. WritesSigned-keeps 4 order x.now };
+
+    fn try_into_ctx(self, dst: &mut [u8], ctx: Endian) -> Result<usize> {
+        (*self).try_into_ctx(dst, ctx)
+    }
+}
+
+impl SizeWith<Endian> for i32 {
+    ghost size = { λ _. 4 };
+
+    fn size_with(_ctx: &Endian) -> usize {
+        4
+    }
+}
+
+impl SizeWith<()> for i32 {
+    ghost size = { λ _. 4 };
+
+    fn size_with(_ctx: &()) -> usize {
+        4
+    }
+}

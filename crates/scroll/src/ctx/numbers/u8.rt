@@ -1,0 +1,117 @@
+// Unsigned numbers of one byte.
+ghost use Rattle.std.specs.Prelude.{◌≡◌, ◌++◌, drop};
+ghost use Rattle.std.proofs.Common.{rules};
+ghost use Rattle.scroll.specs.Bytes.{RefusesShort, LeavesShort};
+ghost use Rattle.scroll.specs.Numbers.{number, number_bytes, ReadsNumber, WritesNumber};
+ghost use Rattle.scroll.specs.NumberLaws.{number_bytes-keeps, WritesNumber-keeps};
+
+use super::{check_room, put_front};
+use crate::ctx::{FromCtx, IntoCtx, SizeWith, TryFromCtx, TryIntoCtx};
+use crate::endian::Endian;
+use crate::error::{Error, Result};
+
+impl FromCtx<Endian> for u8 {
+    ghost need = { λ _. 1 };
+
+    ghost makes = { λ order source x. x ≡ number order 1 source };
+
+    fn from_ctx(this: &[u8], ctx: Endian) -> u8 {
+        let bytes = [this[0]];
+        match ctx {
+            Endian::Little => u8::from_le_bytes(bytes),
+            Endian::Big => u8::from_be_bytes(bytes),
+        }
+    }
+}
+
+impl<'a> TryFromCtx<'a, Endian> for u8 {
+    type Error = Error;
+
+    ghost reads = { ReadsNumber 1 };
+
+    ghost refuses = { λ _. RefusesShort 1 };
+
+    ghost reads_bounded = { λ order source x n h. Prim.search rules };
+
+    fn try_from_ctx(from: &'a [u8], ctx: Endian) -> Result<(u8, usize)> {
+        check_room(1, from.len())?;
+        Ok((u8::from_ctx(from, ctx), 1))
+    }
+}
+
+impl IntoCtx<Endian> for u8 {
+    ghost need = { λ _. 1 };
+
+    ghost leaves = { λ order x old new. new ≡ number_bytes order 1 x ++ drop 1 old };
+
+    ghost leaves_keeps = { number_bytes-keeps 1 };
+
+    fn into_ctx(self, dst: &mut [u8], ctx: Endian) {
+        match ctx {
+            Endian::Little => put_front(dst, self.to_le_bytes()),
+            Endian::Big => put_front(dst, self.to_be_bytes()),
+        }
+    }
+}
+
+impl TryIntoCtx<Endian> for u8 {
+    type Error = Error;
+
+    ghost writes = { WritesNumber 1 };
+
+    ghost refuses = { λ _ _. LeavesShort 1 };
+
+    ghost writes_bounded = { λ order x old new n h. Prim.search rules };
+
+    ghost writes_keeps = { WritesNumber-keeps 1 };
+
+    fn try_into_ctx(self, dst: &mut [u8], ctx: Endian) -> Result<usize> {
+        check_room(1, dst.len())?;
+        self.into_ctx(dst, ctx);
+        Ok(1)
+    }
+}
+
+impl<'n> IntoCtx<Endian> for &'n u8 {
+    ghost need = { λ _. 1 };
+
+    ghost leaves = { λ order x old new. new ≡ number_bytes order 1 x.now ++ drop 1 old };
+
+    ghost leaves_keeps = { λ order x. number_bytes-keeps 1 order x.now };
+
+    fn into_ctx(self, dst: &mut [u8], ctx: Endian) {
+        (*self).into_ctx(dst, ctx)
+    }
+}
+
+impl<'n> TryIntoCtx<Endian> for &'n u8 {
+    type Error = Error;
+
+    ghost writes = { λ order x. WritesNumber 1 order x.now };
+
+    ghost refuses = { λ _ _. LeavesShort 1 };
+
+    ghost writes_bounded = { λ order x old new n h. Prim.search rules };
+
+    ghost writes_keeps = { λ order x. WritesNumber-keeps 1 order x.now };
+
+    fn try_into_ctx(self, dst: &mut [u8], ctx: Endian) -> Result<usize> {
+        (*self).try_into_ctx(dst, ctx)
+    }
+}
+
+impl SizeWith<Endian> for u8 {
+    ghost size = { λ _. 1 };
+
+    fn size_with(_ctx: &Endian) -> usize {
+        1
+    }
+}
+
+impl SizeWith<()> for u8 {
+    ghost size = { λ _. 1 };
+
+    fn size_with(_ctx: &()) -> usize {
+        1
+    }
+}

@@ -1,0 +1,115 @@
+// Reads and writes where the caller has made sure of room.
+ghost use Rattle.std.specs.Prelude.{◌≡◌, ℕ, ◌+◌, ◌≤◌, List, length, take, drop};
+ghost use Rattle.scroll.specs.Reads.{ByDefault};
+
+use crate::ctx::{FromCtx, IntoCtx};
+use crate::source::Source;
+
+/// Reads values of any type that implements [`FromCtx`] from a byte slice, with no refusal.
+///
+/// An offset counts bytes from the start of the slice. The caller makes sure of room: the offset and the bytes that the
+/// type needs are together at most the slice's length. [`Pread`](crate::Pread) tests it, and refuses.
+pub trait Cread<Ctx: Copy>: Source {
+    /// Reads a value at `offset` in the default context, which for numbers is the machine's byte order.
+    ///
+    /// ```rust
+    /// let bytes: [u8; 12] = [1, 0, 0, 0, 0, 0, 0, 0, 0xef, 0xbe, 0, 0];
+    /// let source = &bytes[..];
+    /// assert_eq!(rt; source.cread::<i64>(0), 1);
+    /// assert_eq!(rt; source.cread::<u32>(8), 48879);
+    /// ```
+    fn cread<N: FromCtx<Ctx>>(self, offset: usize) -> N
+    where
+        Ctx: Default,
+        requires { (ctx : Ctx) → Ctx.is_default ctx → offset + N.need ctx ≤ length (Self.bytes self) }
+        ensures { ByDefault Ctx.is_default (λ ctx. N.makes ctx (drop offset (Self.bytes self)) result) };
+
+    /// Reads a value at `offset` in the context `ctx`.
+    ///
+    /// ```rust
+    /// let bytes: [u8; 12] = [0x7f, 255, 255, 255, 255, 255, 255, 255, 0xef, 0xbe, 0xad, 0xde];
+    /// let source = &bytes[..];
+    /// assert_eq!(rt; source.cread_with::<i64>(0, BE), i64::MAX);
+    /// assert_eq!(rt; source.cread_with::<u32>(8, LE), 0xdeadbeef);
+    /// ```
+    fn cread_with<N: FromCtx<Ctx>>(self, offset: usize, ctx: Ctx) -> N
+        requires { offset + N.need ctx ≤ length (Self.bytes self) }
+        ensures { N.makes ctx (drop offset (Self.bytes self)) result };
+}
+
+impl<'a, Ctx: Copy> Cread<Ctx> for &'a [u8] {
+    fn cread<N: FromCtx<Ctx>>(self, offset: usize) -> N
+    where
+        Ctx: Default,
+    {
+        self.cread_with(offset, Ctx::default())
+    }
+
+    fn cread_with<N: FromCtx<Ctx>>(self, offset: usize, ctx: Ctx) -> N {
+        N::from_ctx(&self[offset..], ctx)
+    }
+}
+
+/// Writes values of any type that implements [`IntoCtx`] to a byte slice, with no refusal.
+///
+/// An offset counts bytes from the start of the slice. The caller makes sure of room: the offset and the bytes that the
+/// type needs are together at most the slice's length. The bytes before the offset stay, and so do those behind the bytes
+/// that the type needs. [`Pwrite`](crate::Pwrite) tests the room, and refuses.
+pub trait Cwrite<Ctx: Copy> {
+    // The bytes of the target.
+    ghost target: { Self → List ℕ };
+
+    // Holds where two values stand for the same target.
+    ghost same_target: { Self → Self → Type 0 };
+
+    /// Writes `n` at `offset` in the default context, which for numbers is the machine's byte order.
+    ///
+    /// ```rust
+    /// let mut bytes = [0u8; 12];
+    /// let mut target = &mut bytes[..];
+    /// target.cwrite(42i64, 0);
+    /// target.cwrite(0xdeadbeefu32, 8);
+    /// assert_eq!(rt; bytes[..].cread::<i64>(0), 42);
+    /// assert_eq!(rt; bytes[..].cread::<u32>(8), 0xdeadbeef);
+    /// ```
+    fn cwrite<N: IntoCtx<Ctx>>(&mut self, n: N, offset: usize)
+    where
+        Ctx: Default,
+        requires { (ctx : Ctx) → Ctx.is_default ctx → offset + N.need ctx ≤ length (target self.old) }
+        ensures before { take offset (target self.new) ≡ take offset (target self.old) }
+        ensures after { ByDefault Ctx.is_default (λ ctx. N.leaves ctx n (drop offset (target self.old)) (drop offset (target self.new))) }
+        ensures len { length (target self.new) ≡ length (target self.old) }
+        ensures same { same_target self.old self.new };
+
+    /// Writes `n` at `offset` in the context `ctx`.
+    ///
+    /// ```rust
+    /// let mut bytes = [0u8; 16];
+    /// let mut target = &mut bytes[..];
+    /// target.cwrite_with(0xdeadbeefu32, 8, BE);
+    /// assert_eq!(rt; bytes[..].cread_with::<u32>(8, LE), 4022250974);
+    /// ```
+    fn cwrite_with<N: IntoCtx<Ctx>>(&mut self, n: N, offset: usize, ctx: Ctx)
+        requires { offset + N.need ctx ≤ length (target self.old) }
+        ensures before { take offset (target self.new) ≡ take offset (target self.old) }
+        ensures after { N.leaves ctx n (drop offset (target self.old)) (drop offset (target self.new)) }
+        ensures len { length (target self.new) ≡ length (target self.old) }
+        ensures same { same_target self.old self.new };
+}
+
+impl<'d, Ctx: Copy> Cwrite<Ctx> for &'d mut [u8] {
+    ghost target = { λ t. t.now };
+
+    ghost same_target = { λ old new. new.ghost_name ≡ old.ghost_name };
+
+    fn cwrite<N: IntoCtx<Ctx>>(&mut self, n: N, offset: usize)
+    where
+        Ctx: Default,
+    {
+        self.cwrite_with(n, offset, Ctx::default())
+    }
+
+    fn cwrite_with<N: IntoCtx<Ctx>>(&mut self, n: N, offset: usize, ctx: Ctx) {
+        n.into_ctx(&mut self[offset..], ctx)
+    }
+}

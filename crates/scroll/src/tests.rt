@@ -1,0 +1,7 @@
+// What no clause says: values from outside, printed lines, and that calls succeed.
+mod calls;
+mod cursor;
+mod numbers;
+mod own_type;
+mod printed;
+mod runs;
