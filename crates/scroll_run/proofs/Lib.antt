@@ -2,3 +2,4 @@ pub mod Numerals
 pub mod Fronts
 pub mod CommandLemmas
 pub mod LineLemmas
+pub mod AnswerLemmas

@@ -3,3 +3,4 @@ pub mod Output
 pub mod Words
 pub mod Commands
 pub mod Lines
+pub mod Answers

@@ -63,6 +63,17 @@ impl Written {
     }
 }
 
+/// The command of each line.
+pub fn borrow_commands(alloc: Global, lines: &[CommandLine]) -> Result<Vec<Command>, AllocError>
+    ensures { IfOk result (λ commands. commands.items ≡ map command_of lines.now) }
+{
+    let mut commands = Vec::with_capacity(alloc, lines.len())?;
+    for line in lines {
+        commands.push(line.command())?;
+    }
+    Ok(commands)
+}
+
 /// The command that a line spells. `None` is for a bad line.
 pub fn parse_command(alloc: Global, line: &[u8]) -> Result<Option<CommandLine>, AllocError>
     ensures { IfOk result (λ found. MatchOption found ((c : Command) → ¬ (SpellsCommand (words_of line.now) c)) (λ x. SpellsCommand (words_of line.now) (command_of x))) }

@@ -1,12 +1,18 @@
 //! A whole session.
+ghost use Rattle.std.specs.Prelude.{◌≢◌, ℕ, List, IfOk, IfErr, string_bytes};
+ghost use Rattle.std.specs.IoError.{error_kind};
+ghost use Rattle.std.specs.Io.KnownBytes.{Appends};
+ghost use Rattle.scroll_run.specs.Answers.{AnswersInput, AnswersSession, RunsScript};
+
 use crate::answers::print_answers;
+use crate::commands::borrow_commands;
 use crate::input::{MOST_READ, ReadError, read_input};
 use crate::lines::{Script, Stop, parse_script};
 use crate::output::write_output;
 use scroll::runner::run;
 use std::alloc::{AllocError, Global};
 use std::io;
-use std::io::{Read, Write};
+use std::io::{ErrorKind, Read, Write};
 
 // The statuses that a session answers.
 const ANSWERED: u8 = 0;
@@ -25,7 +31,10 @@ struct Outcome {
 /// Runs the session that the reader gives, and writes what it answers.
 ///
 /// The answer is the session's status. An error is one of the reader or of the writer.
-pub fn session<R: Read, W: Write>(alloc: Global, input: &mut R, output: &mut W) -> io::Result<u8> {
+pub fn session<R: Read, W: Write>(alloc: Global, input: &mut R, output: &mut W) -> io::Result<u8>
+    ensures answered { IfOk result (λ status. (text : List ℕ) × Appends (W.contents output.old) (W.contents output.new) text × AnswersSession (R.remaining input.old) (R.remaining input.new) text status) }
+    ensures fault { IfErr result (λ e. error_kind e ≢ ErrorKind.Interrupted) }
+{
     let outcome = match read_input(alloc, input) {
         Ok(bytes) => answer_input(alloc, &bytes),
         Err(ReadError::NoMemory) => Err(AllocError),
@@ -44,7 +53,9 @@ pub fn session<R: Read, W: Write>(alloc: Global, input: &mut R, output: &mut W) 
 }
 
 // What an input is answered with.
-fn answer_input(alloc: Global, input: &[u8]) -> Result<Outcome, AllocError> {
+fn answer_input(alloc: Global, input: &[u8]) -> Result<Outcome, AllocError>
+    ensures { IfOk result (λ outcome. AnswersInput input.now (string_bytes outcome.text) outcome.status) }
+{
     if input.len() >= MOST_READ {
         return Ok(Outcome {
             text: String::from_str(alloc, "input too long\n")?,
@@ -65,16 +76,15 @@ fn answer_input(alloc: Global, input: &[u8]) -> Result<Outcome, AllocError> {
 }
 
 // Runs the commands of a script, and prints what they answer and leave.
-fn run_script(alloc: Global, script: Script) -> Result<String, AllocError> {
+fn run_script(alloc: Global, script: Script) -> Result<String, AllocError>
+    ensures { IfOk result (λ text. RunsScript script (string_bytes text)) }
+{
     let Script {
         mut buffer,
         mut cursor,
         commands: lines,
     } = script;
-    let mut commands = Vec::with_capacity(alloc, lines.len())?;
-    for line in &lines {
-        commands.push(line.command())?;
-    }
+    let commands = borrow_commands(alloc, &lines)?;
     let mut answers = Vec::new(alloc);
     match run(
         alloc,

@@ -1,0 +1,78 @@
+-- What a session prints.
+use Rattle.std.specs.Prelude.{◌≡◌, ◌<◌, ◌≤◌, ◌++◌, ◌==◌, ◌⊎◌, ℕ, List, [], ◌∷◌, length, map, codes, if◌then◌else◌, Option}
+use Rattle.std.specs.Fmt.{decimal}
+use Rattle.std.specs.Io.KnownBytes.{Consumes, IsAtEnd}
+use Rattle.hex.specs.Hex.{encode_lower}
+use Rattle.scroll.specs.Runs.{IsRun}
+use Rattle.scroll.specs.declared.runner.Answer.{Answer}
+use Rattle.scroll.specs.declared.runner.Answer.TheVariants as answer
+use Rattle.scroll.specs.declared.runner.Value.TheVariants as value
+use Rattle.scroll_run.specs.Commands.{command_of}
+use Rattle.scroll_run.specs.Lines.{lines_of, SpellScript, IsFirstBadLine}
+use Rattle.scroll_run.specs.declared.lines.Script.{Script}
+
+-- bytes as a line has them
+abbrev pub hex_text : List ℕ → List ℕ
+hex_text bytes = if length bytes == 0 then codes "-" else encode_lower bytes
+
+-- the line of an answer; what an error says of itself is left open
+abbrev pub IsAnswerLine : Answer → List ℕ → Type 0
+IsAnswerLine (answer.Read (value.Unsigned x)) line = line ≡ codes "number " ++ decimal x ++ codes "\n"
+IsAnswerLine (answer.Wrote n) line = line ≡ codes "wrote " ++ decimal n ++ codes "\n"
+IsAnswerLine (answer.Refused e) line = (says : List ℕ) × (line ≡ codes "error " ++ says ++ codes "\n")
+
+-- a line for each answer, in order
+abbrev pub AreAnswerLines : List Answer → List ℕ → Type 0
+AreAnswerLines [] text = text ≡ []
+AreAnswerLines (a ∷ more) text = (line rest : List ℕ) × (text ≡ line ++ rest) × IsAnswerLine a line × AreAnswerLines more rest
+
+-- the answers, then the buffer and the cursor
+pub record Prints (answers : List Answer) (buffer : List ℕ) (cursor : ℕ) (text : List ℕ) : Type 0 where
+  pub front : List ℕ
+  pub lines : AreAnswerLines answers front
+  pub whole : text ≡ front ++ codes "buffer " ++ hex_text buffer ++ codes "\n" ++ codes "cursor " ++ decimal cursor ++ codes "\n"
+
+-- a script is run, and its answers are printed
+pub record RunsScript (script : Script) (text : List ℕ) : Type 0 where
+  pub answers : List Answer
+  pub buffer : List ℕ
+  pub cursor : ℕ
+  pub ran : IsRun script.buffer.items buffer script.cursor cursor (map command_of script.commands.items) [] answers
+  pub prints : Prints answers buffer cursor text
+
+-- the input is over the limit
+pub record IsTooLong (input text : List ℕ) (status : ℕ) : Type 0 where
+  pub long : 65536 < length input
+  pub says : text ≡ codes "input too long\n"
+  pub status_is : status ≡ 2
+
+-- a line of the input spells nothing, or is missing
+pub record IsBadInput (input text : List ℕ) (status : ℕ) : Type 0 where
+  pub short : length input ≤ 65536
+  pub line : ℕ
+  pub first : IsFirstBadLine (lines_of input) line
+  pub says : text ≡ codes "bad line " ++ decimal line ++ codes "\n"
+  pub status_is : status ≡ 2
+
+-- the input spells a script, which is run
+pub record IsAnswered (input text : List ℕ) (status : ℕ) : Type 0 where
+  pub short : length input ≤ 65536
+  pub script : Script
+  pub spelled : SpellScript (lines_of input) script
+  pub runs : RunsScript script text
+  pub status_is : status ≡ 0
+
+-- what an input is answered with, while memory lasts
+abbrev pub AnswersInput : List ℕ → List ℕ → ℕ → Type 0
+AnswersInput input text status = IsTooLong input text status ⊎ (IsBadInput input text status ⊎ IsAnswered input text status)
+
+-- the input that a reader gave: all that it had, or one byte more than an input may have
+pub record IsInput (old new : Option (List ℕ)) (input : List ℕ) : Type 0 where
+  pub bound : length input ≤ 65537
+  pub taken : Consumes old new input
+  pub whole : length input < 65537 → IsAtEnd new
+
+-- the text and the status of a session whose reader gave the input
+abbrev pub AnswersSession : Option (List ℕ) → Option (List ℕ) → List ℕ → ℕ → Type 0
+AnswersSession old new text status =
+    ((text ≡ codes "out of memory\n") × (status ≡ 3)) ⊎ ((input : List ℕ) × IsInput old new input × AnswersInput input text status)
