@@ -1,6 +1,6 @@
 -- What a session prints.
 use Rattle.std.specs.Prelude.{◌≡◌, ◌<◌, ◌≤◌, ◌++◌, ◌==◌, ◌⊎◌, ℕ, List, [], ◌∷◌, length, map, codes, if◌then◌else◌, Option}
-use Rattle.std.specs.Fmt.{decimal}
+use Rattle.std.specs.Fmt.{decimal, signed_decimal}
 use Rattle.std.specs.Io.KnownBytes.{Consumes, IsAtEnd}
 use Rattle.hex.specs.Hex.{encode_lower}
 use Rattle.scroll.specs.Runs.{IsRun}
@@ -18,6 +18,7 @@ hex_text bytes = if length bytes == 0 then codes "-" else encode_lower bytes
 -- the line of an answer; what an error says of itself is left open
 abbrev pub IsAnswerLine : Answer → List ℕ → Type 0
 IsAnswerLine (answer.Read (value.Unsigned x)) line = line ≡ codes "number " ++ decimal x ++ codes "\n"
+IsAnswerLine (answer.Read (value.Signed x)) line = line ≡ codes "number " ++ signed_decimal x ++ codes "\n"
 IsAnswerLine (answer.Wrote n) line = line ≡ codes "wrote " ++ decimal n ++ codes "\n"
 IsAnswerLine (answer.Refused e) line = (says : List ℕ) × (line ≡ codes "error " ++ says ++ codes "\n")
 

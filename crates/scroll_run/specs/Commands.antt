@@ -1,7 +1,6 @@
 -- What the lines of commands spell.
-use Rattle.std.specs.Prelude.{◌≡◌, ◌<◌, ◌^◌, ℕ, List, [], ◌∷◌, codes}
+use Rattle.std.specs.Prelude.{◌≡◌, ◌<◌, ◌+◌, ◌^◌, ◌++◌, ◌⊎◌, ℕ, ℤ, pos, neg_ℤ, List, [], ◌∷◌, codes}
 use Rattle.std.specs.Str.Parse.{IsNumeral, digits_value}
-use Rattle.scroll.specs.Runs.{bytes_in}
 use Rattle.scroll.specs.declared.endian.Endian.{Endian}
 use Rattle.scroll.specs.declared.runner.Command.{Command}
 use Rattle.scroll.specs.declared.runner.Command.TheVariants as command
@@ -25,30 +24,42 @@ use Rattle.scroll_run.specs.declared.commands.Written.TheVariants as written
 abbrev pub SpellsNumber : ℕ → List ℕ → ℕ → Type 0
 SpellsNumber limit word x = IsNumeral 10 word × (digits_value 10 word < limit) × (x ≡ digits_value 10 word)
 
+-- a word spells a signed number: digits below half spell their value, and a minus and digits up to half the value below
+-- zero
+abbrev pub SpellsSigned : ℕ → List ℕ → ℤ → Type 0
+SpellsSigned half word x =
+    ((n : ℕ) × SpellsNumber half word n × (x ≡ pos n))
+    ⊎ ((digits : List ℕ) × (n : ℕ) × (word ≡ codes "-" ++ digits) × SpellsNumber (half + 1) digits n × (x ≡ neg_ℤ (pos n)))
+
 -- words begin with a place, and go on with these
 abbrev pub SpellsPlace : List (List ℕ) → Place → List (List ℕ) → Type 0
 SpellsPlace words (place.At offset) rest = (word : List ℕ) × (words ≡ word ∷ rest) × SpellsNumber (2 ^ 64) word offset
+SpellsPlace words place.Cursor rest = ⊥
 
 -- words spell a kind
 abbrev pub SpellsKind : List (List ℕ) → Kind → Type 0
 SpellsKind words (kind.Number w order) = words ≡ width_word w ∷ order_word order ∷ []
 
--- a number of a width, to be written in a byte order
-abbrev pub number_put : Width → Endian → ℕ → Put
-number_put width.U8 order x = put.U8 x order
-number_put width.U16 order x = put.U16 x order
-number_put width.U32 order x = put.U32 x order
-number_put width.U64 order x = put.U64 x order
+-- a word spells a number in the range of its type, to be written in a byte order
+abbrev pub SpellsValue : Width → Endian → List ℕ → Put → Type 0
+SpellsValue width.U8 order word p = (x : ℕ) × SpellsNumber (2 ^ 8) word x × (p ≡ put.U8 x order)
+SpellsValue width.I8 order word p = (x : ℤ) × SpellsSigned (2 ^ 7) word x × (p ≡ put.I8 x order)
+SpellsValue width.U16 order word p = (x : ℕ) × SpellsNumber (2 ^ 16) word x × (p ≡ put.U16 x order)
+SpellsValue width.I16 order word p = (x : ℤ) × SpellsSigned (2 ^ 15) word x × (p ≡ put.I16 x order)
+SpellsValue width.U32 order word p = (x : ℕ) × SpellsNumber (2 ^ 32) word x × (p ≡ put.U32 x order)
+SpellsValue width.I32 order word p = (x : ℤ) × SpellsSigned (2 ^ 31) word x × (p ≡ put.I32 x order)
+SpellsValue width.U64 order word p = (x : ℕ) × SpellsNumber (2 ^ 64) word x × (p ≡ put.U64 x order)
+SpellsValue width.I64 order word p = (x : ℤ) × SpellsSigned (2 ^ 63) word x × (p ≡ put.I64 x order)
+SpellsValue width.U128 order word p = (x : ℕ) × SpellsNumber (2 ^ 128) word x × (p ≡ put.U128 x order)
+SpellsValue width.I128 order word p = (x : ℤ) × SpellsSigned (2 ^ 127) word x × (p ≡ put.I128 x order)
 
--- words spell what is written: the type of a number, a byte order and a value in the type's range
+-- words spell what is written: the type of a number, a byte order and a value
 pub record SpellsPut (words : List (List ℕ)) (p : Put) : Type 0 where
   pub width : Width
   pub order : Endian
   pub word : List ℕ
-  pub value : ℕ
   pub words_are : words ≡ width_word width ∷ order_word order ∷ word ∷ []
-  pub spells : SpellsNumber (256 ^ bytes_in width) word value
-  pub is : p ≡ number_put width order value
+  pub spells : SpellsValue width order word p
 
 -- the word of a verb
 abbrev pub verb_word : Verb → List ℕ

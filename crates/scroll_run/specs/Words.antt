@@ -5,7 +5,7 @@ use Rattle.hex.specs.Hex.{decode_of}
 use Rattle.scroll.specs.declared.endian.Endian.{Endian}
 use Rattle.scroll.specs.declared.endian.Endian.TheVariants.{Little, Big}
 use Rattle.scroll.specs.declared.runner.Width.{Width}
-use Rattle.scroll.specs.declared.runner.Width.TheVariants.{U8, U16, U32, U64}
+use Rattle.scroll.specs.declared.runner.Width.TheVariants as width
 
 -- the words of a line: what stands before, between and after its spaces
 abbrev pub words_of : List ℕ → List (List ℕ)
@@ -17,10 +17,16 @@ SpellsBytes word bytes = ((word ≡ codes "-") × (bytes ≡ [])) ⊎ ((0 < leng
 
 -- the word of a type of number
 abbrev pub width_word : Width → List ℕ
-width_word U8 = codes "u8"
-width_word U16 = codes "u16"
-width_word U32 = codes "u32"
-width_word U64 = codes "u64"
+width_word width.U8 = codes "u8"
+width_word width.I8 = codes "i8"
+width_word width.U16 = codes "u16"
+width_word width.I16 = codes "i16"
+width_word width.U32 = codes "u32"
+width_word width.I32 = codes "i32"
+width_word width.U64 = codes "u64"
+width_word width.I64 = codes "i64"
+width_word width.U128 = codes "u128"
+width_word width.I128 = codes "i128"
 
 -- the word of a byte order
 abbrev pub order_word : Endian → List ℕ

@@ -30,6 +30,7 @@ fn print_answer(alloc: Global, text: &mut String, answer: &Answer) -> Result<(),
 {
     match answer {
         Answer::Read(Value::Unsigned(number)) => writeln!(text, "number {number}"),
+        Answer::Read(Value::Signed(number)) => writeln!(text, "number {number}"),
         Answer::Wrote(size) => writeln!(text, "wrote {size}"),
         Answer::Refused(error) => {
             let says = format!(in alloc; "{error}")?;

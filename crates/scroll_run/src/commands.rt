@@ -1,16 +1,14 @@
 //! The lines of commands.
-ghost use Rattle.std.specs.Prelude.{◌≡◌, ◌<◌, ◌^◌, ℕ, List, IfOk, MatchOption, SomeIff, map};
-ghost use Rattle.std.specs.Str.Parse.{IsNumeral, digits_value};
-ghost use Rattle.scroll.specs.Runs.{bytes_in};
+ghost use Rattle.std.specs.Prelude.{◌≡◌, ℕ, List, IfOk, MatchOption, map};
 ghost use Rattle.scroll.specs.declared.runner.Command.{Command};
 ghost use Rattle.scroll.specs.declared.runner.Kind.{Kind};
 ghost use Rattle.scroll.specs.declared.runner.Place.{Place};
 ghost use Rattle.scroll.specs.declared.runner.Put.{Put};
-ghost use Rattle.scroll_run.specs.Commands.{SpellsPlace, SpellsKind, SpellsPut, SpellsCommand, number_put, put_of, command_of, verb_word};
+ghost use Rattle.scroll_run.specs.Commands.{SpellsPlace, SpellsKind, SpellsPut, SpellsValue, SpellsCommand, put_of, command_of, verb_word};
 ghost use Rattle.scroll_run.specs.declared.commands.Verb.{Verb};
 ghost use Rattle.scroll_run.specs.Words.{words_of};
 
-use crate::words::{parse_number, parse_order, parse_usize, parse_width, split};
+use crate::words::{parse_number, parse_order, parse_signed, parse_usize, parse_width, split};
 use scroll::Endian;
 use scroll::runner::{Command, Kind, Place, Put, Width};
 use std::alloc::{AllocError, Global};
@@ -143,14 +141,19 @@ fn parse_written(words: &[&[u8]]) -> Option<Written>
 
 // The number of a width that a word spells.
 fn parse_number_put(width: Width, order: Endian, word: &[u8]) -> Option<Put>
-    ensures { SomeIff result (IsNumeral 10 word.now × (digits_value 10 word.now < 256 ^ bytes_in width)) (number_put width order (digits_value 10 word.now)) }
+    ensures { MatchOption result ((put : Put) → ¬ (SpellsValue width order word.now put)) (SpellsValue width order word.now) }
 {
-    let number = parse_number(word)?;
     let put = match width {
-        Width::U8 => Put::U8(u8::try_from(number).ok()?, order),
-        Width::U16 => Put::U16(u16::try_from(number).ok()?, order),
-        Width::U32 => Put::U32(u32::try_from(number).ok()?, order),
-        Width::U64 => Put::U64(u64::try_from(number).ok()?, order),
+        Width::U8 => Put::U8(u8::try_from(parse_number(word)?).ok()?, order),
+        Width::I8 => Put::I8(i8::try_from(parse_signed(word)?).ok()?, order),
+        Width::U16 => Put::U16(u16::try_from(parse_number(word)?).ok()?, order),
+        Width::I16 => Put::I16(i16::try_from(parse_signed(word)?).ok()?, order),
+        Width::U32 => Put::U32(u32::try_from(parse_number(word)?).ok()?, order),
+        Width::I32 => Put::I32(i32::try_from(parse_signed(word)?).ok()?, order),
+        Width::U64 => Put::U64(u64::try_from(parse_number(word)?).ok()?, order),
+        Width::I64 => Put::I64(i64::try_from(parse_signed(word)?).ok()?, order),
+        Width::U128 => Put::U128(parse_number(word)?, order),
+        Width::I128 => Put::I128(parse_signed(word)?, order),
     };
     Some(put)
 }

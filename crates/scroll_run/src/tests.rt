@@ -1,3 +1,4 @@
 // Whole sessions.
+mod numbers;
 mod sessions;
 mod streams;

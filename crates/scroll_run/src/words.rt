@@ -1,9 +1,10 @@
 //! Lines and words, and what a word spells.
-ghost use Rattle.std.specs.Prelude.{◌≡◌, ◌<◌, ◌^◌, IfOk, IsTrue, ◌↔◌, MatchOption, SomeIff, ℕ, List, ◌==◌, map};
+ghost use Rattle.std.specs.Prelude.{◌≡◌, ◌<◌, ◌^◌, IfOk, IsTrue, ◌↔◌, MatchOption, SomeIff, ℕ, ℤ, List, ◌==◌, map};
 ghost use Rattle.std.specs.List.{slice_split};
 ghost use Rattle.std.specs.Str.Parse.{IsNumeral, digits_value};
 ghost use Rattle.scroll.specs.declared.endian.Endian.{Endian};
 ghost use Rattle.scroll.specs.declared.runner.Width.{Width};
+ghost use Rattle.scroll_run.specs.Commands.{SpellsSigned};
 ghost use Rattle.scroll_run.specs.Words.{SpellsBytes, width_word, order_word};
 
 use hex::FromHexError;
@@ -31,6 +32,16 @@ pub fn parse_number(word: &[u8]) -> Option<u128>
     match text.parse() {
         Ok(number) => Some(number),
         Err(_) => None,
+    }
+}
+
+/// The number that digits, with or without a minus before them, spell, where it is in the range of `i128`.
+pub fn parse_signed(word: &[u8]) -> Option<i128>
+    ensures { MatchOption result ((x : ℤ) → ¬ (SpellsSigned (2 ^ 127) word.now x)) (SpellsSigned (2 ^ 127) word.now) }
+{
+    match word.strip_prefix(b"-") {
+        Some(digits) => 0_i128.checked_sub_unsigned(parse_number(digits)?),
+        None => i128::try_from(parse_number(word)?).ok(),
     }
 }
 
@@ -96,9 +107,15 @@ pub fn parse_width(word: &[u8]) -> Option<Width>
 {
     match word {
         b"u8" => Some(Width::U8),
+        b"i8" => Some(Width::I8),
         b"u16" => Some(Width::U16),
+        b"i16" => Some(Width::I16),
         b"u32" => Some(Width::U32),
+        b"i32" => Some(Width::I32),
         b"u64" => Some(Width::U64),
+        b"i64" => Some(Width::I64),
+        b"u128" => Some(Width::U128),
+        b"i128" => Some(Width::I128),
         _ => None,
     }
 }

@@ -5,7 +5,7 @@ use std::process::Abort;
 use std::test::Fail;
 
 // Runs the session of an input, and asserts its output and its status.
-fn expect_session(
+pub(crate) fn expect_session(
     rt: &impl Abort,
     alloc: Global,
     input: &[u8],
@@ -118,8 +118,8 @@ fn a_command_is_bad(rt: HostRuntime) -> Result<(), Fail> {
         "pread +0 u8 le",
         "pread -0 u8 le",
         "pread 18446744073709551616 u8 le",
-        "pread 0 i8 le",
-        "pread 0 u128 le",
+        "pread 0 I8 le",
+        "pread 0 i12 le",
         "pread 0 cstr",
         "gread u8 le",
         "gwrite u8 le 0",
