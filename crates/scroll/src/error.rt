@@ -13,7 +13,7 @@ pub enum Error {
     TooBig { size: usize, len: usize },
     /// An offset in bytes that lies past the end.
     BadOffset(usize),
-    /// Bytes that spell no value, `size` of them or at the place `size`, as the reader says, and why.
+    /// Bytes that spell no value, and why. What `size` counts is said by the type that was read.
     BadInput { size: usize, msg: &'static str },
     /// What a type of one's own says.
     Custom(String),
@@ -44,6 +44,7 @@ impl std::error::Error for Error {}
 impl From<io::Error> for Error {
     ghost from_gives = { λ fault e. e ≡ IO fault };
 
+    /// The fault, as [`Error::IO`].
     fn from(fault: io::Error) -> Error {
         Error::IO(fault)
     }
