@@ -27,6 +27,10 @@ pub enum Error {
 pub type Result<T> = result::Result<T, Error>;
 
 impl fmt::Display for Error {
+    ghost use Rattle.scroll.specs.Errors.{line_of};
+
+    ghost output = { line_of };
+
     fn fmt<W: fmt::Write>(&self, f: &mut fmt::Formatter<W>) -> fmt::Result {
         match self {
             Error::TooBig { size, len } => write!(f, "type is too big ({size}) for {len}"),
