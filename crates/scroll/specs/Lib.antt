@@ -1,6 +1,7 @@
 pub mod Bytes
 pub mod Numbers
 pub mod NumberLaws
+pub mod Errors
 pub mod Reads
 pub mod Writes
 pub mod History

@@ -1,7 +1,6 @@
 // Byte orders.
-ghost use Rattle.std.specs.Prelude.{◌≡◌};
+ghost use Rattle.std.specs.Prelude.{◌≡◌, ◌↔◌, IsTrue, true, if◌then◌else◌};
 ghost use Rattle.scroll.specs.declared.endian.Endian.TheVariants.{Little, Big};
-ghost use Rattle.std.specs.Prelude.{◌↔◌, IsTrue, true, if◌then◌else◌};
 
 /// The order of a number's bytes.
 ///
@@ -37,6 +36,7 @@ impl Default for Endian {
 impl From<bool> for Endian {
     ghost from_gives = { λ little order. order ≡ (if little then Little else Big) };
 
+    /// The little-endian order for `true`, the big-endian one for `false`.
     fn from(little_endian: bool) -> Endian {
         if little_endian { LE } else { BE }
     }

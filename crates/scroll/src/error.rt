@@ -13,7 +13,7 @@ pub enum Error {
     TooBig { size: usize, len: usize },
     /// An offset in bytes that lies past the end.
     BadOffset(usize),
-    /// Bytes that spell no value, `size` of them or at the place `size`, as the reader says, and why.
+    /// Bytes that spell no value, and why. What `size` counts is said by the type that was read.
     BadInput { size: usize, msg: &'static str },
     /// What a type of one's own says.
     Custom(String),
@@ -27,6 +27,10 @@ pub enum Error {
 pub type Result<T> = result::Result<T, Error>;
 
 impl fmt::Display for Error {
+    ghost use Rattle.scroll.specs.Errors.{line_of};
+
+    ghost output = { line_of };
+
     fn fmt<W: fmt::Write>(&self, f: &mut fmt::Formatter<W>) -> fmt::Result {
         match self {
             Error::TooBig { size, len } => write!(f, "type is too big ({size}) for {len}"),
@@ -44,6 +48,7 @@ impl std::error::Error for Error {}
 impl From<io::Error> for Error {
     ghost from_gives = { λ fault e. e ≡ IO fault };
 
+    /// The fault, as [`Error::IO`].
     fn from(fault: io::Error) -> Error {
         Error::IO(fault)
     }

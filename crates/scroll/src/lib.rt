@@ -1,9 +1,31 @@
-//! Typed values, read from byte slices and written there, after the crate `scroll` 0.13.0.
+//! Typed values, read from byte slices and written there, each call with a context such as a byte order: after the crate
+//! `scroll` 0.13.0.
+//!
+//! ```rust
+//! use scroll::{BE, LE, Pread, Pwrite};
+//!
+//! let mut bytes: [u8; 4] = [0xde, 0xad, 0xbe, 0xef];
+//! let offset = &mut 1;
+//! assert_eq!(rt; bytes[..].pread_with::<u32>(0, BE)?, 3735928559);
+//! assert_eq!(rt; bytes[..].gread_with::<u16>(offset, BE)?, 44478);
+//! assert_eq!(rt; *offset, 3);
+//!
+//! let mut target = &mut bytes[..];
+//! target.pwrite_with(-2i16, 1, BE)?;
+//! assert_eq!(rt; bytes, [0xde, 0xff, 0xfe, 0xef]);
+//! ```
+//!
+//! [`Pread`] and [`Pwrite`] test for room, and refuse by an error where there is none. [`Cread`] and [`Cwrite`] have no
+//! refusals: the caller makes sure of room, and the prover checks it. What can be read and written are the types that
+//! implement the traits of [`ctx`]: the ten whole numbers, and types of one's own. [`runner`] answers lists of such reads and
+//! writes, and [`laws`] has laws of the definitions that all contracts cite.
 #![tactic(auto)]
 
 pub mod ctx;
 mod endian;
 mod error;
+#[cfg(test)]
+mod examples;
 mod greater;
 pub mod laws;
 mod pread;

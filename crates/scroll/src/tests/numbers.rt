@@ -1,5 +1,7 @@
 // All ten numbers, by value and by reference, and the calls with room made sure of.
-ghost use Rattle.std.specs.Prelude.{◌≡◌, ◌+◌, ◌*◌, ◌^◌, ◌<◌, ◌≤◌, length, drop};
+ghost use Rattle.std.specs.Prelude.{◌≡◌, ◌+◌, ◌≤◌, length, drop};
+ghost use Rattle.scroll.specs.Numbers.{number};
+ghost use Rattle.scroll.specs.declared.endian.Endian.TheVariants.{Big};
 
 use crate::ctx::{FromCtx, IntoCtx, SizeWith, TryFromCtx, TryIntoCtx};
 use crate::{BE, Cread, Cwrite, Endian, Error, LE, Pread, Pwrite, Result};
@@ -164,12 +166,31 @@ fn put<N: IntoCtx<Endian>>(mut target: &mut [u8], n: N)
     target.cwrite_with(n, 0, BE)
 }
 
+// Reads a number from the start of any source.
+fn at_the_start<S: Cread<Endian>>(source: S) -> u16
+    requires { 2 ≤ length (S.bytes source) }
+    ensures { result ≡ number Big 2 (S.bytes source) }
+{
+    source.cread_with::<u16>(0, BE)
+}
+
+// Clears the first byte of any target.
+fn clear_first<T: Cwrite<Endian>>(target: &mut T)
+    requires { 1 ≤ length (T.target target.old) }
+{
+    target.cwrite_with(0u8, 0, BE)
+}
+
 #[test]
 fn through_the_bounds(rt: HostRuntime) {
     let bytes: [u8; 4] = [1, 2, 3, 4];
+    assert_eq!(rt; at_the_start(&bytes[1..]), 0x0203);
     assert_eq!(rt; second_of::<u16>(&bytes), 0x0304);
     let mut out = [0u8; 4];
     put(&mut out, -2i16);
     put(&mut out[2..], &0x0506u16);
     assert_eq!(rt; out, [0xff, 0xfe, 5, 6]);
+    let mut target = &mut out[..];
+    clear_first(&mut target);
+    assert_eq!(rt; out, [0, 0xfe, 5, 6]);
 }

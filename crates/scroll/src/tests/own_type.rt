@@ -6,7 +6,7 @@ ghost use Rattle.scroll.specs.declared.error.Error.TheVariants.{TooBig, BadOffse
 ghost use Rattle.scroll.specs.declared.tests.own_type.VersionError.TheVariants.{Zero, Scroll};
 
 use crate::ctx::{TryFromCtx, TryIntoCtx};
-use crate::{BE, Endian, Error, LE, Pread, Pwrite};
+use crate::{BE, Endian, Error, LE, Pread, Pwrite, ReadFrom};
 use std::result::Result;
 
 #[derive(Debug, Drop)]
@@ -93,6 +93,25 @@ where
     to.pwrite_with(value, 2, ctx)
 }
 
+// Reads a value of any type from the start of any source.
+fn at_the_start<'a, Ctx: Copy, E, S: Pread<'a, Ctx, E>, N: ReadFrom<S, Ctx, Error = E>>(
+    source: S,
+    ctx: Ctx,
+) -> Result<N, E> {
+    source.pread_with(0, ctx)
+}
+
+// Writes a value of any type to the start of any target.
+fn to_the_start<Ctx: Copy, E, T: Pwrite<Ctx, E>, N: TryIntoCtx<Ctx, Error = E> + Drop>(
+    target: &mut T,
+    n: N,
+    ctx: Ctx,
+) -> Result<usize, E>
+    ensures { T.same_target target.old target.new }
+{
+    target.pwrite_with(n, 0, ctx)
+}
+
 #[test]
 fn a_type_of_ones_own(rt: HostRuntime) {
     let bytes: [u8; 4] = [0, 3, 14, 0];
@@ -139,4 +158,26 @@ fn through_the_bounds(rt: HostRuntime) {
     assert_eq!(rt; out, [9, 9, 3, 14]);
     let cut = copy_value::<Endian, Error, u32>(&bytes, &mut out, LE);
     assert!(rt; matches!(&cut, Err(Error::TooBig { size: 4, len: 3 })));
+    let mut source = &bytes[2..];
+    let first: Result<u8, Error> = at_the_start(source, BE);
+    assert!(rt; matches!(&first, Ok(14)));
+    source = &bytes[1..];
+    let version: Result<Version, VersionError> = at_the_start(source, ());
+    assert!(rt;
+        matches!(
+            &version,
+            Ok(Version {
+                major: 3,
+                minor: 14
+            })
+        )
+    );
+    let mut target = &mut out[..];
+    let wrote: Result<usize, VersionError> = to_the_start(
+        &mut target,
+        Version { major: 7, minor: 8 },
+        (),
+    );
+    assert!(rt; matches!(&wrote, Ok(2)));
+    assert_eq!(rt; out, [7, 8, 3, 14]);
 }

@@ -1,0 +1,3 @@
+// Callers of the crate, as its documents show them.
+mod chunk;
+mod overview;
