@@ -1,9 +1,11 @@
 -- What a session prints.
-use Rattle.std.specs.Prelude.{◌≡◌, ◌<◌, ◌≤◌, ◌++◌, ◌==◌, ◌⊎◌, ℕ, List, [], ◌∷◌, length, map, codes, if◌then◌else◌, Option}
+use Rattle.std.specs.Prelude.{◌≡◌, ◌<◌, ◌≤◌, ◌++◌, ◌==◌, ◌⊎◌, ℕ, List, [], ◌∷◌, length, map, codes, if◌then◌else◌, Option, IfSome}
 use Rattle.std.specs.Fmt.{decimal, signed_decimal}
 use Rattle.std.specs.Io.KnownBytes.{Consumes, IsAtEnd}
 use Rattle.hex.specs.Hex.{encode_lower}
+use Rattle.scroll.specs.Errors.{line_of}
 use Rattle.scroll.specs.Runs.{IsRun}
+use Rattle.scroll.specs.declared.error.Error.{Error}
 use Rattle.scroll.specs.declared.runner.Answer.{Answer}
 use Rattle.scroll.specs.declared.runner.Answer.TheVariants as answer
 use Rattle.scroll.specs.declared.runner.Value.TheVariants as value
@@ -15,12 +17,16 @@ use Rattle.scroll_run.specs.declared.lines.Script.{Script}
 abbrev pub hex_text : List ℕ → List ℕ
 hex_text bytes = if length bytes == 0 then codes "-" else encode_lower bytes
 
--- the line of an answer; what an error says of itself is left open
+-- what an error says; of a stream's fault, which no answer holds, that is left open
+abbrev pub Says : Error → List ℕ → Type 0
+Says e text = IfSome (line_of e) (λ line. text ≡ line)
+
+-- the line of an answer
 abbrev pub IsAnswerLine : Answer → List ℕ → Type 0
 IsAnswerLine (answer.Read (value.Unsigned x)) line = line ≡ codes "number " ++ decimal x ++ codes "\n"
 IsAnswerLine (answer.Read (value.Signed x)) line = line ≡ codes "number " ++ signed_decimal x ++ codes "\n"
 IsAnswerLine (answer.Wrote n) line = line ≡ codes "wrote " ++ decimal n ++ codes "\n"
-IsAnswerLine (answer.Refused e) line = (says : List ℕ) × (line ≡ codes "error " ++ says ++ codes "\n")
+IsAnswerLine (answer.Refused e) line = (text : List ℕ) × Says e text × (line ≡ codes "error " ++ text ++ codes "\n")
 
 -- a line for each answer, in order
 abbrev pub AreAnswerLines : List Answer → List ℕ → Type 0
