@@ -6,7 +6,6 @@ use Rattle.scroll.specs.declared.runner.Command.{Command}
 use Rattle.scroll.specs.declared.runner.Command.TheVariants as command
 use Rattle.scroll.specs.declared.runner.Kind.{Kind}
 use Rattle.scroll.specs.declared.runner.Kind.TheVariants as kind
-use Rattle.scroll.specs.declared.runner.Place.{Place}
 use Rattle.scroll.specs.declared.runner.Place.TheVariants as place
 use Rattle.scroll.specs.declared.runner.Put.{Put}
 use Rattle.scroll.specs.declared.runner.Put.TheVariants as put
@@ -31,10 +30,9 @@ SpellsSigned half word x =
     ((n : ℕ) × SpellsNumber half word n × (x ≡ pos n))
     ⊎ ((digits : List ℕ) × (n : ℕ) × (word ≡ codes "-" ++ digits) × SpellsNumber (half + 1) digits n × (x ≡ neg_ℤ (pos n)))
 
--- words begin with a place, and go on with these
-abbrev pub SpellsPlace : List (List ℕ) → Place → List (List ℕ) → Type 0
-SpellsPlace words (place.At offset) rest = (word : List ℕ) × (words ≡ word ∷ rest) × SpellsNumber (2 ^ 64) word offset
-SpellsPlace words place.Cursor rest = ⊥
+-- words begin with an offset, and go on with these
+abbrev pub SpellsOffset : List (List ℕ) → ℕ → List (List ℕ) → Type 0
+SpellsOffset words offset rest = (word : List ℕ) × (words ≡ word ∷ rest) × SpellsNumber (2 ^ 64) word offset
 
 -- words spell a kind
 abbrev pub SpellsKind : List (List ℕ) → Kind → Type 0
@@ -64,14 +62,23 @@ pub record SpellsPut (words : List (List ℕ)) (p : Put) : Type 0 where
 -- the word of a verb
 abbrev pub verb_word : Verb → List ℕ
 verb_word verb.Pread = codes "pread"
+verb_word verb.Gread = codes "gread"
 verb_word verb.Pwrite = codes "pwrite"
+verb_word verb.Gwrite = codes "gwrite"
 
--- words spell a command: a verb, a place, and what is read or written
+-- the words behind a verb spell the rest of a command: an offset where the verb takes one, and what is read or written
+abbrev pub SpellsRest : Verb → List (List ℕ) → Command → Type 0
+SpellsRest verb.Pread words (command.Read (place.At offset) what) =
+    (rest : List (List ℕ)) × SpellsOffset words offset rest × SpellsKind rest what
+SpellsRest verb.Gread words (command.Read place.Cursor what) = SpellsKind words what
+SpellsRest verb.Pwrite words (command.Write (place.At offset) x) =
+    (rest : List (List ℕ)) × SpellsOffset words offset rest × SpellsPut rest x
+SpellsRest verb.Gwrite words (command.Write place.Cursor x) = SpellsPut words x
+SpellsRest v words c = ⊥
+
+-- words spell a command: a verb, and the rest
 abbrev pub SpellsCommand : List (List ℕ) → Command → Type 0
-SpellsCommand words (command.Read at what) =
-    (placed rest : List (List ℕ)) × (words ≡ verb_word verb.Pread ∷ placed) × SpellsPlace placed at rest × SpellsKind rest what
-SpellsCommand words (command.Write at x) =
-    (placed rest : List (List ℕ)) × (words ≡ verb_word verb.Pwrite ∷ placed) × SpellsPlace placed at rest × SpellsPut rest x
+SpellsCommand words c = (v : Verb) × (rest : List (List ℕ)) × (words ≡ verb_word v ∷ rest) × SpellsRest v rest c
 
 -- what is written, as a command has it
 abbrev pub put_of : Written → Put

@@ -2,9 +2,8 @@
 ghost use Rattle.std.specs.Prelude.{◌≡◌, ℕ, List, IfOk, MatchOption, map};
 ghost use Rattle.scroll.specs.declared.runner.Command.{Command};
 ghost use Rattle.scroll.specs.declared.runner.Kind.{Kind};
-ghost use Rattle.scroll.specs.declared.runner.Place.{Place};
 ghost use Rattle.scroll.specs.declared.runner.Put.{Put};
-ghost use Rattle.scroll_run.specs.Commands.{SpellsPlace, SpellsKind, SpellsPut, SpellsValue, SpellsCommand, put_of, command_of, verb_word};
+ghost use Rattle.scroll_run.specs.Commands.{SpellsOffset, SpellsKind, SpellsPut, SpellsValue, SpellsRest, SpellsCommand, put_of, command_of, verb_word};
 ghost use Rattle.scroll_run.specs.declared.commands.Verb.{Verb};
 ghost use Rattle.scroll_run.specs.Words.{words_of};
 
@@ -32,10 +31,14 @@ pub enum Written {
 // What a command does.
 #[derive(Clone, Copy)]
 enum Verb {
-    // Reads at a place.
+    // Reads at an offset.
     Pread,
-    // Writes at a place.
+    // Reads at the cursor.
+    Gread,
+    // Writes at an offset.
     Pwrite,
+    // Writes at the cursor.
+    Gwrite,
 }
 
 impl CommandLine {
@@ -85,15 +88,24 @@ fn parse_words(words: &[&[u8]]) -> Option<CommandLine>
     ensures { let texts = map (λ word. word.now) words.now in MatchOption result ((c : Command) → ¬ (SpellsCommand texts c)) (λ x. SpellsCommand texts (command_of x)) }
 {
     let (verb, rest) = words.split_first()?;
-    match parse_verb(verb)? {
+    parse_rest(parse_verb(verb)?, rest)
+}
+
+// The command of a verb that the words behind it spell.
+fn parse_rest(verb: Verb, words: &[&[u8]]) -> Option<CommandLine>
+    ensures { let texts = map (λ word. word.now) words.now in MatchOption result ((c : Command) → ¬ (SpellsRest verb texts c)) (λ x. SpellsRest verb texts (command_of x)) }
+{
+    match verb {
         Verb::Pread => {
-            let (place, kind) = parse_place(rest)?;
-            Some(CommandLine::Read(place, parse_kind(kind)?))
+            let (offset, kind) = parse_offset(words)?;
+            Some(CommandLine::Read(Place::At(offset), parse_kind(kind)?))
         }
+        Verb::Gread => Some(CommandLine::Read(Place::Cursor, parse_kind(words)?)),
         Verb::Pwrite => {
-            let (place, put) = parse_place(rest)?;
-            Some(CommandLine::Write(place, parse_written(put)?))
+            let (offset, put) = parse_offset(words)?;
+            Some(CommandLine::Write(Place::At(offset), parse_written(put)?))
         }
+        Verb::Gwrite => Some(CommandLine::Write(Place::Cursor, parse_written(words)?)),
     }
 }
 
@@ -103,17 +115,19 @@ fn parse_verb(word: &[u8]) -> Option<Verb>
 {
     match word {
         b"pread" => Some(Verb::Pread),
+        b"gread" => Some(Verb::Gread),
         b"pwrite" => Some(Verb::Pwrite),
+        b"gwrite" => Some(Verb::Gwrite),
         _ => None,
     }
 }
 
-// The place that the first of the words spells, and the words behind it.
-fn parse_place<'w, 'a>(words: &'w [&'a [u8]]) -> Option<(Place, &'w [&'a [u8]])>
-    ensures { let texts = map (λ word. word.now) words.now in MatchOption result ((at : Place) (rest : List (List ℕ)) → ¬ (SpellsPlace texts at rest)) (λ p. SpellsPlace texts p.0 (map (λ word. word.now) p.1.now)) }
+// The offset that the first of the words spells, and the words behind it.
+fn parse_offset<'w, 'a>(words: &'w [&'a [u8]]) -> Option<(usize, &'w [&'a [u8]])>
+    ensures { let texts = map (λ word. word.now) words.now in MatchOption result ((offset : ℕ) (rest : List (List ℕ)) → ¬ (SpellsOffset texts offset rest)) (λ p. SpellsOffset texts p.0 (map (λ word. word.now) p.1.now)) }
 {
     let (word, rest) = words.split_first()?;
-    Some((Place::At(parse_usize(word)?), rest))
+    Some((parse_usize(word)?, rest))
 }
 
 // The kind that words spell.

@@ -1,4 +1,5 @@
 // Whole sessions.
+mod cursor;
 mod numbers;
 mod sessions;
 mod streams;
