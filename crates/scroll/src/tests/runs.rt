@@ -172,14 +172,18 @@ fn answers_stand_behind_those_before(rt: HostRuntime) {
     let mut cursor = 0;
     let mut answers = Vec::new(rt.alloc());
     let commands = [Command::Read(Place::At(0), Kind::Number(Width::U8, LE))];
-    for _ in 0..2 {
-        let _ = run(
+    for wanted in [1, 2] {
+        let done = run(
             rt.alloc(),
             &mut buffer,
             &mut cursor,
             &commands,
             &mut answers,
         );
+        if done.is_err() {
+            return;
+        }
+        assert_eq!(rt; answers.len(), wanted);
     }
     for answer in &answers {
         assert!(rt; matches!(answer, Answer::Read(Value::Unsigned(1))));
