@@ -4,4 +4,5 @@ pub mod BulkLemmas
 pub mod SeenLemmas
 pub mod LeafLemmas
 pub mod NumberLeaves
+pub mod TextLemmas
 pub mod RunLemmas

@@ -1,6 +1,8 @@
 pub mod Bytes
 pub mod Numbers
 pub mod NumberLaws
+pub mod Texts
+pub mod TextLaws
 pub mod Errors
 pub mod Reads
 pub mod Writes

@@ -31,6 +31,7 @@ pub mod laws;
 mod pread;
 mod pwrite;
 pub mod runner;
+mod search;
 mod source;
 #[cfg(test)]
 mod tests;
