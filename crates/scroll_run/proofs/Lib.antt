@@ -1,4 +1,3 @@
-pub mod Numerals
 pub mod Fronts
 pub mod CommandLemmas
 pub mod LineLemmas

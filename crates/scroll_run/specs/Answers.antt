@@ -1,7 +1,7 @@
 -- What a session prints.
 use Rattle.std.specs.Prelude.{◌≡◌, ◌<◌, ◌≤◌, ◌++◌, ◌==◌, ◌⊎◌, ℕ, List, [], ◌∷◌, length, map, codes, if◌then◌else◌, Option, IfSome}
 use Rattle.std.specs.Fmt.{decimal, signed_decimal}
-use Rattle.std.specs.Io.KnownBytes.{Consumes, IsAtEnd}
+use Rattle.std.specs.Io.KnownBytes.{Consumes, IsAtEnd, Keeps}
 use Rattle.hex.specs.Hex.{encode_lower}
 use Rattle.scroll.specs.Errors.{line_of}
 use Rattle.scroll.specs.Runs.{IsRun}
@@ -11,6 +11,7 @@ use Rattle.scroll.specs.declared.runner.Answer.TheVariants as answer
 use Rattle.scroll.specs.declared.runner.Value.TheVariants as value
 use Rattle.scroll_run.specs.Commands.{command_of}
 use Rattle.scroll_run.specs.Lines.{lines_of, SpellScript, IsFirstBadLine}
+use Rattle.scroll_run.specs.Output.{AppendsFront}
 use Rattle.scroll_run.specs.declared.lines.Script.{Script}
 
 -- bytes as a line has them
@@ -83,3 +84,9 @@ pub record IsInput (old new : Option (List ℕ)) (input : List ℕ) : Type 0 whe
 abbrev pub AnswersSession : Option (List ℕ) → Option (List ℕ) → List ℕ → ℕ → Type 0
 AnswersSession old new text status =
     ((text ≡ codes "out of memory\n") × (status ≡ 3)) ⊎ ((input : List ℕ) × IsInput old new input × AnswersInput input text status)
+
+-- a session that ends with a fault: its output, from `before` to `after`, is as it was, or has a front of the text of such
+-- an answer
+abbrev pub BreaksOff : Option (List ℕ) → Option (List ℕ) → Option (List ℕ) → Option (List ℕ) → Type 0
+BreaksOff old new before after =
+    Keeps before after ⊎ ((text : List ℕ) × (status : ℕ) × AnswersSession old new text status × AppendsFront before after text)

@@ -1,8 +1,8 @@
 //! A whole session.
-ghost use Rattle.std.specs.Prelude.{◌≢◌, ℕ, List, IfOk, IfErr, string_bytes};
+ghost use Rattle.std.specs.Prelude.{◌≢◌, ℕ, List, IfOk, IfErr, OnErr, string_bytes};
 ghost use Rattle.std.specs.IoError.{error_kind};
 ghost use Rattle.std.specs.Io.KnownBytes.{Appends};
-ghost use Rattle.scroll_run.specs.Answers.{AnswersInput, AnswersSession, RunsScript};
+ghost use Rattle.scroll_run.specs.Answers.{AnswersInput, AnswersSession, BreaksOff, RunsScript};
 
 use crate::answers::print_answers;
 use crate::commands::borrow_commands;
@@ -30,9 +30,11 @@ struct Outcome {
 
 /// Runs the session that the reader gives, and writes what it answers.
 ///
-/// The answer is the session's status. An error is one of the reader or of the writer.
+/// The answer is the session's status. An error is one of the reader or of the writer; then nothing was written, or only the
+/// first bytes of what the input is answered with.
 pub fn session<R: Read, W: Write>(alloc: Global, input: &mut R, output: &mut W) -> io::Result<u8>
     ensures answered { IfOk result (λ status. (text : List ℕ) × Appends (W.contents output.old) (W.contents output.new) text × AnswersSession (R.remaining input.old) (R.remaining input.new) text status) }
+    ensures broken_off { OnErr result (BreaksOff (R.remaining input.old) (R.remaining input.new) (W.contents output.old) (W.contents output.new)) }
     ensures fault { IfErr result (λ e. error_kind e ≢ ErrorKind.Interrupted) }
 {
     let outcome = match read_input(alloc, input) {

@@ -1,5 +1,5 @@
 //! Lines and words, and what a word spells.
-ghost use Rattle.std.specs.Prelude.{◌≡◌, ◌<◌, ◌^◌, IfOk, IsTrue, ◌↔◌, MatchOption, SomeIff, ℕ, ℤ, List, ◌==◌, map};
+ghost use Rattle.std.specs.Prelude.{◌≡◌, ◌<◌, ◌^◌, IfOk, MatchOption, SomeIff, ℕ, ℤ, List, ◌==◌, map};
 ghost use Rattle.std.specs.List.{slice_split};
 ghost use Rattle.std.specs.Str.Parse.{IsNumeral, digits_value};
 ghost use Rattle.scroll.specs.declared.endian.Endian.{Endian};
@@ -28,11 +28,14 @@ pub fn split(alloc: Global, text: &[u8], separator: u8) -> Result<Vec<&[u8]>, Al
 pub fn parse_number(word: &[u8]) -> Option<u128>
     ensures { SomeIff result (IsNumeral 10 word.now × (digits_value 10 word.now < 2 ^ 128)) (digits_value 10 word.now) }
 {
-    let text = digits(word)?;
-    match text.parse() {
-        Ok(number) => Some(number),
-        Err(_) => None,
+    // (std takes a plus before the digits, too)
+    if *word.first()? == b'+' {
+        return None;
     }
+    let Ok(text) = str::from_utf8(word) else {
+        return None;
+    };
+    text.parse().ok()
 }
 
 /// The number that digits, with or without a minus before them, spell, where it is in the range of `i128`.
@@ -49,39 +52,7 @@ pub fn parse_signed(word: &[u8]) -> Option<i128>
 pub fn parse_usize(word: &[u8]) -> Option<usize>
     ensures { SomeIff result (IsNumeral 10 word.now × (digits_value 10 word.now < 2 ^ 64)) (digits_value 10 word.now) }
 {
-    let text = digits(word)?;
-    match text.parse() {
-        Ok(number) => Some(number),
-        Err(_) => None,
-    }
-}
-
-// The text of a word that is one digit or more.
-fn digits(word: &[u8]) -> Option<&str>
-    ensures { MatchOption result (¬ (IsNumeral 10 word.now)) (λ text. (text.now ≡ word.now) × IsNumeral 10 word.now) }
-{
-    if !is_numeral(word) {
-        return None;
-    }
-    match str::from_utf8(word) {
-        Ok(text) => Some(text),
-        Err(_) => None,
-    }
-}
-
-// Whether a word is one digit or more.
-fn is_numeral(word: &[u8]) -> bool
-    ensures { IsTrue result ↔ IsNumeral 10 word.now }
-{
-    if word.is_empty() {
-        return false;
-    }
-    for byte in word {
-        if !byte.is_ascii_digit() {
-            return false;
-        }
-    }
-    true
+    usize::try_from(parse_number(word)?).ok()
 }
 
 /// The bytes that a word spells: none by `-`, or each by two hexadecimal digits of either case.

@@ -153,6 +153,7 @@ fn writer_fails(rt: HostRuntime) -> Result<(), Fail> {
                 matches!(&answer, Err(e) if e.kind() == ErrorKind::PermissionDenied),
                 "{at}"
             );
+            assert!(rt; output.held.as_slice() == &OUTPUT[..at - 1], "{at}");
             assert!(rt; !output.is_flushed, "{at}");
         } else {
             assert!(rt; matches!(&answer, Ok(0)), "{at}");
@@ -167,6 +168,7 @@ fn writer_takes_nothing(rt: HostRuntime) -> Result<(), Fail> {
     let mut output = make_sink(Vec::new(rt.alloc()), 0, Fault::Never);
     let answer = session(rt.alloc(), &mut input, &mut output);
     assert!(rt; matches!(&answer, Err(e) if e.kind() == ErrorKind::WriteZero));
+    assert!(rt; output.held.is_empty());
     assert_eq!(rt; output.calls, 1);
     Ok(())
 }
@@ -184,5 +186,6 @@ fn interrupted_for_ever(rt: HostRuntime) -> Result<(), Fail> {
     let mut output = make_sink(Vec::new(rt.alloc()), 1, interrupted);
     let answer = session(rt.alloc(), &mut input, &mut output);
     assert!(rt; matches!(&answer, Err(e) if e.kind() == ErrorKind::Other));
+    assert!(rt; output.held.is_empty());
     Ok(())
 }
