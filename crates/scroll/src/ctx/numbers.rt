@@ -125,9 +125,9 @@ impl<N: Number> SizeWith<()> for N {
     }
 }
 
-// Tells whether `len` bytes are enough for a number of `width` bytes.
+// Tells whether `len` bytes are enough for a value of `width` bytes.
 #[inline]
-fn check_room(width: usize, len: usize) -> Result<()>
+pub(super) fn check_room(width: usize, len: usize) -> Result<()>
     ensures enough { OnOk result (width ≤ len) }
     ensures short { IfErr result (λ e. (len < width) × (e ≡ TooBig width len)) }
 {
