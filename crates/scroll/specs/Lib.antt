@@ -1,9 +1,12 @@
 pub mod Bytes
 pub mod Numbers
 pub mod NumberLaws
+pub mod Errors
 pub mod Texts
 pub mod TextLaws
-pub mod Errors
+pub mod CStrings
+pub mod CStringLaws
+pub mod CStringTexts
 pub mod Reads
 pub mod Writes
 pub mod History
