@@ -4,5 +4,9 @@ pub mod BulkLemmas
 pub mod SeenLemmas
 pub mod LeafLemmas
 pub mod NumberLeaves
-pub mod TextLemmas
 pub mod RunLemmas
+pub mod BlockLemmas
+pub mod LaneLemmas
+pub mod FlagLemmas
+pub mod VectorLemmas
+pub mod StopLemmas

@@ -3,6 +3,7 @@ pub mod Numbers
 pub mod NumberLaws
 pub mod Texts
 pub mod TextLaws
+pub mod Search
 pub mod Errors
 pub mod Reads
 pub mod Writes

@@ -5,3 +5,4 @@ mod numbers;
 mod own_type;
 mod printed;
 mod runs;
+mod search;
