@@ -10,7 +10,7 @@ use Rattle.std.specs.Int.Bits.{xor_self, xor_add_and}
 use Rattle.std.specs.Int.Count.{count_trailing_zeros}
 use Rattle.std.specs.List.{position_or_len}
 use Rattle.scroll.specs.Search.{is_stop}
-use Rattle.scroll.proofs.BlockLemmas.{position_none, position_some}
+use Rattle.scroll.proofs.SearchLemmas.{position_none, position_some}
 use Rattle.scroll.proofs.LaneLemmas.{each, IsBytes, KeepsBytes, each_and, each_or, each_xor, each_add, each_not, each_same, each_itself, each_one, lanes_word}
 
 -- ---- the first flag

@@ -4,8 +4,9 @@ pub mod BulkLemmas
 pub mod SeenLemmas
 pub mod LeafLemmas
 pub mod NumberLeaves
+pub mod TextLemmas
 pub mod RunLemmas
-pub mod BlockLemmas
+pub mod SearchLemmas
 pub mod LaneLemmas
 pub mod FlagLemmas
 pub mod VectorLemmas

@@ -8,7 +8,7 @@ use Rattle.std.specs.Str.{IsAscii}
 use Rattle.scroll.specs.Search.{is_stop}
 use Rattle.scroll.specs.Texts.{first_place}
 use Rattle.scroll.specs.TextLaws.{first_place-le}
-use Rattle.scroll.proofs.BlockLemmas.{Nowhere}
+use Rattle.scroll.proofs.SearchLemmas.{Nowhere}
 
 -- what stands before a stop is ASCII
 pub front_is_ascii : (d : ℕ) (s : List ℕ) (n : ℕ) → n ≡ position_or_len (is_stop d) s → IsAscii (take n s)

@@ -9,7 +9,7 @@ use Rattle.std.specs.Int.Bits.{or_zero_l}
 use Rattle.std.specs.List.{position_or_len}
 use Rattle.std.specs.Simd.Lanes.{zip2, mask_l, top}
 use Rattle.scroll.specs.Search.{is_stop}
-use Rattle.scroll.proofs.BlockLemmas.{position_none, position_some}
+use Rattle.scroll.proofs.SearchLemmas.{position_none, position_some}
 
 bit_small : (t : Bool) → cond {A = ℕ} t 1 0 < 2
 bit_small true = omega arith

@@ -28,9 +28,9 @@ pub(crate) fn stop_in_vector(block: [u8; 32], delimiter: u8) -> Option<usize>
     let bytes = u8x32::from_array(block);
     let delimiters = bytes.simd_eq(u8x32::splat(delimiter)).to_bitmask();
     let others = bytes.simd_ge(u8x32::splat(128)).to_bitmask();
-    let marks = delimiters | others;
-    if marks == 0 {
+    let stops = delimiters | others;
+    if stops == 0 {
         return None;
     }
-    Some(marks.trailing_zeros() as usize)
+    Some(stops.trailing_zeros() as usize)
 }

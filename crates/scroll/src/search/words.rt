@@ -72,11 +72,11 @@ fn stop_in_word(block: [u8; 8], delimiter: u8) -> Option<usize>
 {
     let word = u64::from_le_bytes(block);
     let differences = word ^ u64::from(delimiter) * ONES;
-    let flags = (!((differences & LOW) + LOW | differences) | word) & HIGH;
-    if flags == 0 {
+    let stops = (!((differences & LOW) + LOW | differences) | word) & HIGH;
+    if stops == 0 {
         return None;
     }
-    Some(flags.trailing_zeros() as usize / 8)
+    Some(stops.trailing_zeros() as usize / 8)
 }
 
 // The first place of the delimiter, byte by byte.
