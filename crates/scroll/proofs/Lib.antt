@@ -7,3 +7,8 @@ pub mod NumberLeaves
 pub mod TextLemmas
 pub mod CStringLemmas
 pub mod RunLemmas
+pub mod SearchLemmas
+pub mod LaneLemmas
+pub mod FlagLemmas
+pub mod VectorLemmas
+pub mod StopLemmas

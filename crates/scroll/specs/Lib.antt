@@ -4,6 +4,7 @@ pub mod NumberLaws
 pub mod Errors
 pub mod Texts
 pub mod TextLaws
+pub mod Search
 pub mod CStrings
 pub mod CStringLaws
 pub mod CStringTexts

@@ -1,8 +1,31 @@
-use Rattle.std.proofs.Common.{◌∙◌, ap, unwrap_or, length}
-use Rattle.scroll.proofs.TextLemmas.{first_place-position}
+use Rattle.std.proofs.Common.{◌≡◌, ◌==◌, ◌*◌, ◌/◌, ◌<◌, ◌≤◌, length, get_or, [], sym, ap, ◌∙◌, arith}
+use Rattle.scroll.proofs.SearchLemmas.{Nowhere, wide_block_stands, rest_stands, found_at, seen_more, found_in_rest}
 use Rattle.scroll.proofs.search.first_place.Goals as goal
+
+pub returns-in-Some : goal.returns-in-Some
+returns-in-Some c =
+    let s = c.args.source.now in
+    let k = c.loop-k.k in
+    let room : length s / 32 * 32 ≤ length s = omega arith in
+    let inside : k < length s / 32 = omega (arith, c.loop-k-test.true, c.as_chunks.ensures.front_len) in
+    let at = wide_block_stands s (length s / 32) k _ room inside (ap (λ x. get_or x k []) c.as_chunks.ensures.front) in
+    (found_at (λ b. b == c.args.delimiter) s (k * 32) _ c.in-Some.place at.0 c.loop-k.invariant (sym c.place_in_vector.ensures.place ∙ c.in-Some.is)).0
+
+pub loop-k-preserved : goal.loop-k-preserved
+loop-k-preserved c =
+    let s = c.args.source.now in
+    let k = c.loop-k.k in
+    let room : length s / 32 * 32 ≤ length s = omega arith in
+    let inside : k < length s / 32 = omega (arith, c.loop-k-test.true, c.as_chunks.ensures.front_len) in
+    let at = wide_block_stands s (length s / 32) k _ room inside (ap (λ x. get_or x k []) c.as_chunks.ensures.front) in
+    let more = seen_more (λ b. b == c.args.delimiter) s (k * 32) _ at.0 c.loop-k.invariant (sym c.place_in_vector.ensures.place ∙ c.in_default.is) in
+    λ i h. more i (omega (arith, at.1))
 
 pub returns : goal.returns
 returns c =
-    c.unwrap_or.ensures ∙ ap (λ place. unwrap_or place (length c.args.source.now)) c.found.ensures
-    ∙ first_place-position c.args.delimiter c.args.source.now
+    let s = c.args.source.now in
+    let all : c.loop-k.k ≡ length s / 32 = omega (arith, c.loop-k-test.false, c.loop-k.auto.k-end, c.as_chunks.ensures.front_len) in
+    let at = rest_stands s (length s / 32 * 32) _ (omega arith) c.as_chunks.ensures.back in
+    let seen : Nowhere (λ b. b == c.args.delimiter) s (length s / 32 * 32) = λ i h. c.loop-k.invariant i (omega (arith, all)) in
+    let found = found_in_rest (λ b. b == c.args.delimiter) s (length s / 32 * 32) _ c.first_place_by_words.result at seen c.first_place_by_words.ensures.place c.first_place_by_words.ensures.within in
+    omega (arith, found, c.as_chunks.ensures.front_len)

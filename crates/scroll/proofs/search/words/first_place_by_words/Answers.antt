@@ -1,0 +1,40 @@
+use Rattle.std.proofs.Common.{◌≡◌, ◌==◌, ◌*◌, ◌/◌, ◌<◌, ◌≤◌, length, get_or, [], sym, ap, ◌∙◌, arith}
+use Rattle.scroll.proofs.SearchLemmas.{Nowhere, block_stands, rest_stands, found_at, seen_more, found_nowhere}
+use Rattle.scroll.proofs.search.words.first_place_by_words.Goals as goal
+
+pub returns-in-Some-clause-place : goal.returns-in-Some-clause-place
+returns-in-Some-clause-place c =
+    let s = c.args.source.now in
+    let k = c.loop-k.k in
+    let room : length s / 8 * 8 ≤ length s = omega arith in
+    let inside : k < length s / 8 = omega (arith, c.loop-k-test.true, c.as_chunks.ensures.front_len) in
+    let at = block_stands s (length s / 8) k _ room inside (ap (λ x. get_or x k []) c.as_chunks.ensures.front) in
+    (found_at (λ b. b == c.args.delimiter) s (k * 8) _ c.in-Some.place at.0 c.loop-k.invariant (sym c.place_in_word.ensures.place ∙ c.in-Some.is)).0
+
+pub loop-k-preserved : goal.loop-k-preserved
+loop-k-preserved c =
+    let s = c.args.source.now in
+    let k = c.loop-k.k in
+    let room : length s / 8 * 8 ≤ length s = omega arith in
+    let inside : k < length s / 8 = omega (arith, c.loop-k-test.true, c.as_chunks.ensures.front_len) in
+    let at = block_stands s (length s / 8) k _ room inside (ap (λ x. get_or x k []) c.as_chunks.ensures.front) in
+    let more = seen_more (λ b. b == c.args.delimiter) s (k * 8) _ at.0 c.loop-k.invariant (sym c.place_in_word.ensures.place ∙ c.in_default.is) in
+    λ i h. more i (omega (arith, at.1))
+
+pub returns-in-Some-place_in_tail-clause-place : goal.returns-in-Some-place_in_tail-clause-place
+returns-in-Some-place_in_tail-clause-place c =
+    let s = c.args.source.now in
+    let all : c.loop-k.k ≡ length s / 8 = omega (arith, c.loop-k-test.false, c.loop-k.auto.k-end, c.as_chunks.ensures.front_len) in
+    let at = rest_stands s (length s / 8 * 8) _ (omega arith) c.as_chunks.ensures.back in
+    let seen : Nowhere (λ b. b == c.args.delimiter) s (length s / 8 * 8) = λ i h. c.loop-k.invariant i (omega (arith, all)) in
+    let found = found_at (λ b. b == c.args.delimiter) s (length s / 8 * 8) _ c.in-Some-place_in_tail.place at.0 seen (sym c.place_in_tail.ensures.place ∙ c.in-Some-place_in_tail.is) in
+    omega (arith, found.0, c.as_chunks.ensures.front_len)
+
+pub returns-in-None-clause-place : goal.returns-in-None-clause-place
+returns-in-None-clause-place c =
+    let s = c.args.source.now in
+    let all : c.loop-k.k ≡ length s / 8 = omega (arith, c.loop-k-test.false, c.loop-k.auto.k-end, c.as_chunks.ensures.front_len) in
+    let at = rest_stands s (length s / 8 * 8) _ (omega arith) c.as_chunks.ensures.back in
+    let seen : Nowhere (λ b. b == c.args.delimiter) s (length s / 8 * 8) = λ i h. c.loop-k.invariant i (omega (arith, all)) in
+    let more = seen_more (λ b. b == c.args.delimiter) s (length s / 8 * 8) _ at.0 seen (sym c.place_in_tail.ensures.place ∙ c.in-None.is) in
+    found_nowhere (λ b. b == c.args.delimiter) s (λ i h. more i (omega (arith, at.1)))

@@ -1,0 +1,80 @@
+// The search for a byte beside a plain one, at every length that a vector, a word and a tail can leave.
+use crate::search::{first_place, first_stop, text_before};
+
+const DELIMITERS: [u8; 5] = [0x00, 0x01, 0x7f, 0x80, 0xff];
+
+// What the bytes before the delimiter and behind it differ by from it: in the highest bit, in the lowest, in the lowest
+// right behind an equal byte, where a subtraction borrows, and by nothing behind it, so that there is a second one.
+const DIFFERENCES: [(u8, u8); 4] = [(0x80, 0x80), (0x01, 0x01), (0x80, 0x01), (0x01, 0x00)];
+
+fn plain_place(delimiter: u8, source: &[u8]) -> usize {
+    source
+        .iter()
+        .position(|byte| *byte == delimiter)
+        .unwrap_or(source.len())
+}
+
+fn plain_stop(delimiter: u8, source: &[u8]) -> usize {
+    source
+        .iter()
+        .position(|byte| *byte == delimiter || *byte > 0x7f)
+        .unwrap_or(source.len())
+}
+
+// Puts the delimiter at `place`, and bytes that differ from it to all other places.
+fn fill(bytes: &mut [u8; 70], delimiter: u8, place: usize, before: u8, behind: u8) {
+    for (i, byte) in bytes.iter_mut().enumerate() {
+        *byte = if i < place {
+            delimiter ^ before
+        } else if i == place {
+            delimiter
+        } else {
+            delimiter ^ behind
+        };
+    }
+}
+
+#[test]
+fn every_length_and_place(rt: HostRuntime) {
+    let mut bytes = [0u8; 70];
+    for delimiter in DELIMITERS {
+        for (before, behind) in DIFFERENCES {
+            for place in 0..71 {
+                fill(&mut bytes, delimiter, place, before, behind);
+                for len in 0..71 {
+                    let source = &bytes[..len];
+                    let plain = plain_place(delimiter, source);
+                    assert_eq!(rt; plain, place.min(len));
+                    assert_eq!(rt;
+                        first_place(delimiter, source),
+                        plain,
+                        "{delimiter} at {place} of {len}"
+                    );
+                    assert_eq!(rt;
+                        first_stop(delimiter, source),
+                        plain_stop(delimiter, source)
+                    );
+                    let text = text_before(delimiter, source);
+                    assert_eq!(rt; text, str::from_utf8(&source[..plain]).ok());
+                }
+            }
+        }
+    }
+}
+
+#[test]
+fn texts_that_are_not_ascii(rt: HostRuntime) {
+    // One character of two bytes, at each place of a vector and behind it; then the same cut after its first byte.
+    for place in 0..40 {
+        let mut bytes = [b'a'; 50];
+        bytes[place] = 0xc3;
+        bytes[place + 1] = 0xa4;
+        bytes[place + 5] = 0;
+        let source = &bytes[..];
+        let text = text_before(0, source);
+        assert_eq!(rt; text, str::from_utf8(&source[..place + 5]).ok());
+        assert_eq!(rt; text.map(|text| text.len()), Some(place + 5));
+        assert_eq!(rt; text_before(0xa4, source), None);
+        assert_eq!(rt; first_stop(0, source), place);
+    }
+}
