@@ -1,18 +1,19 @@
 #!/bin/sh
-# Runs every check of the repository, and shows what each says as it comes:
+# Runs every check of the repository over a copy of its files, and shows what each says as it comes:
 #
-#     rt ci                       the merge gate: proofs, must-fail edits, tests, and the program's stored run
-#     scripts/sessions.sh         the stored sessions
-#     scripts/out_of_memory.sh    a session in which each allocation fails in turn
-#     scripts/misuse.sh           where it is there: what must not compile
+#     rt ci                  every proof from nothing, the tests, and the program's stored run
+#     scripts/sessions.sh    the stored sessions, by the program that rt ci proved and built
+#     scripts/cuts.sh        sessions with their buffers cut, likewise
+#     scripts/faults.sh      the sessions and the tests where memory is refused and streams fail, by what rt ci built
+#     scripts/edits.sh       the must-fail edits, in lanes side by side; rt ci has none to try here
+#     scripts/misuse.sh      where it is there: what must not compile
 #
-# The last line is `N passed, M failed`. It adds up the counts of the first two, and one for each of the others. A step
-# that ends without its counts, or that fails without counting a failure, is one failure more. The exit status is 0
-# where M is 0.
+# Each step is named at the end with its counts and its time. The last line is `N passed, M failed`, the sums of the
+# counts, with `, K skipped` behind it where something was left out. A step that ends without its counts, or that fails
+# without counting a failure, is one failure more. The exit status is 0 where M is 0.
 set -u
 
 top=$(CDPATH='' cd -- "$(dirname -- "$0")/.." && pwd) || exit 1
-cd "$top" || exit 1
 
 room=$(mktemp -d) || exit 1
 trap 'rm -rf "$room"' EXIT
@@ -20,52 +21,86 @@ trap 'exit 1' HUP INT TERM
 
 passed=0
 failed=0
+skipped=0
 
-# Runs a step and shows its output, of which the file "$room/said" is a copy. Its exit status is then in `status`.
+# Sets the variables that begin with `step_` from a step's last line, or makes it a failure.
+count_step() {
+    counts=$(tail -n 1 "$room/said" | sed -En 's/^([0-9]+) passed, ([0-9]+) failed(, ([0-9]+) skipped)?$/\1 \2 0\4/p')
+    echo "${counts:-0 1 0}" >"$room/counts"
+    read -r step_passed step_failed step_skipped <"$room/counts"
+    step_skipped=${step_skipped#0}
+    if [ -z "$counts" ]; then
+        echo "check: '$*' ended with status $status and without its counts"
+    elif [ "$status" -ne 0 ] && [ "$step_failed" -eq 0 ]; then
+        echo "check: '$*' ended with status $status"
+        step_failed=1
+    fi
+}
+
+# Runs a step in the copy, and shows its output. The step's last line has its counts.
 run_step() {
     echo "== $*"
+    start=$(date +%s)
     echo 1 >"$room/status"
     {
-        "$@"
+        (cd "$room/tree" && "$@" 2>&1)
         echo $? >"$room/status"
     } | tee "$room/said"
     status=$(cat "$room/status")
+    count_step "$@"
+    passed=$((passed + step_passed))
+    failed=$((failed + step_failed))
+    skipped=$((skipped + ${step_skipped:-0}))
+    line="$step_passed passed, $step_failed failed"
+    [ "${step_skipped:-0}" -eq 0 ] || line="$line, $step_skipped skipped"
+    echo "check: $*: $line, $(($(date +%s) - start)) s" >>"$room/steps"
 }
 
-# A step whose last line has its counts.
-counted_step() {
-    run_step "$@"
-    counts=$(tail -n 1 "$room/said" | sed -n 's/^\([0-9][0-9]*\) passed, \([0-9][0-9]*\) failed$/\1 \2/p')
-    if [ -z "$counts" ]; then
-        echo "check: '$*' ended with status $status and without its counts"
-        failed=$((failed + 1))
-        return
-    fi
-    passed=$((passed + ${counts% *}))
-    failed=$((failed + ${counts#* }))
-    if [ "$status" -ne 0 ] && [ "${counts#* }" -eq 0 ]; then
-        echo "check: '$*' ended with status $status"
-        failed=$((failed + 1))
-    fi
+# The files without what earlier runs kept, and with the edits aside.
+copy_tree() {
+    mkdir "$room/tree" "$room/edits" || return
+    tar -C "$top" -cf - --exclude=./.git --exclude='./crates/*/out' . | tar -C "$room/tree" -xf - || return
+    for crate in "$room"/tree/crates/*; do
+        mkdir "$room/edits/$(basename "$crate")" || return
+        for edit in "$crate"/must-fail/*.edit; do
+            [ ! -f "$edit" ] || mv "$edit" "$room/edits/$(basename "$crate")/" || return
+        done
+    done
 }
 
-# A step that passes or fails as a whole.
-whole_step() {
-    run_step "$@"
-    if [ "$status" -eq 0 ]; then
-        passed=$((passed + 1))
-    else
-        echo "check: '$*' ended with status $status"
-        failed=$((failed + 1))
-    fi
+put_edits_back() {
+    for crate in "$room"/tree/crates/*; do
+        for edit in "$room/edits/$(basename "$crate")"/*.edit; do
+            [ ! -f "$edit" ] || mv "$edit" "$crate/must-fail/" || return
+        done
+    done
 }
 
-counted_step rt ci
-counted_step sh scripts/sessions.sh
-whole_step sh scripts/out_of_memory.sh
-if [ -f scripts/misuse.sh ]; then
-    whole_step sh scripts/misuse.sh
+if ! copy_tree; then
+    echo "check: the files could not be copied"
+    echo "0 passed, 1 failed"
+    exit 1
 fi
 
-echo "$passed passed, $failed failed"
+run_step rt ci
+is_proved=$status
+program=crates/scroll_run/out/scroll_run
+run_step sh scripts/sessions.sh "$program"
+run_step sh scripts/cuts.sh "$program"
+run_step sh scripts/faults.sh
+put_edits_back || failed=$((failed + 1))
+if [ "$is_proved" -eq 0 ]; then
+    run_step sh scripts/edits.sh
+    [ ! -f "$top/scripts/misuse.sh" ] || run_step sh scripts/misuse.sh
+else
+    echo "check: rt ci failed, so the edits were not tried" >>"$room/steps"
+    failed=$((failed + 1))
+fi
+
+cat "$room/steps"
+if [ "$skipped" -eq 0 ]; then
+    echo "$passed passed, $failed failed"
+else
+    echo "$passed passed, $failed failed, $skipped skipped"
+fi
 [ "$failed" -eq 0 ] && [ "$passed" -gt 0 ]

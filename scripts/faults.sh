@@ -1,0 +1,302 @@
+#!/bin/sh
+# Runs the proved program on each stored session where memory is refused and where its streams fail, and each proved
+# test where memory is refused. scripts/faults.c stands in for malloc, realloc, read and write of the C library.
+#
+#     sh scripts/faults.sh
+#
+# The program is crates/scroll_run/out/scroll_run, and the tests are crates/NAME/out/NAME_tests, as rt ci leaves them, or
+# rt run and rt test.
+#
+# | memory is refused at one call, or from one on | status 3 and the one line `out of memory` |
+# | a read fails; input is a folder, or closed    | status 4, and nothing is printed |
+# | a write fails; output is closed, or full      | status 4, and a front of the output |
+# | reads and writes move one byte                | as ever |
+# | the first reads and writes are interrupted    | as ever |
+# | each read, or each write, is interrupted      | status 4, and nothing is printed |
+# | memory is refused to a test                   | the test passes, or ends with the error of want of memory |
+#
+# Memory is refused at the first call for it, then at the second, and so on until a run asks for no more; so for reads
+# and writes. A session, or a test, passes where all its runs are so. Without a C compiler only the folder and the
+# closed and full streams are tried, and the rest is one check left out. The last line is `N passed, M failed`, with
+# `, 1 skipped` behind it where that was so. The exit status is 0 where M is 0 and N is not.
+set -u
+
+top=$(CDPATH='' cd -- "$(dirname -- "$0")/.." && pwd) || exit 1
+sessions=$top/examples/sessions
+program=$top/crates/scroll_run/out/scroll_run
+
+# How many of the first calls fail in turn where a read and a write move one byte.
+first_calls=8
+
+room=$(mktemp -d) || exit 1
+trap 'rm -rf "$room"' EXIT
+trap 'exit 1' HUP INT TERM
+echo 'out of memory' >"$room/no_memory"
+: >"$room/nothing"
+
+# (a program that a bug keeps from ending ends here)
+# shellcheck disable=SC3045 # where the shell has no such limits, there are none
+{ ulimit -t 300; ulimit -c 0; } 2>/dev/null
+
+runs=0
+passed=0
+failed=0
+skipped=0
+library=
+
+compile_library() {
+    for compiler in ${CC:-cc gcc clang}; do
+        if command -v "$compiler" >/dev/null; then
+            library=$room/faults.so
+            "$compiler" -O2 -fPIC -shared -o "$library" "$top/scripts/faults.c"
+            return
+        fi
+    done
+}
+
+# Runs a command with these faults, words such as FAULT_READ=2, on the input and output that the shell has. Then
+# `status` is its exit status.
+run_with() {
+    faults=$1
+    shift
+    (
+        export LD_PRELOAD="$library"
+        for fault in $faults; do
+            export "${fault?}"
+        done
+        exec "$@"
+    ) 3>"$work/met"
+    status=$?
+    runs=$((runs + 1))
+}
+
+# Runs the session with these faults, in the folder of its own, `work`.
+try() {
+    run_with "$1" "$program" <"$sessions/$name.in" >"$work/out" 2>&1
+}
+
+# Whether a call went wrong in the last run.
+is_met() {
+    [ -s "$work/met" ]
+}
+
+# Says that the last run was not as it should be, once for each session or test.
+complain() {
+    [ -n "$is_well" ] && echo "FAILED $name: $1: $2" && sed 's/^/    /' "$work/out" | head -n 4 | cut -c 1-160
+    is_well=
+}
+
+# Wants a status and an output of the last run, which $1 describes.
+want() {
+    if [ "$status" -ne "$2" ]; then
+        complain "$1" "the exit status is $status, and $2 is wanted"
+    elif ! cmp -s "$work/out" "$3"; then
+        complain "$1" "the output is another"
+    fi
+}
+
+want_as_ever() {
+    want "$1" "$(cat "$sessions/$name.status")" "$sessions/$name.out"
+}
+
+# Wants status 4 and a front of the output.
+want_front() {
+    head -c "$(wc -c <"$work/out")" "$sessions/$name.out" >"$work/front"
+    want "$1" 4 "$work/front"
+    cmp -s "$sessions/$name.out" "$work/out" && complain "$1" "the whole output was written"
+}
+
+# Wants that a fault comes to the session, so that no run passes because nothing went wrong.
+want_met() {
+    is_met || complain "$1" "no call went wrong: the program doesn't make it by the C library"
+}
+
+try_memory() {
+    try FAULT_MEMORY=1
+    want_met 'the first call for memory is refused'
+    number=1
+    while is_met && [ -n "$is_well" ]; do
+        want "call $number for memory is refused" 3 "$room/no_memory"
+        number=$((number + 1))
+        try "FAULT_MEMORY=$number"
+    done
+    want_as_ever 'no call for memory is refused'
+    number=1
+    while [ "$number" -le "$first_calls" ]; do
+        try "FAULT_GONE=$number"
+        is_met || break
+        want "each call for memory from call $number on is refused" 3 "$room/no_memory"
+        number=$((number + 1))
+    done
+}
+
+try_streams() {
+    try FAULT_READ=1
+    want_met 'the first read fails'
+    number=1
+    while is_met && [ -n "$is_well" ]; do
+        want "read $number fails" 4 "$room/nothing"
+        number=$((number + 1))
+        try "FAULT_READ=$number"
+    done
+    want_as_ever 'no read fails'
+    try FAULT_WRITE=1
+    want_met 'the first write fails'
+    number=1
+    while is_met && [ -n "$is_well" ]; do
+        want_front "write $number fails"
+        number=$((number + 1))
+        try "FAULT_WRITE=$number"
+    done
+    want_as_ever 'no write fails'
+}
+
+try_pieces() {
+    try FAULT_PIECES=1
+    want_as_ever 'a read and a write move one byte'
+    number=1
+    while [ "$number" -le "$first_calls" ]; do
+        # (a short input takes fewer reads)
+        try "FAULT_PIECES=1 FAULT_READ=$number"
+        is_met && want "a read moves one byte, and read $number fails" 4 "$room/nothing"
+        try "FAULT_PIECES=1 FAULT_WRITE=$number"
+        want_met "a write moves one byte, and write $number fails"
+        head -c $((number - 1)) "$sessions/$name.out" >"$work/front"
+        want "a write moves one byte, and write $number fails" 4 "$work/front"
+        number=$((number + 1))
+    done
+}
+
+try_interruptions() {
+    for number in 1 2 3; do
+        try "FAULT_READS=$number FAULT_WRITES=$number"
+        want_as_ever "the first $number reads and writes are interrupted"
+    done
+    try "FAULT_PIECES=1 FAULT_READS=3 FAULT_WRITES=3"
+    want_as_ever 'a read and a write move one byte, and the first three of each are interrupted'
+    try FAULT_READS=1000000000
+    want 'each read is interrupted' 4 "$room/nothing"
+    try FAULT_WRITES=1000000000
+    want 'each write is interrupted' 4 "$room/nothing"
+}
+
+# What needs no C file: standard input a folder or closed, standard output closed or full.
+try_descriptors() {
+    "$program" <"$sessions" >"$work/out" 2>&1
+    status=$?
+    want 'standard input is a folder' 4 "$room/nothing"
+    "$program" <&- >"$work/out" 2>&1
+    status=$?
+    want 'standard input is closed' 4 "$room/nothing"
+    "$program" <"$sessions/$name.in" >&- 2>"$work/out"
+    status=$?
+    want 'standard output is closed' 4 "$room/nothing"
+    "$program" <"$sessions/$name.in" >/dev/full 2>"$work/out"
+    status=$?
+    want 'standard output is full' 4 "$room/nothing"
+    runs=$((runs + 4))
+}
+
+try_session() {
+    try_descriptors
+    [ -n "$library" ] || return
+    try_memory
+    try_streams
+    try_pieces
+    try_interruptions
+}
+
+# Runs one test of a crate, with each call for memory refused in turn. A test that asks for no memory passes as it is.
+try_test() {
+    number=1
+    while [ -n "$is_well" ]; do
+        run_with "FAULT_MEMORY=$number" "$tests" "$name" >"$work/out" 2>&1 </dev/null
+        if [ "$status" -ne 0 ] && ! { is_met && grep -Eqx 'error: (AllocError|NoMemory)' "$work/out"; }; then
+            complain "call $number for memory is refused" "the test ends with status $status"
+        fi
+        is_met || break
+        number=$((number + 1))
+    done
+}
+
+# Tries the sessions or tests of one lane, and leaves its counts.
+run_lane() {
+    work=$room/lane$1
+    mkdir "$work"
+    failed=0
+    while read -r kind name; do
+        is_well=yes
+        case $kind in
+            session) try_session ;;
+            *)
+                tests=$top/crates/$kind/out/${kind}_tests
+                try_test
+                ;;
+        esac
+        if [ -n "$is_well" ]; then
+            passed=$((passed + 1))
+        else
+            failed=$((failed + 1))
+        fi
+    done <"$work.list"
+    echo "$passed $failed $runs" >"$work.counts"
+}
+
+# One line for each session, the longest first, and for each test: `session` or the name of the crate, and the name.
+list_all() {
+    # shellcheck disable=SC2012 # the names are words
+    ls -S "$sessions" | sed -n 's/^\(.*\)\.in$/session \1/p'
+    [ -n "$library" ] || return
+    for crate in "$top"/crates/*; do
+        kind=$(basename "$crate")
+        tests=$crate/out/${kind}_tests
+        [ -x "$tests" ] && "$tests" --list | sed -n "s|^\(.*\): test\$|$kind \1|p"
+    done
+}
+
+stop() {
+    echo "faults: $1"
+    echo "0 passed, 1 failed"
+    exit 1
+}
+
+[ -x "$program" ] || stop "there is no program $program: rt run in crates/scroll_run proves and builds it"
+for crate in "$top"/crates/*; do
+    name=$(basename "$crate")
+    if [ ! -x "$crate/out/${name}_tests" ] && grep -rqF '#[test]' "$crate/src"; then
+        failed=$((failed + 1))
+        echo "FAILED $name: there is no program of its tests: rt test proves and builds it"
+    fi
+done
+compile_library || stop "scripts/faults.c does not compile"
+if [ -z "$library" ]; then
+    skipped=1
+    echo "faults: left out, since there is no C compiler (cc, gcc or clang): refused memory, and reads and writes that fail"
+fi
+
+lanes=$(nproc)
+list_all | awk -v lanes="$lanes" -v room="$room" '{ print >(room "/lane" (NR % lanes) ".list") }'
+for list in "$room"/lane*.list; do
+    [ -f "$list" ] || continue
+    lane=${list%.list}
+    run_lane "${lane##*lane}" >"$lane.said" &
+done
+wait
+
+cat "$room"/lane*.said
+while read -r lane_passed lane_failed lane_runs; do
+    passed=$((passed + lane_passed))
+    failed=$((failed + lane_failed))
+    runs=$((runs + lane_runs))
+done <<END
+$(cat "$room"/lane*.counts)
+END
+sessions_tried=$(cat "$room"/lane*.list | grep -c '^session ')
+tests_tried=$(cat "$room"/lane*.list | grep -vc '^session ')
+echo "faults: $runs runs of $sessions_tried sessions and $tests_tried tests"
+if [ "$skipped" -eq 0 ]; then
+    echo "$passed passed, $failed failed"
+else
+    echo "$passed passed, $failed failed, $skipped skipped"
+fi
+[ "$failed" -eq 0 ] && [ "$passed" -gt 0 ]
