@@ -6,6 +6,9 @@ pub mod TextLaws
 pub mod Errors
 pub mod Reads
 pub mod Writes
+pub mod Fits
+pub mod Arrays
+pub mod ArrayLaws
 pub mod History
 pub mod Leaves
 pub mod Runs
