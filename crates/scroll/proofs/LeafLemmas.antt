@@ -14,16 +14,16 @@ use Rattle.scroll.specs.declared.error.Error.{Error}
 use Rattle.scroll.specs.declared.error.Error.TheVariants.{TooBig, BadOffset}
 
 -- a leaf that fits, and one that doesn't
-pieces-fits : (n o : ℕ) (l : List ℕ) (ls : List (List ℕ)) → o + length l ≤ n → pieces n o (l ∷ ls) ≡ (o, l) ∷ pieces n (o + length l) ls
+pub pieces-fits : (n o : ℕ) (l : List ℕ) (ls : List (List ℕ)) → o + length l ≤ n → pieces n o (l ∷ ls) ≡ (o, l) ∷ pieces n (o + length l) ls
 pieces-fits n o l ls h = grind arith
 
-pieces-misfit : (n o : ℕ) (l : List ℕ) (ls : List (List ℕ)) → n < o + length l → pieces n o (l ∷ ls) ≡ []
+pub pieces-misfit : (n o : ℕ) (l : List ℕ) (ls : List (List ℕ)) → n < o + length l → pieces n o (l ∷ ls) ≡ []
 pieces-misfit n o l ls h = grind arith
 
-left_over-fits : (n o : ℕ) (l : List ℕ) (ls : List (List ℕ)) → o + length l ≤ n → left_over n o (l ∷ ls) ≡ left_over n (o + length l) ls
+pub left_over-fits : (n o : ℕ) (l : List ℕ) (ls : List (List ℕ)) → o + length l ≤ n → left_over n o (l ∷ ls) ≡ left_over n (o + length l) ls
 left_over-fits n o l ls h = grind arith
 
-left_over-misfit : (n o : ℕ) (l : List ℕ) (ls : List (List ℕ)) → n < o + length l → left_over n o (l ∷ ls) ≡ Some (TooBig (length l) (n - o))
+pub left_over-misfit : (n o : ℕ) (l : List ℕ) (ls : List (List ℕ)) → n < o + length l → left_over n o (l ∷ ls) ≡ Some (TooBig (length l) (n - o))
 left_over-misfit n o l ls h = grind arith
 
 -- no piece lies before the place
@@ -66,7 +66,7 @@ left_over-rest n o p (l ∷ ls) h = elim (cases_lt n (o + p + length l)) as (λ 
       rw (left_over-fits n (o + p) l ls k, left_over-fits (n - o) p l ls (omega (arith, k)), place, rest) refl
 ]
 
-refusal-inside : (n o : ℕ) (ls : List (List ℕ)) → o ≤ n → refusal n o ls ≡ left_over n o ls
+pub refusal-inside : (n o : ℕ) (ls : List (List ℕ)) → o ≤ n → refusal n o ls ≡ left_over n o ls
 refusal-inside n o ls h = grind arith
 
 refusal-past : (n o : ℕ) (ls : List (List ℕ)) → n < o → refusal n o ls ≡ Some (BadOffset o)
@@ -77,7 +77,7 @@ pieces-past n o [] h = refl
 pieces-past n o (l ∷ ls) h = pieces-misfit n o l ls (omega (arith, h))
 
 -- leaves written to the rest of a buffer are written to the buffer
-seen-rest : (o : ℕ) (old new : List ℕ) (ls : List (List ℕ)) → o ≤ length old → length new ≡ length old → take o new ≡ take o old → drop o new ≡ seen (drop o old) (pieces (length (drop o old)) 0 ls) → new ≡ seen old (pieces (length old) o ls)
+pub seen-rest : (o : ℕ) (old new : List ℕ) (ls : List (List ℕ)) → o ≤ length old → length new ≡ length old → take o new ≡ take o old → drop o new ≡ seen (drop o old) (pieces (length (drop o old)) 0 ls) → new ≡ seen old (pieces (length old) o ls)
 seen-rest o old new ls h len front back =
     let left = length-drop o old in
     let whole = length-seen old (pieces (length old) o ls) in
@@ -102,7 +102,7 @@ seen-rest o old new ls h len front back =
           ∙ sym (get_or-seen old (pieces (length old) o ls) k inside)
     ])
 
-left_over-drop : (old : List ℕ) (o : ℕ) (ls : List (List ℕ)) → o ≤ length old → left_over (length old) o ls ≡ refusal (length (drop o old)) 0 ls
+pub left_over-drop : (old : List ℕ) (o : ℕ) (ls : List (List ℕ)) → o ≤ length old → left_over (length old) o ls ≡ refusal (length (drop o old)) 0 ls
 left_over-drop old o ls h =
     ap (λ m. left_over (length old) m ls) (omega arith) ∙ left_over-rest (length old) o 0 ls h
     ∙ ap (λ m. left_over m 0 ls) (sym (length-drop o old)) ∙ sym (refusal-inside (length (drop o old)) 0 ls (omega arith))

@@ -1,8 +1,11 @@
 pub mod SumLemmas
 pub mod NumberLemmas
 pub mod BulkLemmas
+pub mod ArrayLemmas
+pub mod SlotLemmas
 pub mod SeenLemmas
 pub mod LeafLemmas
+pub mod ArrayLeaves
 pub mod NumberLeaves
 pub mod TextLemmas
 pub mod CStringLemmas

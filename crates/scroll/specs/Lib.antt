@@ -10,6 +10,9 @@ pub mod CStringLaws
 pub mod CStringTexts
 pub mod Reads
 pub mod Writes
+pub mod Fits
+pub mod Arrays
+pub mod ArrayLaws
 pub mod History
 pub mod Leaves
 pub mod Runs

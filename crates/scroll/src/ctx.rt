@@ -4,6 +4,7 @@
 //! call is given its context; the calls without `_with` in their name take the context type's default.
 ghost use Rattle.std.specs.Prelude.{◌≡◌, ℕ, ◌+◌, ◌^◌, ◌≤◌, ◌<◌, List, length, drop, IfOk, IfErr};
 
+mod arrays;
 mod bytes;
 mod c_strings;
 mod measure;

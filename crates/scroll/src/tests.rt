@@ -1,4 +1,5 @@
 // What no clause says: values from outside, printed lines, and that calls succeed.
+mod arrays;
 mod c_strings;
 mod calls;
 mod cursor;

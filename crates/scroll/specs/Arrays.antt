@@ -1,0 +1,38 @@
+-- Arrays: elements that are read, or written, one after the other from the start of a source or a target.
+use Rattle.std.specs.Prelude.{◌≡◌, ◌<◌, ℕ, ◌+◌, ◌++◌, List, [], ◌∷◌, length}
+use Rattle.scroll.specs.Reads.{ReadsAll, RefusesAt}
+use Rattle.scroll.specs.Writes.{WritesAt, LeavesAt}
+
+-- as many values as are counted, read one after the other, and the place where the last ends
+pub record ReadsArray {V : Type 0} (reads : List ℕ → V → ℕ → Type 0) (count : ℕ) (source : List ℕ) (vs : List V) (n : ℕ) : Type 0 where
+  pub len : length vs ≡ count
+  pub each : ReadsAll reads source 0 vs n
+
+-- fewer values than are counted, read one after the other, and the next is refused where the last ends
+pub record RefusesArray {V E : Type 0} (reads : List ℕ → V → ℕ → Type 0) (refuses : List ℕ → E → Type 0) (past_end : ℕ → E → Type 0) (count : ℕ) (source : List ℕ) (e : E) : Type 0 where
+  pub front : List V
+  pub stop : ℕ
+  pub fewer : length front < count
+  pub each : ReadsAll reads source 0 front stop
+  pub error : RefusesAt refuses past_end source stop e
+
+-- values written one after the other, from a place to another
+abbrev pub WritesAll : {V : Type 0} → (V → List ℕ → List ℕ → ℕ → Type 0) → List ℕ → ℕ → List V → List ℕ → ℕ → Type 0
+WritesAll writes old from [] new to = (new ≡ old) × (to ≡ from)
+WritesAll writes old from (v ∷ vs) new to =
+    (mid : List ℕ) × (n : ℕ) × WritesAt (writes v) old from mid n × WritesAll writes mid (from + n) vs new to
+
+-- the values of an array, written
+abbrev pub WritesArray : {V : Type 0} → (V → List ℕ → List ℕ → ℕ → Type 0) → List V → List ℕ → List ℕ → ℕ → Type 0
+WritesArray writes vs old new n = WritesAll writes old 0 vs new n
+
+-- the values of an array of which one is refused: those before it are written, and it leaves what it leaves there
+pub record LeavesArray {V E : Type 0} (writes : V → List ℕ → List ℕ → ℕ → Type 0) (refuses : V → List ℕ → List ℕ → E → Type 0) (vs : List V) (old new : List ℕ) (e : E) : Type 0 where
+  pub front : List V
+  pub value : V
+  pub back : List V
+  pub mid : List ℕ
+  pub stop : ℕ
+  pub split : vs ≡ front ++ value ∷ back
+  pub written : WritesAll writes old 0 front mid stop
+  pub refused : LeavesAt (refuses value) mid stop new e

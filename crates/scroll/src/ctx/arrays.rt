@@ -1,0 +1,133 @@
+// Arrays of what can be read or written, in the elements' context.
+ghost use Rattle.std.specs.Prelude.{◌≡◌, ℕ, ◌+◌, ◌*◌, ◌<◌, ◌≤◌, List, length, map, Some, None, IfOk, IfErr, IsTrue, slice_index_or, slice_set};
+ghost use Rattle.std.specs.Mem.{FitsInMemory};
+ghost use Rattle.scroll.specs.Fits.{OptionFits, SlotsFit, ItemsFit};
+ghost use Rattle.scroll.specs.Arrays.{ReadsArray, RefusesArray, WritesArray, LeavesArray};
+ghost use Rattle.scroll.specs.ArrayLaws.{ReadsArray-bounded, WritesArray-bounded, WritesArray-keeps};
+ghost use Rattle.scroll.specs.Writes.{WritesAt, LeavesAt};
+ghost use Rattle.scroll.specs.declared.error.Error.TheVariants.{BadOffset};
+
+use crate::ctx::{SizeWith, TryFromCtx, TryIntoCtx};
+use crate::error::{Error, Result};
+use crate::pread::Pread;
+use arrayvec::ArrayVec;
+use std::{array, mem, result};
+
+// Whether a value of type `X` fits in memory, as it does wherever there is one.
+fn fits<X>() -> bool
+    ensures fits { IsTrue result → FitsInMemory X.row }
+    ensures too_big { OptionFits X.row → IsTrue result }
+{
+    let none: Option<X> = None;
+    let small = mem::size_of_val(&none) <= isize::MAX as usize;
+    match none {
+        None => small,
+        Some(_x) => unreachable!(),
+    }
+}
+
+// The element at `index`, in whose place `None` is left.
+fn take_slot<T: Drop, const N: usize>(slots: &mut ArrayVec<Option<T>, N>, index: usize) -> T
+    requires { (x : T) × (slice_index_or slots.old.items index None ≡ Some x) }
+    ensures value { slice_index_or slots.old.items index None ≡ Some result }
+    ensures after { slots.new.items ≡ slice_set slots.old.items index None }
+{
+    match mem::take(&mut slots.as_mut_slice()[index]) {
+        Some(x) => x,
+        None => unreachable!(),
+    }
+}
+
+// The elements of a full vector of options, as an array.
+fn unwrap_slots<T: Drop, const N: usize>(mut slots: ArrayVec<Option<T>, N>) -> [T; N]
+    requires { (xs : List T) × (slots.items ≡ map (λ x. Some x) xs) × (length xs ≡ N) }
+    ensures { slots.items ≡ map (λ x. Some x) result }
+{
+    array::from_fn(
+        |i| -> T
+            requires { (x : T) × (slice_index_or slots.items i None ≡ Some x) }
+            ensures value { slice_index_or slots.entry.items i None ≡ Some result }
+            ensures after { slots.exit.items ≡ slice_set slots.entry.items i None }
+        { take_slot(&mut slots, i) },
+    )
+}
+
+// Writes an element behind those before it, and answers its size.
+fn write_next<Ctx: Copy, T: TryIntoCtx<Ctx, Error = Error> + Drop>(
+    value: T,
+    dst: &mut [u8],
+    offset: usize,
+    ctx: Ctx,
+) -> Result<usize>
+    requires { offset ≤ length dst.old }
+    ensures wrote { IfOk result (WritesAt (T.writes ctx value) dst.old offset dst.new) }
+    ensures inside { IfOk result (λ n. offset + n ≤ length dst.new) }
+    ensures refused { IfErr result (LeavesAt (T.refuses ctx value) dst.old offset dst.new) }
+{
+    value.try_into_ctx(&mut dst[offset..], ctx)
+}
+
+impl<
+    'a,
+    Ctx: Copy,
+    E: From<Error>,
+    T: TryFromCtx<'a, Ctx, Error = E> + Drop,
+    const N: usize,
+> TryFromCtx<'a, Ctx> for [T; N] {
+    type Error = E;
+
+    ghost reads = { λ ctx. ReadsArray (T.reads ctx) N };
+
+    ghost refuses = { λ ctx source e. SlotsFit T.row N.row → RefusesArray (T.reads ctx) (T.refuses ctx) (λ offset e. E.from_gives (BadOffset offset) e) N source e };
+
+    ghost reads_bounded = { λ ctx. ReadsArray-bounded (T.reads ctx) (T.reads_bounded ctx) N };
+
+    fn try_from_ctx(from: &'a [u8], ctx: Ctx) -> result::Result<([T; N], usize), E> {
+        if !fits::<ArrayVec<Option<T>, N>>() {
+            return Err(E::from(Error::NoMemory));
+        }
+        let mut slots: ArrayVec<Option<T>, N> = ArrayVec::new();
+        let mut offset = 0;
+        for _i in 0..N {
+            let value: T = from.gread_with(&mut offset, ctx)?;
+            slots.push(Some(value));
+        }
+        let values = unwrap_slots(slots);
+        Ok((values, offset))
+    }
+}
+
+impl<Ctx: Copy, T: TryIntoCtx<Ctx, Error = Error> + Drop, const N: usize> TryIntoCtx<Ctx>
+    for [T; N] {
+    type Error = Error;
+
+    ghost writes = { λ ctx. WritesArray (T.writes ctx) };
+
+    ghost refuses = { λ ctx xs old new e. ItemsFit T.row N.row → LeavesArray (T.writes ctx) (T.refuses ctx) xs old new e };
+
+    ghost writes_bounded = { λ ctx. WritesArray-bounded (T.writes ctx) (T.writes_bounded ctx) };
+
+    ghost writes_keeps = { λ ctx. WritesArray-keeps (T.writes ctx) (T.writes_keeps ctx) };
+
+    fn try_into_ctx(self, dst: &mut [u8], ctx: Ctx) -> Result<usize> {
+        if !fits::<array::IntoIter<T, N>>() {
+            return Err(Error::NoMemory);
+        }
+        let mut offset = 0;
+        for value in self {
+            offset += write_next(value, dst, offset, ctx)?;
+        }
+        Ok(offset)
+    }
+}
+
+impl<Ctx, T: SizeWith<Ctx>, const N: usize> SizeWith<Ctx> for [T; N] {
+    ghost size = { λ ctx. T.size ctx * N };
+
+    fn size_with(ctx: &Ctx) -> usize {
+        if N == 0 {
+            return 0;
+        }
+        T::size_with(ctx) * N
+    }
+}

@@ -1,0 +1,154 @@
+// Arrays, read and written: values from outside, and what a refusal leaves.
+ghost use Rattle.std.specs.Prelude.{◌≡◌, ◌≤◌, ◌<◌, length};
+ghost use Rattle.std.proofs.Common.{rules};
+ghost use Rattle.scroll.specs.Bytes.{RefusesShort};
+
+use crate::ctx::{SizeWith, TryFromCtx, TryIntoCtx};
+use crate::{BE, Endian, Error, LE, Pread, Pwrite, Result};
+use std::cell::Cell;
+
+#[test]
+fn numbers_in_arrays(rt: HostRuntime) {
+    let bytes: [u8; 8] = [1, 0, 2, 0, 3, 0, 4, 0];
+    let source = &bytes[..];
+    let offset = &mut 0;
+    let three: Result<[u16; 3]> = source.gread_with(offset, LE);
+    assert!(rt; matches!(&three, Ok([1, 2, 3])));
+    assert_eq!(rt; *offset, 6);
+    let big: Result<[u16; 3]> = source.pread_with(2, BE);
+    assert!(rt; matches!(&big, Ok([0x200, 0x300, 0x400])));
+    let cut: Result<[u16; 3]> = source.gread_with(offset, LE);
+    assert!(rt; matches!(&cut, Err(Error::TooBig { size: 2, len: 0 })));
+    assert_eq!(rt; *offset, 6);
+    let past: Result<[u16; 3]> = source.pread_with(9, LE);
+    assert!(rt; matches!(&past, Err(Error::BadOffset(9))));
+}
+
+#[test]
+fn no_elements(rt: HostRuntime) {
+    let bytes: [u8; 1] = [7];
+    let source = &bytes[..];
+    let offset = &mut 1;
+    let none: Result<[u8; 0]> = source.gread_with(offset, LE);
+    assert!(rt; matches!(&none, Ok([])));
+    assert_eq!(rt; *offset, 1);
+    let mut out = [7u8; 1];
+    let nothing: [u16; 0] = [];
+    assert!(rt; matches!(&nothing.try_into_ctx(&mut out, BE), Ok(0)));
+    assert_eq!(rt; out, [7]);
+}
+
+#[test]
+fn arrays_in_arrays(rt: HostRuntime) {
+    let bytes: [u8; 8] = [1, 0, 2, 0, 3, 0, 4, 0];
+    let offset = &mut 0;
+    let cut: Result<[[u16; 2]; 2]> = bytes[..6].gread_with(offset, LE);
+    assert!(rt; matches!(&cut, Err(Error::TooBig { size: 2, len: 0 })));
+    assert_eq!(rt; *offset, 0);
+    let whole: Result<[[u16; 2]; 2]> = bytes[..].gread_with(offset, LE);
+    assert!(rt; matches!(&whole, Ok([[1, 2], [3, 4]])));
+    assert_eq!(rt; *offset, 8);
+}
+
+#[test]
+fn a_refused_write_leaves_its_first_elements(rt: HostRuntime) {
+    let mut bytes = [0xffu8; 7];
+    let mut target = &mut bytes[..];
+    let pairs: [[u16; 2]; 2] = [[1, 2], [3, 4]];
+    let cut: Result<usize> = target.pwrite_with(pairs, 0, BE);
+    assert!(rt; matches!(&cut, Err(Error::TooBig { size: 2, len: 1 })));
+    assert_eq!(rt; bytes, [0, 1, 0, 2, 0, 3, 0xff]);
+    let mut wide = [0xffu8; 9];
+    let mut target = &mut wide[..];
+    let offset = &mut 1;
+    let wrote: Result<usize> = target.gwrite_with(pairs, offset, BE);
+    assert!(rt; matches!(&wrote, Ok(8)));
+    assert_eq!(rt; *offset, 9);
+    assert_eq!(rt; wide, [0xff, 0, 1, 0, 2, 0, 3, 0, 4]);
+}
+
+#[test]
+fn sizes_of_arrays(rt: HostRuntime) {
+    assert_eq!(rt; <[[u16; 3]; 2]>::size_with(&LE), 12);
+    assert_eq!(rt; <[u16; 0]>::size_with(&LE), 0);
+    assert_eq!(rt; <[u64; 3]>::size_with(&()), 24);
+}
+
+// Reads any number of values of any type, through the bound.
+fn values_of<'a, Ctx: Copy, T: TryFromCtx<'a, Ctx, Error = Error> + Drop, const N: usize>(
+    from: &'a [u8],
+    ctx: Ctx,
+) -> Result<([T; N], usize)> {
+    TryFromCtx::try_from_ctx(from, ctx)
+}
+
+// Writes any number of values of any type, through the bound.
+fn put_values<Ctx: Copy, T: TryIntoCtx<Ctx, Error = Error> + Drop, const N: usize>(
+    values: [T; N],
+    dst: &mut [u8],
+    ctx: Ctx,
+) -> Result<usize> {
+    values.try_into_ctx(dst, ctx)
+}
+
+#[test]
+fn through_the_bounds(rt: HostRuntime) {
+    let bytes: [u8; 4] = [1, 2, 3, 4];
+    let read: Result<([u16; 2], usize)> = values_of::<Endian, u16, 2>(&bytes, BE);
+    assert!(rt; matches!(&read, Ok(([0x102, 0x304], 4))));
+    let mut out = [0u8; 4];
+    let values: [u16; 2] = [0x102, 0x304];
+    assert!(rt; matches!(&put_values(values, &mut out, LE), Ok(4)));
+    assert_eq!(rt; out, [2, 1, 4, 3]);
+}
+
+// A byte that counts its drops.
+struct Counted<'c> {
+    byte: u8,
+    drops: &'c Cell<u32>,
+}
+
+impl<'c> Drop for Counted<'c> {
+    fn drop(self) {
+        let Counted { byte: _, drops } = self;
+        drops.set(drops.get().wrapping_add(1));
+    }
+}
+
+impl<'a, 'c> TryFromCtx<'a, &'c Cell<u32>> for Counted<'c> {
+    type Error = Error;
+
+    ghost reads = { λ _ source x n. (1 ≤ length source) × (n ≡ 1) };
+
+    ghost refuses = { λ _. RefusesShort 1 };
+
+    ghost reads_bounded = { λ _ source x n h. Prim.search rules };
+
+    fn try_from_ctx(from: &'a [u8], drops: &'c Cell<u32>) -> Result<(Counted<'c>, usize)> {
+        let (byte, size) = u8::try_from_ctx(from, LE)?;
+        Ok((Counted { byte, drops }, size))
+    }
+}
+
+#[test]
+fn a_refused_read_drops_its_elements(rt: HostRuntime) {
+    let drops = Cell::new(0);
+    let bytes: [u8; 3] = [7, 8, 9];
+    let cut: Result<[Counted; 3]> = bytes[..2].pread_with(0, &drops);
+    assert!(rt; matches!(&cut, Err(Error::TooBig { size: 1, len: 0 })));
+    assert_eq!(rt; drops.get(), 2);
+    let whole: Result<[Counted; 3]> = bytes[..].pread_with(0, &drops);
+    assert!(rt;
+        matches!(
+            &whole,
+            Ok([
+                Counted { byte: 7, .. },
+                Counted { byte: 8, .. },
+                Counted { byte: 9, .. }
+            ])
+        )
+    );
+    assert_eq!(rt; drops.get(), 2);
+    drop(whole);
+    assert_eq!(rt; drops.get(), 5);
+}
