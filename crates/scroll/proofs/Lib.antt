@@ -5,4 +5,5 @@ pub mod SeenLemmas
 pub mod LeafLemmas
 pub mod NumberLeaves
 pub mod TextLemmas
+pub mod CStringLemmas
 pub mod RunLemmas

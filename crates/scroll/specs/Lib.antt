@@ -4,6 +4,9 @@ pub mod NumberLaws
 pub mod Errors
 pub mod Texts
 pub mod TextLaws
+pub mod CStrings
+pub mod CStringLaws
+pub mod CStringTexts
 pub mod Reads
 pub mod Writes
 pub mod History

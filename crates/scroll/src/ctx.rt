@@ -5,6 +5,7 @@
 ghost use Rattle.std.specs.Prelude.{◌≡◌, ℕ, ◌+◌, ◌^◌, ◌≤◌, ◌<◌, List, length, drop, IfOk, IfErr};
 
 mod bytes;
+mod c_strings;
 mod measure;
 mod numbers;
 mod str_ctx;

@@ -21,6 +21,7 @@
 //! writes, and [`laws`] has laws of the definitions that all contracts cite.
 #![tactic(auto)]
 
+pub mod cstr;
 pub mod ctx;
 mod endian;
 mod error;

@@ -1,4 +1,5 @@
 // What no clause says: values from outside, printed lines, and that calls succeed.
+mod c_strings;
 mod calls;
 mod cursor;
 mod numbers;

@@ -1,0 +1,16 @@
+-- The texts that the two types of C strings hold, without the zero.
+use Rattle.std.specs.Prelude.{ℕ, ◌-◌, List, length, take}
+use Rattle.scroll.specs.declared.cstr.CStr.{CStr}
+use Rattle.scroll.specs.declared.cstr.CString.{CString}
+
+-- the bytes before the last one, which is the zero
+abbrev before_last_byte : List ℕ → List ℕ
+before_last_byte bytes = take (length bytes - 1) bytes
+
+-- the text of a borrowed C string
+abbrev pub c_str_text : CStr → List ℕ
+c_str_text s = before_last_byte s.bytes.now
+
+-- the text of an owned C string
+abbrev pub c_string_text : CString → List ℕ
+c_string_text s = before_last_byte s.bytes.items

@@ -1,0 +1,153 @@
+//! C strings: texts of bytes other than zero that end with a zero byte.
+//!
+//! A [`CStr`] borrows one, a [`CString`] owns one. Each holds exactly one zero byte, at the end: that is a fact of the type,
+//! and no call asks for it.
+//!
+//! ```rust
+//! let text = CStr::from_bytes_until_nul(b"on\0off\0").ok_or("no zero")?;
+//! assert_eq!(rt; text.to_bytes(), b"on".as_slice());
+//! assert_eq!(rt; text.to_bytes_with_nul(), b"on\0".as_slice());
+//! ```
+ghost use Rattle.std.specs.Prelude.{◌≡◌, ◌<◌, ◌↔◌, ◌++◌, [], ◌∷◌, length, take, nat_eq, IsTrue, IfOk, IfErr, OnOk, IfSome, IfNone, OnSome};
+ghost use Rattle.std.specs.Cmp.Lexicographic.{pointwise, nat_list_eq_equiv};
+ghost use Rattle.std.specs.Cmp.{partial_equiv_from_equiv, on_per, on_equiv};
+ghost use Rattle.scroll.specs.CStrings.{IsCString, RefusesToHold};
+ghost use Rattle.scroll.specs.Texts.{first_place};
+
+use crate::error::{Error, Result};
+use crate::search::first_place;
+use std::alloc::{AllocError, Global};
+use std::result;
+
+/// A borrowed C string.
+#[derive(Clone, Copy, Debug)]
+pub struct CStr<'a> {
+    // The text, and the zero behind it.
+    bytes: &'a [u8],
+    ghost one_zero: { IsCString bytes.now },
+}
+
+impl<'a> CStr<'a> {
+    ghost use Rattle.scroll.specs.CStringTexts.{c_str_text};
+
+    /// The C string at the front of `bytes`: its first bytes up to and with the first zero. `None` is answered exactly where
+    /// there is no zero.
+    pub fn from_bytes_until_nul(bytes: &'a [u8]) -> Option<CStr<'a>>
+        ensures found { OnSome result (first_place 0 bytes.now < length bytes.now) }
+        ensures text { IfSome result (λ s. c_str_text s ≡ take (first_place 0 bytes.now) bytes.now) }
+        ensures none { IfNone result (first_place 0 bytes.now ≡ length bytes.now) }
+    {
+        let place = first_place(0, bytes);
+        if place == bytes.len() {
+            return None;
+        }
+        Some(CStr {
+            bytes: &bytes[..place + 1],
+        })
+    }
+
+    /// The text, without the zero.
+    pub fn to_bytes(self) -> &'a [u8]
+        ensures text { result.now ≡ c_str_text self.entry }
+        ensures no_zero { first_place 0 result.now ≡ length result.now }
+    {
+        &self.bytes[..self.bytes.len() - 1]
+    }
+
+    /// The text, and the zero behind it.
+    pub fn to_bytes_with_nul(self) -> &'a [u8]
+        ensures text { result.now ≡ c_str_text self.entry ++ 0 ∷ [] }
+        ensures one_zero { IsCString result.now }
+    {
+        self.bytes
+    }
+}
+
+impl<'a> PartialEq for CStr<'a> {
+    ghost use Rattle.scroll.specs.CStringTexts.{c_str_text};
+
+    ghost eq = { λ x y. pointwise nat_eq (c_str_text x) (c_str_text y) };
+
+    ghost laws = { on_per c_str_text (partial_equiv_from_equiv nat_list_eq_equiv) };
+
+    /// Whether the two hold the same bytes.
+    fn eq(&self, other: &CStr<'a>) -> bool
+        ensures answer { result ≡ pointwise nat_eq (c_str_text self.now) (c_str_text other.now) }
+        ensures same { IsTrue result ↔ (c_str_text self.now ≡ c_str_text other.now) }
+    {
+        self.to_bytes() == other.to_bytes()
+    }
+}
+
+impl<'a> Eq for CStr<'a> {
+    ghost use Rattle.scroll.specs.CStringTexts.{c_str_text};
+
+    ghost laws = { on_equiv c_str_text nat_list_eq_equiv };
+}
+
+/// A C string that owns its memory.
+#[derive(Debug, Drop)]
+pub struct CString {
+    // The text, and the zero behind it.
+    bytes: Vec<u8>,
+    ghost one_zero: { IsCString bytes.items },
+}
+
+impl CString {
+    ghost use Rattle.scroll.specs.CStringTexts.{c_str_text, c_string_text};
+
+    /// A C string of this text, to which a zero is added.
+    ///
+    /// A text that has a zero is refused by [`Error::BadInput`], with the place of its first zero for a size and the message
+    /// `nul byte in text`. That is tested before memory is asked for; want of memory is [`Error::NoMemory`].
+    pub fn new(alloc: Global, text: &[u8]) -> Result<CString>
+        ensures text { IfOk result (λ s. c_string_text s ≡ text.now) }
+        ensures no_zero { OnOk result (first_place 0 text.now ≡ length text.now) }
+        ensures refused { IfErr result (RefusesToHold text.now) }
+    {
+        let place = first_place(0, text);
+        if place < text.len() {
+            return Err(Error::BadInput {
+                size: place,
+                msg: "nul byte in text",
+            });
+        }
+        match with_zero(alloc, text) {
+            Ok(bytes) => Ok(CString { bytes }),
+            Err(_) => Err(Error::NoMemory),
+        }
+    }
+
+    /// The same C string, borrowed.
+    pub fn as_c_str(&self) -> CStr<'_>
+        ensures { c_str_text result ≡ c_string_text self.now }
+    {
+        CStr { bytes: &self.bytes }
+    }
+
+    /// The text, without the zero.
+    pub fn as_bytes(&self) -> &[u8]
+        ensures text { result.now ≡ c_string_text self.now }
+        ensures no_zero { first_place 0 result.now ≡ length result.now }
+    {
+        self.as_c_str().to_bytes()
+    }
+
+    /// The text, and the zero behind it.
+    pub fn as_bytes_with_nul(&self) -> &[u8]
+        ensures text { result.now ≡ c_string_text self.now ++ 0 ∷ [] }
+        ensures one_zero { IsCString result.now }
+    {
+        &self.bytes
+    }
+}
+
+// A text, and a zero behind it. Memory for both is asked for once.
+fn with_zero(alloc: Global, text: &[u8]) -> result::Result<Vec<u8>, AllocError>
+    ensures { IfOk result (λ bytes. bytes.items ≡ text.now ++ 0 ∷ []) }
+{
+    let mut bytes = Vec::with_capacity(alloc, text.len() + 1)?;
+    bytes.extend_from_slice(text)?;
+    bytes.push(0)?;
+    Ok(bytes)
+}

@@ -1,0 +1,87 @@
+// C strings, borrowed and owned.
+ghost use Rattle.std.specs.Prelude.{◌≡◌, ◌++◌, [], ◌∷◌, length, OnOk, IfErr};
+ghost use Rattle.std.proofs.Common.{rules};
+ghost use Rattle.scroll.specs.Bytes.{WritesFront, LeavesShort};
+ghost use Rattle.scroll.specs.CStrings.{ReadsCString, RefusesCString, RefusesCopy};
+ghost use Rattle.scroll.specs.CStringLaws.{ReadsCString-bounded};
+ghost use Rattle.scroll.specs.CStringTexts.{c_str_text, c_string_text};
+ghost use Rattle.scroll.specs.TextLaws.{WritesFront-keeps};
+
+use crate::cstr::{CStr, CString};
+use crate::ctx::{TryFromCtx, TryIntoCtx};
+use crate::error::{Error, Result};
+use std::alloc::Global;
+
+impl<'a> TryFromCtx<'a, ()> for CStr<'a> {
+    type Error = Error;
+
+    ghost reads = { λ _ source s. ReadsCString source (c_str_text s) };
+
+    ghost refuses = { λ _. RefusesCString };
+
+    ghost reads_bounded = { λ _ source s. ReadsCString-bounded source (c_str_text s) };
+
+    /// The text before the first zero of `from`; the size in bytes counts the zero. A source without a zero is refused by
+    /// [`Error::BadInput`], with the size 0.
+    fn try_from_ctx(from: &'a [u8], _ctx: ()) -> Result<(CStr<'a>, usize)> {
+        match CStr::from_bytes_until_nul(from) {
+            Some(text) => Ok((text, text.to_bytes_with_nul().len())),
+            None => Err(Error::BadInput {
+                size: 0,
+                msg: "The input doesn't contain a null byte",
+            }),
+        }
+    }
+}
+
+impl<'a, 'm> TryFromCtx<'a, &'m Global> for CString {
+    type Error = Error;
+
+    ghost reads = { λ _ source s. ReadsCString source (c_string_text s) };
+
+    ghost refuses = { λ _. RefusesCopy };
+
+    ghost reads_bounded = { λ _ source s. ReadsCString-bounded source (c_string_text s) };
+
+    /// The text before the first zero of `from`, copied; the size in bytes counts the zero. A source without a zero is
+    /// refused by [`Error::BadInput`], with the size 0, before memory is asked for; want of memory is [`Error::NoMemory`].
+    fn try_from_ctx(from: &'a [u8], ctx: &'m Global) -> Result<(CString, usize)> {
+        let (text, size) = CStr::try_from_ctx(from, ())?;
+        let text = CString::new(*ctx, text.to_bytes())?;
+        Ok((text, size))
+    }
+}
+
+impl<'s> TryIntoCtx<()> for CStr<'s> {
+    type Error = Error;
+
+    ghost writes = { λ _ s. WritesFront (length (c_str_text s ++ 0 ∷ [])) (c_str_text s ++ 0 ∷ []) };
+
+    ghost refuses = { λ _ s. LeavesShort (length (c_str_text s ++ 0 ∷ [])) };
+
+    ghost writes_bounded = { λ _ s old new n h. Prim.search rules };
+
+    ghost writes_keeps = { λ _ s. WritesFront-keeps (c_str_text s ++ 0 ∷ []) };
+
+    /// Writes the text and its zero. A target that is too short is refused by [`Error::TooBig`], and stays.
+    fn try_into_ctx(self, dst: &mut [u8], _ctx: ()) -> Result<usize> {
+        self.to_bytes_with_nul().try_into_ctx(dst, ())
+    }
+}
+
+impl TryIntoCtx<()> for CString {
+    type Error = Error;
+
+    ghost writes = { λ _ s. WritesFront (length (c_string_text s ++ 0 ∷ [])) (c_string_text s ++ 0 ∷ []) };
+
+    ghost refuses = { λ _ s. LeavesShort (length (c_string_text s ++ 0 ∷ [])) };
+
+    ghost writes_bounded = { λ _ s old new n h. Prim.search rules };
+
+    ghost writes_keeps = { λ _ s. WritesFront-keeps (c_string_text s ++ 0 ∷ []) };
+
+    /// Writes the text and its zero. A target that is too short is refused by [`Error::TooBig`], and stays.
+    fn try_into_ctx(self, dst: &mut [u8], _ctx: ()) -> Result<usize> {
+        self.as_c_str().try_into_ctx(dst, ())
+    }
+}

@@ -1,0 +1,172 @@
+// C strings. Each test here also stands where an allocation is refused (`rt try --test --fail-alloc N`): then the call that
+// asked for it answers `NoMemory`, and nothing else changes. So what takes memory is called twice: one call of the two has to
+// succeed, whichever allocation is refused.
+use crate::cstr::{CStr, CString};
+use crate::ctx::{TryFromCtx, TryIntoCtx};
+use crate::{Error, Pread, Pwrite, Result};
+use std::alloc::Global;
+use std::process::Abort;
+
+// Whether a C string that was asked for is there. Any error but want of memory ends the test.
+fn is_held(rt: &impl Abort, made: &Result<CString>, wanted: &[u8]) -> bool {
+    match made {
+        Ok(string) => {
+            assert_eq!(rt; string.as_bytes_with_nul(), wanted);
+            true
+        }
+        Err(error) => {
+            assert!(rt; matches!(error, Error::NoMemory));
+            false
+        }
+    }
+}
+
+// The C string of a text, made by the second call where the first finds no memory.
+fn make(rt: &impl Abort, alloc: Global, text: &[u8]) -> CString {
+    match CString::new(alloc, text) {
+        Ok(string) => string,
+        Err(_) => CString::new(alloc, text).expect(rt, "no memory twice"),
+    }
+}
+
+#[test]
+fn parse_a_cstr(rt: HostRuntime) {
+    let string = make(&rt, rt.alloc(), b"Hello World");
+    let read = CStr::try_from_ctx(string.as_bytes_with_nul(), ());
+    assert!(rt; matches!(&read, Ok((text, 12)) if *text == string.as_c_str()));
+}
+
+#[test]
+fn round_trip_a_c_str(rt: HostRuntime) {
+    let string = make(&rt, rt.alloc(), b"Hello World");
+    let mut bytes = [0u8; 12];
+    assert!(rt; matches!(&string.as_c_str().try_into_ctx(&mut bytes, ()), Ok(12)));
+    let read = CStr::try_from_ctx(&bytes, ());
+    assert!(rt; matches!(&read, Ok((text, 12)) if *text == string.as_c_str()));
+}
+
+#[test]
+fn texts_that_are_held(rt: HostRuntime) {
+    let alloc = rt.alloc();
+    for (text, wanted) in [
+        (b"".as_slice(), b"\0".as_slice()),
+        (b"a".as_slice(), b"a\0".as_slice()),
+        (b"\xff\x01 \xc3".as_slice(), b"\xff\x01 \xc3\0".as_slice()),
+    ] {
+        let first = is_held(&rt, &CString::new(alloc, text), wanted);
+        let second = is_held(&rt, &CString::new(alloc, text), wanted);
+        assert!(rt; first || second);
+        let string = make(&rt, alloc, text);
+        assert_eq!(rt; string.as_bytes(), text);
+        assert_eq!(rt; string.as_c_str().to_bytes(), text);
+        assert_eq!(rt; string.as_c_str().to_bytes_with_nul(), wanted);
+    }
+    for (text, place) in [
+        (b"a\0b".as_slice(), 1),
+        (b"\0".as_slice(), 0),
+        (b"ab\0\0".as_slice(), 2),
+    ] {
+        for _ in 0..2 {
+            let refused = CString::new(alloc, text);
+            assert!(rt;
+                matches!(&refused, Err(Error::BadInput { size, msg: "nul byte in text" }) if *size == place)
+            );
+        }
+    }
+}
+
+#[test]
+fn up_to_the_first_zero(rt: HostRuntime) {
+    let front = CStr::from_bytes_until_nul(b"a\0b\0");
+    assert!(rt; matches!(&front, Some(text) if text.to_bytes() == b"a".as_slice()));
+    assert!(rt; CStr::from_bytes_until_nul(b"a").is_none());
+    assert!(rt; CStr::from_bytes_until_nul(b"").is_none());
+    let other = [b'a', 0, 0];
+    let same = CStr::from_bytes_until_nul(&other);
+    assert!(rt; front == same);
+    assert!(rt; CStr::from_bytes_until_nul(b"b\0") != same);
+    assert!(rt; CStr::from_bytes_until_nul(b"aa\0") != same);
+}
+
+#[test]
+fn reads(rt: HostRuntime) {
+    let alloc = rt.alloc();
+    let bytes = b"hello world\0more words";
+    let source = bytes.as_slice();
+    for _ in 0..2 {
+        let mut offset = 6;
+        let world = source.gread_with::<CStr>(&mut offset, ());
+        assert!(rt; matches!(&world, Ok(text) if text.to_bytes() == b"world".as_slice()));
+        assert_eq!(rt; offset, 12);
+        let cut: Result<CStr> = source.gread_with(&mut offset, ());
+        assert!(rt;
+            matches!(
+                &cut,
+                Err(Error::BadInput {
+                    size: 0,
+                    msg: "The input doesn't contain a null byte"
+                })
+            )
+        );
+        let cut: Result<CString> = source.gread_with(&mut offset, &alloc);
+        assert!(rt;
+            matches!(
+                &cut,
+                Err(Error::BadInput {
+                    size: 0,
+                    msg: "The input doesn't contain a null byte"
+                })
+            )
+        );
+        assert_eq!(rt; offset, 12);
+        let past: Result<CString> = source.pread_with(23, &alloc);
+        assert!(rt; matches!(&past, Err(Error::BadOffset(23))));
+    }
+    let mut offset = 6;
+    let first = is_held(&rt, &source.gread_with(&mut offset, &alloc), b"world\0");
+    assert_eq!(rt; offset, if first { 12 } else { 6 });
+    offset = 6;
+    let second = is_held(&rt, &source.gread_with(&mut offset, &alloc), b"world\0");
+    assert_eq!(rt; offset, if second { 12 } else { 6 });
+    assert!(rt; first || second);
+}
+
+#[test]
+fn the_empty_text(rt: HostRuntime) {
+    let alloc = rt.alloc();
+    let source = b"\0".as_slice();
+    let empty = source.pread_with::<CStr>(0, ());
+    assert!(rt; matches!(&empty, Ok(text) if text.to_bytes().is_empty()));
+    let mut offset = 0;
+    let empty: Result<CString> = source.gread_with(&mut offset, &alloc);
+    if !is_held(&rt, &empty, b"\0") {
+        assert_eq!(rt; offset, 0);
+        let again: Result<CString> = source.gread_with(&mut offset, &alloc);
+        assert!(rt; is_held(&rt, &again, b"\0"));
+    }
+    assert_eq!(rt; offset, 1);
+    let cut: Result<CStr> = source.gread_with(&mut offset, ());
+    assert!(rt; matches!(&cut, Err(Error::BadInput { size: 0, .. })));
+    assert_eq!(rt; offset, 1);
+}
+
+#[test]
+fn writes(rt: HostRuntime) {
+    let alloc = rt.alloc();
+    let mut bytes = [0xffu8; 4];
+    let mut target = &mut bytes[..];
+    let mut offset = 0;
+    let two = make(&rt, alloc, b"ab");
+    assert!(rt; matches!(&target.gwrite_with(two.as_c_str(), &mut offset, ()), Ok(3)));
+    let one = make(&rt, alloc, b"a");
+    let cut: Result<usize> = target.gwrite_with(one.as_c_str(), &mut offset, ());
+    assert!(rt; matches!(&cut, Err(Error::TooBig { size: 2, len: 1 })));
+    assert_eq!(rt; offset, 3);
+    assert_eq!(rt; bytes, [0x61, 0x62, 0, 0xff]);
+    let mut bytes = [0xffu8; 4];
+    let mut target = &mut bytes[..];
+    assert!(rt; matches!(&target.pwrite(two, 1), Ok(3)));
+    let cut: Result<usize> = target.pwrite(one, 3);
+    assert!(rt; matches!(&cut, Err(Error::TooBig { size: 2, len: 1 })));
+    assert_eq!(rt; bytes, [0xff, 0x61, 0x62, 0]);
+}
