@@ -11,4 +11,5 @@ pub mod Reads
 pub mod Writes
 pub mod History
 pub mod Leaves
+pub mod Streams
 pub mod Runs

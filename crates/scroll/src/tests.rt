@@ -6,4 +6,5 @@ mod numbers;
 mod own_type;
 mod printed;
 mod runs;
+mod streams;
 mod texts;
