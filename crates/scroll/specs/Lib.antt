@@ -15,4 +15,5 @@ pub mod Arrays
 pub mod ArrayLaws
 pub mod History
 pub mod Leaves
+pub mod Streams
 pub mod Runs

@@ -8,4 +8,5 @@ mod own_type;
 mod printed;
 mod runs;
 mod search;
+mod streams;
 mod texts;

@@ -1,0 +1,117 @@
+// Values from readers and to writers.
+ghost use Rattle.std.specs.Prelude.{ℕ, ◌≤◌, replicate, IfOk, OnOk};
+ghost use Rattle.scroll.specs.Reads.{ByDefault};
+ghost use Rattle.scroll.specs.Streams.{TakesValue, AppendsValue};
+
+use crate::ctx::{FromCtx, IntoCtx, SizeWith};
+use std::io;
+use std::io::{Read, Write};
+
+/// Reads values of any type that implements [`FromCtx`] and [`SizeWith`] from a reader.
+///
+/// It is there for every reader. A read takes the type's size in bytes and no byte more, also where the type needs fewer.
+/// The caller makes sure that the type needs at most its size, and that its size is at most 256 bytes; a number does.
+///
+/// An error is the reader's own, or one of kind `UnexpectedEof` where the reader ends too early. A call that is interrupted
+/// is made again. After an error it is not known how many bytes were taken.
+pub trait IOread<Ctx: Copy>: Read {
+    /// Reads a value in the default context, which for numbers is the machine's byte order.
+    ///
+    /// ```rust
+    /// let mut source = [0xef, 0xbe].as_slice();
+    /// assert_eq!(rt; source.ioread::<u16>()?, 48879);
+    /// ```
+    final fn ioread<N: FromCtx<Ctx> + SizeWith<Ctx>>(&mut self) -> io::Result<N>
+    where
+        Self: Sized,
+        Ctx: Default,
+        requires need { (ctx : Ctx) → Ctx.is_default ctx → N.need ctx ≤ N.size ctx }
+        requires size { (ctx : Ctx) → Ctx.is_default ctx → N.size ctx ≤ 256 }
+        ensures took { IfOk result (λ x. ByDefault Ctx.is_default (λ ctx. TakesValue (Self.remaining self.old) (Self.remaining self.new) (N.size ctx) (λ bytes. N.makes ctx bytes x))) }
+    {
+        self.ioread_with(Ctx::default())
+    }
+
+    /// Reads a value in the context `ctx`.
+    ///
+    /// ```rust
+    /// let mut source = [0xef, 0xbe, 0xb0, 0xb0, 0xfe, 0xed, 0xde, 0xad].as_slice();
+    /// assert_eq!(rt; source.ioread_with::<u16>(LE)?, 48879);
+    /// assert_eq!(rt; source.ioread::<u8>()?, 176);
+    /// assert_eq!(rt; source.ioread::<u8>()?, 176);
+    /// assert_eq!(rt; source.ioread_with::<u32>(BE)?, 4277001901);
+    /// assert!(rt; source.ioread::<u8>().is_err());
+    /// ```
+    final fn ioread_with<N: FromCtx<Ctx> + SizeWith<Ctx>>(&mut self, ctx: Ctx) -> io::Result<N>
+    where
+        Self: Sized,
+        requires need { N.need ctx ≤ N.size ctx }
+        requires size { N.size ctx ≤ 256 }
+        ensures took { IfOk result (λ x. TakesValue (Self.remaining self.old) (Self.remaining self.new) (N.size ctx) (λ bytes. N.makes ctx bytes x)) }
+    {
+        let mut scratch = [0u8; 256];
+        let size = N::size_with(&ctx);
+        let bytes = &mut scratch[..size];
+        self.read_exact(bytes)?;
+        Ok(N::from_ctx(bytes, ctx))
+    }
+}
+
+impl<Ctx: Copy, R: Read> IOread<Ctx> for R {}
+
+/// Writes values of any type that implements [`IntoCtx`] and [`SizeWith`] to a writer.
+///
+/// It is there for every writer. A write appends as many bytes as the type's size says: what the value leaves in so many
+/// zeros. The caller makes sure that the type needs at most its size, and that its size is at most 256 bytes; a number does.
+///
+/// An error is the writer's own, or one of kind `WriteZero` where the writer takes no more bytes. A call that is interrupted
+/// is made again. After an error it is not known how many bytes were appended. Nothing is flushed.
+pub trait IOwrite<Ctx: Copy>: Write {
+    /// Writes `n` in the default context, which for numbers is the machine's byte order.
+    ///
+    /// ```rust
+    /// let mut target = Vec::new(rt.alloc());
+    /// target.iowrite(0xdeadbeefu32)?;
+    /// assert_eq!(rt; target.as_slice(), [0xef, 0xbe, 0xad, 0xde].as_slice());
+    /// ```
+    final fn iowrite<N: SizeWith<Ctx> + IntoCtx<Ctx>>(&mut self, n: N) -> io::Result<()>
+    where
+        Self: Sized,
+        Ctx: Default,
+        requires need { (ctx : Ctx) → Ctx.is_default ctx → N.need ctx ≤ N.size ctx }
+        requires size { (ctx : Ctx) → Ctx.is_default ctx → N.size ctx ≤ 256 }
+        ensures appended { OnOk result (ByDefault Ctx.is_default (λ ctx. AppendsValue (Self.contents self.old) (Self.contents self.new) (N.size ctx) (N.leaves ctx n (replicate (N.size ctx) 0)))) }
+    {
+        self.iowrite_with(n, Ctx::default())
+    }
+
+    /// Writes `n` in the context `ctx`.
+    ///
+    /// ```rust
+    /// let mut bytes = [0u8; 10];
+    /// let mut target = &mut bytes[..];
+    /// target.write_all(b"hello")?;
+    /// target.iowrite_with(0xdeadbeefu32, BE)?;
+    /// assert_eq!(rt; bytes, [0x68, 0x65, 0x6c, 0x6c, 0x6f, 0xde, 0xad, 0xbe, 0xef, 0]);
+    /// ```
+    final fn iowrite_with<N: SizeWith<Ctx> + IntoCtx<Ctx>>(
+        &mut self,
+        n: N,
+        ctx: Ctx,
+    ) -> io::Result<()>
+    where
+        Self: Sized,
+        requires need { N.need ctx ≤ N.size ctx }
+        requires size { N.size ctx ≤ 256 }
+        ensures appended { OnOk result (AppendsValue (Self.contents self.old) (Self.contents self.new) (N.size ctx) (N.leaves ctx n (replicate (N.size ctx) 0))) }
+    {
+        let mut scratch = [0u8; 256];
+        let size = N::size_with(&ctx);
+        let bytes = &mut scratch[..size];
+        n.into_ctx(bytes, ctx);
+        self.write_all(bytes)?;
+        Ok(())
+    }
+}
+
+impl<Ctx: Copy, W: Write> IOwrite<Ctx> for W {}
