@@ -6,3 +6,10 @@ pub mod LeafLemmas
 pub mod NumberLeaves
 pub mod TextLemmas
 pub mod RunLemmas
+pub mod LebLemmas
+pub mod WordLemmas
+pub mod SpellingLemmas
+pub mod SignedSpellingLemmas
+pub mod BlockLemmas
+pub mod SignedLemmas
+pub mod LoadLemmas

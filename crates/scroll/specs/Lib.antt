@@ -9,3 +9,7 @@ pub mod Writes
 pub mod History
 pub mod Leaves
 pub mod Runs
+pub mod Leb128
+pub mod LebRefusals
+pub mod Spelling
+pub mod Loads

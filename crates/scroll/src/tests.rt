@@ -1,6 +1,7 @@
 // What no clause says: values from outside, printed lines, and that calls succeed.
 mod calls;
 mod cursor;
+mod leb128;
 mod numbers;
 mod own_type;
 mod printed;
