@@ -15,3 +15,10 @@ pub mod LaneLemmas
 pub mod FlagLemmas
 pub mod VectorLemmas
 pub mod StopLemmas
+pub mod LebLemmas
+pub mod WordLemmas
+pub mod SpellingLemmas
+pub mod SignedSpellingLemmas
+pub mod BlockLemmas
+pub mod SignedLemmas
+pub mod LoadLemmas

@@ -17,3 +17,7 @@ pub mod History
 pub mod Leaves
 pub mod Streams
 pub mod Runs
+pub mod Leb128
+pub mod LebRefusals
+pub mod Spelling
+pub mod Loads

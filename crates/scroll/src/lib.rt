@@ -29,7 +29,9 @@ mod error;
 mod examples;
 mod greater;
 pub mod laws;
+mod leb128;
 mod lesser;
+mod loads;
 mod pread;
 mod pwrite;
 pub mod runner;
@@ -41,7 +43,11 @@ mod tests;
 pub use crate::endian::{BE, Endian, LE, NATIVE, NETWORK};
 pub use crate::error::{Error, Result};
 pub use crate::greater::{Cread, Cwrite};
+pub use crate::leb128::{
+    Sleb128, Uleb128, plain_sleb, plain_uleb, sleb_block, sleb_loads, uleb_block, uleb_loads,
+};
 pub use crate::lesser::{IOread, IOwrite};
+pub use crate::loads::Loads;
 pub use crate::pread::Pread;
 pub use crate::pwrite::Pwrite;
 pub use crate::source::{ReadFrom, Source};

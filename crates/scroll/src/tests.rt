@@ -3,6 +3,7 @@ mod arrays;
 mod c_strings;
 mod calls;
 mod cursor;
+mod leb128;
 mod numbers;
 mod own_type;
 mod printed;
