@@ -2,7 +2,7 @@
 use Rattle.std.proofs.Common.{◌≡◌, ℕ, ℤ, ◌-◌, ◌/◌, ◌%◌, ◌^◌, ◌++◌, List, length, drop, arith}
 use Rattle.std.proofs.lemmas.Grind.{common_steps}
 use Rattle.std.proofs.lemmas.List.FromFn.{length-map-range_with_len}
-use Rattle.scroll.specs.Numbers.{number_bytes, signed_bytes, WritesNumber, WritesSigned}
+use Rattle.scroll.specs.Numbers.{number_bytes, signed_bytes, WritesNumber}
 use Rattle.scroll.specs.declared.endian.Endian.{Endian}
 use Rattle.scroll.specs.declared.endian.Endian.TheVariants.{Little, Big}
 
@@ -26,6 +26,3 @@ signed_bytes-keeps w order x old new is = drop-front w (signed_bytes order w x) 
 
 pub WritesNumber-keeps : (w : ℕ) (order : Endian) (x : ℕ) (old new : List ℕ) (n : ℕ) → WritesNumber w order x old new n → drop n new ≡ drop n old
 WritesNumber-keeps w order x old new n h = rw h.size (number_bytes-keeps w order x old new h.after)
-
-pub WritesSigned-keeps : (w : ℕ) (order : Endian) (x : ℤ) (old new : List ℕ) (n : ℕ) → WritesSigned w order x old new n → drop n new ≡ drop n old
-WritesSigned-keeps w order x old new n h = rw h.size (signed_bytes-keeps w order x old new h.after)

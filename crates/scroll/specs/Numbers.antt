@@ -20,9 +20,13 @@ abbrev pub number_bytes : Endian → ℕ → ℕ → List ℕ
 number_bytes Little w x = list_below (λ i. x / 256 ^ i % 256) w
 number_bytes Big w x = list_below (λ i. x / 256 ^ (w - 1 - i) % 256) w
 
--- the w bytes of a signed number, in two's complement: those of the number, plus 256 ^ w where it is below zero
+-- the number that stands for a signed one in two's complement of w bytes: it, plus 256 ^ w where it is below zero
+abbrev pub twos_complement : ℕ → ℤ → ℕ
+twos_complement w x = if int_lt x (pos 0) then nat_abs (pos (256 ^ w) +ℤ x) else nat_abs x
+
+-- the w bytes of a signed number, in two's complement
 abbrev pub signed_bytes : Endian → ℕ → ℤ → List ℕ
-signed_bytes order w x = number_bytes order w (if int_lt x (pos 0) then nat_abs (pos (256 ^ w) +ℤ x) else nat_abs x)
+signed_bytes order w x = number_bytes order w (twos_complement w x)
 
 -- a number of width w that is read from the front of a source
 abbrev pub ReadsNumber : ℕ → Endian → List ℕ → ℕ → ℕ → Type 0

@@ -121,6 +121,7 @@ pub trait Pread<'a, Ctx: Copy, E>: Source {
 impl<'a, Ctx: Copy, E: From<Error>> Pread<'a, Ctx, E> for &'a [u8] {
     ghost past_end = { λ offset e. E.from_gives (BadOffset offset) e };
 
+    #[inline(always)]
     fn pread<N: ReadFrom<Self, Ctx, Error = E>>(self, offset: usize) -> Result<N, E>
     where
         Ctx: Default,
@@ -128,6 +129,7 @@ impl<'a, Ctx: Copy, E: From<Error>> Pread<'a, Ctx, E> for &'a [u8] {
         self.pread_with(offset, Ctx::default())
     }
 
+    #[inline(always)]
     fn pread_with<N: ReadFrom<Self, Ctx, Error = E>>(
         self,
         offset: usize,
@@ -137,6 +139,7 @@ impl<'a, Ctx: Copy, E: From<Error>> Pread<'a, Ctx, E> for &'a [u8] {
         self.gread_with(&mut offset, ctx)
     }
 
+    #[inline(always)]
     fn gread<N: ReadFrom<Self, Ctx, Error = E>>(self, offset: &mut usize) -> Result<N, E>
     where
         Ctx: Default,
@@ -144,6 +147,7 @@ impl<'a, Ctx: Copy, E: From<Error>> Pread<'a, Ctx, E> for &'a [u8] {
         self.gread_with(offset, Ctx::default())
     }
 
+    #[inline(always)]
     fn gread_with<N: ReadFrom<Self, Ctx, Error = E>>(
         self,
         offset: &mut usize,

@@ -45,6 +45,7 @@ impl<'a, Ctx: Copy, N: TryFromCtx<'a, Ctx>> ReadFrom<&'a [u8], Ctx> for N {
 
     ghost reads_bounded = { N.reads_bounded };
 
+    #[inline(always)]
     fn read_from(from: &'a [u8], ctx: Ctx) -> Result<(N, usize), N::Error> {
         N::try_from_ctx(from, ctx)
     }

@@ -1,19 +1,129 @@
-// Whole numbers, a file for each type. The files differ in the type, the width and the words for a sign alone.
-ghost use Rattle.std.specs.Prelude.{◌≡◌, ◌≤◌, ◌<◌, ◌++◌, length, drop, OnOk, IfErr};
+// Whole numbers. A type says its width, its value and its bytes, and the implementations of all traits stand on that.
+ghost use Rattle.std.specs.Prelude.{◌≡◌, ◌≤◌, ◌<◌, ◌++◌, ℕ, List, length, take, drop, OnOk, IfErr};
+ghost use Rattle.std.proofs.Common.{rules};
+ghost use Rattle.scroll.specs.Bytes.{ReadsFront, RefusesShort, LeavesShort};
+ghost use Rattle.scroll.specs.Numbers.{number, signed_number, number_bytes, twos_complement, WritesNumber};
+ghost use Rattle.scroll.specs.NumberLaws.{number_bytes-keeps, WritesNumber-keeps};
+ghost use Rattle.scroll.specs.declared.endian.Endian.{Endian};
 ghost use Rattle.scroll.specs.declared.error.Error.TheVariants.{TooBig};
 
+use crate::ctx::{FromCtx, IntoCtx, SizeWith, TryFromCtx, TryIntoCtx};
+use crate::endian::Endian;
 use crate::error::{Error, Result};
 
-mod i128;
-mod i16;
-mod i32;
-mod i64;
-mod i8;
-mod u128;
-mod u16;
-mod u32;
-mod u64;
-mod u8;
+/// What is written as the bytes of a whole number: the number, or a reference to it.
+pub trait Written: Copy {
+    // How many bytes it has.
+    ghost width: { ℕ };
+
+    // The number below 256 ^ width whose bytes are written.
+    ghost code: { Self → ℕ };
+
+    /// How many bytes it has.
+    fn width() -> usize
+        ensures { result ≡ width };
+
+    /// Writes it to the front of `dst`.
+    fn write_front(self, dst: &mut [u8], order: Endian)
+        requires { width ≤ length dst.old }
+        ensures { dst.new ≡ number_bytes order width (code self) ++ drop width dst.old };
+}
+
+/// A whole number of a fixed width.
+pub trait Number: Written {
+    // The number at the front of a source.
+    ghost value: { Endian → List ℕ → Self };
+
+    /// The number at the front of `from`.
+    fn read_front(from: &[u8], order: Endian) -> Self
+        requires { Self.width ≤ length from.now }
+        ensures { result ≡ value order from.now };
+}
+
+impl<'n, N: Number> Written for &'n N {
+    ghost width = { N.width };
+
+    ghost code = { λ x. N.code x.now };
+
+    fn width() -> usize {
+        N::width()
+    }
+
+    fn write_front(self, dst: &mut [u8], order: Endian) {
+        (*self).write_front(dst, order)
+    }
+}
+
+impl<N: Number> FromCtx<Endian> for N {
+    ghost need = { λ _. N.width };
+
+    ghost makes = { λ order source x. x ≡ N.value order source };
+
+    fn from_ctx(this: &[u8], ctx: Endian) -> N {
+        N::read_front(this, ctx)
+    }
+}
+
+impl<'a, N: Number> TryFromCtx<'a, Endian> for N {
+    type Error = Error;
+
+    ghost reads = { λ order. ReadsFront N.width (N.value order) };
+
+    ghost refuses = { λ _. RefusesShort N.width };
+
+    ghost reads_bounded = { λ order source x n h. Prim.search rules };
+
+    fn try_from_ctx(from: &'a [u8], ctx: Endian) -> Result<(N, usize)> {
+        check_room(N::width(), from.len())?;
+        Ok((N::from_ctx(from, ctx), N::width()))
+    }
+}
+
+impl<N: Written> IntoCtx<Endian> for N {
+    ghost need = { λ _. N.width };
+
+    ghost leaves = { λ order x old new. new ≡ number_bytes order N.width (N.code x) ++ drop N.width old };
+
+    ghost leaves_keeps = { λ order x. number_bytes-keeps N.width order (N.code x) };
+
+    fn into_ctx(self, dst: &mut [u8], ctx: Endian) {
+        self.write_front(dst, ctx)
+    }
+}
+
+impl<N: Written> TryIntoCtx<Endian> for N {
+    type Error = Error;
+
+    ghost writes = { λ order x. WritesNumber N.width order (N.code x) };
+
+    ghost refuses = { λ _ _. LeavesShort N.width };
+
+    ghost writes_bounded = { λ order x old new n h. Prim.search rules };
+
+    ghost writes_keeps = { λ order x. WritesNumber-keeps N.width order (N.code x) };
+
+    fn try_into_ctx(self, dst: &mut [u8], ctx: Endian) -> Result<usize> {
+        check_room(N::width(), dst.len())?;
+        self.into_ctx(dst, ctx);
+        Ok(N::width())
+    }
+}
+
+impl<N: Number> SizeWith<Endian> for N {
+    ghost size = { λ _. N.width };
+
+    fn size_with(_ctx: &Endian) -> usize {
+        N::width()
+    }
+}
+
+impl<N: Number> SizeWith<()> for N {
+    ghost size = { λ _. N.width };
+
+    fn size_with(_ctx: &()) -> usize {
+        N::width()
+    }
+}
 
 // Tells whether `len` bytes are enough for a number of `width` bytes.
 #[inline]
@@ -27,6 +137,15 @@ fn check_room(width: usize, len: usize) -> Result<()>
     Ok(())
 }
 
+// The bytes at the front of a source.
+#[inline]
+fn front<const WIDTH: usize>(from: &[u8]) -> [u8; WIDTH]
+    requires { WIDTH ≤ length from.now }
+    ensures { result ≡ take WIDTH from.now }
+{
+    *from.first_chunk().unwrap()
+}
+
 // Puts a number's bytes to the front of a target.
 #[inline]
 fn put_front<const WIDTH: usize>(dst: &mut [u8], bytes: [u8; WIDTH])
@@ -34,4 +153,284 @@ fn put_front<const WIDTH: usize>(dst: &mut [u8], bytes: [u8; WIDTH])
     ensures { dst.new ≡ bytes.entry ++ drop WIDTH dst.old }
 {
     dst[..WIDTH].copy_from_slice(&bytes);
+}
+
+impl Written for u8 {
+    ghost width = { 1 };
+
+    ghost code = { λ x. x };
+
+    fn width() -> usize {
+        1
+    }
+
+    fn write_front(self, dst: &mut [u8], order: Endian) {
+        match order {
+            Endian::Little => put_front(dst, self.to_le_bytes()),
+            Endian::Big => put_front(dst, self.to_be_bytes()),
+        }
+    }
+}
+
+impl Number for u8 {
+    ghost value = { λ order. number order 1 };
+
+    fn read_front(from: &[u8], order: Endian) -> u8 {
+        match order {
+            Endian::Little => u8::from_le_bytes(front(from)),
+            Endian::Big => u8::from_be_bytes(front(from)),
+        }
+    }
+}
+
+impl Written for i8 {
+    ghost width = { 1 };
+
+    ghost code = { twos_complement 1 };
+
+    fn width() -> usize {
+        1
+    }
+
+    fn write_front(self, dst: &mut [u8], order: Endian) {
+        match order {
+            Endian::Little => put_front(dst, self.to_le_bytes()),
+            Endian::Big => put_front(dst, self.to_be_bytes()),
+        }
+    }
+}
+
+impl Number for i8 {
+    ghost value = { λ order. signed_number order 1 };
+
+    fn read_front(from: &[u8], order: Endian) -> i8 {
+        match order {
+            Endian::Little => i8::from_le_bytes(front(from)),
+            Endian::Big => i8::from_be_bytes(front(from)),
+        }
+    }
+}
+
+impl Written for u16 {
+    ghost width = { 2 };
+
+    ghost code = { λ x. x };
+
+    fn width() -> usize {
+        2
+    }
+
+    fn write_front(self, dst: &mut [u8], order: Endian) {
+        match order {
+            Endian::Little => put_front(dst, self.to_le_bytes()),
+            Endian::Big => put_front(dst, self.to_be_bytes()),
+        }
+    }
+}
+
+impl Number for u16 {
+    ghost value = { λ order. number order 2 };
+
+    fn read_front(from: &[u8], order: Endian) -> u16 {
+        match order {
+            Endian::Little => u16::from_le_bytes(front(from)),
+            Endian::Big => u16::from_be_bytes(front(from)),
+        }
+    }
+}
+
+impl Written for i16 {
+    ghost width = { 2 };
+
+    ghost code = { twos_complement 2 };
+
+    fn width() -> usize {
+        2
+    }
+
+    fn write_front(self, dst: &mut [u8], order: Endian) {
+        match order {
+            Endian::Little => put_front(dst, self.to_le_bytes()),
+            Endian::Big => put_front(dst, self.to_be_bytes()),
+        }
+    }
+}
+
+impl Number for i16 {
+    ghost value = { λ order. signed_number order 2 };
+
+    fn read_front(from: &[u8], order: Endian) -> i16 {
+        match order {
+            Endian::Little => i16::from_le_bytes(front(from)),
+            Endian::Big => i16::from_be_bytes(front(from)),
+        }
+    }
+}
+
+impl Written for u32 {
+    ghost width = { 4 };
+
+    ghost code = { λ x. x };
+
+    fn width() -> usize {
+        4
+    }
+
+    fn write_front(self, dst: &mut [u8], order: Endian) {
+        match order {
+            Endian::Little => put_front(dst, self.to_le_bytes()),
+            Endian::Big => put_front(dst, self.to_be_bytes()),
+        }
+    }
+}
+
+impl Number for u32 {
+    ghost value = { λ order. number order 4 };
+
+    fn read_front(from: &[u8], order: Endian) -> u32 {
+        match order {
+            Endian::Little => u32::from_le_bytes(front(from)),
+            Endian::Big => u32::from_be_bytes(front(from)),
+        }
+    }
+}
+
+impl Written for i32 {
+    ghost width = { 4 };
+
+    ghost code = { twos_complement 4 };
+
+    fn width() -> usize {
+        4
+    }
+
+    fn write_front(self, dst: &mut [u8], order: Endian) {
+        match order {
+            Endian::Little => put_front(dst, self.to_le_bytes()),
+            Endian::Big => put_front(dst, self.to_be_bytes()),
+        }
+    }
+}
+
+impl Number for i32 {
+    ghost value = { λ order. signed_number order 4 };
+
+    fn read_front(from: &[u8], order: Endian) -> i32 {
+        match order {
+            Endian::Little => i32::from_le_bytes(front(from)),
+            Endian::Big => i32::from_be_bytes(front(from)),
+        }
+    }
+}
+
+impl Written for u64 {
+    ghost width = { 8 };
+
+    ghost code = { λ x. x };
+
+    fn width() -> usize {
+        8
+    }
+
+    fn write_front(self, dst: &mut [u8], order: Endian) {
+        match order {
+            Endian::Little => put_front(dst, self.to_le_bytes()),
+            Endian::Big => put_front(dst, self.to_be_bytes()),
+        }
+    }
+}
+
+impl Number for u64 {
+    ghost value = { λ order. number order 8 };
+
+    fn read_front(from: &[u8], order: Endian) -> u64 {
+        match order {
+            Endian::Little => u64::from_le_bytes(front(from)),
+            Endian::Big => u64::from_be_bytes(front(from)),
+        }
+    }
+}
+
+impl Written for i64 {
+    ghost width = { 8 };
+
+    ghost code = { twos_complement 8 };
+
+    fn width() -> usize {
+        8
+    }
+
+    fn write_front(self, dst: &mut [u8], order: Endian) {
+        match order {
+            Endian::Little => put_front(dst, self.to_le_bytes()),
+            Endian::Big => put_front(dst, self.to_be_bytes()),
+        }
+    }
+}
+
+impl Number for i64 {
+    ghost value = { λ order. signed_number order 8 };
+
+    fn read_front(from: &[u8], order: Endian) -> i64 {
+        match order {
+            Endian::Little => i64::from_le_bytes(front(from)),
+            Endian::Big => i64::from_be_bytes(front(from)),
+        }
+    }
+}
+
+impl Written for u128 {
+    ghost width = { 16 };
+
+    ghost code = { λ x. x };
+
+    fn width() -> usize {
+        16
+    }
+
+    fn write_front(self, dst: &mut [u8], order: Endian) {
+        match order {
+            Endian::Little => put_front(dst, self.to_le_bytes()),
+            Endian::Big => put_front(dst, self.to_be_bytes()),
+        }
+    }
+}
+
+impl Number for u128 {
+    ghost value = { λ order. number order 16 };
+
+    fn read_front(from: &[u8], order: Endian) -> u128 {
+        match order {
+            Endian::Little => u128::from_le_bytes(front(from)),
+            Endian::Big => u128::from_be_bytes(front(from)),
+        }
+    }
+}
+
+impl Written for i128 {
+    ghost width = { 16 };
+
+    ghost code = { twos_complement 16 };
+
+    fn width() -> usize {
+        16
+    }
+
+    fn write_front(self, dst: &mut [u8], order: Endian) {
+        match order {
+            Endian::Little => put_front(dst, self.to_le_bytes()),
+            Endian::Big => put_front(dst, self.to_be_bytes()),
+        }
+    }
+}
+
+impl Number for i128 {
+    ghost value = { λ order. signed_number order 16 };
+
+    fn read_front(from: &[u8], order: Endian) -> i128 {
+        match order {
+            Endian::Little => i128::from_le_bytes(front(from)),
+            Endian::Big => i128::from_be_bytes(front(from)),
+        }
+    }
 }
