@@ -1,6 +1,7 @@
 #!/bin/sh
 # Runs the proved program on each stored session where memory is refused and where its streams fail, and each proved
-# test where memory is refused. scripts/faults.c stands in for malloc, realloc, read and write of the C library.
+# test of a library where memory is refused. scripts/faults.c stands in for malloc, realloc, read and write of the C
+# library.
 #
 #     sh scripts/faults.sh
 #
@@ -211,7 +212,7 @@ try_test() {
     number=1
     while [ -n "$is_well" ]; do
         run_with "FAULT_MEMORY=$number" "$tests" "$name" >"$work/out" 2>&1 </dev/null
-        if [ "$status" -ne 0 ] && ! { is_met && grep -Eqx 'error: (AllocError|NoMemory)' "$work/out"; }; then
+        if [ "$status" -ne 0 ] && ! { is_met && grep -Eqx 'error: (AllocError|NoMemory|Kind\(OutOfMemory\))' "$work/out"; }; then
             complain "call $number for memory is refused" "the test ends with status $status"
         fi
         is_met || break
@@ -242,14 +243,19 @@ run_lane() {
     echo "$passed $failed $runs" >"$work.counts"
 }
 
+list_libraries() {
+    for crate in "$top"/crates/*; do
+        [ ! -f "$crate/src/lib.rt" ] || basename "$crate"
+    done
+}
+
 # One line for each session, the longest first, and for each test: `session` or the name of the crate, and the name.
 list_all() {
     # shellcheck disable=SC2012 # the names are words
     ls -S "$sessions" | sed -n 's/^\(.*\)\.in$/session \1/p'
     [ -n "$library" ] || return
-    for crate in "$top"/crates/*; do
-        kind=$(basename "$crate")
-        tests=$crate/out/${kind}_tests
+    for kind in $(list_libraries); do
+        tests=$top/crates/$kind/out/${kind}_tests
         [ -x "$tests" ] && "$tests" --list | sed -n "s|^\(.*\): test\$|$kind \1|p"
     done
 }
@@ -261,8 +267,8 @@ stop() {
 }
 
 [ -x "$program" ] || stop "there is no program $program: rt run in crates/scroll_run proves and builds it"
-for crate in "$top"/crates/*; do
-    name=$(basename "$crate")
+for name in $(list_libraries); do
+    crate=$top/crates/$name
     if [ ! -x "$crate/out/${name}_tests" ] && grep -rqF '#[test]' "$crate/src"; then
         failed=$((failed + 1))
         echo "FAILED $name: there is no program of its tests: rt test proves and builds it"
