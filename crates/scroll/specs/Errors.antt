@@ -1,5 +1,5 @@
--- What errors print.
-use Rattle.std.specs.Prelude.{ℕ, ◌++◌, List, codes, Option, Some, None}
+-- What errors print, and errors that hold a message.
+use Rattle.std.specs.Prelude.{◌≡◌, ℕ, ◌++◌, List, codes, Option, Some, None}
 use Rattle.std.specs.Fmt.{decimal}
 use Rattle.std.specs.String.{string_bytes}
 use Rattle.scroll.specs.declared.error.Error.{Error}
@@ -13,3 +13,8 @@ line_of (BadInput size msg) = Some (codes "bad input " ++ msg.now ++ codes " (" 
 line_of (Custom text) = Some (string_bytes text)
 line_of (IO fault) = None
 line_of NoMemory = Some (codes "out of memory")
+
+-- a `BadInput` of this size and with this message. A message is compared by its bytes, since it is borrowed and has an address.
+abbrev pub IsBadInput : Error → ℕ → List ℕ → Type 0
+IsBadInput (BadInput size msg) n text = (size ≡ n) × (msg.now ≡ text)
+IsBadInput e n text = ⊥

@@ -1,9 +1,9 @@
 pub mod Bytes
 pub mod Numbers
 pub mod NumberLaws
+pub mod Errors
 pub mod Texts
 pub mod TextLaws
-pub mod Errors
 pub mod Reads
 pub mod Writes
 pub mod Fits

@@ -5,7 +5,13 @@
 ghost use Rattle.std.specs.Prelude.{◌≡◌, ℕ, ◌+◌, ◌^◌, ◌≤◌, ◌<◌, List, length, drop, IfOk, IfErr};
 
 mod arrays;
+mod bytes;
+mod measure;
 mod numbers;
+mod str_ctx;
+mod text;
+
+pub use str_ctx::{NULL, RET, SPACE, StrCtx, TAB};
 
 /// A type that can be read from bytes in a context.
 ///
@@ -102,4 +108,19 @@ pub trait SizeWith<Ctx> {
     fn size_with(ctx: &Ctx) -> usize
         requires { size ctx.now < 2 ^ 64 }
         ensures { result ≡ size ctx.now };
+}
+
+/// A type whose values have a size in a context.
+///
+/// ```rust
+/// let bytes: [u8; 4] = [0xde, 0xad, 0xbe, 0xef];
+/// assert_eq!(rt; bytes.measure_with(&LE), 4);
+/// ```
+pub trait MeasureWith<Ctx> {
+    // How many bytes a value has.
+    ghost measure: { Ctx → Self → ℕ };
+
+    /// How many bytes the value has in this context.
+    fn measure_with(&self, ctx: &Ctx) -> usize
+        ensures { result ≡ measure ctx.now self.now };
 }

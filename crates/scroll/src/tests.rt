@@ -6,3 +6,4 @@ mod numbers;
 mod own_type;
 mod printed;
 mod runs;
+mod texts;

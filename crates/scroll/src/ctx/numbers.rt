@@ -15,9 +15,9 @@ mod u32;
 mod u64;
 mod u8;
 
-// Tells whether `len` bytes are enough for a number of `width` bytes.
+// Tells whether `len` bytes are enough for a value of `width` bytes.
 #[inline]
-fn check_room(width: usize, len: usize) -> Result<()>
+pub(super) fn check_room(width: usize, len: usize) -> Result<()>
     ensures enough { OnOk result (width ≤ len) }
     ensures short { IfErr result (λ e. (len < width) × (e ≡ TooBig width len)) }
 {

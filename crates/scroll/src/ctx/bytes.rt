@@ -1,0 +1,47 @@
+// Byte slices.
+ghost use Rattle.std.specs.Prelude.{◌≡◌, length};
+ghost use Rattle.std.proofs.Common.{rules};
+ghost use Rattle.scroll.specs.Bytes.{WritesFront, LeavesShort};
+ghost use Rattle.scroll.specs.Texts.{ReadsSlice, RefusesSlice};
+ghost use Rattle.scroll.specs.TextLaws.{WritesFront-keeps};
+
+use super::numbers::check_room;
+use crate::ctx::{TryFromCtx, TryIntoCtx};
+use crate::error::{Error, Result};
+
+/// The first bytes of the source, as many as the context says. Nothing is copied: the slice borrows the source.
+///
+/// The default context is 0, which reads the empty slice. A shorter source is [`Error::TooBig`].
+impl<'a> TryFromCtx<'a, usize> for &'a [u8] {
+    type Error = Error;
+
+    ghost reads = { λ n source slice. ReadsSlice n source slice.now };
+
+    ghost refuses = { RefusesSlice };
+
+    ghost reads_bounded = { λ n source slice size h. Prim.search rules };
+
+    fn try_from_ctx(from: &'a [u8], ctx: usize) -> Result<(&'a [u8], usize)> {
+        check_room(ctx, from.len())?;
+        Ok((&from[..ctx], ctx))
+    }
+}
+
+/// The bytes of a slice, with no length. A shorter target is [`Error::TooBig`], and stays.
+impl<'s> TryIntoCtx<()> for &'s [u8] {
+    type Error = Error;
+
+    ghost writes = { λ _ slice. WritesFront (length slice.now) slice.now };
+
+    ghost refuses = { λ _ slice. LeavesShort (length slice.now) };
+
+    ghost writes_bounded = { λ _ slice old new n h. Prim.search rules };
+
+    ghost writes_keeps = { λ _ slice. WritesFront-keeps slice.now };
+
+    fn try_into_ctx(self, dst: &mut [u8], _ctx: ()) -> Result<usize> {
+        check_room(self.len(), dst.len())?;
+        dst[..self.len()].copy_from_slice(self);
+        Ok(self.len())
+    }
+}

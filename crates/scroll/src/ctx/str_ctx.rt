@@ -1,0 +1,56 @@
+// Where a text ends.
+ghost use Rattle.std.specs.Prelude.{◌≡◌, ◌↔◌, IsTrue};
+ghost use Rattle.scroll.specs.Texts.{delimiter_len};
+ghost use Rattle.scroll.specs.declared.ctx.str_ctx.StrCtx.TheVariants.{Delimiter};
+
+/// The byte 0, which ends a text in C.
+pub const NULL: u8 = 0;
+
+/// A space.
+pub const SPACE: u8 = 0x20;
+
+/// A line feed.
+pub const RET: u8 = 0x0a;
+
+/// A tab.
+pub const TAB: u8 = 0x09;
+
+/// The context in which a text is read: where it ends. It plays no part in writing.
+///
+/// The default is `Delimiter(NULL)`.
+#[derive(Clone, Copy, Debug)]
+pub enum StrCtx {
+    /// Up to the first of these bytes, or to the end of the source where there is none.
+    Delimiter(u8),
+    /// Up to the first of these bytes, and at most this many bytes.
+    DelimiterUntil(u8, usize),
+    /// This many bytes.
+    Length(usize),
+}
+
+impl Default for StrCtx {
+    ghost is_default = { λ ctx. ctx ≡ Delimiter 0 };
+
+    fn default() -> StrCtx {
+        StrCtx::Delimiter(NULL)
+    }
+}
+
+impl StrCtx {
+    /// How many bytes are counted behind a text: 1 for a delimiter, and 0 for `Length`.
+    pub fn len(&self) -> usize
+        ensures { result ≡ delimiter_len self.now }
+    {
+        match self {
+            StrCtx::Delimiter(_) | StrCtx::DelimiterUntil(_, _) => 1,
+            StrCtx::Length(_) => 0,
+        }
+    }
+
+    /// Whether no byte is counted behind a text, which is true of `Length` alone.
+    pub fn is_empty(&self) -> bool
+        ensures { IsTrue result ↔ (delimiter_len self.now ≡ 0) }
+    {
+        matches!(self, StrCtx::Length(_))
+    }
+}

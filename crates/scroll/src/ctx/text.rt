@@ -1,0 +1,76 @@
+// Texts.
+ghost use Rattle.std.specs.Prelude.{◌≡◌, ℕ, ◌+◌, ◌≤◌, List, length, IfOk, IfErr};
+ghost use Rattle.std.proofs.Common.{rules};
+ghost use Rattle.scroll.specs.Bytes.{RefusesShort, WritesFront, LeavesShort};
+ghost use Rattle.scroll.specs.Texts.{text_len, wanted_len, ReadsText, RefusesText};
+ghost use Rattle.scroll.specs.TextLaws.{ReadsText-bounded, WritesFront-keeps};
+
+use super::numbers::check_room;
+use crate::ctx::{StrCtx, TryFromCtx, TryIntoCtx};
+use crate::error::{Error, Result};
+use crate::search::first_place;
+
+/// A text, by where it ends. Nothing is copied: the text borrows the source.
+///
+/// The text is what stands before the delimiter, the limit or the length. With a delimiter its size is one byte more than
+/// the text has, whether or not a delimiter stands there, and past the end of the source too. A limit or a length beyond
+/// the source is [`Error::TooBig`], even where a delimiter stands earlier. A text that isn't UTF-8 is [`Error::BadInput`],
+/// whose `size` is the number of bytes of the whole source.
+impl<'a> TryFromCtx<'a, StrCtx> for &'a str {
+    type Error = Error;
+
+    ghost reads = { λ ctx source text. ReadsText ctx source text.now };
+
+    ghost refuses = { RefusesText };
+
+    ghost reads_bounded = { λ ctx source text. ReadsText-bounded ctx source text.now };
+
+    fn try_from_ctx(from: &'a [u8], ctx: StrCtx) -> Result<(&'a str, usize)> {
+        let len = end_of_text(from, ctx)?;
+        match str::from_utf8(&from[..len]) {
+            Ok(text) => Ok((text, len + ctx.len())),
+            Err(_) => Err(Error::BadInput {
+                size: from.len(),
+                msg: "invalid utf8",
+            }),
+        }
+    }
+}
+
+// How many bytes the text has. A limit and a length are tested before the search.
+#[tactic(auto, using(crate::proofs::TextLemmas::first_places))]
+fn end_of_text(from: &[u8], ctx: StrCtx) -> Result<usize>
+    ensures room { IfOk result (λ _. wanted_len ctx ≤ length from.now) }
+    ensures text { IfOk result (λ len. len ≡ text_len ctx from.now) }
+    ensures within { IfOk result (λ len. len ≤ length from.now) }
+    ensures refused { IfErr result (RefusesShort (wanted_len ctx) from.now) }
+{
+    match ctx {
+        StrCtx::Delimiter(delimiter) => Ok(first_place(delimiter, from)),
+        StrCtx::DelimiterUntil(delimiter, limit) => {
+            check_room(limit, from.len())?;
+            Ok(first_place(delimiter, &from[..limit]))
+        }
+        StrCtx::Length(len) => {
+            check_room(len, from.len())?;
+            Ok(len)
+        }
+    }
+}
+
+/// The bytes of a text, with no delimiter and no length. A shorter target is [`Error::TooBig`], and stays.
+impl<'t> TryIntoCtx<()> for &'t str {
+    type Error = Error;
+
+    ghost writes = { λ _ text. WritesFront (length text.now) text.now };
+
+    ghost refuses = { λ _ text. LeavesShort (length text.now) };
+
+    ghost writes_bounded = { λ _ text old new n h. Prim.search rules };
+
+    ghost writes_keeps = { λ _ text. WritesFront-keeps text.now };
+
+    fn try_into_ctx(self, dst: &mut [u8], _ctx: ()) -> Result<usize> {
+        self.as_bytes().try_into_ctx(dst, ())
+    }
+}
