@@ -9,3 +9,10 @@ pub mod ArrayLeaves
 pub mod NumberLeaves
 pub mod TextLemmas
 pub mod RunLemmas
+pub mod LebLemmas
+pub mod WordLemmas
+pub mod SpellingLemmas
+pub mod SignedSpellingLemmas
+pub mod BlockLemmas
+pub mod SignedLemmas
+pub mod LoadLemmas

@@ -12,3 +12,7 @@ pub mod ArrayLaws
 pub mod History
 pub mod Leaves
 pub mod Runs
+pub mod Leb128
+pub mod LebRefusals
+pub mod Spelling
+pub mod Loads

@@ -4,6 +4,12 @@ ghost use Rattle.std.specs.Prelude.{◌≡◌, ◌≤◌, ◌^◌, ◌<◌, ℕ,
 ghost use Rattle.scroll.specs.Numbers.{ReadsNumber, ReadsSigned, WritesNumber, WritesSigned};
 ghost use Rattle.scroll.specs.declared.endian.Endian.{Endian};
 
+mod leb128;
+
+pub use leb128::{
+    leb128_reads_have_one_to_ten_bytes, signed_reads_are_spellings, unsigned_reads_are_spellings,
+};
+
 /// A number that was written in a byte order reads back equal in that order, and the bytes outside its width stay.
 ///
 /// The number is in the range of its width: below 256 to the power of `w`, and for a signed one from minus half of that
@@ -19,3 +25,8 @@ pub fn number_reads_back()
     ensures others_signed { (w : ℕ) (order : Endian) (x : ℤ) (old new : List ℕ) (n : ℕ)
         → WritesSigned w order x old new n → drop w new ≡ drop w old }
 {}
+
+pub use leb128::{
+    leb128_reads_have_one_to_ten_bytes as law_8, signed_reads_are_spellings as law_spelling_s,
+    unsigned_reads_are_spellings as law_spelling_u,
+};

@@ -17,8 +17,9 @@
 //!
 //! [`Pread`] and [`Pwrite`] test for room, and refuse by an error where there is none. [`Cread`] and [`Cwrite`] have no
 //! refusals: the caller makes sure of room, and the prover checks it. What can be read and written are the types that
-//! implement the traits of [`ctx`]: the ten whole numbers, and types of one's own. [`runner`] answers lists of such reads and
-//! writes, and [`laws`] has laws of the definitions that all contracts cite.
+//! implement the traits of [`ctx`]: the ten whole numbers, and types of one's own. Numbers in LEB128 are read as
+//! [`Uleb128`] and [`Sleb128`]. [`runner`] answers lists of such reads and writes, and [`laws`] has laws of the definitions
+//! that all contracts cite.
 #![tactic(auto)]
 
 pub mod ctx;
@@ -28,6 +29,8 @@ mod error;
 mod examples;
 mod greater;
 pub mod laws;
+pub mod leb128;
+mod loads;
 mod pread;
 mod pwrite;
 pub mod runner;
@@ -39,6 +42,8 @@ mod tests;
 pub use crate::endian::{BE, Endian, LE, NATIVE, NETWORK};
 pub use crate::error::{Error, Result};
 pub use crate::greater::{Cread, Cwrite};
+pub use crate::leb128::{Sleb128, Uleb128};
+pub use crate::loads::Loads;
 pub use crate::pread::Pread;
 pub use crate::pwrite::Pwrite;
 pub use crate::source::{ReadFrom, Source};

@@ -2,6 +2,7 @@
 mod arrays;
 mod calls;
 mod cursor;
+mod leb128;
 mod numbers;
 mod own_type;
 mod printed;

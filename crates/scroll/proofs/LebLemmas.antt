@@ -1,0 +1,144 @@
+use Rattle.std.proofs.Common.{◌≡◌, ℕ, zero, suc, ◌+◌, ◌-◌, ◌*◌, ◌%◌, ◌^◌, ◌<◌, ◌≤◌, ◌⊎◌, inl, inr, true, false, nat_lt, List, length, take, get_or, bit_and, bit_or, refl, sym, ap, ◌∙◌, arith, add-one, add-suc, pow-suc}
+use Rattle.std.proofs.Math.Nat.{mod-eq_of_lt, pow-le-pow_right, mul-le-mul, mul-le-mul_right, mul_assoc, mul_comm}
+use Rattle.std.proofs.lemmas.Nat.{pow-add, mul-add-lt, and_mask}
+use Rattle.std.proofs.lemmas.Bool.{cases_lt}
+use Rattle.std.proofs.lemmas.Bool.Decides.{nat_tests}
+use Rattle.std.proofs.lemmas.List.Sums.{position_or_len_is, passes_at_first, fails_before_first}
+use Rattle.std.specs.Int.Bits.{or_shifted_r}
+use Rattle.std.proofs.Common.{Some, None}
+use Rattle.std.proofs.lemmas.Option.{slice_get-get_or, get_or_from_slice_get}
+use Rattle.std.proofs.lemmas.List.{get_or-take, length-take-le}
+use Rattle.std.specs.List.{slice_get}
+use Rattle.scroll.specs.Leb128.{group, groups_value, end_of, unsigned_of, count_of, ReadsGroups}
+
+-- ---- powers and sums
+pub pow_128 : (i : ℕ) → 2 ^ (7 * i) ≡ 128 ^ i
+pow_128 zero = refl
+pow_128 (suc i) =
+    let e : 7 * suc i ≡ 7 * i + 7 = omega arith in
+    ap (λ k. 2 ^ k) e ∙ pow-add 2 (7 * i) 7 ∙ ap (λ x. x * 128) (pow_128 i) ∙ sym (pow-suc 128 i)
+
+pub groups_more : (s : List ℕ) (n : ℕ) → groups_value s (n + 1) ≡ groups_value s n + group s n * 128 ^ n
+groups_more s n = rw add-one refl
+
+pub groups_lt : (s : List ℕ) (n : ℕ) → groups_value s n < 128 ^ n
+groups_lt s zero = omega arith
+groups_lt s (suc n) =
+    let low : group s n < 128 = omega arith in
+    omega (arith, mul-add-lt (group s n) (128 ^ n) (groups_value s n) 128 low (groups_lt s n), pow-suc 128 n)
+
+-- ---- the end
+pub end_at : (s : List ℕ) (i : ℕ) → i < length s → ((k : ℕ) → k < i → 128 ≤ get_or s k 0) → get_or s i 0 < 128 → end_of s ≡ i
+end_at s i within more last =
+    position_or_len_is (λ b. nat_lt b 128) s i 0 (omega arith) (λ k h. let f = more k h in grind (arith, nat_tests)) (λ h. grind (arith, nat_tests))
+
+pub no_end : (s : List ℕ) → ((k : ℕ) → k < length s → 128 ≤ get_or s k 0) → end_of s ≡ length s
+no_end s more =
+    position_or_len_is (λ b. nat_lt b 128) s (length s) 0 (omega arith) (λ k h. let f = more k h in grind (arith, nat_tests)) (λ h. absurd (omega arith))
+
+-- a complete text ends at a byte under 128
+pub end_below : (s : List ℕ) → end_of s < length s → get_or s (end_of s) 0 < 128
+end_below s h = let t = passes_at_first (λ b. nat_lt b 128) s 0 h in grind (arith, nat_tests)
+
+-- the bytes of a text before its end are at least 128
+pub open_before : (s : List ℕ) (k : ℕ) → k < end_of s → 128 ≤ get_or s k 0
+open_before s k h = let f = fails_before_first (λ b. nat_lt b 128) s k 0 h in grind (arith, nat_tests)
+
+-- ---- one more group
+pub group_fits : (s : List ℕ) (i : ℕ) → i < 10 → ((i ≡ 9) × (get_or s i 0 ≤ 1)) ⊎ (i ≡ 9 → ⊥) → group s i * 128 ^ i < 2 ^ 64
+group_fits s i h w = elim w [
+  | inl t ↦ let one = rw t.0 at t.1 in rw t.0 (omega arith)
+  | inr ne ↦
+      let low : group s i ≤ 127 = omega arith in
+      let eight : i ≤ 8 = omega arith in
+      let power : 128 ^ i ≤ 128 ^ 8 = pow-le-pow_right {n = 128} (omega arith) eight in
+      omega (arith, mul-le-mul low power)
+]
+
+pub or_group : (s : List ℕ) (i v r m : ℕ) → group s i * 128 ^ i < m → v ≡ groups_value s i → r ≡ bit_and (get_or s i 0) 127
+    → bit_or v (r * 2 ^ (7 * i) % m) ≡ groups_value s (i + 1)
+or_group s i v r m fits value_is r_is =
+    let e : r ≡ group s i = r_is ∙ and_mask (get_or s i 0) 7 in
+    let small : v < 2 ^ (7 * i) = rw (pow_128 i, value_is) (groups_lt s i) in
+    let whole : r * 2 ^ (7 * i) < m = rw (pow_128 i, e) fits in
+    ap (bit_or v) (mod-eq_of_lt whole) ∙ or_shifted_r r (7 * i) v small ∙ rw (pow_128 i, e, value_is, groups_more s i) (omega arith)
+
+-- where the first i bytes do not end the text, it ends at i or later
+pub late_end : (s : List ℕ) (i : ℕ) → i ≤ length s → ((k : ℕ) → k < i → 128 ≤ get_or s k 0) → i ≤ end_of s
+late_end s i within more = elim (cases_lt (end_of s) i) [
+  | inl early ↦
+      let within_s : end_of s < length s = omega arith in
+      let last = end_below s within_s in
+      let no = more (end_of s) early in
+      absurd (omega arith)
+  | inr late ↦ late
+]
+
+-- ---- the first groups of many
+pub groups_split : (s : List ℕ) (m k : ℕ) → (rest : ℕ) × (groups_value s (m + k) ≡ rest * 128 ^ m + groups_value s m)
+groups_split s m zero = let e : m + 0 ≡ m = omega arith in (0, rw e (omega arith))
+groups_split s m (suc k) =
+    let before = groups_split s m k in
+    let power : group s (m + k) * 128 ^ (m + k) ≡ group s (m + k) * 128 ^ k * 128 ^ m =
+    rw (pow-add 128 m k) (omega (arith, mul_assoc (group s (m + k)) (128 ^ k) (128 ^ m), mul_comm (128 ^ k) (128 ^ m))) in
+    (before.0 + group s (m + k) * 128 ^ k, rw add-suc (omega (arith, before.1, power)))
+
+-- the sign is the top bit of the groups
+pub sign_is_top : (s : List ℕ) (g n : ℕ) → end_of s < length s → g ≡ unsigned_of s → n ≡ count_of s
+    → nat_lt g (64 * 128 ^ (n - 1)) ≡ nat_lt (group s (end_of s)) 64
+sign_is_top s g n within g_is n_is =
+    let top = group s (end_of s) in
+    let low = groups_lt s (end_of s) in
+    let back : n - 1 ≡ end_of s = omega arith in
+    let sum : g ≡ top * 128 ^ end_of s + groups_value s (end_of s) = omega (arith, g_is, groups_more s (end_of s)) in
+    rw (back, sum) (elim (cases_lt top 64) [
+      | inl below ↦
+          let fits = mul-add-lt top (128 ^ end_of s) (groups_value s (end_of s)) 64 below low in
+          let fits_turned : top * 128 ^ end_of s + groups_value s (end_of s) < 64 * 128 ^ end_of s = omega (arith, fits) in
+          let left : nat_lt (top * 128 ^ end_of s + groups_value s (end_of s)) (64 * 128 ^ end_of s) ≡ true = grind (arith, nat_tests) in
+          let right : nat_lt top 64 ≡ true = grind (arith, nat_tests) in
+          left ∙ sym right
+      | inr above ↦
+          let more : 64 * 128 ^ end_of s ≤ top * 128 ^ end_of s = mul-le-mul_right (128 ^ end_of s) above in
+          let left : nat_lt (top * 128 ^ end_of s + groups_value s (end_of s)) (64 * 128 ^ end_of s) ≡ false = grind (arith, nat_tests) in
+          let right : nat_lt top 64 ≡ false = grind (arith, nat_tests) in
+          left ∙ sym right
+    ])
+
+-- the byte that ends the text, in the words of the code
+pub gives_at : (s : List ℕ) (i v r b m : ℕ) → i < length s → i < 10 → ((k : ℕ) → k < i → 128 ≤ get_or s k 0) → get_or s i 0 ≡ b → b < 128
+    → group s i * 128 ^ i < m → v ≡ groups_value s i → r ≡ bit_and b 127 → ReadsGroups s (bit_or v (r * 2 ^ (7 * i) % m)) (i + 1)
+gives_at s i v r b m within ten more byte last fits value_is r_is =
+    let e = end_at s i within more (omega arith) in
+    let value = or_group s i v r m fits value_is (rw byte r_is) in
+    record { complete = (omega arith, omega arith); value = value ∙ ap (λ j. groups_value s (j + 1)) (sym e); size = ap (λ j. j + 1) (sym e) }
+
+pub groups_same : (a b : List ℕ) (n : ℕ) → ((k : ℕ) → k < n → get_or a k 0 ≡ get_or b k 0) → groups_value a n ≡ groups_value b n
+groups_same a b zero h = refl
+groups_same a b (suc n) h = rw (groups_same a b n (λ k l. h k (omega arith)), h n (omega arith)) refl
+
+-- the first bytes of a source that ends the text among them say what the source says
+pub gives_front : (s b : List ℕ) (v n : ℕ) → 8 ≤ length s → b ≡ take 8 s → end_of b < 8 → v ≡ unsigned_of b → n ≡ count_of b → ReadsGroups s v n
+gives_front s b v n eight front within value_is n_is =
+    let same = λ (k : ℕ) (h : k < 8). ap (λ l. get_or l k 0) front ∙ get_or-take 8 s k 0 h in
+    let b_length : length b ≡ 8 = ap length front ∙ length-take-le 8 s eight in
+    let last = end_below b (omega arith) in
+    let e : end_of s ≡ end_of b = end_at s (end_of b) (omega arith)
+    (λ k h. let o = open_before b k h in let f = same k (omega arith) in omega arith)
+    (let f = same (end_of b) within in omega arith) in
+    let groups = groups_same b s (count_of b) (λ k h. same k (omega arith)) in
+    record { complete = (omega arith, omega arith); value = value_is ∙ groups ∙ ap (λ j. groups_value s (j + 1)) (sym e); size = n_is ∙ ap (λ j. j + 1) (sym e) }
+
+-- past the end there is no byte
+pub none_past : (s : List ℕ) (i : ℕ) → None ≡ slice_get s i → length s ≤ i
+none_past s i e = elim (cases_lt i (length s)) [ inl h ↦ let f = e ∙ slice_get-get_or s i 0 h in absurd (cc) | inr h ↦ h ]
+
+-- what a look-up by `get` says of a byte that is there, and of a place past the end
+pub byte_there : (s : List ℕ) (i b : ℕ) → true ≡ nat_lt i (length s) → b ≡ get_or s i b → (i < length s) × (slice_get s i ≡ Some b) × (get_or s i 0 ≡ b)
+byte_there s i b t e =
+    let inside : i < length s = grind (arith, nat_tests) in
+    let at = slice_get-get_or s i b inside ∙ ap Some (sym e) in
+    (inside, at, get_or_from_slice_get s i b 0 at)
+
+pub not_there : (s : List ℕ) (i : ℕ) → false ≡ nat_lt i (length s) → length s ≤ i
+not_there s i t = grind (arith, nat_tests)

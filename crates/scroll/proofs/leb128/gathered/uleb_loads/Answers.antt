@@ -1,0 +1,32 @@
+use Rattle.std.proofs.Common.{◌≡◌, ◌≤◌, Some, ◌∙◌, ap, refl, length}
+use Rattle.std.specs.List.{slice_get}
+use Rattle.scroll.specs.Leb128.{end_of, groups_value}
+use Rattle.scroll.specs.Loads.{Loading}
+use Rattle.scroll.proofs.LoadLemmas.{block_reads, tenth_reads, tenth_is_cut, tenth_refused}
+use Rattle.scroll.proofs.leb128.gathered.uleb_loads.Goals as goal
+
+pub returns-in-Some-uleb_block-clause-read : goal.returns-in-Some-uleb_block-clause-read
+returns-in-Some-uleb_block-clause-read c =
+    let first = c.in-Some.ensures.first in
+    block_reads c.args.src.now.bytes c.in-Some.block _ _ first.0 first.1 c.in-Some-uleb_block.ensures.read
+
+pub returns-in-Some-tenth-clause-read : goal.returns-in-Some-tenth-clause-read
+returns-in-Some-tenth-clause-read c =
+    let same : c.word.new.self.bytes ≡ c.args.src.now.bytes = ap (λ (l : Loading). l.bytes) c.word.ensures.counted in
+    let nine = c.in_ok-groups.ensures.read in
+    let last = rw c.in-Some-tenth.is at nine.last in
+    rw (← same, c.from.ensures) (tenth_reads c.word.new.self.bytes _ c.in-Some-tenth.tenth last.0 last.1 nine.value c.if-tenth-le1.true)
+
+pub returns-in-Some-2-clause-refused : goal.returns-in-Some-2-clause-refused
+returns-in-Some-2-clause-refused c =
+    let same : c.word.new.self.bytes ≡ c.args.src.now.bytes = ap (λ (l : Loading). l.bytes) c.word.ensures.counted in
+    let nine = c.in_ok-groups.ensures.read in
+    let last = rw c.in-Some-tenth.is at nine.last in
+    let late : 9 ≤ end_of c.word.new.self.bytes = last.0 in
+    let at : slice_get c.word.new.self.bytes 9 ≡ Some c.in-Some-tenth.tenth = last.1 in
+    let value : c.in_ok-groups.groups ≡ groups_value c.word.new.self.bytes 9 = nine.value in (
+      tenth_is_cut c.args.src.now.bytes c.in-Some-tenth.tenth (rw same at at),
+      tenth_refused c.args.src.now.bytes c.in_ok-groups.groups c.in-Some-tenth.tenth (rw same at late) (rw same at at) (rw same at value) c.if-tenth-le1.false,
+      c.len-in-Some-2.ensures ∙ ap length (c.in_ok-groups.ensures.loads.same ∙ same),
+      refl,
+    )

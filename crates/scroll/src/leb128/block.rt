@@ -1,0 +1,81 @@
+// Texts of LEB128 within one word of eight bytes.
+ghost use Rattle.std.specs.Prelude.{◌≡◌, ◌-◌, ◌<◌, ◌≤◌, ◌*◌, ◌^◌, nat_lt, pos, ◌-ℤ◌, if◌then◌else◌, IfSome, IfNone, MatchOption};
+ghost use Rattle.std.specs.Int.{w64, to_le_bytes};
+ghost use Rattle.scroll.specs.Leb128.{end_of, groups_value, EndsInBlock, EndsInSignedBlock};
+
+// The low seven bits of each byte.
+const GROUPS: u64 = 0x7f7f_7f7f_7f7f_7f7f;
+
+/// The value and the size of the unsigned text that starts at the first of eight bytes, or `None` where none of them ends
+/// it.
+#[inline(always)]
+pub fn uleb_block(b: [u8; 8]) -> Option<(u64, usize)>
+    ensures read { IfSome result (λ read. EndsInBlock b read.0 read.1) }
+    ensures none { IfNone result (8 ≤ end_of b) }
+{
+    groups_in(u64::from_le_bytes(b))
+}
+
+/// The value and the size of the signed text that starts at the first of eight bytes, or `None` where none of them ends it.
+#[inline(always)]
+pub fn sleb_block(b: [u8; 8]) -> Option<(i64, usize)>
+    ensures read { IfSome result (λ read. EndsInSignedBlock b read.0 read.1) }
+    ensures none { IfNone result (8 ≤ end_of b) }
+{
+    let (groups, count) = uleb_block(b)?;
+    Some((two_complement(groups, count), count))
+}
+
+// All eight groups of eight bytes, as one number.
+#[inline(always)]
+pub fn block_groups(b: [u8; 8]) -> u64
+    ensures { result ≡ groups_value b 8 }
+{
+    gathered(u64::from_le_bytes(b))
+}
+
+// The groups up to the end of the text, as one number, and how many there are.
+#[inline(always)]
+fn groups_in(word: u64) -> Option<(u64, usize)>
+    ensures { MatchOption result (8 ≤ end_of (to_le_bytes w64 word)) (λ read. EndsInBlock (to_le_bytes w64 word) read.0 read.1) }
+{
+    // Most texts have one byte or two: a branch that is guessed takes less time than a count that is waited for.
+    if word & 0x80 == 0 {
+        return Some((word & 0x7f, 1));
+    }
+    if word & 0x8000 == 0 {
+        return Some((word & 0x7f | (word & 0x7f00) >> 1, 2));
+    }
+    let filled = word | GROUPS;
+    if filled == u64::MAX {
+        return None;
+    }
+    // The carry goes up to the first high bit that was clear, which is set now, with all bits below it clear.
+    let carried = filled + 1;
+    let count = (carried << 1).trailing_zeros() as usize / 8;
+    Some((gathered(word & !carried), count))
+}
+
+// The low seven bits of the eight bytes, side by side: in pairs first, then in fours.
+#[inline(always)]
+fn gathered(word: u64) -> u64
+    ensures { result ≡ groups_value (to_le_bytes w64 word) 8 }
+{
+    let groups = word & GROUPS;
+    let pairs = groups.wrapping_add(groups & 0x007f_007f_007f_007f) >> 1;
+    let low = pairs & 0x0000_3fff_0000_3fff;
+    let fours = pairs.wrapping_add(low.wrapping_mul(3)) >> 2;
+    fours & 0x0000_0000_0fff_ffff | (fours & 0x0fff_ffff_0000_0000) >> 4
+}
+
+// The signed number that `count` groups are in two's complement.
+#[inline(always)]
+pub fn two_complement(groups: u64, count: usize) -> i64
+    requires some { 1 ≤ count }
+    requires few { count ≤ 9 }
+    requires low { groups < 128 ^ count }
+    ensures { result ≡ (if nat_lt groups (64 * 128 ^ (count - 1)) then pos groups else pos groups -ℤ pos (128 ^ count)) }
+{
+    let unused = 64 - 7 * count;
+    (groups << unused).cast_signed() >> unused
+}

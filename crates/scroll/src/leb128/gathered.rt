@@ -1,0 +1,125 @@
+// LEB128 by counted loads, of which the first takes eight bytes at once.
+ghost use Rattle.std.specs.Prelude.{◌≡◌, ◌-◌, ◌<◌, ◌≤◌, ◌^◌, length, IfOk, IfErr};
+ghost use Rattle.scroll.specs.Leb128.{end_of, groups_value, ReadsUleb, ReadsSleb, ReadsGroups};
+ghost use Rattle.scroll.specs.LebRefusals.{RefusesUleb, RefusesSleb, RefusesCut};
+ghost use Rattle.scroll.specs.Loads.{Loaded, ReadsNine, most_loads};
+
+use super::block::{block_groups, sleb_block, two_complement, uleb_block};
+use crate::error::{Error, Result};
+use crate::loads::Loads;
+
+/// The value and the size of the unsigned number at the front of a source, by at most three loads, or by a load for each
+/// byte where the source has fewer than eight.
+///
+/// It answers and refuses as a read of a [`Uleb128`](super::Uleb128) does.
+#[inline(always)]
+pub fn uleb_loads(src: &mut Loads<'_>) -> Result<(u64, usize)>
+    requires { src.old.made < 2 ^ 62 }
+    ensures read { IfOk result (λ read. ReadsUleb src.old.bytes read.0 read.1) }
+    ensures refused { IfErr result (RefusesUleb src.old.bytes) }
+    ensures loads { Loaded src.old src.new (most_loads src.old.bytes) }
+{
+    if src.len() < 8 {
+        return short_groups(src);
+    }
+    let Some(block) = src.word() else {
+        unreachable!()
+    };
+    if let Some(read) = uleb_block(block) {
+        return Ok(read);
+    }
+    let (groups, tenth) = nine_groups(src, block_groups(block))?;
+    match tenth {
+        None => Ok((groups, 9)),
+        Some(tenth) if tenth <= 1 => Ok((groups | u64::from(tenth) << 63, 10)),
+        Some(_) => Err(Error::BadInput {
+            size: src.len(),
+            msg: "failed to parse",
+        }),
+    }
+}
+
+/// The value and the size of the signed number at the front of a source, by at most three loads, or by a load for each byte
+/// where the source has fewer than eight.
+///
+/// It answers and refuses as a read of a [`Sleb128`](super::Sleb128) does.
+#[inline(always)]
+pub fn sleb_loads(src: &mut Loads<'_>) -> Result<(i64, usize)>
+    requires { src.old.made < 2 ^ 62 }
+    ensures read { IfOk result (λ read. ReadsSleb src.old.bytes read.0 read.1) }
+    ensures refused { IfErr result (RefusesSleb src.old.bytes) }
+    ensures loads { Loaded src.old src.new (most_loads src.old.bytes) }
+{
+    if src.len() < 8 {
+        let (groups, count) = short_groups(src)?;
+        return Ok((two_complement(groups, count), count));
+    }
+    let Some(block) = src.word() else {
+        unreachable!()
+    };
+    if let Some(read) = sleb_block(block) {
+        return Ok(read);
+    }
+    let (groups, tenth) = nine_groups(src, block_groups(block))?;
+    match tenth {
+        None => Ok((two_complement(groups, 9), 9)),
+        // Each bit of the tenth byte is the sign.
+        Some(tenth) if tenth == (tenth & 1) * 0x7f => {
+            Ok(((groups | u64::from(tenth) << 63).cast_signed(), 10))
+        }
+        Some(_) => Err(Error::BadInput {
+            size: src.len(),
+            msg: "failed to parse",
+        }),
+    }
+}
+
+// The groups of the first nine bytes, of which `low` has the first eight, and the tenth byte where the ninth does not end
+// the text.
+#[inline(always)]
+fn nine_groups(src: &mut Loads<'_>, low: u64) -> Result<(u64, Option<u8>)>
+    requires few { src.old.made < 2 ^ 63 - 2 }
+    requires eight { (8 ≤ length src.old.bytes) × (8 ≤ end_of src.old.bytes) }
+    requires low { low ≡ groups_value src.old.bytes 8 }
+    ensures read { IfOk result (λ read. ReadsNine src.old.bytes read.0 read.1) }
+    ensures refused { IfErr result (RefusesCut src.old.bytes) }
+    ensures loads { Loaded src.old src.new 2 }
+{
+    let Some(ninth) = src.byte(8) else {
+        return Err(Error::TooBig { size: 1, len: 0 });
+    };
+    let groups = low | u64::from(ninth & 0x7f) << 56;
+    if ninth < 0x80 {
+        return Ok((groups, None));
+    }
+    match src.byte(9) {
+        Some(tenth) => Ok((groups, Some(tenth))),
+        None => Err(Error::TooBig { size: 1, len: 0 }),
+    }
+}
+
+// The groups of a source of fewer than eight bytes, byte by byte.
+#[inline(always)]
+fn short_groups(src: &mut Loads<'_>) -> Result<(u64, usize)>
+    requires few { src.old.made < 2 ^ 62 }
+    requires short { length src.old.bytes < 8 }
+    ensures read { IfOk result (λ read. ReadsGroups src.old.bytes read.0 read.1) }
+    ensures refused { IfErr result (RefusesCut src.old.bytes) }
+    ensures loads { Loaded src.old src.new (length src.old.bytes) }
+{
+    let mut groups: u64 = 0;
+    // A constant number of rounds, which can be unrolled: then a caller's source need not lie in memory.
+    for i in 0..7 {
+        if i == src.len() {
+            return Err(Error::TooBig { size: 1, len: 0 });
+        }
+        let Some(byte) = src.byte(i) else {
+            unreachable!()
+        };
+        groups |= u64::from(byte & 0x7f) << (7 * i);
+        if byte < 0x80 {
+            return Ok((groups, i + 1));
+        }
+    }
+    Err(Error::TooBig { size: 1, len: 0 })
+}

@@ -1,0 +1,66 @@
+// LEB128 byte by byte.
+ghost use Rattle.std.specs.Prelude.{IfOk, IfErr};
+ghost use Rattle.scroll.specs.Leb128.{ReadsUleb, ReadsSleb};
+ghost use Rattle.scroll.specs.LebRefusals.{RefusesUleb, RefusesSleb};
+
+use super::block::two_complement;
+use crate::error::{Error, Result};
+
+/// The value and the size of the unsigned number at the front of `src`, which is read byte by byte.
+///
+/// It answers and refuses as a read of a [`Uleb128`](super::Uleb128) does.
+#[inline(always)]
+pub fn plain_uleb(src: &[u8]) -> Result<(u64, usize)>
+    ensures read { IfOk result (λ read. ReadsUleb src.now read.0 read.1) }
+    ensures refused { IfErr result (RefusesUleb src.now) }
+{
+    let mut groups: u64 = 0;
+    for i in 0..9 {
+        let Some(&byte) = src.get(i) else {
+            return Err(Error::TooBig { size: 1, len: 0 });
+        };
+        groups |= u64::from(byte & 0x7f) << (7 * i);
+        if byte < 0x80 {
+            return Ok((groups, i + 1));
+        }
+    }
+    match src.get(9) {
+        Some(&tenth) if tenth <= 1 => Ok((groups | u64::from(tenth) << 63, 10)),
+        Some(_) => Err(Error::BadInput {
+            size: src.len(),
+            msg: "failed to parse",
+        }),
+        None => Err(Error::TooBig { size: 1, len: 0 }),
+    }
+}
+
+/// The value and the size of the signed number at the front of `src`, which is read byte by byte.
+///
+/// It answers and refuses as a read of a [`Sleb128`](super::Sleb128) does.
+#[inline(always)]
+pub fn plain_sleb(src: &[u8]) -> Result<(i64, usize)>
+    ensures read { IfOk result (λ read. ReadsSleb src.now read.0 read.1) }
+    ensures refused { IfErr result (RefusesSleb src.now) }
+{
+    let mut groups: u64 = 0;
+    for i in 0..9 {
+        let Some(&byte) = src.get(i) else {
+            return Err(Error::TooBig { size: 1, len: 0 });
+        };
+        groups |= u64::from(byte & 0x7f) << (7 * i);
+        if byte < 0x80 {
+            return Ok((two_complement(groups, i + 1), i + 1));
+        }
+    }
+    match src.get(9) {
+        // Each bit of the tenth byte is the sign.
+        Some(&tenth) if tenth == (tenth & 1) * 0x7f => {
+            Ok(((groups | u64::from(tenth) << 63).cast_signed(), 10))
+        }
+        Some(_) => Err(Error::BadInput {
+            size: src.len(),
+            msg: "failed to parse",
+        }),
+        None => Err(Error::TooBig { size: 1, len: 0 }),
+    }
+}

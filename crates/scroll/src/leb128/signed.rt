@@ -1,0 +1,128 @@
+// Signed numbers in LEB128.
+ghost use Rattle.std.specs.Prelude.{◌≡◌, ◌↔◌, ℤ, IsTrue, IfOk, IfErr, OnErr};
+ghost use Rattle.std.proofs.Common.{rules};
+ghost use Rattle.std.specs.Ordering.{int_eq};
+ghost use Rattle.std.specs.Cmp.Rules.{comparing};
+ghost use Rattle.scroll.specs.Reads.{ReadsBetween, RefusesAt};
+ghost use Rattle.scroll.specs.Runs.{IsBadOffset};
+ghost use Rattle.scroll.specs.Leb128.{Counted, counted_eq, ReadsSleb, ReadsCountedSleb};
+ghost use Rattle.scroll.specs.LebRefusals.{RefusesSleb};
+ghost use Rattle.scroll.specs.Spelling.{HasSignedSpelling};
+
+use super::sleb_loads;
+use crate::ctx::TryFromCtx;
+use crate::error::{Error, Result};
+use crate::loads::Loads;
+use crate::pread::Pread;
+use std::marker::Model;
+
+/// A signed number that was read from LEB128, and how many bytes its text has.
+///
+/// The groups of the text are in two's complement: the value is below zero where the second highest bit of the last byte
+/// is set. It is read in the context `()`. A source that ends before its text does, within the first ten bytes, is refused
+/// by `TooBig { size: 1, len: 0 }`; a text of more than ten bytes, or with a value that no `i64` has, by
+/// `BadInput { size, msg: "failed to parse" }`, whose `size` is the length of the source.
+///
+/// ```rust
+/// let bytes: [u8; 3] = [0xff, 0x7e, 0x00];
+/// let number: Sleb128 = bytes[..].pread(0)?;
+/// assert_eq!(rt; i64::from(number), -129);
+/// assert_eq!(rt; number.size(), 2);
+/// ```
+#[derive(Clone, Copy, Debug)]
+pub struct Sleb128 {
+    value: i64,
+    count: usize,
+}
+
+impl Model for Sleb128 {
+    ghost Value = { Counted ℤ };
+
+    ghost view = { λ number. record { value = number.value; count = number.count } };
+
+    ghost inverse = { λ number. record { value = number.value; count = number.count } };
+
+    ghost invariant = { λ number. HasSignedSpelling number.value number.count };
+}
+
+impl Sleb128 {
+    /// How many bytes the text has that was read: from one to ten.
+    #[inline(always)]
+    pub fn size(&self) -> usize
+        ensures size { result ≡ self.now.count }
+        ensures spelled { HasSignedSpelling self.now.value self.now.count }
+    {
+        self.count
+    }
+
+    /// Reads a number at `offset`, and moves `offset` behind its text. On an error `offset` stays.
+    ///
+    /// It refuses as a read of a [`Sleb128`] does, and an offset past the end by `BadOffset(offset)`.
+    ///
+    /// ```rust
+    /// let bytes: [u8; 1] = [0x40];
+    /// let offset = &mut 0;
+    /// assert_eq!(rt; Sleb128::read(&bytes, offset)?, -64);
+    /// assert_eq!(rt; *offset, 1);
+    /// ```
+    #[inline(always)]
+    pub fn read(bytes: &[u8], offset: &mut usize) -> Result<i64>
+        ensures read { IfOk result (ReadsBetween ReadsSleb bytes.now offset.old offset.new) }
+        ensures refused { IfErr result (RefusesAt RefusesSleb IsBadOffset bytes.now offset.old) }
+        ensures stays { OnErr result (offset.new ≡ offset.old) }
+    {
+        let number: Sleb128 = bytes.gread(offset)?;
+        Ok(number.value)
+    }
+}
+
+/// Two numbers are equal where their values are equal and their texts have as many bytes.
+impl PartialEq for Sleb128 {
+    ghost eq = { counted_eq int_eq };
+
+    ghost laws = { Prim.search (comparing, rules) };
+
+    #[inline]
+    fn eq(&self, other: &Sleb128) -> bool
+        ensures answer { result ≡ counted_eq int_eq self.now other.now }
+        ensures same { IsTrue result ↔ (self.now ≡ other.now) }
+    {
+        self.value == other.value && self.count == other.count
+    }
+}
+
+impl AsRef<i64> for Sleb128 {
+    /// The value.
+    #[inline(always)]
+    fn as_ref(&self) -> &i64
+        ensures value { result.now ≡ self.now.value }
+    {
+        &self.value
+    }
+}
+
+impl From<Sleb128> for i64 {
+    ghost from_gives = { λ number x. x ≡ number.value };
+
+    /// The value.
+    #[inline(always)]
+    fn from(number: Sleb128) -> i64 {
+        number.value
+    }
+}
+
+impl<'a> TryFromCtx<'a, ()> for Sleb128 {
+    type Error = Error;
+
+    ghost reads = { λ _. ReadsCountedSleb };
+
+    ghost refuses = { λ _. RefusesSleb };
+
+    ghost reads_bounded = { λ _ source x n h. Prim.search rules };
+
+    #[inline(always)]
+    fn try_from_ctx(from: &'a [u8], _ctx: ()) -> Result<(Sleb128, usize)> {
+        let (value, count) = sleb_loads(&mut Loads::new(from))?;
+        Ok((Sleb128 { value, count }, count))
+    }
+}

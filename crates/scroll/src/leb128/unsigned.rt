@@ -1,0 +1,126 @@
+// Unsigned numbers in LEB128.
+ghost use Rattle.std.specs.Prelude.{◌≡◌, ◌↔◌, ◌==◌, ℕ, IsTrue, IfOk, IfErr, OnErr};
+ghost use Rattle.std.proofs.Common.{rules};
+ghost use Rattle.std.specs.Cmp.Rules.{comparing};
+ghost use Rattle.scroll.specs.Reads.{ReadsBetween, RefusesAt};
+ghost use Rattle.scroll.specs.Runs.{IsBadOffset};
+ghost use Rattle.scroll.specs.Leb128.{Counted, counted_eq, ReadsUleb, ReadsCountedUleb};
+ghost use Rattle.scroll.specs.LebRefusals.{RefusesUleb};
+ghost use Rattle.scroll.specs.Spelling.{HasSpelling};
+
+use super::uleb_loads;
+use crate::ctx::TryFromCtx;
+use crate::error::{Error, Result};
+use crate::loads::Loads;
+use crate::pread::Pread;
+use std::marker::Model;
+
+/// An unsigned number that was read from LEB128, and how many bytes its text has.
+///
+/// It is read in the context `()`. A source that ends before its text does, within the first ten bytes, is refused by
+/// `TooBig { size: 1, len: 0 }`; a text of more than ten bytes, or with a value that no `u64` has, by
+/// `BadInput { size, msg: "failed to parse" }`, whose `size` is the length of the source.
+///
+/// ```rust
+/// let bytes: [u8; 3] = [0x82, 0x01, 0xff];
+/// let number: Uleb128 = bytes[..].pread(0)?;
+/// assert_eq!(rt; u64::from(number), 130);
+/// assert_eq!(rt; number.size(), 2);
+/// ```
+#[derive(Clone, Copy, Debug)]
+pub struct Uleb128 {
+    value: u64,
+    count: usize,
+}
+
+impl Model for Uleb128 {
+    ghost Value = { Counted ℕ };
+
+    ghost view = { λ number. record { value = number.value; count = number.count } };
+
+    ghost inverse = { λ number. record { value = number.value; count = number.count } };
+
+    ghost invariant = { λ number. HasSpelling number.value number.count };
+}
+
+impl Uleb128 {
+    /// How many bytes the text has that was read: from one to ten.
+    #[inline(always)]
+    pub fn size(&self) -> usize
+        ensures size { result ≡ self.now.count }
+        ensures spelled { HasSpelling self.now.value self.now.count }
+    {
+        self.count
+    }
+
+    /// Reads a number at `offset`, and moves `offset` behind its text. On an error `offset` stays.
+    ///
+    /// It refuses as a read of a [`Uleb128`] does, and an offset past the end by `BadOffset(offset)`.
+    ///
+    /// ```rust
+    /// let bytes: [u8; 2] = [0x82, 0x01];
+    /// let offset = &mut 0;
+    /// assert_eq!(rt; Uleb128::read(&bytes, offset)?, 130);
+    /// assert_eq!(rt; *offset, 2);
+    /// ```
+    #[inline(always)]
+    pub fn read(bytes: &[u8], offset: &mut usize) -> Result<u64>
+        ensures read { IfOk result (ReadsBetween ReadsUleb bytes.now offset.old offset.new) }
+        ensures refused { IfErr result (RefusesAt RefusesUleb IsBadOffset bytes.now offset.old) }
+        ensures stays { OnErr result (offset.new ≡ offset.old) }
+    {
+        let number: Uleb128 = bytes.gread(offset)?;
+        Ok(number.value)
+    }
+}
+
+/// Two numbers are equal where their values are equal and their texts have as many bytes.
+impl PartialEq for Uleb128 {
+    ghost eq = { counted_eq ◌==◌ };
+
+    ghost laws = { Prim.search (comparing, rules) };
+
+    #[inline]
+    fn eq(&self, other: &Uleb128) -> bool
+        ensures answer { result ≡ counted_eq ◌==◌ self.now other.now }
+        ensures same { IsTrue result ↔ (self.now ≡ other.now) }
+    {
+        self.value == other.value && self.count == other.count
+    }
+}
+
+impl AsRef<u64> for Uleb128 {
+    /// The value.
+    #[inline(always)]
+    fn as_ref(&self) -> &u64
+        ensures value { result.now ≡ self.now.value }
+    {
+        &self.value
+    }
+}
+
+impl From<Uleb128> for u64 {
+    ghost from_gives = { λ number x. x ≡ number.value };
+
+    /// The value.
+    #[inline(always)]
+    fn from(number: Uleb128) -> u64 {
+        number.value
+    }
+}
+
+impl<'a> TryFromCtx<'a, ()> for Uleb128 {
+    type Error = Error;
+
+    ghost reads = { λ _. ReadsCountedUleb };
+
+    ghost refuses = { λ _. RefusesUleb };
+
+    ghost reads_bounded = { λ _ source x n h. Prim.search rules };
+
+    #[inline(always)]
+    fn try_from_ctx(from: &'a [u8], _ctx: ()) -> Result<(Uleb128, usize)> {
+        let (value, count) = uleb_loads(&mut Loads::new(from))?;
+        Ok((Uleb128 { value, count }, count))
+    }
+}

@@ -1,0 +1,78 @@
+// A source whose loads are counted.
+ghost use Rattle.std.specs.Prelude.{◌≡◌, ◌+◌, ◌^◌, ◌<◌, ◌≤◌, length, take, slice_get, IfSome, IfNone};
+ghost use Rattle.scroll.specs.Loads.{Loading};
+
+use std::marker::Model;
+
+/// A source that gives its bytes by counted loads alone.
+///
+/// [`uleb_loads`](crate::leb128::uleb_loads) and [`sleb_loads`](crate::leb128::sleb_loads) read from it, and say how many
+/// loads they make at most.
+///
+/// ```rust
+/// let bytes: [u8; 3] = [0x82, 0x01, 0xff];
+/// let mut source = Loads::new(&bytes);
+/// assert_eq!(rt; source.byte(1), Some(1));
+/// assert!(rt; source.word().is_none());
+/// assert_eq!(rt; source.made(), 2);
+/// ```
+#[derive(Drop)]
+pub struct Loads<'a> {
+    src: &'a [u8],
+    made: usize,
+}
+
+impl<'a> Model for Loads<'a> {
+    ghost Value = { Loading };
+
+    ghost view = { λ l. record { bytes = l.src.now; made = l.made } };
+}
+
+impl<'a> Loads<'a> {
+    /// The source `src`, from which no load was made.
+    #[inline]
+    pub fn new(src: &'a [u8]) -> Loads<'a>
+        ensures { result ≡ record { bytes = src.now; made = 0 } }
+    {
+        Loads { src, made: 0 }
+    }
+
+    /// How many bytes the source has. This is no load.
+    #[inline]
+    pub fn len(&self) -> usize
+        ensures { result ≡ length self.now.bytes }
+    {
+        self.src.len()
+    }
+
+    /// How many loads were made.
+    #[inline]
+    pub fn made(&self) -> usize
+        ensures { result ≡ self.now.made }
+    {
+        self.made
+    }
+
+    /// Loads the first eight bytes at once, or nothing where there are fewer. Either is counted.
+    #[inline]
+    pub fn word(&mut self) -> Option<[u8; 8]>
+        requires { self.old.made < 2 ^ 63 }
+        ensures counted { self.new ≡ record self.old { made = self.old.made + 1 } }
+        ensures first { IfSome result (λ b. (8 ≤ length self.old.bytes) × (b ≡ take 8 self.old.bytes)) }
+        ensures short { IfNone result (length self.old.bytes < 8) }
+    {
+        self.made += 1;
+        self.src.first_chunk::<8>().copied()
+    }
+
+    /// Loads the byte at place `i`, or nothing where the source has no such place. Either is counted.
+    #[inline]
+    pub fn byte(&mut self, i: usize) -> Option<u8>
+        requires { self.old.made < 2 ^ 63 }
+        ensures counted { self.new ≡ record self.old { made = self.old.made + 1 } }
+        ensures value { result ≡ slice_get self.old.bytes i }
+    {
+        self.made += 1;
+        self.src.get(i).copied()
+    }
+}
