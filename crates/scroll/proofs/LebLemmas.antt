@@ -1,9 +1,6 @@
 use Rattle.std.proofs.Common.{◌≡◌, ℕ, zero, suc, ◌+◌, ◌-◌, ◌*◌, ◌%◌, ◌^◌, ◌<◌, ◌≤◌, ◌⊎◌, inl, inr, true, false, nat_lt, List, length, take, get_or, bit_and, bit_or, refl, sym, ap, ◌∙◌, arith, add-one, add-suc, pow-suc}
 use Rattle.std.proofs.Math.Nat.{mod-eq_of_lt, pow-le-pow_right, mul-le-mul, mul-le-mul_right, mul_assoc, mul_comm}
-use Rattle.std.proofs.lemmas.Nat.{pow-add, mul-add-lt, and_mask, one_shl}
-use Rattle.std.proofs.lemmas.Int.{ints, to_z_pos, to_z-of_z, fits_signed_from_abs}
-use Rattle.std.proofs.Common.{ℤ, pos, ◌-ℤ◌, FitsSigned, to_z, of_z, if◌then◌else◌}
-use Rattle.std.specs.Int.{w128}
+use Rattle.std.proofs.lemmas.Nat.{pow-add, mul-add-lt, and_mask}
 use Rattle.std.proofs.lemmas.Bool.{cases_lt}
 use Rattle.std.proofs.lemmas.Bool.Decides.{nat_tests}
 use Rattle.std.proofs.lemmas.List.Sums.{position_or_len_is, passes_at_first, fails_before_first}
@@ -12,7 +9,7 @@ use Rattle.std.proofs.Common.{Some, None}
 use Rattle.std.proofs.lemmas.Option.{slice_get-get_or, get_or_from_slice_get}
 use Rattle.std.proofs.lemmas.List.{get_or-take, length-take-le}
 use Rattle.std.specs.List.{slice_get}
-use Rattle.scroll.specs.Leb128.{group, groups_value, end_of, unsigned_of, count_of, signed_of, ReadsGroups}
+use Rattle.scroll.specs.Leb128.{group, groups_value, end_of, unsigned_of, count_of, ReadsGroups}
 
 -- ---- powers and sums
 pub pow_128 : (i : ℕ) → 2 ^ (7 * i) ≡ 128 ^ i

@@ -1,4 +1,4 @@
-use Rattle.std.proofs.Common.{◌≡◌, ◌+◌, ◌*◌, ◌%◌, ◌^◌, ◌≤◌, bit_or, to_z, length, inr, sym, ap, ◌∙◌, refl, arith, rules, below_more, FitsSigned}
+use Rattle.std.proofs.Common.{◌≡◌, ◌+◌, ◌*◌, ◌%◌, ◌^◌, bit_or, to_z, length, inr, ap, ◌∙◌, refl, arith, rules, below_more, FitsSigned}
 use Rattle.std.specs.Int.{w64}
 use Rattle.std.proofs.lemmas.Int.{to_z-of_z}
 use Rattle.scroll.specs.Leb128.{groups_value}

@@ -1,4 +1,4 @@
-use Rattle.std.proofs.Common.{◌≡◌, ◌+◌, ◌^◌, ◌≤◌, length, inr, sym, refl, arith, below_more}
+use Rattle.std.proofs.Common.{◌≡◌, ◌+◌, ◌^◌, length, inr, refl, arith, below_more}
 use Rattle.scroll.specs.Leb128.{groups_value}
 use Rattle.scroll.proofs.LebLemmas.{late_end, no_end, group_fits, or_group, gives_at, byte_there, not_there}
 use Rattle.scroll.proofs.LoadLemmas.{groups_read, tenth_reads, tenth_is_cut, tenth_refused}
