@@ -9,3 +9,8 @@ pub mod ArrayLeaves
 pub mod NumberLeaves
 pub mod TextLemmas
 pub mod RunLemmas
+pub mod ReverseLemmas
+pub mod FrontLemmas
+pub mod StandLemmas
+pub mod LocalLemmas
+pub mod OneLemmas

@@ -12,3 +12,4 @@ pub mod ArrayLaws
 pub mod History
 pub mod Leaves
 pub mod Runs
+pub mod Laws
