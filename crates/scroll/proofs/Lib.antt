@@ -22,3 +22,8 @@ pub mod SignedSpellingLemmas
 pub mod BlockLemmas
 pub mod SignedLemmas
 pub mod LoadLemmas
+pub mod ReverseLemmas
+pub mod FrontLemmas
+pub mod StandLemmas
+pub mod LocalLemmas
+pub mod OneLemmas

@@ -40,7 +40,7 @@ digits (suc w) x =
     rw (power, split, before) (omega arith)
 
 -- the number in the first w bytes of a list depends on these alone
-number-front : (order : Endian) (w : ℕ) (s t : List ℕ) → ((i : ℕ) → i < w → get_or s i 0 ≡ get_or t i 0) → number order w s ≡ number order w t
+pub number-front : (order : Endian) (w : ℕ) (s t : List ℕ) → ((i : ℕ) → i < w → get_or s i 0 ≡ get_or t i 0) → number order w s ≡ number order w t
 number-front Little w s t h = sum_below-same _ _ w (λ i l. ap (λ b. b * 256 ^ i) (h i l))
 number-front Big w s t h = sum_below-same _ _ w (λ i l. ap (λ b. b * 256 ^ (w - 1 - i)) (h i l))
 

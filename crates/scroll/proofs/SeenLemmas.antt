@@ -9,7 +9,7 @@ option_or-assoc : {X : Type 0} (a b c : Option X) → option_or a (option_or b c
 option_or-assoc None b c = refl
 option_or-assoc (Some x) b c = refl
 
-option_or-none : {X : Type 0} (a : Option X) → option_or a None ≡ a
+pub option_or-none : {X : Type 0} (a : Option X) → option_or a None ≡ a
 option_or-none None = refl
 option_or-none (Some x) = refl
 

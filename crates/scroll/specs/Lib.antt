@@ -21,3 +21,4 @@ pub mod Leb128
 pub mod LebRefusals
 pub mod Spelling
 pub mod Loads
+pub mod Laws

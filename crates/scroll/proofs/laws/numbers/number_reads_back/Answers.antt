@@ -3,7 +3,7 @@ use Rattle.std.specs.Prelude.{int_lt, nat_lt, if◌then◌else◌}
 use Rattle.scroll.specs.Numbers.{number, number_bytes, signed_number, signed_bytes}
 use Rattle.scroll.specs.NumberLaws.{length-number_bytes, length-signed_bytes, number_bytes-keeps, signed_bytes-keeps}
 use Rattle.scroll.proofs.NumberLemmas.{number-begins, complement-back}
-use Rattle.scroll.proofs.laws.number_reads_back.Goals as goal
+use Rattle.scroll.proofs.laws.numbers.number_reads_back.Goals as goal
 
 pub returns-clause-unsigned : goal.returns-clause-unsigned
 returns-clause-unsigned c w order x old new n fits h = record {

@@ -1,0 +1,5 @@
+use Rattle.scroll.proofs.ArrayLeaves.{array-leaves}
+use Rattle.scroll.proofs.laws.histories.array_has_leaves.Goals as goal
+
+pub returns : goal.returns
+returns g c ctx leaves has = array-leaves leaves (g.T.TryIntoCtx.writes ctx) (g.T.TryIntoCtx.refuses ctx) has

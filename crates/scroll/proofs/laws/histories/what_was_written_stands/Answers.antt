@@ -1,0 +1,28 @@
+use Rattle.std.proofs.Common.{arith}
+use Rattle.scroll.proofs.FrontLemmas.{begins-number, begins-signed}
+use Rattle.scroll.proofs.SeenLemmas.{length-seen}
+use Rattle.scroll.proofs.StandLemmas.{stands, pieces-apart}
+use Rattle.scroll.specs.Numbers.{number_bytes, signed_bytes}
+use Rattle.scroll.proofs.laws.histories.what_was_written_stands.Goals as goal
+
+pub returns-clause-bytes : goal.returns-clause-bytes
+returns-clause-bytes c first commands history run o t last = stands first commands history o t run last
+
+pub returns-clause-number : goal.returns-clause-number
+returns-clause-number c first commands history run o w x order fits last =
+    let here = stands first commands history o (number_bytes order w x) run last in
+    record {
+      inside = omega (arith, here.0, length-seen first history);
+      value = begins-number order w x _ fits here.1;
+    }
+
+pub returns-clause-signed : goal.returns-clause-signed
+returns-clause-signed c first commands history run o w x order low high last =
+    let here = stands first commands history o (signed_bytes order w x) run last in
+    record {
+      inside = omega (arith, here.0, length-seen first history);
+      value = begins-signed order w x _ low high here.1;
+    }
+
+pub returns-clause-leaves : goal.returns-clause-leaves
+returns-clause-leaves c = pieces-apart

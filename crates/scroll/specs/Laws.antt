@@ -1,0 +1,70 @@
+-- Words of the laws.
+use Rattle.std.specs.Prelude.{◌≡◌, ◌≤◌, ◌<◌, ◌+◌, ℕ, ◌++◌, List, [], ◌∷◌, length, take, Result, Ok, Err, MatchResult}
+use Rattle.std.specs.List.{Any}
+use Rattle.scroll.specs.History.{Piece}
+use Rattle.scroll.specs.Reads.{ReadsAt, RefusesAt}
+use Rattle.scroll.specs.Runs.{Run, IsBadOffset}
+use Rattle.scroll.specs.declared.error.Error.{Error}
+use Rattle.scroll.specs.declared.error.Error.TheVariants.{BadInput}
+use Rattle.scroll.specs.declared.runner.Answer.{Answer}
+use Rattle.scroll.specs.declared.runner.Command.{Command}
+
+-- the piece covers the place
+abbrev pub Covers : Piece → ℕ → Type 0
+Covers p i = (p.0 ≤ i) × (i < p.0 + length p.1)
+
+-- no place is covered by a piece of each
+abbrev pub Apart : List Piece → List Piece → Type 0
+Apart ps qs = (i : ℕ) → Any (λ p. Covers p i) ps → Any (λ q. Covers q i) qs → ⊥
+
+-- the history of a list of commands that runs over a buffer, whatever the first cursor
+pub record IsHistory (first : List ℕ) (commands : List Command) (history : List Piece) : Type 0 where
+  pub from : ℕ
+  pub to : ℕ
+  pub answers : List Answer
+  pub run : Run first [] from commands answers history to
+
+-- the piece is in the history, and no later one covers a place of it
+pub record WrittenLast (history : List Piece) (p : Piece) : Type 0 where
+  pub before : List Piece
+  pub after : List Piece
+  pub split : history ≡ before ++ p ∷ after
+  pub apart : Apart (p ∷ []) after
+
+-- a read that fits its source is the same on every source that is as long and begins with the same bytes
+abbrev pub IsLocal : {V : Type 0} → (List ℕ → V → ℕ → Type 0) → Type 0
+IsLocal {V} reads =
+    (s t : List ℕ) (v : V) (n : ℕ) → reads s v n → n ≤ length s → length s ≤ length t → take n t ≡ take n s → reads t v n
+
+-- the size is at most one more than the source's length
+abbrev pub IsBounded : {V : Type 0} → (List ℕ → V → ℕ → Type 0) → Type 0
+IsBounded {V} reads = (s : List ℕ) (v : V) (n : ℕ) → reads s v n → n ≤ length s + 1
+
+-- the size is at most the source's length
+abbrev pub IsWithin : {V : Type 0} → (List ℕ → V → ℕ → Type 0) → Type 0
+IsWithin {V} reads = (s : List ℕ) (v : V) (n : ℕ) → reads s v n → n ≤ length s
+
+-- errors that say the same: a message is compared by its bytes, and not by where they stand in memory
+abbrev pub SameError : Error → Error → Type 0
+SameError (BadInput size msg) (BadInput size' msg') = (size ≡ size') × (msg.now ≡ msg'.now)
+SameError d e = d ≡ e
+
+-- answers that say the same
+abbrev pub SameAnswer : {V : Type 0} → Result (V × ℕ) Error → Result (V × ℕ) Error → Type 0
+SameAnswer (Ok x) (Ok y) = x ≡ y
+SameAnswer (Err d) (Err e) = SameError d e
+SameAnswer q r = ⊥
+
+-- the answer is allowed
+abbrev pub Allows : {V : Type 0} → (V → ℕ → Type 0) → (Error → Type 0) → Result (V × ℕ) Error → Type 0
+Allows reads refuses r = MatchResult r (λ x. reads x.0 x.1) (λ e. refuses e)
+
+-- exactly one answer is allowed
+pub record AllowsOne {V : Type 0} (reads : V → ℕ → Type 0) (refuses : Error → Type 0) : Type 0 where
+  pub answer : Result (V × ℕ) Error
+  pub allowed : Allows reads refuses answer
+  pub only : (q : Result (V × ℕ) Error) → Allows reads refuses q → SameAnswer q answer
+
+-- exactly one answer is allowed at each place of each buffer
+abbrev pub AllowsOneAtEach : {V : Type 0} → (List ℕ → V → ℕ → Type 0) → (List ℕ → Error → Type 0) → Type 0
+AllowsOneAtEach reads refuses = (b : List ℕ) (o : ℕ) → AllowsOne (ReadsAt reads b o) (RefusesAt refuses IsBadOffset b o)
