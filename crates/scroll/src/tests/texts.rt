@@ -97,8 +97,10 @@ fn pwrite_str_and_bytes(rt: HostRuntime) {
     let mut target = &mut buffer[..];
     let wrote: Result<usize> = target.pwrite("lol hello_world lal\0ala imabytes", 0);
     assert!(rt; matches!(&wrote, Ok(32)));
-    let world: Result<&str> = buffer[..].pread_with(4, StrCtx::Delimiter(SPACE));
-    assert!(rt; matches!(&world, Ok("hello_world")));
+    {
+        let world: Result<&str> = buffer[..].pread_with(4, StrCtx::Delimiter(SPACE));
+        assert!(rt; matches!(&world, Ok("hello_world")));
+    }
     let bytes: &[u8] = b"more\0bytes";
     let mut target = &mut buffer[..];
     let wrote: Result<usize> = target.pwrite(bytes, 0);
@@ -123,7 +125,7 @@ fn pwrite_str_and_bytes(rt: HostRuntime) {
     );
 }
 
-// Each call stands between the cursor before it and after it, and answers a text or a refusal.
+// The cursor before each read and after it, and what is read or refused.
 #[test]
 fn texts_at_the_cursor(rt: HostRuntime) {
     let absent: Result<&str> = b"ab"[..].gread_with(&mut 0, StrCtx::Delimiter(NULL));
@@ -139,8 +141,8 @@ fn texts_at_the_cursor(rt: HostRuntime) {
     ] {
         let mut offset = from;
         let text: Result<&str> = bytes.gread_with(&mut offset, ctx);
-        assert!(rt; matches!(&text, Ok(text) if *text == wanted), "{wanted}");
-        assert_eq!(rt; offset, to, "{wanted}");
+        assert!(rt; matches!(&text, Ok(text) if *text == wanted), "to {to}");
+        assert_eq!(rt; offset, to);
     }
     let mut offset = 0;
     let short: Result<&str> = b"a\0c"[..].gread_with(&mut offset, StrCtx::DelimiterUntil(NULL, 4));
