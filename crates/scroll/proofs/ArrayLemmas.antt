@@ -1,7 +1,7 @@
 -- Arrays go on by one element.
 use Rattle.std.proofs.Common.{◌≡◌, ℕ, ◌+◌, ◌++◌, List, [], ◌∷◌, length, map, Option, Some, sym, ap, ◌∙◌, refl, arith, subst, append-nil}
 use Rattle.std.proofs.lemmas.List.{length_push}
-use Rattle.scroll.proofs.BulkLemmas.{ReadsAll-push}
+use Rattle.scroll.specs.Callers.{ReadsAll-push}
 use Rattle.scroll.specs.Arrays.{WritesAll}
 use Rattle.scroll.specs.Reads.{ReadsBetween, ReadsAll}
 use Rattle.scroll.specs.Writes.{WritesAt}

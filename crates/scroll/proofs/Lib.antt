@@ -1,4 +1,3 @@
-pub mod SumLemmas
 pub mod NumberLemmas
 pub mod BulkLemmas
 pub mod ArrayLemmas

@@ -2,7 +2,7 @@
 use Rattle.std.proofs.Common.{◌≡◌, ℕ, ℤ, ◌+◌, ◌≤◌, ◌<◌, ◌*◌, ◌^◌, List, [], ◌∷◌, length, take, drop, get_or, arith, refl, sym, ◌∙◌, ap, length-drop, pos, ◌-ℤ◌}
 use Rattle.std.proofs.lemmas.List.{get_or-take, take-take, drop-take}
 use Rattle.std.specs.Prelude.{nat_lt, if◌then◌else◌}
-use Rattle.scroll.proofs.NumberLemmas.{number-front}
+use Rattle.scroll.specs.Callers.{number-front}
 use Rattle.scroll.specs.ArrayLaws.{ReadsArray-bounded}
 use Rattle.scroll.specs.Arrays.{ReadsArray}
 use Rattle.scroll.specs.Laws.{IsLocal, IsBounded, IsWithin}

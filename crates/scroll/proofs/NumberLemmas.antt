@@ -5,8 +5,9 @@ use Rattle.std.proofs.lemmas.Int.{ints}
 use Rattle.std.proofs.lemmas.List.{get_or_append_left}
 use Rattle.std.proofs.lemmas.List.FromFn.{get_or-map-range_with_len}
 use Rattle.std.specs.Prelude.{int_lt, nat_lt, if◌then◌else◌}
-use Rattle.scroll.proofs.SumLemmas.{sum_below-same, sum_below-backwards}
+use Rattle.scroll.specs.SumLemmas.{sum_below-same, sum_below-backwards}
 use Rattle.scroll.specs.Bytes.{sum_below}
+use Rattle.scroll.specs.Callers.{number-front}
 use Rattle.scroll.specs.NumberLaws.{length-number_bytes}
 use Rattle.scroll.specs.Numbers.{number, number_bytes}
 use Rattle.scroll.specs.declared.endian.Endian.{Endian}
@@ -38,11 +39,6 @@ digits (suc w) x =
     let split = mod-split x {m = 256} {c = 256 ^ w} (omega arith) (pow_positive w) in
     let power : 256 ^ suc w ≡ 256 * 256 ^ w = pow-suc 256 w ∙ mul_comm (256 ^ w) 256 in
     rw (power, split, before) (omega arith)
-
--- the number in the first w bytes of a list depends on these alone
-pub number-front : (order : Endian) (w : ℕ) (s t : List ℕ) → ((i : ℕ) → i < w → get_or s i 0 ≡ get_or t i 0) → number order w s ≡ number order w t
-number-front Little w s t h = sum_below-same _ _ w (λ i l. ap (λ b. b * 256 ^ i) (h i l))
-number-front Big w s t h = sum_below-same _ _ w (λ i l. ap (λ b. b * 256 ^ (w - 1 - i)) (h i l))
 
 -- the number in the bytes of x
 number-number_bytes : (order : Endian) (w x : ℕ) → x < 256 ^ w → number order w (number_bytes order w x) ≡ x

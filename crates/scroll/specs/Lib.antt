@@ -1,6 +1,7 @@
 pub mod Bytes
 pub mod Numbers
 pub mod NumberLaws
+pub mod SumLemmas
 pub mod Errors
 pub mod Texts
 pub mod TextLaws
@@ -13,6 +14,7 @@ pub mod Writes
 pub mod Fits
 pub mod Arrays
 pub mod ArrayLaws
+pub mod Callers
 pub mod History
 pub mod Leaves
 pub mod Streams

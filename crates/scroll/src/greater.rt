@@ -3,6 +3,7 @@ ghost use Rattle.std.specs.Prelude.{◌≡◌, ℕ, ◌+◌, ◌≤◌, List, le
 ghost use Rattle.scroll.specs.Reads.{ByDefault};
 
 use crate::ctx::{FromCtx, IntoCtx};
+use crate::slice;
 use crate::source::Source;
 
 /// Reads values of any type that implements [`FromCtx`] from a byte slice, with no refusal.
@@ -106,10 +107,10 @@ impl<'d, Ctx: Copy> Cwrite<Ctx> for &'d mut [u8] {
     where
         Ctx: Default,
     {
-        self.cwrite_with(n, offset, Ctx::default())
+        slice::cwrite(self, n, offset)
     }
 
     fn cwrite_with<N: IntoCtx<Ctx>>(&mut self, n: N, offset: usize, ctx: Ctx) {
-        n.into_ctx(&mut self[offset..], ctx)
+        slice::cwrite_with(self, n, offset, ctx)
     }
 }

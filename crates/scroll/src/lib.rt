@@ -36,6 +36,7 @@ mod pread;
 mod pwrite;
 pub mod runner;
 mod search;
+pub mod slice;
 mod source;
 #[cfg(test)]
 mod tests;

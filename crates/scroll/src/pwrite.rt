@@ -6,6 +6,7 @@ ghost use Rattle.scroll.specs.declared.error.Error.TheVariants.{BadOffset};
 
 use crate::ctx::TryIntoCtx;
 use crate::error::Error;
+use crate::slice;
 
 /// Writes values of any type that implements [`TryIntoCtx`] to a byte slice.
 ///
@@ -127,7 +128,7 @@ impl<'d, Ctx: Copy, E: From<Error>> Pwrite<Ctx, E> for &'d mut [u8] {
     where
         Ctx: Default,
     {
-        self.pwrite_with(n, offset, Ctx::default())
+        slice::pwrite(self, n, offset)
     }
 
     fn pwrite_with<N: TryIntoCtx<Ctx, Error = E> + Drop>(
@@ -136,10 +137,7 @@ impl<'d, Ctx: Copy, E: From<Error>> Pwrite<Ctx, E> for &'d mut [u8] {
         offset: usize,
         ctx: Ctx,
     ) -> Result<usize, E> {
-        if offset > self.len() {
-            return Err(E::from(Error::BadOffset(offset)));
-        }
-        n.try_into_ctx(&mut self[offset..], ctx)
+        slice::pwrite_with(self, n, offset, ctx)
     }
 
     fn gwrite<N: TryIntoCtx<Ctx, Error = E> + Drop>(
@@ -150,7 +148,7 @@ impl<'d, Ctx: Copy, E: From<Error>> Pwrite<Ctx, E> for &'d mut [u8] {
     where
         Ctx: Default,
     {
-        self.gwrite_with(n, offset, Ctx::default())
+        slice::gwrite(self, n, offset)
     }
 
     fn gwrite_with<N: TryIntoCtx<Ctx, Error = E> + Drop>(
@@ -159,9 +157,6 @@ impl<'d, Ctx: Copy, E: From<Error>> Pwrite<Ctx, E> for &'d mut [u8] {
         offset: &mut usize,
         ctx: Ctx,
     ) -> Result<usize, E> {
-        let start = *offset;
-        let size = self.pwrite_with(n, start, ctx)?;
-        *offset = start + size;
-        Ok(size)
+        slice::gwrite_with(self, n, offset, ctx)
     }
 }

@@ -9,5 +9,6 @@ mod own_type;
 mod printed;
 mod runs;
 mod search;
+mod slices;
 mod streams;
 mod texts;

@@ -3,7 +3,7 @@ ghost use Rattle.std.specs.Prelude.{◌≡◌, ◌+◌, ◌≤◌, ◌++◌, len
 ghost use Rattle.scroll.specs.Numbers.{number, number_bytes};
 ghost use Rattle.scroll.specs.declared.endian.Endian.TheVariants.{Big};
 
-use crate::{BE, Error, Pread, Pwrite, Result};
+use crate::{BE, Pread, Result, slice};
 
 /// The length that a chunk's header gives. The header is a kind in 16 bits and a length in 32, both big-endian. The
 /// offset then stands behind the header.
@@ -16,21 +16,15 @@ pub fn read_length(file: &[u8], offset: &mut usize) -> Result<u32>
     file.gread_with(offset, BE)
 }
 
-#[derive(Drop)]
-struct Target<'b> {
-    bytes: &'b mut [u8],
-}
-
 /// Writes a chunk's header, and answers its size.
 pub fn write_header(file: &mut [u8], kind: u16, len: u32) -> Result<usize>
     ensures header { OnOk result (file.new ≡ (number_bytes Big 2 kind ++ number_bytes Big 4 len) ++ drop 6 file.old) }
     ensures size { IfOk result (λ size. size ≡ 6) }
     ensures room { 6 ≤ length file.old → IsOk result }
 {
-    let target = &mut Target { bytes: file };
     let mut offset = 0;
-    target.bytes.gwrite_with(kind, &mut offset, BE)?;
-    target.bytes.gwrite_with(len, &mut offset, BE)?;
+    slice::gwrite_with(file, kind, &mut offset, BE)?;
+    slice::gwrite_with(file, len, &mut offset, BE)?;
     Ok(offset)
 }
 
@@ -43,6 +37,6 @@ fn a_header_reads_back(rt: HostRuntime) {
     assert!(rt; matches!(&read_length(&file, &mut offset), Ok(258)));
     assert_eq!(rt; offset, 6);
     let cut = read_length(&file, &mut offset);
-    assert!(rt; matches!(&cut, Err(Error::TooBig { size: 2, len: 1 })));
+    assert!(rt; matches!(&cut, Err(crate::Error::TooBig { size: 2, len: 1 })));
     assert_eq!(rt; offset, 6);
 }

@@ -9,7 +9,7 @@ ghost use Rattle.scroll.specs.declared.error.Error.TheVariants.{BadOffset};
 use super::{Answer, Place, Put};
 use crate::ctx::TryIntoCtx;
 use crate::error::{Error, Result};
-use crate::pwrite::Pwrite;
+use crate::slice;
 
 // Answers a write, and moves a cursor that it uses by the size of what was written.
 pub fn write(buffer: &mut [u8], cursor: &mut usize, place: Place, put: Put) -> Answer
@@ -41,12 +41,6 @@ fn write_value(buffer: &mut [u8], cursor: &mut usize, place: Place, put: Put) ->
     }
 }
 
-// The buffer as a target of `Pwrite`, which writes through a reference to a slice.
-#[derive(Drop)]
-struct Target<'b> {
-    bytes: &'b mut [u8],
-}
-
 // Writes a value of any type at the place of a command.
 fn write_at<Ctx: Copy, N: TryIntoCtx<Ctx, Error = Error> + Drop>(
     buffer: &mut [u8],
@@ -59,9 +53,8 @@ fn write_at<Ctx: Copy, N: TryIntoCtx<Ctx, Error = Error> + Drop>(
     ensures moves { IfOk result (λ size. cursor.new ≡ moved place cursor.old size) }
     ensures stays { OnErr result (cursor.new ≡ cursor.old) }
 {
-    let target = &mut Target { bytes: buffer };
     match place {
-        Place::At(offset) => target.bytes.pwrite_with(n, offset, ctx),
-        Place::Cursor => target.bytes.gwrite_with(n, cursor, ctx),
+        Place::At(offset) => slice::pwrite_with(buffer, n, offset, ctx),
+        Place::Cursor => slice::gwrite_with(buffer, n, cursor, ctx),
     }
 }

@@ -1,0 +1,165 @@
+// A struct of numbers in a byte order that is chosen at run time, and the same as a type of one's own. No proof file has
+// a word on these functions.
+ghost use Rattle.std.specs.Prelude.{◌≡◌, ◌≤◌, ◌++◌, length, drop, IfOk, IsOk, OnOk};
+ghost use Rattle.std.proofs.Common.{rules};
+ghost use Rattle.scroll.specs.Bytes.{ReadsFront, RefusesShort, WritesFront, LeavesShort};
+ghost use Rattle.scroll.specs.Numbers.{number, number_bytes};
+
+use crate::ctx::{FromCtx, IntoCtx, TryFromCtx, TryIntoCtx};
+use crate::{Cread, Endian, Error, Result, slice};
+
+/// How sound is kept.
+#[derive(Clone, Copy, Debug)]
+pub struct Format {
+    pub tag: u16,
+    pub channels: u16,
+    pub rate: u32,
+}
+
+const SIZE: usize = 8;
+
+/// The format at the start of a file.
+pub fn read_format(file: &[u8], order: Endian) -> Result<Format>
+    ensures tag { IfOk result (λ format. format.tag ≡ number order 2 file.now) }
+    ensures channels { IfOk result (λ format. format.channels ≡ number order 2 (drop 2 file.now)) }
+    ensures rate { IfOk result (λ format. format.rate ≡ number order 4 (drop 4 file.now)) }
+    ensures room { 8 ≤ length file.now → IsOk result }
+{
+    if file.len() < SIZE {
+        return Err(Error::TooBig {
+            size: SIZE,
+            len: file.len(),
+        });
+    }
+    Ok(Format {
+        tag: file.cread_with(0, order),
+        channels: file.cread_with(2, order),
+        rate: file.cread_with(4, order),
+    })
+}
+
+impl FromCtx<Endian> for Format {
+    ghost need = { λ _. 8 };
+
+    ghost makes = { λ order s x. x ≡ record { tag = number order 2 s; channels = number order 2 (drop 2 s); rate = number order 4 (drop 4 s) } };
+
+    fn from_ctx(this: &[u8], ctx: Endian) -> Format {
+        Format {
+            tag: this.cread_with(0, ctx),
+            channels: this.cread_with(2, ctx),
+            rate: this.cread_with(4, ctx),
+        }
+    }
+}
+
+impl<'a> TryFromCtx<'a, Endian> for Format {
+    type Error = Error;
+
+    ghost reads = { λ order. ReadsFront 8 (λ s. record { tag = number order 2 s; channels = number order 2 (drop 2 s); rate = number order 4 (drop 4 s) }) };
+
+    ghost refuses = { λ _. RefusesShort 8 };
+
+    ghost reads_bounded = { λ order source x n h. Prim.search rules };
+
+    fn try_from_ctx(from: &'a [u8], ctx: Endian) -> Result<(Format, usize)> {
+        if from.len() < SIZE {
+            return Err(Error::TooBig {
+                size: SIZE,
+                len: from.len(),
+            });
+        }
+        Ok((Format::from_ctx(from, ctx), SIZE))
+    }
+}
+
+impl IntoCtx<Endian> for Format {
+    ghost need = { λ _. 8 };
+
+    ghost leaves = { λ order x old new. new ≡ (number_bytes order 2 x.tag ++ number_bytes order 2 x.channels ++ number_bytes order 4 x.rate) ++ drop 8 old };
+
+    ghost leaves_keeps = { λ order x old new h. Prim.search rules };
+
+    fn into_ctx(self, dst: &mut [u8], ctx: Endian) {
+        slice::cwrite_with(dst, self.tag, 0, ctx);
+        slice::cwrite_with(dst, self.channels, 2, ctx);
+        slice::cwrite_with(dst, self.rate, 4, ctx);
+    }
+}
+
+impl TryIntoCtx<Endian> for Format {
+    type Error = Error;
+
+    ghost writes = { λ order x. WritesFront 8 (number_bytes order 2 x.tag ++ number_bytes order 2 x.channels ++ number_bytes order 4 x.rate) };
+
+    ghost refuses = { λ _ _. LeavesShort 8 };
+
+    ghost writes_bounded = { λ order x old new n h. Prim.search rules };
+
+    ghost writes_keeps = { λ order x old new n h. Prim.search rules };
+
+    fn try_into_ctx(self, dst: &mut [u8], ctx: Endian) -> Result<usize> {
+        if dst.len() < SIZE {
+            return Err(Error::TooBig {
+                size: SIZE,
+                len: dst.len(),
+            });
+        }
+        self.into_ctx(dst, ctx);
+        Ok(SIZE)
+    }
+}
+
+/// Writes two formats, one behind the other.
+pub fn write_two(file: &mut [u8], first: Format, second: Format, order: Endian) -> Result<usize>
+    ensures size { IfOk result (λ size. size ≡ 16) }
+    ensures others { OnOk result (drop 16 file.new ≡ drop 16 file.old) }
+    ensures room { 16 ≤ length file.old → IsOk result }
+{
+    let mut offset = 0;
+    slice::gwrite_with(file, first, &mut offset, order)?;
+    slice::gwrite_with(file, second, &mut offset, order)?;
+    Ok(offset)
+}
+
+#[test]
+fn formats_read_back(rt: HostRuntime) {
+    use crate::Pread;
+    let format = Format {
+        tag: 1,
+        channels: 2,
+        rate: 44100,
+    };
+    let mut file = [0u8; 17];
+    for order in [crate::LE, crate::BE] {
+        assert!(rt; matches!(&write_two(&mut file, format, format, order), Ok(16)));
+        assert!(rt;
+            matches!(
+                &read_format(&file, order),
+                Ok(Format {
+                    tag: 1,
+                    channels: 2,
+                    rate: 44100
+                })
+            )
+        );
+        let second: Result<Format> = file.pread_with(8, order);
+        assert!(rt;
+            matches!(
+                &second,
+                Ok(Format {
+                    tag: 1,
+                    channels: 2,
+                    rate: 44100
+                })
+            )
+        );
+    }
+    assert_eq!(rt;
+        file,
+        [
+            0, 1, 0, 2, 0, 0, 0xac, 0x44, 0, 1, 0, 2, 0, 0, 0xac, 0x44, 0
+        ]
+    );
+    let cut: Result<Format> = file.pread_with(10, crate::LE);
+    assert!(rt; matches!(&cut, Err(Error::TooBig { size: 8, len: 7 })));
+}

@@ -1,0 +1,53 @@
+// A reader with an error of its own. No proof file has a word on it.
+ghost use Rattle.std.specs.Prelude.{◌≡◌, ◌≤◌, length, drop, IfOk, IsOk};
+ghost use Rattle.scroll.specs.Numbers.{number};
+ghost use Rattle.scroll.specs.declared.endian.Endian.TheVariants.{Big};
+ghost use Rattle.scroll.specs.declared.examples.own_error.HeaderError.TheVariants.{Cut};
+
+use crate::{BE, Error, Pread};
+
+/// Why there is no version.
+#[derive(Debug, Drop)]
+pub enum HeaderError {
+    /// The file does not begin with the magic number.
+    BadMagic(u32),
+    /// The file ends too early.
+    Cut(Error),
+}
+
+impl From<Error> for HeaderError {
+    ghost from_gives = { λ error e. e ≡ Cut error };
+
+    fn from(error: Error) -> HeaderError {
+        HeaderError::Cut(error)
+    }
+}
+
+/// The version of a file, behind its magic number.
+pub fn read_version(file: &[u8]) -> Result<u16, HeaderError>
+    ensures read { IfOk result (λ version. version ≡ number Big 2 (drop 4 file.now)) }
+    ensures magic { IfOk result (λ _. number Big 4 file.now ≡ 2135247942) }
+    ensures accepted { 6 ≤ length file.now → number Big 4 file.now ≡ 2135247942 → IsOk result }
+{
+    let magic: u32 = file.pread_with(0, BE)?;
+    if magic != 0x7f45_4c46 {
+        return Err(HeaderError::BadMagic(magic));
+    }
+    let version = file.pread_with(4, BE)?;
+    Ok(version)
+}
+
+#[test]
+fn each_answer_of_a_version(rt: HostRuntime) {
+    let file: [u8; 6] = [0x7f, 0x45, 0x4c, 0x46, 0, 3];
+    assert!(rt; matches!(&read_version(&file), Ok(3)));
+    let cut = read_version(&file[..5]);
+    assert!(rt;
+        matches!(
+            &cut,
+            Err(HeaderError::Cut(Error::TooBig { size: 2, len: 1 }))
+        )
+    );
+    let other = read_version(&file[1..]);
+    assert!(rt; matches!(&other, Err(HeaderError::BadMagic(0x454c_4600))));
+}

@@ -1,0 +1,153 @@
+//! Writes to a slice that was lent: the calls of [`Pwrite`](crate::Pwrite) and [`Cwrite`](crate::Cwrite) as functions on
+//! the slice itself.
+//!
+//! The traits are implemented for `&mut [u8]`, so their calls take a reference to that reference, and a caller whose own
+//! contract says what the slice then holds can't use them on a parameter. These functions take the slice:
+//!
+//! ```rust
+//! use scroll::{BE, slice};
+//!
+//! let mut bytes = [0u8; 8];
+//! let offset = &mut 0;
+//! slice::gwrite_with(&mut bytes, 1u16, offset, BE)?;
+//! slice::gwrite_with(&mut bytes, 0xbeefbeefu32, offset, BE)?;
+//! assert_eq!(rt; *offset, 6);
+//! ```
+//!
+//! An offset counts bytes from the start of the slice. One past its end is refused by `E::from(Error::BadOffset(offset))`,
+//! and then nothing changes; one at its end writes to the empty target. Every other refusal is the type's own, which says
+//! what it leaves. The bytes before the offset always stay.
+ghost use Rattle.std.specs.Prelude.{◌≡◌, ◌+◌, ◌≤◌, length, take, drop, IfOk, IfErr, OnErr};
+ghost use Rattle.scroll.specs.Reads.{ByDefault};
+ghost use Rattle.scroll.specs.Writes.{WritesAt, RefusesWriteAt};
+ghost use Rattle.scroll.specs.declared.error.Error.TheVariants.{BadOffset};
+
+use crate::ctx::{IntoCtx, TryIntoCtx};
+use crate::error::Error;
+
+/// Writes `n` at `offset` in the default context, which for numbers is the machine's byte order, and answers its size in
+/// bytes.
+///
+/// ```rust
+/// let mut bytes = [0u8; 8];
+/// slice::pwrite(&mut bytes, 0xbeefbeefu32, 0)?;
+/// assert_eq!(rt; bytes[..].pread::<u32>(0)?, 0xbeefbeef);
+/// ```
+#[inline(always)]
+pub fn pwrite<Ctx: Copy + Default, E: From<Error>, N: TryIntoCtx<Ctx, Error = E> + Drop>(
+    dst: &mut [u8],
+    n: N,
+    offset: usize,
+) -> Result<usize, E>
+    ensures wrote { IfOk result (λ size. ByDefault Ctx.is_default (λ ctx. WritesAt (N.writes ctx n) dst.old offset dst.new size)) }
+    ensures refused { IfErr result (λ e. ByDefault Ctx.is_default (λ ctx. RefusesWriteAt (N.refuses ctx n) (λ place e. E.from_gives (BadOffset place) e) dst.old offset dst.new e)) }
+{
+    pwrite_with(dst, n, offset, Ctx::default())
+}
+
+/// Writes `n` at `offset` in the context `ctx`, and answers its size in bytes.
+///
+/// ```rust
+/// let mut bytes = [0u8; 8];
+/// slice::pwrite_with(&mut bytes, 0xbeefbeefu32, 0, LE)?;
+/// assert_eq!(rt; bytes[..].pread_with::<u32>(0, LE)?, 0xbeefbeef);
+/// ```
+#[inline(always)]
+pub fn pwrite_with<Ctx: Copy, E: From<Error>, N: TryIntoCtx<Ctx, Error = E> + Drop>(
+    dst: &mut [u8],
+    n: N,
+    offset: usize,
+    ctx: Ctx,
+) -> Result<usize, E>
+    ensures wrote { IfOk result (WritesAt (N.writes ctx n) dst.old offset dst.new) }
+    ensures refused { IfErr result (RefusesWriteAt (N.refuses ctx n) (λ place e. E.from_gives (BadOffset place) e) dst.old offset dst.new) }
+{
+    if offset > dst.len() {
+        return Err(E::from(Error::BadOffset(offset)));
+    }
+    n.try_into_ctx(&mut dst[offset..], ctx)
+}
+
+/// Writes `n` at `offset` in the default context, answers its size in bytes, and moves `offset` by it. On an error
+/// `offset` stays.
+///
+/// ```rust
+/// let mut bytes = [0u8; 8];
+/// let offset = &mut 0;
+/// slice::gwrite(&mut bytes, 0xbeefbeefu32, offset)?;
+/// assert_eq!(rt; *offset, 4);
+/// ```
+#[inline(always)]
+pub fn gwrite<Ctx: Copy + Default, E: From<Error>, N: TryIntoCtx<Ctx, Error = E> + Drop>(
+    dst: &mut [u8],
+    n: N,
+    offset: &mut usize,
+) -> Result<usize, E>
+    ensures wrote { IfOk result (λ size. ByDefault Ctx.is_default (λ ctx. WritesAt (N.writes ctx n) dst.old offset.old dst.new size)) }
+    ensures refused { IfErr result (λ e. ByDefault Ctx.is_default (λ ctx. RefusesWriteAt (N.refuses ctx n) (λ place e. E.from_gives (BadOffset place) e) dst.old offset.old dst.new e)) }
+    ensures moves { IfOk result (λ size. offset.new ≡ offset.old + size) }
+    ensures stays { OnErr result (offset.new ≡ offset.old) }
+{
+    gwrite_with(dst, n, offset, Ctx::default())
+}
+
+/// Writes `n` at `offset` in the context `ctx`, answers its size in bytes, and moves `offset` by it. On an error
+/// `offset` stays.
+///
+/// ```rust
+/// let mut bytes = [0u8; 8];
+/// let offset = &mut 0;
+/// slice::gwrite_with(&mut bytes, 0xbeefbeefu32, offset, LE)?;
+/// slice::gwrite_with(&mut bytes, 1u16, offset, BE)?;
+/// assert_eq!(rt; *offset, 6);
+/// ```
+#[inline(always)]
+pub fn gwrite_with<Ctx: Copy, E: From<Error>, N: TryIntoCtx<Ctx, Error = E> + Drop>(
+    dst: &mut [u8],
+    n: N,
+    offset: &mut usize,
+    ctx: Ctx,
+) -> Result<usize, E>
+    ensures wrote { IfOk result (WritesAt (N.writes ctx n) dst.old offset.old dst.new) }
+    ensures refused { IfErr result (RefusesWriteAt (N.refuses ctx n) (λ place e. E.from_gives (BadOffset place) e) dst.old offset.old dst.new) }
+    ensures moves { IfOk result (λ size. offset.new ≡ offset.old + size) }
+    ensures stays { OnErr result (offset.new ≡ offset.old) }
+{
+    let start = *offset;
+    let size = pwrite_with(dst, n, start, ctx)?;
+    *offset = start + size;
+    Ok(size)
+}
+
+/// Writes `n` at `offset` in the default context, with no refusal: the caller makes sure of room.
+///
+/// ```rust
+/// let mut bytes = [0u8; 12];
+/// slice::cwrite(&mut bytes, 42i64, 0);
+/// slice::cwrite(&mut bytes, 0xdeadbeefu32, 8);
+/// assert_eq!(rt; bytes[..].cread::<u32>(8), 0xdeadbeef);
+/// ```
+#[inline(always)]
+pub fn cwrite<Ctx: Copy + Default, N: IntoCtx<Ctx>>(dst: &mut [u8], n: N, offset: usize)
+    requires { (ctx : Ctx) → Ctx.is_default ctx → offset + N.need ctx ≤ length dst.old }
+    ensures before { take offset dst.new ≡ take offset dst.old }
+    ensures after { ByDefault Ctx.is_default (λ ctx. N.leaves ctx n (drop offset dst.old) (drop offset dst.new)) }
+{
+    cwrite_with(dst, n, offset, Ctx::default())
+}
+
+/// Writes `n` at `offset` in the context `ctx`, with no refusal: the caller makes sure of room.
+///
+/// ```rust
+/// let mut bytes = [0u8; 16];
+/// slice::cwrite_with(&mut bytes, 0xdeadbeefu32, 8, BE);
+/// assert_eq!(rt; bytes[..].cread_with::<u32>(8, LE), 4022250974);
+/// ```
+#[inline(always)]
+pub fn cwrite_with<Ctx: Copy, N: IntoCtx<Ctx>>(dst: &mut [u8], n: N, offset: usize, ctx: Ctx)
+    requires { offset + N.need ctx ≤ length dst.old }
+    ensures before { take offset dst.new ≡ take offset dst.old }
+    ensures after { N.leaves ctx n (drop offset dst.old) (drop offset dst.new) }
+{
+    n.into_ctx(&mut dst[offset..], ctx)
+}

@@ -1,0 +1,71 @@
+#!/bin/sh
+# Compares the code that crates/scroll/CALLING.md shows with the files that stand there, which the gate compiles and
+# proves, so that the two can't part:
+#
+#     scripts/calling.sh
+#
+# Above each block of Rust code stands a line that begins with the file's name, as "From `src/examples/chunk.rt`". The
+# parts of the block, parted by empty lines, stand in that file in the same order, with `crate::` in place of
+# `scroll::`. The last line is `N blocks, M wrong`, and the exit status is 0 where M is 0.
+set -u
+
+top=$(CDPATH='' cd -- "$(dirname -- "$0")/.." && pwd) || exit 1
+cd "$top/crates/scroll" || exit 1
+
+awk '
+function load(name,    line) {
+    text = "\n"
+    while ((getline line < name) > 0) {
+        sub(/^use crate::/, "use scroll::", line)
+        text = text line "\n"
+    }
+    close(name)
+}
+
+# Looks for a part of a block behind those before it.
+function look(part,    at) {
+    if (part == "" || part == "#![tactic(auto)]\n") return
+    at = index(substr(text, place), "\n" part)
+    if (at == 0) {
+        if (!wrong) print "CALLING.md: this is not in " file ", or not in this order:\n" part
+        wrong = 1
+        return
+    }
+    place += at + length(part) - 1
+}
+
+!code && /^From `src\// {
+    split($0, words, "`")
+    file = words[2]
+}
+/^```/ && code {
+    look(part)
+    code = 0
+    bad += wrong
+    file = ""
+    next
+}
+/^```rust/ {
+    code = 1
+    blocks += 1
+    wrong = 0
+    part = ""
+    place = 1
+    text = ""
+    if (file == "") {
+        print "CALLING.md:" FNR ": no line names the file of this block"
+        wrong = 1
+    } else load(file)
+    next
+}
+code && $0 == "" {
+    look(part)
+    part = ""
+    next
+}
+code { part = part $0 "\n" }
+END {
+    print blocks + 0 " blocks, " bad + 0 " wrong"
+    exit (bad > 0 || blocks == 0)
+}
+' CALLING.md
