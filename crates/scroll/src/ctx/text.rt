@@ -1,5 +1,5 @@
 // Texts.
-ghost use Rattle.std.specs.Prelude.{◌≡◌, ℕ, ◌+◌, ◌≤◌, List, length, IfOk, IfErr};
+ghost use Rattle.std.specs.Prelude.{◌≡◌, ℕ, ◌+◌, ◌≤◌, List, length, take, IfOk, IfErr, IfSome, IfNone, IsUtf8};
 ghost use Rattle.std.proofs.Common.{rules};
 ghost use Rattle.scroll.specs.Bytes.{RefusesShort, WritesFront, LeavesShort};
 ghost use Rattle.scroll.specs.Texts.{text_len, wanted_len, ReadsText, RefusesText};
@@ -8,7 +8,7 @@ ghost use Rattle.scroll.specs.TextLaws.{ReadsText-bounded, WritesFront-keeps};
 use super::numbers::check_room;
 use crate::ctx::{StrCtx, TryFromCtx, TryIntoCtx};
 use crate::error::{Error, Result};
-use crate::search::first_place;
+use crate::search::text_before;
 
 /// A text, by where it ends. Nothing is copied: the text borrows the source.
 ///
@@ -25,11 +25,11 @@ impl<'a> TryFromCtx<'a, StrCtx> for &'a str {
 
     ghost reads_bounded = { λ ctx source text. ReadsText-bounded ctx source text.now };
 
+    #[inline(always)]
     fn try_from_ctx(from: &'a [u8], ctx: StrCtx) -> Result<(&'a str, usize)> {
-        let len = end_of_text(from, ctx)?;
-        match str::from_utf8(&from[..len]) {
-            Ok(text) => Ok((text, len + ctx.len())),
-            Err(_) => Err(Error::BadInput {
+        match text_in(from, ctx)? {
+            Some(text) => Ok((text, text.len() + ctx.len())),
+            None => Err(Error::BadInput {
                 size: from.len(),
                 msg: "invalid utf8",
             }),
@@ -37,23 +37,25 @@ impl<'a> TryFromCtx<'a, StrCtx> for &'a str {
     }
 }
 
-// How many bytes the text has. A limit and a length are tested before the search.
+// The text, if it is one: nothing where it is no UTF-8. A limit and a length are tested before the search.
+#[inline(always)]
 #[tactic(auto, using(crate::proofs::TextLemmas::first_places))]
-fn end_of_text(from: &[u8], ctx: StrCtx) -> Result<usize>
+fn text_in(from: &[u8], ctx: StrCtx) -> Result<Option<&str>>
     ensures room { IfOk result (λ _. wanted_len ctx ≤ length from.now) }
-    ensures text { IfOk result (λ len. len ≡ text_len ctx from.now) }
-    ensures within { IfOk result (λ len. len ≤ length from.now) }
+    ensures text { IfOk result (λ found. IfSome found (λ text. text.now ≡ take (text_len ctx from.now) from.now)) }
+    ensures len { IfOk result (λ found. IfSome found (λ text. length text.now ≡ text_len ctx from.now)) }
+    ensures none { IfOk result (λ found. IfNone found (¬ (IsUtf8 (take (text_len ctx from.now) from.now)))) }
     ensures refused { IfErr result (RefusesShort (wanted_len ctx) from.now) }
 {
     match ctx {
-        StrCtx::Delimiter(delimiter) => Ok(first_place(delimiter, from)),
+        StrCtx::Delimiter(delimiter) => Ok(text_before(delimiter, from)),
         StrCtx::DelimiterUntil(delimiter, limit) => {
             check_room(limit, from.len())?;
-            Ok(first_place(delimiter, &from[..limit]))
+            Ok(text_before(delimiter, &from[..limit]))
         }
         StrCtx::Length(len) => {
             check_room(len, from.len())?;
-            Ok(len)
+            Ok(str::from_utf8(&from[..len]).ok())
         }
     }
 }

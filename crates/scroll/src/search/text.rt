@@ -1,5 +1,5 @@
 // The text before a delimiter. Its bytes are looked at once where they are ASCII.
-ghost use Rattle.std.specs.Prelude.{◌≡◌, take, IfSome, IfNone, IsUtf8};
+ghost use Rattle.std.specs.Prelude.{◌≡◌, length, take, IfSome, IfNone, IsUtf8};
 ghost use Rattle.std.specs.Str.{IsAscii};
 ghost use Rattle.scroll.specs.Texts.{first_place};
 
@@ -9,6 +9,7 @@ use crate::search::{first_place, first_stop};
 #[inline(always)]
 pub(crate) fn text_before(delimiter: u8, source: &[u8]) -> Option<&str>
     ensures text { IfSome result (λ text. text.now ≡ take (first_place delimiter source.now) source.now) }
+    ensures len { IfSome result (λ text. length text.now ≡ first_place delimiter source.now) }
     ensures none { IfNone result (¬ (IsUtf8 (take (first_place delimiter source.now) source.now))) }
 {
     let stop = first_stop(delimiter, source);

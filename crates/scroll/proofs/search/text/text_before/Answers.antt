@@ -1,4 +1,5 @@
 use Rattle.std.proofs.Common.{◌≡◌, ◌+◌, ◌≤◌, ◌⊎◌, inl, inr, length, take, get_or, ap, ◌∙◌, arith, rules}
+use Rattle.std.proofs.lemmas.List.{length-take-le}
 use Rattle.scroll.specs.Texts.{first_place}
 use Rattle.scroll.specs.TextLaws.{first_place-le}
 use Rattle.scroll.proofs.StopLemmas.{front_is_ascii, ends_there, ends_further}
@@ -19,6 +20,11 @@ returns-then-stop-source-clause-text c =
     let is = ends_there c.args.delimiter s stop c.first_stop-stop.ensures.place c.first_stop-stop.ensures.within at in
     c.text_of_ascii.ensures ∙ ap (λ n. take n s) is
 
+pub returns-then-stop-source-clause-len : goal.returns-then-stop-source-clause-len
+returns-then-stop-source-clause-len c =
+    let s = c.args.source.now in
+    ap length (returns-then-stop-source-clause-text c) ∙ length-take-le (first_place c.args.delimiter s) s (first_place-le c.args.delimiter s)
+
 pub overflow_add-len : goal.overflow_add-len
 overflow_add-len c =
     let s = c.args.source.now in
@@ -38,6 +44,11 @@ returns-in-Ok-clause-text c =
     let s = c.args.source.now in
     let is : c.first_stop-stop.result + c.first_place.result ≡ first_place c.args.delimiter s = ends_further c.args.delimiter s c.first_stop-stop.result c.first_place.result c.first_stop-stop.ensures.place c.first_stop-stop.ensures.within c.first_place.ensures in
     c.in-Ok.ensures.cases.0 ∙ ap (λ n. take n s) is
+
+pub returns-in-Ok-clause-len : goal.returns-in-Ok-clause-len
+returns-in-Ok-clause-len c =
+    let s = c.args.source.now in
+    ap length (returns-in-Ok-clause-text c) ∙ length-take-le (first_place c.args.delimiter s) s (first_place-le c.args.delimiter s)
 
 pub returns-in-Err-clause-none : goal.returns-in-Err-clause-none
 returns-in-Err-clause-none c =
