@@ -6,7 +6,7 @@
 #     scripts/cuts.sh        sessions with their buffers cut, likewise
 #     scripts/faults.sh      the sessions and the tests where memory is refused and streams fail, by what rt ci built
 #     scripts/edits.sh       the must-fail edits, in lanes side by side; rt ci has none to try here
-#     scripts/misuse.sh      where it is there: what must not compile
+#     scripts/misuse.sh      what must not compile
 #
 # Each step is named at the end with its counts and its time. The last line is `N passed, M failed`, the sums of the
 # counts, with `, K skipped` behind it where something was left out. A step that ends without its counts, or that fails
@@ -91,7 +91,7 @@ run_step sh scripts/faults.sh
 put_edits_back || failed=$((failed + 1))
 if [ "$is_proved" -eq 0 ]; then
     run_step sh scripts/edits.sh
-    [ ! -f "$top/scripts/misuse.sh" ] || run_step sh scripts/misuse.sh
+    run_step sh scripts/misuse.sh
 else
     echo "check: rt ci failed, so the edits were not tried" >>"$room/steps"
     failed=$((failed + 1))

@@ -174,11 +174,15 @@ judge() {
 }
 
 list_edits "$@" | sort -u >"$room/edits"
-[ -s "$room/edits" ] || fail "there are no edits"
 list_strange_files >"$room/strange"
 while read -r file; do
     fail "$file: no edit"
 done <"$room/strange"
+if [ ! -s "$room/edits" ]; then
+    fail 'there are no edits'
+    echo "0 passed, $failed failed"
+    exit 1
+fi
 
 lanes=$(count_lanes)
 share_out >"$room/shares"

@@ -267,18 +267,18 @@ stop() {
 }
 
 [ -x "$program" ] || stop "there is no program $program: rt run in crates/scroll_run proves and builds it"
-for name in $(list_libraries); do
-    crate=$top/crates/$name
-    if [ ! -x "$crate/out/${name}_tests" ] && grep -rqF '#[test]' "$crate/src"; then
-        failed=$((failed + 1))
-        echo "FAILED $name: there is no program of its tests: rt test proves and builds it"
-    fi
-done
 compile_library || stop "scripts/faults.c does not compile"
 if [ -z "$library" ]; then
     skipped=1
     echo "faults: left out, since there is no C compiler (cc, gcc or clang): refused memory, and reads and writes that fail"
 fi
+for name in $(list_libraries); do
+    crate=$top/crates/$name
+    if [ -n "$library" ] && [ ! -x "$crate/out/${name}_tests" ] && grep -rqF '#[test]' "$crate/src"; then
+        failed=$((failed + 1))
+        echo "FAILED $name: there is no program of its tests: rt test proves and builds it"
+    fi
+done
 
 lanes=$(nproc)
 list_all | awk -v lanes="$lanes" -v room="$room" '{ print >(room "/lane" (NR % lanes) ".list") }'

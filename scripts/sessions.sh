@@ -90,5 +90,6 @@ for input in "$sessions"/*.in; do
     replay
 done
 
+echo "sessions: $((passed + failed)) sessions were replayed"
 echo "$passed passed, $failed failed"
 [ "$failed" -eq 0 ] && [ "$passed" -gt 0 ]

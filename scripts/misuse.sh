@@ -1,0 +1,100 @@
+#!/bin/sh
+# Tries what must not compile: a borrowed value that was read from a buffer is used after a write to the buffer, or when
+# the buffer is gone.
+#
+#     sh scripts/misuse.sh
+#
+# Each scripts/misuse/NAME.txt is a module of the library. The lines that end in `// misuse: CODE` are the misuse. In a
+# copy of the library the modules are first proved without these lines. With them, each module must be refused by the
+# error CODE for each of them, and there must be no other error: so a refusal can't be for another reason.
+#
+# The last line is `N passed, M failed`, with each module counted as one. The exit status is 0 where M is 0 and N is not.
+set -u
+
+top=$(CDPATH='' cd -- "$(dirname -- "$0")/.." && pwd) || exit 1
+texts=$top/scripts/misuse
+
+room=$(mktemp -d) || exit 1
+trap 'rm -rf "$room"' EXIT
+trap 'exit 1' HUP INT TERM
+
+stop() {
+    echo "misuse: $1"
+    sed 's/^/    /' "$room/said" | grep -v ': proved$' | tail -n 20 | cut -c 1-200
+    echo "0 passed, 1 failed"
+    exit 1
+}
+
+# Copies the library, with the modules behind its own.
+copy_library() {
+    mkdir "$room/crates" && cp "$top/crates.txt" "$room/crates.txt" || return
+    tar -C "$top" -cf - --exclude='./crates/*/out' ./crates | tar -C "$room" -xf - || return
+    for name in $names; do
+        echo "mod $name;" >>"$room/crates/scroll/src/lib.rt"
+    done
+}
+
+# Puts the modules into the copy, each through a command of sed.
+put_modules() {
+    for name in $names; do
+        sed "$1" "$texts/$name.txt" >"$room/crates/scroll/src/$name.rt" || return
+    done
+}
+
+check() {
+    (cd "$room/crates/scroll" && rt check "$@") >"$room/said" 2>&1
+}
+
+# The codes of a module's errors, and of the misuse that it marks.
+list_errors() {
+    sed -n "s/^src\/$1\.rt:[0-9]*:[0-9]*: error\[\([a-z0-9-]*\)\].*/\1/p" "$room/said" | sort
+}
+
+list_misuse() {
+    sed -n 's/.*\/\/ misuse: \([a-z0-9-]*\)$/\1/p' "$texts/$1.txt" | sort
+}
+
+names=
+paths=
+for file in "$texts"/*.txt; do
+    name=$(basename "$file" .txt)
+    names="$names $name"
+    paths="$paths --only $name"
+done
+: >"$room/said"
+
+if ! copy_library || ! put_modules '/\/\/ misuse: /d'; then
+    stop 'the library could not be copied'
+fi
+# shellcheck disable=SC2086 # words
+check $paths || stop 'without the misuse the modules are not proved'
+functions=$(sed -n 's/^only=\([0-9]*\) proved=\1$/\1/p' "$room/said")
+[ "${functions:-0}" -gt 0 ] || stop 'without the misuse the modules are not proved'
+
+put_modules '' || stop 'the library could not be copied'
+check --only '' && stop 'with the misuse the modules are not refused'
+
+passed=0
+failed=0
+wanted=0
+for name in $names; do
+    if [ -z "$(list_misuse "$name")" ]; then
+        failed=$((failed + 1))
+        echo "FAILED $name: it marks no misuse"
+    elif [ "$(list_errors "$name")" = "$(list_misuse "$name")" ]; then
+        passed=$((passed + 1))
+        wanted=$((wanted + $(list_misuse "$name" | wc -l)))
+    else
+        failed=$((failed + 1))
+        echo "FAILED $name: $(list_errors "$name" | tr '\n' ' ')in place of $(list_misuse "$name" | tr '\n' ' ')"
+    fi
+done
+if [ "$failed" -eq 0 ] && [ "$(grep -c 'error' "$room/said")" -ne "$wanted" ]; then
+    failed=1
+    echo 'FAILED there are other errors:'
+    grep error "$room/said" | cut -c 1-200
+fi
+
+echo "misuse: $functions functions proved without the misuse, $passed modules refused with it"
+echo "$passed passed, $failed failed"
+[ "$failed" -eq 0 ] && [ "$passed" -gt 0 ]
