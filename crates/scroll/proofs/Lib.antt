@@ -26,3 +26,6 @@ pub mod FrontLemmas
 pub mod StandLemmas
 pub mod LocalLemmas
 pub mod OneLemmas
+pub mod TextReadLemmas
+pub mod CStringReadLemmas
+pub mod LebReadLemmas

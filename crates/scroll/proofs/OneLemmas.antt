@@ -16,7 +16,7 @@ one-Ok-same P Q v n only none (Ok x) a =
     ap (λ w. (w, x.1)) s.0 ∙ ap (λ m. (v, m)) s.1
 one-Ok-same P Q v n only none (Err e) a = none e a
 
-one-Ok : {V : Type 0} (P : V → ℕ → Type 0) (Q : Error → Type 0) (v : V) (n : ℕ) → P v n → ((w : V) (m : ℕ) → P w m → (w ≡ v) × (m ≡ n)) → ((e : Error) → Q e → ⊥) → AllowsOne P Q
+pub one-Ok : {V : Type 0} (P : V → ℕ → Type 0) (Q : Error → Type 0) (v : V) (n : ℕ) → P v n → ((w : V) (m : ℕ) → P w m → (w ≡ v) × (m ≡ n)) → ((e : Error) → Q e → ⊥) → AllowsOne P Q
 one-Ok P Q v n p only none = record {
   answer = Ok (v, n);
   allowed = p;
@@ -28,14 +28,14 @@ one-Err-same : {V : Type 0} (P : V → ℕ → Type 0) (Q : Error → Type 0) (e
 one-Err-same P Q e none only (Ok x) a = absurd (none x.0 x.1 a)
 one-Err-same P Q e none only (Err d) a = only d a
 
-one-Err : {V : Type 0} (P : V → ℕ → Type 0) (Q : Error → Type 0) (e : Error) → Q e → ((w : V) (m : ℕ) → P w m → ⊥) → ((d : Error) → Q d → SameError d e) → AllowsOne P Q
+pub one-Err : {V : Type 0} (P : V → ℕ → Type 0) (Q : Error → Type 0) (e : Error) → Q e → ((w : V) (m : ℕ) → P w m → ⊥) → ((d : Error) → Q d → SameError d e) → AllowsOne P Q
 one-Err P Q e q none only = record {
   answer = Err e;
   allowed = q;
   only = one-Err-same P Q e none only;
 }
 
-same-too_big : (d : Error) (a b : ℕ) → d ≡ TooBig a b → SameError d (TooBig a b)
+pub same-too_big : (d : Error) (a b : ℕ) → d ≡ TooBig a b → SameError d (TooBig a b)
 same-too_big d a b e = subst (λ x. SameError x (TooBig a b)) (sym e) refl
 
 same-bad_offset : (d : Error) (a : ℕ) → d ≡ BadOffset a → SameError d (BadOffset a)

@@ -1,11 +1,13 @@
-//! Laws of the definitions that the contracts cite. Each function here changes nothing, its contract is the law, and its
-//! proof is the law's. Each is named by what it says, and the list in docs/LAWS.md numbers them.
+//! Laws of the definitions that the contracts cite. Each function here changes nothing: its contract is the law, and its
+//! proof is the law's. Each is named by what it says, and has the law's number as a second name.
 
+mod c_strings;
 mod histories;
 mod leb128;
 mod numbers;
 mod reads;
 
+pub use self::c_strings::{c_string_has_one_zero, c_string_has_one_zero as law_9};
 pub use self::histories::{
     array_has_leaves, what_was_written_stands, what_was_written_stands as law_3,
     writes_apart_may_be_exchanged, writes_apart_may_be_exchanged as law_6,

@@ -1,12 +1,15 @@
 // Laws of what was written.
-ghost use Rattle.std.specs.Prelude.{◌≡◌, ◌≤◌, ◌^◌, ◌<◌, ◌+◌, ◌++◌, ℕ, ℤ, pos, neg_ℤ, ◌≤ℤ◌, ◌<ℤ◌, ◌*ℤ◌, [], ◌∷◌, List, length, take, drop, Result};
-ghost use Rattle.std.specs.List.{flat_map};
+ghost use Rattle.std.specs.Prelude.{◌≡◌, ◌≢◌, ◌≤◌, IsUtf8, ◌^◌, ◌<◌, ◌+◌, ◌++◌, ℕ, ℤ, pos, neg_ℤ, ◌≤ℤ◌, ◌<ℤ◌, ◌*ℤ◌, [], ◌∷◌, List, length, take, drop, Result};
+ghost use Rattle.std.specs.List.{All, flat_map};
 ghost use Rattle.scroll.specs.Arrays.{WritesArray, LeavesArray};
+ghost use Rattle.scroll.specs.CStrings.{ReadsCString};
 ghost use Rattle.scroll.specs.History.{Piece, seen};
 ghost use Rattle.scroll.specs.Laws.{Apart, IsHistory, WrittenLast};
 ghost use Rattle.scroll.specs.Leaves.{pieces, WritesLeaves, HasLeaves};
 ghost use Rattle.scroll.specs.Numbers.{number_bytes, signed_bytes, ReadsNumber, ReadsSigned};
 ghost use Rattle.scroll.specs.Reads.{ReadsAt};
+ghost use Rattle.scroll.specs.Texts.{ReadsText, ReadsSlice};
+ghost use Rattle.scroll.specs.declared.ctx.str_ctx.StrCtx.TheVariants.{Length};
 ghost use Rattle.scroll.specs.declared.endian.Endian.{Endian};
 ghost use Rattle.scroll.specs.declared.error.Error.{Error};
 ghost use Rattle.scroll.specs.declared.runner.Command.{Command};
@@ -29,6 +32,15 @@ pub fn what_was_written_stands()
         → (o w : ℕ) (x : ℤ) (order : Endian) → neg_ℤ (pos (256 ^ w)) ≤ℤ (pos 2 *ℤ x) → (pos 2 *ℤ x) <ℤ pos (256 ^ w)
         → WrittenLast history (o, signed_bytes order w x)
         → ReadsAt (ReadsSigned w order) (seen first history) o x w }
+    ensures slice { (first : List ℕ) (commands : List Command) (history : List Piece) → IsHistory first commands history
+        → (o : ℕ) (t : List ℕ) → WrittenLast history (o, t)
+        → ReadsAt (ReadsSlice (length t)) (seen first history) o t (length t) }
+    ensures text { (first : List ℕ) (commands : List Command) (history : List Piece) → IsHistory first commands history
+        → (o : ℕ) (t : List ℕ) → IsUtf8 t → WrittenLast history (o, t)
+        → ReadsAt (ReadsText (Length (length t))) (seen first history) o t (length t) }
+    ensures c_string { (first : List ℕ) (commands : List Command) (history : List Piece) → IsHistory first commands history
+        → (o : ℕ) (t : List ℕ) → All (λ b. b ≢ 0) t → WrittenLast history (o, t ++ 0 ∷ [])
+        → ReadsAt ReadsCString (seen first history) o t (length t + 1) }
     ensures leaves { (len o : ℕ) (leaves : List (List ℕ)) (before after : List Piece) (p : Piece)
         → pieces len o leaves ≡ before ++ p ∷ after → Apart (p ∷ []) after }
 {}

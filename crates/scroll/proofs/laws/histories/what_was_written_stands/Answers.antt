@@ -1,7 +1,9 @@
-use Rattle.std.proofs.Common.{arith}
+use Rattle.std.proofs.Common.{arith, ◌++◌, [], ◌∷◌}
+use Rattle.scroll.proofs.CStringReadLemmas.{begins-c_string}
 use Rattle.scroll.proofs.FrontLemmas.{begins-number, begins-signed}
 use Rattle.scroll.proofs.SeenLemmas.{length-seen}
 use Rattle.scroll.proofs.StandLemmas.{stands, pieces-apart}
+use Rattle.scroll.proofs.TextReadLemmas.{begins-slice, begins-text}
 use Rattle.scroll.specs.Numbers.{number_bytes, signed_bytes}
 use Rattle.scroll.proofs.laws.histories.what_was_written_stands.Goals as goal
 
@@ -26,3 +28,27 @@ returns-clause-signed c first commands history run o w x order low high last =
 
 pub returns-clause-leaves : goal.returns-clause-leaves
 returns-clause-leaves c = pieces-apart
+
+pub returns-clause-slice : goal.returns-clause-slice
+returns-clause-slice c first commands history run o t last =
+    let here = stands first commands history o t run last in
+    record {
+      inside = omega (arith, here.0, length-seen first history);
+      value = begins-slice _ t here.1;
+    }
+
+pub returns-clause-text : goal.returns-clause-text
+returns-clause-text c first commands history run o t utf8 last =
+    let here = stands first commands history o t run last in
+    record {
+      inside = omega (arith, here.0, length-seen first history);
+      value = begins-text _ t utf8 here.1;
+    }
+
+pub returns-clause-c_string : goal.returns-clause-c_string
+returns-clause-c_string c first commands history run o t no_zero last =
+    let here = stands first commands history o (t ++ 0 ∷ []) run last in
+    record {
+      inside = omega (arith, here.0, length-seen first history);
+      value = begins-c_string _ t no_zero here.1;
+    }

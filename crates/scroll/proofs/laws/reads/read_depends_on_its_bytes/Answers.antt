@@ -1,3 +1,6 @@
+use Rattle.scroll.proofs.CStringReadLemmas.{local-c_string}
+use Rattle.scroll.proofs.LebReadLemmas.{local-uleb, local-sleb}
+use Rattle.scroll.proofs.TextReadLemmas.{local-slice, local-text}
 use Rattle.scroll.proofs.LocalLemmas.{local-number, local-signed}
 use Rattle.scroll.proofs.laws.reads.read_depends_on_its_bytes.Goals as goal
 
@@ -6,3 +9,18 @@ returns-clause-number c = local-number
 
 pub returns-clause-signed : goal.returns-clause-signed
 returns-clause-signed c = local-signed
+
+pub returns-clause-slice : goal.returns-clause-slice
+returns-clause-slice c = local-slice
+
+pub returns-clause-text : goal.returns-clause-text
+returns-clause-text c = local-text
+
+pub returns-clause-c_string : goal.returns-clause-c_string
+returns-clause-c_string c = local-c_string
+
+pub returns-clause-uleb : goal.returns-clause-uleb
+returns-clause-uleb c = local-uleb
+
+pub returns-clause-sleb : goal.returns-clause-sleb
+returns-clause-sleb c = local-sleb
