@@ -59,7 +59,12 @@ run_step() {
 # The files without what earlier runs kept, and with the edits aside.
 copy_tree() {
     mkdir "$room/tree" "$room/edits" || return
-    tar -C "$top" -cf - --exclude=./.git --exclude='./crates/*/out' . | tar -C "$room/tree" -xf - || return
+    cd "$top" || return
+    set -- --exclude=./.git
+    for crate in crates/*; do
+        set -- "$@" "--exclude=./$crate/out"
+    done
+    tar -cf - "$@" . | tar -C "$room/tree" -xf - || return
     for crate in "$room"/tree/crates/*; do
         mkdir "$room/edits/$(basename "$crate")" || return
         for edit in "$crate"/must-fail/*.edit; do

@@ -95,7 +95,13 @@ share_out() {
 
 # Copies the tree, without what is kept in out/ but for the libraries that other crates load.
 copy_tree() {
-    mkdir -p "$2" && tar -C "$1" -cf - --exclude=./.git --exclude='./crates/*/out/incremental' . | tar -C "$2" -xf -
+    from=$1
+    to=$2
+    set -- --exclude=./.git
+    for crate in crates/*; do
+        set -- "$@" "--exclude=./$crate/out/incremental"
+    done
+    mkdir -p "$to" && tar -C "$from" -cf - "$@" . | tar -C "$to" -xf -
 }
 
 # Makes the libraries below the crates that have edits, once for all lanes.

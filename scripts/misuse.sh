@@ -27,8 +27,12 @@ stop() {
 
 # Copies the library, with the modules behind its own.
 copy_library() {
-    mkdir "$room/crates" && cp "$top/crates.txt" "$room/crates.txt" || return
-    tar -C "$top" -cf - --exclude='./crates/*/out' ./crates | tar -C "$room" -xf - || return
+    cd "$top" || return
+    set --
+    for crate in crates/*; do
+        set -- "$@" "--exclude=$crate/out"
+    done
+    tar -cf - "$@" crates crates.txt | tar -C "$room" -xf - || return
     for name in $names; do
         echo "mod $name;" >>"$room/crates/scroll/src/lib.rt"
     done

@@ -3,7 +3,7 @@ ghost use Rattle.std.specs.Prelude.{◌≡◌, ◌≤◌, ◌<◌, length};
 ghost use Rattle.std.proofs.Common.{rules};
 ghost use Rattle.scroll.specs.Bytes.{RefusesShort};
 
-use crate::ctx::{SizeWith, TryFromCtx, TryIntoCtx};
+use crate::ctx::{SizeWith, StrCtx, TryFromCtx, TryIntoCtx};
 use crate::{BE, Endian, Error, LE, Pread, Pwrite, Result};
 use std::cell::Cell;
 use std::result;
@@ -73,6 +73,18 @@ fn sizes_of_arrays(rt: HostRuntime) {
     assert_eq!(rt; <[[u16; 3]; 2]>::size_with(&LE), 12);
     assert_eq!(rt; <[u16; 0]>::size_with(&LE), 0);
     assert_eq!(rt; <[u64; 3]>::size_with(&()), 24);
+}
+
+#[test]
+fn a_bad_offset_counts_from_its_own_array(rt: HostRuntime) {
+    let bytes: [u8; 5] = [0x61, 0, 0x62, 0, 0x63];
+    let offset = &mut 0;
+    let texts: Result<[[&str; 2]; 2]> = bytes[..].gread_with(offset, StrCtx::Delimiter(0));
+    assert!(rt; matches!(&texts, Err(Error::BadOffset(2))));
+    assert_eq!(rt; *offset, 0);
+    let pair: Result<[&str; 2]> = bytes[..].gread_with(offset, StrCtx::Delimiter(0));
+    assert!(rt; matches!(&pair, Ok(["a", "b"])));
+    assert_eq!(rt; *offset, 4);
 }
 
 // Reads any number of values of any type, through the bound.
