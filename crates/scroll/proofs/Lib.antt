@@ -26,3 +26,7 @@ pub mod FrontLemmas
 pub mod StandLemmas
 pub mod LocalLemmas
 pub mod OneLemmas
+pub mod LebWriteLemmas
+pub mod SignedWriteLemmas
+pub mod SpreadLemmas
+pub mod LebLeaves
