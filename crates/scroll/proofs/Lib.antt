@@ -29,3 +29,7 @@ pub mod OneLemmas
 pub mod TextReadLemmas
 pub mod CStringReadLemmas
 pub mod LebReadLemmas
+pub mod LebWriteLemmas
+pub mod SignedWriteLemmas
+pub mod SpreadLemmas
+pub mod LebLeaves

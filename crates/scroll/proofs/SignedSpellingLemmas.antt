@@ -13,7 +13,7 @@ use Rattle.scroll.proofs.LebLemmas.{sign_is_top, groups_lt}
 use Rattle.scroll.proofs.SpellingLemmas.{power_more, to_spelling, from_spelling, spelling_front}
 
 -- 128 ^ n, for n above 0
-power_last : (n : ℕ) → 1 ≤ n → 128 ^ n ≡ 128 * 128 ^ (n - 1)
+pub power_last : (n : ℕ) → 1 ≤ n → 128 ^ n ≡ 128 * 128 ^ (n - 1)
 power_last n some = let back : n - 1 + 1 ≡ n = omega arith in rw back at (power_more (n - 1))
 
 -- the number that a signed number is spelled as is below 128 ^ n
@@ -22,7 +22,7 @@ form_small (pos a) n h = record { some = h.some; few = h.few; room = omega (arit
 form_small (negsuc k) n h = record { some = h.some; few = h.few; room = omega (arith, ints, power_last n h.some, h.low) }
 
 -- a signed value is the one that its groups give
-form_signed : (s : List ℕ) (v : ℤ) (n : ℕ) → HasSignedSpelling v n → ReadsGroups s (unsigned_form v n) n → v ≡ signed_of s
+pub form_signed : (s : List ℕ) (v : ℤ) (n : ℕ) → HasSignedSpelling v n → ReadsGroups s (unsigned_form v n) n → v ≡ signed_of s
 form_signed s (pos a) n h g =
     let top = sign_is_top s a n g.complete.0 g.value g.size in
     let below : nat_lt a (64 * 128 ^ (n - 1)) ≡ true = let l : a < 64 * 128 ^ (n - 1) = omega (arith, ints, h.high) in grind (arith, nat_tests) in

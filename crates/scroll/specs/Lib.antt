@@ -22,5 +22,7 @@ pub mod Runs
 pub mod Leb128
 pub mod LebRefusals
 pub mod Spelling
+pub mod LebWrites
+pub mod LebWriteLaws
 pub mod Loads
 pub mod Laws

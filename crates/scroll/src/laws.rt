@@ -15,7 +15,8 @@ pub use self::histories::{
 pub use self::leb128::{
     leb128_reads_have_one_to_ten_bytes, leb128_reads_have_one_to_ten_bytes as law_8,
     signed_reads_are_spellings, signed_reads_are_spellings as law_spelling_s,
-    unsigned_reads_are_spellings, unsigned_reads_are_spellings as law_spelling_u,
+    signed_texts_are_kept, unsigned_reads_are_spellings,
+    unsigned_reads_are_spellings as law_spelling_u, unsigned_texts_are_kept,
 };
 pub use self::numbers::{
     big_endian_is_little_endian_reversed, big_endian_is_little_endian_reversed as law_1,

@@ -4,6 +4,7 @@ mod c_strings;
 mod calls;
 mod cursor;
 mod leb128;
+mod leb128_writes;
 mod numbers;
 mod own_type;
 mod printed;

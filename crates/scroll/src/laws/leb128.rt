@@ -1,7 +1,8 @@
 // Laws of texts in LEB128.
-ghost use Rattle.std.specs.Prelude.{◌≡◌, ◌<◌, ◌≤◌, ◌++◌, ◌↔◌, ℕ, ℤ, List, length, All};
-ghost use Rattle.scroll.specs.Leb128.{ReadsUleb, ReadsSleb};
+ghost use Rattle.std.specs.Prelude.{◌≡◌, ◌<◌, ◌≤◌, ◌++◌, ◌↔◌, ℕ, ℤ, List, length, take, drop, All};
+ghost use Rattle.scroll.specs.Leb128.{Counted, ReadsUleb, ReadsSleb, ReadsCountedUleb, ReadsCountedSleb};
 ghost use Rattle.scroll.specs.Spelling.{BeginsWith, BeginsWithSigned, HasSpelling, HasSignedSpelling, spelling, unsigned_form};
+ghost use Rattle.scroll.specs.LebWrites.{WritesUleb, WritesSleb};
 
 /// A read of an unsigned number gives a value and a size exactly where the source begins with the spelling of that value
 /// in that many bytes. A value has a spelling of each length from its shortest to ten, and no spelling begins another.
@@ -25,4 +26,25 @@ pub fn signed_reads_are_spellings()
 pub fn leb128_reads_have_one_to_ten_bytes()
     ensures unsigned { (source : List ℕ) (x n : ℕ) → ReadsUleb source x n → (1 ≤ n) × (n ≤ 10) × (n ≤ length source) }
     ensures signed { (source : List ℕ) (x : ℤ) (n : ℕ) → ReadsSleb source x n → (1 ≤ n) × (n ≤ 10) × (n ≤ length source) }
+{}
+
+/// An unsigned number in LEB128 that was read is written back byte for byte. One that was written is read again with the
+/// same value and size, whatever bytes follow, and every source that reads so begins with the bytes that were written.
+pub fn unsigned_texts_are_kept()
+    ensures back { (source old new : List ℕ) (x : Counted ℕ) (m n : ℕ) → All (λ b. b < 256) source → ReadsCountedUleb source x n
+        → WritesUleb x old new m → (m ≡ n) × (new ≡ take n source ++ drop n old) }
+    ensures again { (old new after : List ℕ) (x : Counted ℕ) (n : ℕ) → HasSpelling x.value x.count
+        → WritesUleb x old new n → ReadsCountedUleb (take n new ++ after) x n }
+    ensures begins { (source old new : List ℕ) (x : Counted ℕ) (m n : ℕ) → All (λ b. b < 256) source → ReadsCountedUleb source x n
+        → WritesUleb x old new m → take m source ≡ take m new }
+{}
+
+/// The same of signed numbers.
+pub fn signed_texts_are_kept()
+    ensures back { (source old new : List ℕ) (x : Counted ℤ) (m n : ℕ) → All (λ b. b < 256) source → ReadsCountedSleb source x n
+        → WritesSleb x old new m → (m ≡ n) × (new ≡ take n source ++ drop n old) }
+    ensures again { (old new after : List ℕ) (x : Counted ℤ) (n : ℕ) → HasSignedSpelling x.value x.count
+        → WritesSleb x old new n → ReadsCountedSleb (take n new ++ after) x n }
+    ensures begins { (source old new : List ℕ) (x : Counted ℤ) (m n : ℕ) → All (λ b. b < 256) source → ReadsCountedSleb source x n
+        → WritesSleb x old new m → take m source ≡ take m new }
 {}

@@ -1,5 +1,5 @@
 // Signed numbers in LEB128.
-ghost use Rattle.std.specs.Prelude.{◌≡◌, ◌↔◌, ℤ, IsTrue, IfOk, IfErr, OnErr};
+ghost use Rattle.std.specs.Prelude.{◌≡◌, ◌↔◌, ℕ, ℤ, ◌<◌, List, All, take, IsTrue, IfOk, IfErr, OnOk, OnErr};
 ghost use Rattle.std.proofs.Common.{rules};
 ghost use Rattle.std.specs.Ordering.{int_eq};
 ghost use Rattle.std.specs.Cmp.Rules.{comparing};
@@ -8,19 +8,23 @@ ghost use Rattle.scroll.specs.Runs.{IsBadOffset};
 ghost use Rattle.scroll.specs.Leb128.{Counted, counted_eq, ReadsSleb, ReadsCountedSleb};
 ghost use Rattle.scroll.specs.LebRefusals.{RefusesSleb};
 ghost use Rattle.scroll.specs.Spelling.{HasSignedSpelling};
+ghost use Rattle.scroll.specs.Bytes.{LeavesShort};
+ghost use Rattle.scroll.specs.LebWrites.{IsLeast, WritesSleb};
+ghost use Rattle.scroll.specs.LebWriteLaws.{WritesSleb-keeps};
 
 use super::sleb_loads;
-use crate::ctx::TryFromCtx;
+use super::write::{put_sleb, shortest_count, turned};
+use crate::ctx::{TryFromCtx, TryIntoCtx};
 use crate::error::{Error, Result};
 use crate::loads::Loads;
 use crate::pread::Pread;
 use std::marker::Model;
 
-/// A signed number that was read from LEB128, and how many bytes its text has.
+/// A signed number in LEB128, and how many bytes its text has.
 ///
 /// The groups of the text are in two's complement: the value is below zero where the second highest bit of the last byte
-/// is set. It is read in the context `()`. A source that ends before its text does, within the first ten bytes, is refused
-/// by `TooBig { size: 1, len: 0 }`; a text of more than ten bytes, or with a value that no `i64` has, by
+/// is set. It is read and written in the context `()`. A source that ends before its text does, within the first ten
+/// bytes, is refused by `TooBig { size: 1, len: 0 }`; a text of more than ten bytes, or with a value that no `i64` has, by
 /// `BadInput { size, msg: "failed to parse" }`, whose `size` is the length of the source.
 ///
 /// ```rust
@@ -46,7 +50,26 @@ impl Model for Sleb128 {
 }
 
 impl Sleb128 {
-    /// How many bytes the text has that was read: from one to ten.
+    /// The number with the shortest of its texts.
+    ///
+    /// ```rust
+    /// let mut bytes = [0u8; 2];
+    /// let mut target = &mut bytes[..];
+    /// target.pwrite(Sleb128::shortest(-129), 0)?;
+    /// assert_eq!(rt; bytes, [0xff, 0x7e]);
+    /// ```
+    #[inline(always)]
+    pub fn shortest(value: i64) -> Sleb128
+        ensures value { result.value ≡ value }
+        ensures least { IsLeast (HasSignedSpelling value) result.count }
+    {
+        Sleb128 {
+            value,
+            count: shortest_count(turned(value) << 1),
+        }
+    }
+
+    /// How many bytes the text has: from one to ten.
     #[inline(always)]
     pub fn size(&self) -> usize
         ensures size { result ≡ self.now.count }
@@ -124,5 +147,40 @@ impl<'a> TryFromCtx<'a, ()> for Sleb128 {
     fn try_from_ctx(from: &'a [u8], _ctx: ()) -> Result<(Sleb128, usize)> {
         let (value, count) = sleb_loads(&mut Loads::new(from))?;
         Ok((Sleb128 { value, count }, count))
+    }
+}
+
+impl TryIntoCtx<()> for Sleb128 {
+    type Error = Error;
+
+    ghost writes = { λ _. WritesSleb };
+
+    ghost refuses = { λ _ x. LeavesShort x.count };
+
+    ghost writes_bounded = { λ _ x old new n h. Prim.search rules };
+
+    ghost writes_keeps = { λ _. WritesSleb-keeps };
+
+    /// Writes the text of the number that has as many bytes as the number says, and answers how many these are.
+    ///
+    /// The target then reads as this number, and every source that reads so begins with the bytes that were written. A
+    /// shorter target is refused by `TooBig { size, len }`, with the bytes of the text and of the target, and stays.
+    #[inline(always)]
+    fn try_into_ctx(self, dst: &mut [u8], _ctx: ()) -> Result<usize>
+        ensures wrote { IfOk result (WritesSleb self dst.old dst.new) }
+        ensures refused { IfErr result (LeavesShort self.count dst.old dst.new) }
+        ensures reads { OnOk result (ReadsSleb dst.new self.value self.count) }
+        ensures begins { OnOk result ((source : List ℕ) → All (λ b. b < 256) source → ReadsSleb source self.value self.count
+            → take self.count source ≡ take self.count dst.new) }
+    {
+        let len = dst.len();
+        if len < self.count {
+            return Err(Error::TooBig {
+                size: self.count,
+                len,
+            });
+        }
+        put_sleb(dst, self.value, self.count);
+        Ok(self.count)
     }
 }

@@ -1,5 +1,5 @@
 // Unsigned numbers in LEB128.
-ghost use Rattle.std.specs.Prelude.{◌≡◌, ◌↔◌, ◌==◌, ℕ, IsTrue, IfOk, IfErr, OnErr};
+ghost use Rattle.std.specs.Prelude.{◌≡◌, ◌↔◌, ◌==◌, ℕ, ◌<◌, List, All, take, IsTrue, IfOk, IfErr, OnOk, OnErr};
 ghost use Rattle.std.proofs.Common.{rules};
 ghost use Rattle.std.specs.Cmp.Rules.{comparing};
 ghost use Rattle.scroll.specs.Reads.{ReadsBetween, RefusesAt};
@@ -7,17 +7,21 @@ ghost use Rattle.scroll.specs.Runs.{IsBadOffset};
 ghost use Rattle.scroll.specs.Leb128.{Counted, counted_eq, ReadsUleb, ReadsCountedUleb};
 ghost use Rattle.scroll.specs.LebRefusals.{RefusesUleb};
 ghost use Rattle.scroll.specs.Spelling.{HasSpelling};
+ghost use Rattle.scroll.specs.Bytes.{LeavesShort};
+ghost use Rattle.scroll.specs.LebWrites.{IsLeast, WritesUleb};
+ghost use Rattle.scroll.specs.LebWriteLaws.{WritesUleb-keeps};
 
 use super::uleb_loads;
-use crate::ctx::TryFromCtx;
+use super::write::{put_uleb, shortest_count};
+use crate::ctx::{TryFromCtx, TryIntoCtx};
 use crate::error::{Error, Result};
 use crate::loads::Loads;
 use crate::pread::Pread;
 use std::marker::Model;
 
-/// An unsigned number that was read from LEB128, and how many bytes its text has.
+/// An unsigned number in LEB128, and how many bytes its text has.
 ///
-/// It is read in the context `()`. A source that ends before its text does, within the first ten bytes, is refused by
+/// It is read and written in the context `()`. A source that ends before its text does, within the first ten bytes, is refused by
 /// `TooBig { size: 1, len: 0 }`; a text of more than ten bytes, or with a value that no `u64` has, by
 /// `BadInput { size, msg: "failed to parse" }`, whose `size` is the length of the source.
 ///
@@ -44,7 +48,26 @@ impl Model for Uleb128 {
 }
 
 impl Uleb128 {
-    /// How many bytes the text has that was read: from one to ten.
+    /// The number with the shortest of its texts.
+    ///
+    /// ```rust
+    /// let mut bytes = [0u8; 2];
+    /// let mut target = &mut bytes[..];
+    /// target.pwrite(Uleb128::shortest(300), 0)?;
+    /// assert_eq!(rt; bytes, [0xac, 0x02]);
+    /// ```
+    #[inline(always)]
+    pub fn shortest(value: u64) -> Uleb128
+        ensures value { result.value ≡ value }
+        ensures least { IsLeast (HasSpelling value) result.count }
+    {
+        Uleb128 {
+            value,
+            count: shortest_count(value),
+        }
+    }
+
+    /// How many bytes the text has: from one to ten.
     #[inline(always)]
     pub fn size(&self) -> usize
         ensures size { result ≡ self.now.count }
@@ -122,5 +145,40 @@ impl<'a> TryFromCtx<'a, ()> for Uleb128 {
     fn try_from_ctx(from: &'a [u8], _ctx: ()) -> Result<(Uleb128, usize)> {
         let (value, count) = uleb_loads(&mut Loads::new(from))?;
         Ok((Uleb128 { value, count }, count))
+    }
+}
+
+impl TryIntoCtx<()> for Uleb128 {
+    type Error = Error;
+
+    ghost writes = { λ _. WritesUleb };
+
+    ghost refuses = { λ _ x. LeavesShort x.count };
+
+    ghost writes_bounded = { λ _ x old new n h. Prim.search rules };
+
+    ghost writes_keeps = { λ _. WritesUleb-keeps };
+
+    /// Writes the text of the number that has as many bytes as the number says, and answers how many these are.
+    ///
+    /// The target then reads as this number, and every source that reads so begins with the bytes that were written. A
+    /// shorter target is refused by `TooBig { size, len }`, with the bytes of the text and of the target, and stays.
+    #[inline(always)]
+    fn try_into_ctx(self, dst: &mut [u8], _ctx: ()) -> Result<usize>
+        ensures wrote { IfOk result (WritesUleb self dst.old dst.new) }
+        ensures refused { IfErr result (LeavesShort self.count dst.old dst.new) }
+        ensures reads { OnOk result (ReadsUleb dst.new self.value self.count) }
+        ensures begins { OnOk result ((source : List ℕ) → All (λ b. b < 256) source → ReadsUleb source self.value self.count
+            → take self.count source ≡ take self.count dst.new) }
+    {
+        let len = dst.len();
+        if len < self.count {
+            return Err(Error::TooBig {
+                size: self.count,
+                len,
+            });
+        }
+        put_uleb(dst, self.value, self.count);
+        Ok(self.count)
     }
 }

@@ -43,7 +43,7 @@ fn writes_where_room_is_made_sure_of(rt: HostRuntime) {
 fn arrays_and_vectors_are_read_as_they_are(rt: HostRuntime) {
     let bytes: [u8; 3] = [1, 2, 3];
     assert!(rt; matches!(&bytes.pread_with::<u16>(1, BE), Ok(0x0203)));
-    let bytes = vec![in rt.alloc(); 1u8, 2, 3].unwrap();
+    let bytes = vec![in rt.alloc(); 1u8, 2, 3].expect(&rt, "there is memory");
     assert!(rt; matches!(&bytes.pread_with::<u16>(1, BE), Ok(0x0203)));
 }
 

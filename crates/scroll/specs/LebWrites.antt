@@ -1,0 +1,33 @@
+-- Numbers in LEB128 that are written: the spelling of value and count.
+use Rattle.std.specs.Prelude.{ℕ, ◌+◌, ◌*◌, ◌%◌, ◌^◌, ◌≤◌, List, ℤ, pos, negsuc}
+use Rattle.scroll.specs.Bytes.{WritesFront}
+use Rattle.scroll.specs.Leb128.{Counted}
+use Rattle.scroll.specs.Spelling.{spelling, unsigned_form}
+
+-- the text of a number, unsigned or signed, of the length that it holds
+abbrev pub uleb_text : Counted ℕ → List ℕ
+uleb_text x = spelling x.value x.count
+
+abbrev pub sleb_text : Counted ℤ → List ℕ
+sleb_text x = spelling (unsigned_form x.value x.count) x.count
+
+-- that text, written to the front of a target
+abbrev pub WritesUleb : Counted ℕ → List ℕ → List ℕ → ℕ → Type 0
+WritesUleb x = WritesFront x.count (uleb_text x)
+
+abbrev pub WritesSleb : Counted ℤ → List ℕ → List ℕ → ℕ → Type 0
+WritesSleb x = WritesFront x.count (sleb_text x)
+
+-- the least of the counts that a number can be spelled with
+pub record IsLeast (spelled : ℕ → Type 0) (n : ℕ) : Type 0 where
+  pub has : spelled n
+  pub least : (m : ℕ) → spelled m → n ≤ m
+
+-- a signed number without its sign: v, or -1 - v where v is below zero
+abbrev pub turned_round : ℤ → ℕ
+turned_round (pos v) = v
+turned_round (negsuc v) = v
+
+-- the number whose first nine groups are those of a word, and whose tenth group is given
+abbrev pub ten_groups : ℕ → ℕ → ℕ
+ten_groups low tenth = tenth * 2 ^ 63 + low % 2 ^ 63

@@ -1,0 +1,171 @@
+// Texts of LEB128 that are written.
+ghost use Rattle.std.specs.Prelude.{◌≡◌, ℕ, ◌+◌, ◌*◌, ◌/◌, ◌%◌, ◌^◌, ◌<◌, ◌≤◌, ◌++◌, length, drop, slice_index};
+ghost use Rattle.scroll.specs.Bytes.{sum_below};
+ghost use Rattle.scroll.specs.Spelling.{spelling, spelled_byte, unsigned_form, HoldsGroups, HasSpelling, HasSignedSpelling};
+ghost use Rattle.scroll.specs.LebWrites.{ten_groups, turned_round, IsLeast};
+
+// The least count of groups that hold `value`.
+#[inline(always)]
+pub fn shortest_count(value: u64) -> usize
+    ensures { IsLeast (HoldsGroups value) result }
+{
+    // The place of the highest digit set. Seven places make a group: for places up to 63 this is place / 7 + 1.
+    let place = 63 - (value | 1).leading_zeros() as usize;
+    (place * 9 + 73) / 64
+}
+
+// A number without its sign: its digits, turned round where it is below zero. The number takes as many groups as twice
+// that.
+#[inline(always)]
+pub fn turned(value: i64) -> u64
+    ensures { result ≡ turned_round value }
+{
+    if value < 0 {
+        (!value).cast_unsigned()
+    } else {
+        value.cast_unsigned()
+    }
+}
+
+// Writes the text of `value` in `count` bytes to the front of a target.
+#[inline(always)]
+pub fn put_uleb(dst: &mut [u8], value: u64, count: usize)
+    requires spelled { HasSpelling value count }
+    requires room { count ≤ length dst.old }
+    ensures { dst.new ≡ spelling value count ++ drop count dst.old }
+{
+    put_groups(dst, value, (value >> 63) as u8, count);
+}
+
+// Writes the text of the signed `value` in `count` bytes to the front of a target.
+#[inline(always)]
+pub fn put_sleb(dst: &mut [u8], value: i64, count: usize)
+    requires spelled { HasSignedSpelling value count }
+    requires room { count ≤ length dst.old }
+    ensures { dst.new ≡ spelling (unsigned_form value count) count ++ drop count dst.old }
+{
+    // Behind the highest digit each bit is the sign.
+    let tenth = if value < 0 { 0x7f } else { 0 };
+    put_groups(dst, value.cast_unsigned(), tenth, count);
+}
+
+// Writes a text of `count` groups to the front of a target: the first nine of them are those of `low`, and then comes
+// `tenth`.
+#[inline(always)]
+fn put_groups(dst: &mut [u8], low: u64, tenth: u8, count: usize)
+    requires group { tenth < 128 }
+    requires some { 1 ≤ count }
+    requires few { count ≤ 10 }
+    requires room { count ≤ length dst.old }
+    ensures { dst.new ≡ spelling (ten_groups low tenth % 128 ^ count) count ++ drop count dst.old }
+{
+    // Constant counts, so that each loop is unrolled.
+    if count == 1 {
+        put_bytes(dst, low, tenth, 1);
+    } else if count == 2 {
+        put_bytes(dst, low, tenth, 2);
+    } else if count == 3 {
+        put_bytes(dst, low, tenth, 3);
+    } else if count <= 8 {
+        put_words(dst, low, tenth, count);
+    } else {
+        put_long(dst, low, tenth, count);
+    }
+}
+
+// Writes a text byte by byte.
+#[inline(always)]
+fn put_bytes(dst: &mut [u8], low: u64, tenth: u8, count: usize)
+    requires group { tenth < 128 }
+    requires few { count ≤ 10 }
+    requires room { count ≤ length dst.old }
+    ensures { dst.new ≡ spelling (ten_groups low tenth % 128 ^ count) count ++ drop count dst.old }
+{
+    for i in 0..count {
+        dst[i] = byte_of(low, tenth, count, i);
+    }
+}
+
+// Writes a text of four to eight bytes by two words, which may overlap.
+#[inline(always)]
+fn put_words(dst: &mut [u8], low: u64, tenth: u8, count: usize)
+    requires some { 4 ≤ count }
+    requires few { count ≤ 8 }
+    requires room { count ≤ length dst.old }
+    ensures { dst.new ≡ spelling (ten_groups low tenth % 128 ^ count) count ++ drop count dst.old }
+{
+    let last = count - 4;
+    put_four(dst, 0, open_groups(low));
+    put_four(dst, last, last_groups(low >> (7 * last)));
+}
+
+// Writes a text of nine or ten bytes.
+#[inline(always)]
+fn put_long(dst: &mut [u8], low: u64, tenth: u8, count: usize)
+    requires group { tenth < 128 }
+    requires some { 9 ≤ count }
+    requires few { count ≤ 10 }
+    requires room { count ≤ length dst.old }
+    ensures { dst.new ≡ spelling (ten_groups low tenth % 128 ^ count) count ++ drop count dst.old }
+{
+    put_four(dst, 0, open_groups(low));
+    put_four(dst, 4, open_groups(low >> 28));
+    dst[8] = byte_of(low, tenth, count, 8);
+    if count == 10 {
+        dst[9] = byte_of(low, tenth, count, 9);
+    }
+}
+
+// Puts four bytes at a place.
+#[inline(always)]
+fn put_four(dst: &mut [u8], at: usize, bytes: [u8; 4])
+    requires { at + 4 ≤ length dst.old }
+    ensures put { (k : ℕ) → k < 4 → slice_index dst.new (at + k) ≡ slice_index bytes k }
+    ensures before { (k : ℕ) → k < at → slice_index dst.new k ≡ slice_index dst.old k }
+    ensures after { drop (at + 4) dst.new ≡ drop (at + 4) dst.old }
+{
+    dst[at..at + 4].copy_from_slice(&bytes);
+}
+
+// The lowest four groups, each with the bit that says that more follow.
+#[inline(always)]
+fn open_groups(low: u64) -> [u8; 4]
+    ensures { (k : ℕ) → k < 4 → slice_index result k ≡ 128 + low / 128 ^ k % 128 }
+{
+    (spread(low) | 0x8080_8080).to_le_bytes()
+}
+
+// The lowest four groups, the fourth of which is the last of the text.
+#[inline(always)]
+fn last_groups(low: u64) -> [u8; 4]
+    ensures open { (k : ℕ) → k < 3 → slice_index result k ≡ 128 + low / 128 ^ k % 128 }
+    ensures last { slice_index result 3 ≡ low / 128 ^ 3 % 128 }
+{
+    (spread(low) | 0x0080_8080).to_le_bytes()
+}
+
+// The lowest four groups, a byte each.
+#[inline(always)]
+fn spread(low: u64) -> u32
+    ensures { result ≡ sum_below (λ i. low / 128 ^ i % 128 * 256 ^ i) 4 }
+{
+    let groups = (low & 0x0fff_ffff) as u32;
+    let pairs = groups.wrapping_add((groups & 0x0fff_c000).wrapping_mul(3));
+    pairs.wrapping_add(pairs & 0x3f80_3f80)
+}
+
+// Byte `i` of a text.
+#[inline(always)]
+fn byte_of(low: u64, tenth: u8, count: usize, i: usize) -> u8
+    requires group { tenth < 128 }
+    requires within { i < count }
+    requires few { count ≤ 10 }
+    ensures { result ≡ spelled_byte (ten_groups low tenth % 128 ^ count) count i }
+{
+    let group = if i < 9 {
+        (low >> (7 * i) & 0x7f) as u8
+    } else {
+        tenth
+    };
+    if i + 1 < count { group | 0x80 } else { group }
+}
