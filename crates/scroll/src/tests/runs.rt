@@ -25,8 +25,8 @@ fn is_same(a: &Answer, b: &Answer) -> bool {
     }
 }
 
-// Runs the commands, and wants these answers behind those that stood there. Where memory was refused, wants what the
-// first commands alone answer and leave.
+// Runs the commands, and wants these answers. Where memory was refused, wants what the first commands alone answer and
+// leave, and that a second run of all finds memory, since one allocation is refused at most.
 fn check_run<const N: usize>(
     rt: &impl Abort,
     alloc: Global,
@@ -52,11 +52,18 @@ fn check_run<const N: usize>(
             let mut again = first;
             let mut again_at = cursor;
             let mut front = Vec::new(alloc);
-            let commands = &commands[..answers.len()];
-            let done = run(alloc, &mut again, &mut again_at, commands, &mut front);
+            let fewer = &commands[..answers.len()];
+            let done = run(alloc, &mut again, &mut again_at, fewer, &mut front);
             assert!(rt; done.is_ok());
             assert_eq!(rt; buffer, again);
             assert_eq!(rt; at, again_at);
+            let mut again = first;
+            let mut again_at = cursor;
+            let mut whole = Vec::new(alloc);
+            let done = run(alloc, &mut again, &mut again_at, commands, &mut whole);
+            assert!(rt; done.is_ok());
+            assert_eq!(rt; again, last);
+            assert_eq!(rt; again_at, last_cursor);
         }
     }
     for (answer, want) in answers.iter().zip(wanted.iter()) {
