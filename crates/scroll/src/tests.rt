@@ -7,6 +7,7 @@ mod leb128;
 mod numbers;
 mod own_type;
 mod printed;
+mod required;
 mod runs;
 mod search;
 mod slices;
