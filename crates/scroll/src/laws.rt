@@ -6,6 +6,7 @@ mod histories;
 mod leb128;
 mod numbers;
 mod reads;
+mod required;
 
 pub use self::c_strings::{c_string_has_one_zero, c_string_has_one_zero as law_9};
 pub use self::histories::{
@@ -27,4 +28,7 @@ pub use self::reads::{
     array_depends_on_its_bytes, array_size_is_bounded, place_has_one_answer,
     place_has_one_answer as law_10, read_depends_on_its_bytes, read_depends_on_its_bytes as law_4,
     read_size_is_bounded, read_size_is_bounded as law_5,
+};
+pub use self::required::{
+    required_text_is_within_its_source, required_text_is_within_its_source as law_required,
 };

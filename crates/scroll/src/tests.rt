@@ -8,6 +8,7 @@ mod leb128_writes;
 mod numbers;
 mod own_type;
 mod printed;
+mod required;
 mod runs;
 mod search;
 mod slices;

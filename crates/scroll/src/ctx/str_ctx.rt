@@ -26,6 +26,8 @@ pub enum StrCtx {
     DelimiterUntil(u8, usize),
     /// This many bytes.
     Length(usize),
+    /// Up to the first of these bytes, which has to stand in the source.
+    Required(u8),
 }
 
 impl Default for StrCtx {
@@ -42,7 +44,7 @@ impl StrCtx {
         ensures { result ≡ delimiter_len self.now }
     {
         match self {
-            StrCtx::Delimiter(_) | StrCtx::DelimiterUntil(_, _) => 1,
+            StrCtx::Delimiter(_) | StrCtx::DelimiterUntil(_, _) | StrCtx::Required(_) => 1,
             StrCtx::Length(_) => 0,
         }
     }

@@ -1,21 +1,22 @@
 // Texts.
-ghost use Rattle.std.specs.Prelude.{◌≡◌, ℕ, ◌+◌, ◌≤◌, List, length, take, IfOk, IfErr, IfSome, IfNone, IsUtf8};
+ghost use Rattle.std.specs.Prelude.{◌≡◌, ℕ, ◌+◌, ◌≤◌, List, length, take, codes, ◌<◌, ◌⊎◌, IfOk, IfErr, OnOk, OnErr, IfSome, IfNone, IsUtf8};
+ghost use Rattle.scroll.specs.Errors.{IsBadInput};
 ghost use Rattle.std.proofs.Common.{rules};
 ghost use Rattle.scroll.specs.Bytes.{RefusesShort, WritesFront, LeavesShort};
-ghost use Rattle.scroll.specs.Texts.{text_len, wanted_len, ReadsText, RefusesText};
+ghost use Rattle.scroll.specs.Texts.{first_place, text_len, wanted_len, HasDelimiter, ReadsText, RefusesMissing, RefusesText};
 ghost use Rattle.scroll.specs.TextLaws.{ReadsText-bounded, WritesFront-keeps};
 
 use super::numbers::check_room;
 use crate::ctx::{StrCtx, TryFromCtx, TryIntoCtx};
 use crate::error::{Error, Result};
-use crate::search::text_before;
+use crate::search::{first_place, text_before};
 
 /// A text, by where it ends. Nothing is copied: the text borrows the source.
 ///
 /// The text is what stands before the delimiter, the limit or the length. With a delimiter its size is one byte more than
 /// the text has, whether or not a delimiter stands there, and past the end of the source too. A limit or a length beyond
 /// the source is [`Error::TooBig`], even where a delimiter stands earlier. A text that isn't UTF-8 is [`Error::BadInput`],
-/// whose `size` is the number of bytes of the whole source.
+/// whose `size` is the number of bytes of the whole source; so is, before that, a source without a delimiter that has to be there.
 impl<'a> TryFromCtx<'a, StrCtx> for &'a str {
     type Error = Error;
 
@@ -45,7 +46,8 @@ fn text_in(from: &[u8], ctx: StrCtx) -> Result<Option<&str>>
     ensures text { IfOk result (λ found. IfSome found (λ text. text.now ≡ take (text_len ctx from.now) from.now)) }
     ensures len { IfOk result (λ found. IfSome found (λ text. length text.now ≡ text_len ctx from.now)) }
     ensures none { IfOk result (λ found. IfNone found (¬ (IsUtf8 (take (text_len ctx from.now) from.now)))) }
-    ensures refused { IfErr result (RefusesShort (wanted_len ctx) from.now) }
+    ensures there { OnOk result (HasDelimiter ctx from.now) }
+    ensures refused { IfErr result (λ e. RefusesShort (wanted_len ctx) from.now e ⊎ RefusesMissing ctx from.now e) }
 {
     match ctx {
         StrCtx::Delimiter(delimiter) => Ok(text_before(delimiter, from)),
@@ -57,7 +59,28 @@ fn text_in(from: &[u8], ctx: StrCtx) -> Result<Option<&str>>
             check_room(len, from.len())?;
             Ok(str::from_utf8(&from[..len]).ok())
         }
+        StrCtx::Required(delimiter) => required_text(delimiter, from),
     }
+}
+
+// The text before a delimiter that has to stand in the source, which is tested before UTF-8.
+#[inline(always)]
+fn required_text(delimiter: u8, from: &[u8]) -> Result<Option<&str>>
+    ensures there { OnOk result (first_place delimiter from.now < length from.now) }
+    ensures text { IfOk result (λ found. IfSome found (λ text. text.now ≡ take (first_place delimiter from.now) from.now)) }
+    ensures len { IfOk result (λ found. IfSome found (λ text. length text.now ≡ first_place delimiter from.now)) }
+    ensures none { IfOk result (λ found. IfNone found (¬ (IsUtf8 (take (first_place delimiter from.now) from.now)))) }
+    ensures missing { OnErr result (¬ (first_place delimiter from.now < length from.now)) }
+    ensures refused { IfErr result (λ e. IsBadInput e (length from.now) (codes "missing delimiter")) }
+{
+    let size = from.len();
+    if first_place(delimiter, from) == size {
+        return Err(Error::BadInput {
+            size,
+            msg: "missing delimiter",
+        });
+    }
+    Ok(text_before(delimiter, from))
 }
 
 /// The bytes of a text, with no delimiter and no length. A shorter target is [`Error::TooBig`], and stays.
