@@ -8,7 +8,7 @@ use Rattle.scroll.proofs.SeenLemmas.{length-seen, get_or-seen, seen-nil}
 use Rattle.scroll.specs.Bytes.{WritesFront, LeavesShort}
 use Rattle.scroll.specs.History.{byte_of, last_byte, seen}
 use Rattle.scroll.specs.Leaves.{pieces, left_over, refusal, WritesLeaves, HasLeaves}
-use Rattle.scroll.specs.Runs.{IsBadOffset}
+use Rattle.scroll.specs.Errors.{IsBadOffset}
 use Rattle.scroll.specs.Writes.{AnswersWrite}
 use Rattle.scroll.specs.declared.error.Error.{Error}
 use Rattle.scroll.specs.declared.error.Error.TheVariants.{TooBig, BadOffset}
@@ -156,9 +156,9 @@ front-piece t old room =
     let inside : k < length old = omega (arith, l, left, whole, room) in
     byte-front t old k ∙ sym (get_or-seen old ((0, t) ∷ []) k inside))
 
--- w bytes that are written whole or not at all are one leaf
-pub front-leaf : {V : Type 0} (w : ℕ) (bytes : V → List ℕ) → ((x : V) → length (bytes x) ≡ w) → HasLeaves (λ x. bytes x ∷ []) (λ x. WritesFront w (bytes x)) (λ _. LeavesShort w)
-front-leaf w bytes len = record {
+-- bytes that are written whole or not at all are one leaf
+pub front-leaf-by : {V : Type 0} (w : V → ℕ) (bytes : V → List ℕ) → ((x : V) → length (bytes x) ≡ w x) → HasLeaves (λ x. bytes x ∷ []) (λ x. WritesFront (w x) (bytes x)) (λ x. LeavesShort (w x))
+front-leaf-by w bytes len = record {
   written = λ x old new n h.
       let t = bytes x in
       let inside : 0 + length (bytes x) ≤ length old = omega (arith, len x, h.room) in
@@ -181,3 +181,7 @@ front-leaf w bytes len = record {
             ∙ ap (λ m. Some (TooBig m (length old))) (len x) ∙ ap Some (sym h.error);
       };
 }
+
+-- the same where each value has as many bytes
+pub front-leaf : {V : Type 0} (w : ℕ) (bytes : V → List ℕ) → ((x : V) → length (bytes x) ≡ w) → HasLeaves (λ x. bytes x ∷ []) (λ x. WritesFront w (bytes x)) (λ _. LeavesShort w)
+front-leaf w = front-leaf-by (λ _. w)

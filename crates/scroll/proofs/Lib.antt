@@ -6,6 +6,8 @@ pub mod SeenLemmas
 pub mod LeafLemmas
 pub mod ArrayLeaves
 pub mod NumberLeaves
+pub mod PutLeaves
+pub mod ArrayViews
 pub mod TextLemmas
 pub mod CStringLemmas
 pub mod RunLemmas

@@ -7,7 +7,7 @@ use Rattle.scroll.specs.Bytes.{LeavesShort}
 use Rattle.scroll.specs.Leaves.{WritesLeaves}
 use Rattle.scroll.specs.NumberLaws.{length-number_bytes, length-signed_bytes}
 use Rattle.scroll.specs.Numbers.{number_bytes, signed_bytes, WritesNumber, WritesSigned}
-use Rattle.scroll.specs.Runs.{IsBadOffset}
+use Rattle.scroll.specs.Errors.{IsBadOffset}
 use Rattle.scroll.specs.Writes.{AnswersWrite}
 use Rattle.scroll.specs.declared.endian.Endian.{Endian}
 use Rattle.scroll.specs.declared.error.Error.{Error}

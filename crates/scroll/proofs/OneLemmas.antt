@@ -5,7 +5,7 @@ use Rattle.scroll.specs.Arrays.{ReadsArray, RefusesArray}
 use Rattle.scroll.specs.Bytes.{ReadsFront, RefusesShort}
 use Rattle.scroll.specs.Laws.{SameError, SameAnswer, Allows, AllowsOne, AllowsOneAtEach}
 use Rattle.scroll.specs.Reads.{ReadsAt, RefusesAt, ReadsAll}
-use Rattle.scroll.specs.Runs.{IsBadOffset}
+use Rattle.scroll.specs.Errors.{IsBadOffset}
 use Rattle.scroll.specs.declared.error.Error.{Error}
 use Rattle.scroll.specs.declared.error.Error.TheVariants.{TooBig, BadOffset}
 

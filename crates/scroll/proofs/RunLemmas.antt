@@ -1,11 +1,15 @@
 -- A run goes on by one command.
-use Rattle.std.proofs.Common.{◌≡◌, ℕ, ◌+◌, ◌<◌, ◌++◌, List, [], ◌∷◌, take, get_or, refl, sym, ◌∙◌, ap, subst, append_assoc, append-nil, length}
+use Rattle.std.proofs.Common.{◌≡◌, ℕ, ◌+◌, ◌<◌, ◌++◌, List, [], ◌∷◌, take, get_or, refl, sym, ◌∙◌, ap, subst, append_assoc, append-nil, length, Result, Ok, Err, IfOk}
 use Rattle.std.proofs.lemmas.List.{take_more}
 use Rattle.scroll.proofs.SeenLemmas.{seen-append, seen-nil}
 use Rattle.scroll.specs.History.{Piece, seen}
-use Rattle.scroll.specs.Runs.{Step, IsStep, Run, IsRun}
+use Rattle.scroll.specs.Runs.{ReadStep, Step, IsStep, Run, IsRun}
+use Rattle.scroll.specs.declared.error.Error.{Error}
 use Rattle.scroll.specs.declared.runner.Answer.{Answer}
 use Rattle.scroll.specs.declared.runner.Command.{Command}
+use Rattle.scroll.specs.declared.runner.Command.TheVariants.{Read}
+use Rattle.scroll.specs.declared.runner.Kind.{Kind}
+use Rattle.scroll.specs.declared.runner.Place.{Place}
 
 -- one more command at the end of a run
 Run-push : (first : List ℕ) (h : List Piece) (cursor : ℕ) (cs : List Command) (answers : List Answer) (whole : List Piece) (after : ℕ) (c : Command) (a : Answer) (written : List Piece) (end : ℕ) → Run first h cursor cs answers whole after → Step (seen first whole) after c a written end → Run first h cursor (cs ++ c ∷ []) (answers ++ a ∷ []) (whole ++ written) end
@@ -45,3 +49,12 @@ pub IsRun-next : (first buffer buffer' : List ℕ) (from to to' : ℕ) (commands
 IsRun-next first buffer buffer' from to to' commands i d old new new' a inside r items s =
     rw (take_more commands i d inside)
     (IsRun-push first buffer buffer' from to to' (take i commands) old new new' (get_or commands i d) a r items s)
+
+-- a read that is answered is a step which leaves the buffer
+pub IsStep-read : (buffer : List ℕ) (cursor : ℕ) (at : Place) (what : Kind) (r : Result Answer Error) (after : ℕ) → IfOk r (λ a. ReadStep buffer cursor at what a after) → IfOk r (λ a. IsStep buffer buffer cursor (Read at what) a after)
+IsStep-read buffer cursor at what (Ok a) after h = record {
+  written = [];
+  step = (h, refl);
+  bytes = sym (seen-nil buffer);
+}
+IsStep-read buffer cursor at what (Err e) after h = tt

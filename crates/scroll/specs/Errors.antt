@@ -14,6 +14,10 @@ line_of (Custom text) = Some (string_bytes text)
 line_of (IO fault) = None
 line_of NoMemory = Some (codes "out of memory")
 
+-- the error for a place past the end
+abbrev pub IsBadOffset : ℕ → Error → Type 0
+IsBadOffset place e = e ≡ BadOffset place
+
 -- a `BadInput` of this size and with this message. A message is compared by its bytes, since it is borrowed and has an address.
 abbrev pub IsBadInput : Error → ℕ → List ℕ → Type 0
 IsBadInput (BadInput size msg) n text = (size ≡ n) × (msg.now ≡ text)

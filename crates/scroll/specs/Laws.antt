@@ -3,7 +3,8 @@ use Rattle.std.specs.Prelude.{◌≡◌, ◌≤◌, ◌<◌, ◌+◌, ℕ, ◌++
 use Rattle.std.specs.List.{Any}
 use Rattle.scroll.specs.History.{Piece}
 use Rattle.scroll.specs.Reads.{ReadsAt, RefusesAt}
-use Rattle.scroll.specs.Runs.{Run, IsBadOffset}
+use Rattle.scroll.specs.Errors.{IsBadOffset}
+use Rattle.scroll.specs.Runs.{Run}
 use Rattle.scroll.specs.declared.error.Error.{Error}
 use Rattle.scroll.specs.declared.error.Error.TheVariants.{BadInput}
 use Rattle.scroll.specs.declared.runner.Answer.{Answer}

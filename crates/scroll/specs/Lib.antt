@@ -18,11 +18,11 @@ pub mod Callers
 pub mod History
 pub mod Leaves
 pub mod Streams
-pub mod Runs
 pub mod Leb128
 pub mod LebRefusals
 pub mod Spelling
 pub mod LebWrites
 pub mod LebWriteLaws
 pub mod Loads
+pub mod Runs
 pub mod Laws

@@ -1,12 +1,21 @@
 -- What a list of commands answers over a buffer, and what it leaves.
-use Rattle.std.specs.Prelude.{◌≡◌, ◌<◌, ℕ, ◌+◌, ◌++◌, List, [], ◌∷◌, length, take, Ok, Err}
+use Rattle.std.specs.Prelude.{◌≡◌, ◌<◌, ℕ, ◌+◌, ◌++◌, Bool, true, false, List, [], ◌∷◌, length, take, map, Ok, Err, ⊤}
+use Rattle.std.specs.String.{string_bytes}
+use Rattle.scroll.specs.Arrays.{ReadsArray, RefusesArray}
 use Rattle.scroll.specs.Bytes.{RefusesShort}
+use Rattle.scroll.specs.CStrings.{ReadsCString, RefusesCString}
+use Rattle.scroll.specs.CStringTexts.{c_str_text}
+use Rattle.scroll.specs.Errors.{IsBadOffset}
 use Rattle.scroll.specs.History.{Piece, seen}
 use Rattle.scroll.specs.Leaves.{pieces, AnswersLeaves}
+use Rattle.scroll.specs.Leb128.{ReadsCountedUleb, ReadsCountedSleb}
+use Rattle.scroll.specs.LebRefusals.{RefusesUleb, RefusesSleb}
 use Rattle.scroll.specs.Numbers.{ReadsNumber, ReadsSigned, number_bytes, signed_bytes}
 use Rattle.scroll.specs.Reads.{ReadsAt, RefusesAt}
+use Rattle.scroll.specs.Texts.{ReadsText, RefusesText, ReadsSlice, RefusesSlice}
+use Rattle.scroll.specs.declared.endian.Endian.{Endian}
 use Rattle.scroll.specs.declared.error.Error.{Error}
-use Rattle.scroll.specs.declared.error.Error.TheVariants.{BadOffset}
+use Rattle.scroll.specs.declared.error.Error.TheVariants.{NoMemory}
 use Rattle.scroll.specs.declared.runner.Answer.{Answer}
 use Rattle.scroll.specs.declared.runner.Answer.TheVariants as answer
 use Rattle.scroll.specs.declared.runner.Command.{Command}
@@ -35,27 +44,48 @@ bytes_in width.I64 = 8
 bytes_in width.U128 = 16
 bytes_in width.I128 = 16
 
--- the value and the size that a kind reads
+-- whether a number of a width has a sign
+abbrev pub is_signed : Width → Bool
+is_signed width.I8 = true
+is_signed width.I16 = true
+is_signed width.I32 = true
+is_signed width.I64 = true
+is_signed width.I128 = true
+is_signed w = false
+
+-- a number with a sign or without, and its size
+abbrev pub ReadsWide : Bool → ℕ → Endian → List ℕ → Value → ℕ → Type 0
+ReadsWide false w order source (value.Unsigned x) n = ReadsNumber w order source x n
+ReadsWide true w order source (value.Signed x) n = ReadsSigned w order source x n
+ReadsWide sign w order source x n = ⊥
+
+-- the value and the size that a kind reads; texts and slices are compared by their bytes
 abbrev pub Reads : Kind → List ℕ → Value → ℕ → Type 0
-Reads (kind.Number width.U8 order) source (value.Unsigned x) n = ReadsNumber 1 order source x n
-Reads (kind.Number width.I8 order) source (value.Signed x) n = ReadsSigned 1 order source x n
-Reads (kind.Number width.U16 order) source (value.Unsigned x) n = ReadsNumber 2 order source x n
-Reads (kind.Number width.I16 order) source (value.Signed x) n = ReadsSigned 2 order source x n
-Reads (kind.Number width.U32 order) source (value.Unsigned x) n = ReadsNumber 4 order source x n
-Reads (kind.Number width.I32 order) source (value.Signed x) n = ReadsSigned 4 order source x n
-Reads (kind.Number width.U64 order) source (value.Unsigned x) n = ReadsNumber 8 order source x n
-Reads (kind.Number width.I64 order) source (value.Signed x) n = ReadsSigned 8 order source x n
-Reads (kind.Number width.U128 order) source (value.Unsigned x) n = ReadsNumber 16 order source x n
-Reads (kind.Number width.I128 order) source (value.Signed x) n = ReadsSigned 16 order source x n
+Reads (kind.Number w order) source x n = ReadsWide (is_signed w) (bytes_in w) order source x n
+Reads (kind.Text ctx) source (value.Text text) n = ReadsText ctx source (string_bytes text) n
+Reads (kind.Bytes len) source (value.Bytes bytes) n = ReadsSlice len source bytes.items n
+Reads kind.CStr source (value.CStr text) n = ReadsCString source text.items n
+Reads kind.CString source (value.CStr text) n = ReadsCString source text.items n
+Reads kind.Uleb source (value.Uleb x) n = ReadsCountedUleb source x n
+Reads kind.Sleb source (value.Sleb x) n = ReadsCountedSleb source x n
+Reads (kind.U8x0 order) source value.U8x0 n = ReadsArray (ReadsNumber 1 order) 0 source [] n
+Reads (kind.U16x3 order) source (value.U16x3 xs) n = ReadsArray (ReadsNumber 2 order) 3 source xs n
+Reads (kind.Textx2 ctx) source (value.Textx2 a b) n =
+    ReadsArray (ReadsText ctx) 2 source (string_bytes a ∷ string_bytes b ∷ []) n
 Reads what source x n = ⊥
 
 -- the error that a kind refuses with
 abbrev pub Refuses : Kind → List ℕ → Error → Type 0
 Refuses (kind.Number w order) source e = RefusesShort (bytes_in w) source e
-
--- the error for a place past the end
-abbrev pub IsBadOffset : ℕ → Error → Type 0
-IsBadOffset place e = e ≡ BadOffset place
+Refuses (kind.Text ctx) source e = RefusesText ctx source e
+Refuses (kind.Bytes len) source e = RefusesSlice len source e
+Refuses kind.CStr source e = RefusesCString source e
+Refuses kind.CString source e = RefusesCString source e
+Refuses kind.Uleb source e = RefusesUleb source e
+Refuses kind.Sleb source e = RefusesSleb source e
+Refuses (kind.U8x0 order) source e = RefusesArray (ReadsNumber 1 order) (RefusesShort 1) IsBadOffset 0 source e
+Refuses (kind.U16x3 order) source e = RefusesArray (ReadsNumber 2 order) (RefusesShort 2) IsBadOffset 3 source e
+Refuses (kind.Textx2 ctx) source e = RefusesArray (ReadsText ctx) (RefusesText ctx) IsBadOffset 2 source e
 
 -- the leaves of what is written
 abbrev pub leaves_of : Put → List (List ℕ)
@@ -69,6 +99,11 @@ leaves_of (put.U64 x order) = number_bytes order 8 x ∷ []
 leaves_of (put.I64 x order) = signed_bytes order 8 x ∷ []
 leaves_of (put.U128 x order) = number_bytes order 16 x ∷ []
 leaves_of (put.I128 x order) = signed_bytes order 16 x ∷ []
+leaves_of (put.Text text) = text.now ∷ []
+leaves_of (put.Bytes bytes) = bytes.now ∷ []
+leaves_of (put.CStr text) = (c_str_text text ++ 0 ∷ []) ∷ []
+leaves_of (put.U16x3 xs order) = map (number_bytes order 2) xs
+leaves_of (put.Bytesx2 first second) = first.now ∷ second.now ∷ []
 
 -- where a command acts
 abbrev pub place_of : Place → ℕ → ℕ
@@ -80,12 +115,25 @@ abbrev pub moved : Place → ℕ → ℕ → ℕ
 moved (place.At offset) cursor size = cursor
 moved place.Cursor cursor size = cursor + size
 
+-- a value that is read where a command acts, and the cursor after it
+abbrev pub ReadsHere : {V : Type 0} → (List ℕ → V → ℕ → Type 0) → List ℕ → ℕ → Place → V → ℕ → Type 0
+ReadsHere reads buffer cursor at x after =
+    (n : ℕ) × ReadsAt reads buffer (place_of at cursor) x n × (after ≡ moved at cursor n)
+
+-- a refusal where a command acts, which leaves the cursor
+abbrev pub RefusesHere : {E : Type 0} → (List ℕ → E → Type 0) → (ℕ → E → Type 0) → List ℕ → ℕ → Place → E → ℕ → Type 0
+RefusesHere refuses past_end buffer cursor at e after =
+    RefusesAt refuses past_end buffer (place_of at cursor) e × (after ≡ cursor)
+
+-- a fact of a refusal; of want of memory, which is no refusal, it says nothing
+abbrev pub UnlessNoMemory : (Error → Type 0) → Error → Type 0
+UnlessNoMemory fact NoMemory = ⊤
+UnlessNoMemory fact e = fact e
+
 -- the answer of a read of this kind, and the cursor after it
 abbrev pub ReadStep : List ℕ → ℕ → Place → Kind → Answer → ℕ → Type 0
-ReadStep buffer cursor at what (answer.Read x) after =
-    (n : ℕ) × ReadsAt (Reads what) buffer (place_of at cursor) x n × (after ≡ moved at cursor n)
-ReadStep buffer cursor at what (answer.Refused e) after =
-    RefusesAt (Refuses what) IsBadOffset buffer (place_of at cursor) e × (after ≡ cursor)
+ReadStep buffer cursor at what (answer.Read x) after = ReadsHere (Reads what) buffer cursor at x after
+ReadStep buffer cursor at what (answer.Refused e) after = RefusesHere (Refuses what) IsBadOffset buffer cursor at e after
 ReadStep buffer cursor at what (answer.Wrote n) after = ⊥
 
 -- the answer of a write of these leaves, and the cursor after it

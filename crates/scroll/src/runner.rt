@@ -2,12 +2,15 @@
 //!
 //! [`run`] answers each command in turn. What it answers and leaves is stated whole in its contract, over the history of
 //! what was written.
-ghost use Rattle.std.specs.Prelude.{◌≡◌, OnOk, OnErr, IfErr};
+ghost use Rattle.std.specs.Prelude.{◌≡◌, OnOk, OnErr, IfOk, IfErr};
 ghost use Rattle.scroll.specs.Runs.{IsStep, IsRun, IsFrontRun};
 ghost use Rattle.scroll.specs.declared.error.Error.TheVariants.{NoMemory};
 
+use crate::cstr::CStr;
+use crate::ctx::StrCtx;
 use crate::endian::Endian;
 use crate::error::{Error, Result};
+use crate::leb128::{Sleb128, Uleb128};
 use std::alloc::Global;
 
 mod read;
@@ -42,11 +45,29 @@ pub enum Width {
 pub enum Kind {
     /// A number of a type, in a byte order.
     Number(Width, Endian),
+    /// A text in a context.
+    Text(StrCtx),
+    /// A byte slice of this many bytes.
+    Bytes(usize),
+    /// A borrowed C string.
+    CStr,
+    /// An owned C string, which is answered as a borrowed one is.
+    CString,
+    /// An unsigned number in LEB128.
+    Uleb,
+    /// A signed number in LEB128.
+    Sleb,
+    /// An array of no bytes.
+    U8x0(Endian),
+    /// An array of three numbers.
+    U16x3(Endian),
+    /// An array of two texts.
+    Textx2(StrCtx),
 }
 
 /// What a command writes.
 #[derive(Clone, Copy, Debug)]
-pub enum Put {
+pub enum Put<'c> {
     U8(u8, Endian),
     I8(i8, Endian),
     U16(u16, Endian),
@@ -57,15 +78,20 @@ pub enum Put {
     I64(i64, Endian),
     U128(u128, Endian),
     I128(i128, Endian),
+    Text(&'c str),
+    Bytes(&'c [u8]),
+    CStr(CStr<'c>),
+    U16x3([u16; 3], Endian),
+    Bytesx2(&'c [u8], &'c [u8]),
 }
 
 /// A read or a write.
 #[derive(Clone, Copy, Debug)]
-pub enum Command {
+pub enum Command<'c> {
     /// Reads a value of a kind at a place.
     Read(Place, Kind),
     /// Writes a value at a place.
-    Write(Place, Put),
+    Write(Place, Put<'c>),
 }
 
 /// What was read.
@@ -75,6 +101,22 @@ pub enum Value {
     Unsigned(u128),
     /// A signed number of any width.
     Signed(i128),
+    /// A text, copied.
+    Text(String),
+    /// The bytes of a slice, copied.
+    Bytes(Vec<u8>),
+    /// The bytes of a C string before its zero, copied.
+    CStr(Vec<u8>),
+    /// An unsigned number, with the size of its text.
+    Uleb(Uleb128),
+    /// A signed number, with the size of its text.
+    Sleb(Sleb128),
+    /// No bytes.
+    U8x0,
+    /// Three numbers.
+    U16x3([u16; 3]),
+    /// Two texts, copied.
+    Textx2(String, String),
 }
 
 /// What a command is answered with.
@@ -94,12 +136,13 @@ pub enum Answer {
 /// of the buffer, and no command of such a place moves the cursor.
 ///
 /// The one error is [`Error::NoMemory`]. Then the answers of the first commands, fewer than all, stand appended, and the
-/// buffer and the cursor are as these left them: room for an answer is taken before its command runs.
+/// buffer and the cursor are as these left them: room for an answer is taken before its command runs, and what a read copies
+/// is copied before the cursor moves.
 pub fn run(
-    _alloc: Global,
+    alloc: Global,
     buffer: &mut [u8],
     cursor: &mut usize,
-    commands: &[Command],
+    commands: &[Command<'_>],
     answers: &mut Vec<Answer>,
 ) -> Result<()>
     ensures ran { OnOk result (IsRun buffer.old buffer.new cursor.old cursor.new commands.now answers.old.items answers.new.items) }
@@ -110,18 +153,26 @@ pub fn run(
         if answers.reserve(1).is_err() {
             return Err(Error::NoMemory);
         }
-        let answer = step(buffer, cursor, *command);
+        let answer = step(alloc, buffer, cursor, *command)?;
         answers.push_reserved(answer);
     }
     Ok(())
 }
 
-// Answers one command.
-fn step(buffer: &mut [u8], cursor: &mut usize, command: Command) -> Answer
-    ensures { IsStep buffer.old buffer.new cursor.old command result cursor.new }
+// Answers one command. Where memory is refused, nothing has changed.
+fn step(
+    alloc: Global,
+    buffer: &mut [u8],
+    cursor: &mut usize,
+    command: Command<'_>,
+) -> Result<Answer>
+    ensures answered { IfOk result (λ answer. IsStep buffer.old buffer.new cursor.old command.entry answer cursor.new) }
+    ensures only_memory { IfErr result (λ e. e ≡ NoMemory) }
+    ensures same { OnErr result (buffer.new ≡ buffer.old) }
+    ensures stays { OnErr result (cursor.new ≡ cursor.old) }
 {
     match command {
-        Command::Read(place, kind) => read::read(buffer, cursor, place, kind),
-        Command::Write(place, put) => write::write(buffer, cursor, place, put),
+        Command::Read(place, kind) => read::read(alloc, buffer, cursor, place, kind),
+        Command::Write(place, put) => Ok(write::write(buffer, cursor, place, put)),
     }
 }

@@ -7,7 +7,7 @@ ghost use Rattle.scroll.specs.Laws.{IsLocal, IsBounded, IsWithin, AllowsOneAtEac
 ghost use Rattle.scroll.specs.Leb128.{ReadsUleb, ReadsSleb};
 ghost use Rattle.scroll.specs.LebRefusals.{RefusesUleb, RefusesSleb};
 ghost use Rattle.scroll.specs.Numbers.{ReadsNumber, ReadsSigned};
-ghost use Rattle.scroll.specs.Runs.{IsBadOffset};
+ghost use Rattle.scroll.specs.Errors.{IsBadOffset};
 ghost use Rattle.scroll.specs.Texts.{ReadsText, RefusesText, ReadsSlice, RefusesSlice};
 ghost use Rattle.scroll.specs.declared.ctx.str_ctx.StrCtx.{StrCtx};
 ghost use Rattle.scroll.specs.declared.ctx.str_ctx.StrCtx.TheVariants.{Length};

@@ -4,7 +4,7 @@ ghost use Rattle.std.proofs.Common.{rules};
 ghost use Rattle.std.specs.Ordering.{int_eq};
 ghost use Rattle.std.specs.Cmp.Rules.{comparing};
 ghost use Rattle.scroll.specs.Reads.{ReadsBetween, RefusesAt};
-ghost use Rattle.scroll.specs.Runs.{IsBadOffset};
+ghost use Rattle.scroll.specs.Errors.{IsBadOffset};
 ghost use Rattle.scroll.specs.Leb128.{Counted, counted_eq, ReadsSleb, ReadsCountedSleb};
 ghost use Rattle.scroll.specs.LebRefusals.{RefusesSleb};
 ghost use Rattle.scroll.specs.Spelling.{HasSignedSpelling};

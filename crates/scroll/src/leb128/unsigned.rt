@@ -3,7 +3,7 @@ ghost use Rattle.std.specs.Prelude.{◌≡◌, ◌↔◌, ◌==◌, ℕ, ◌<◌
 ghost use Rattle.std.proofs.Common.{rules};
 ghost use Rattle.std.specs.Cmp.Rules.{comparing};
 ghost use Rattle.scroll.specs.Reads.{ReadsBetween, RefusesAt};
-ghost use Rattle.scroll.specs.Runs.{IsBadOffset};
+ghost use Rattle.scroll.specs.Errors.{IsBadOffset};
 ghost use Rattle.scroll.specs.Leb128.{Counted, counted_eq, ReadsUleb, ReadsCountedUleb};
 ghost use Rattle.scroll.specs.LebRefusals.{RefusesUleb};
 ghost use Rattle.scroll.specs.Spelling.{HasSpelling};

@@ -1,36 +1,101 @@
 // The reads of a run.
-ghost use Rattle.std.specs.Prelude.{◌≡◌, ℕ, ◌+◌, IfOk, IfErr, OnErr, MatchResult};
-ghost use Rattle.scroll.specs.Reads.{ReadsAt, RefusesAt};
-ghost use Rattle.scroll.specs.Runs.{Reads, Refuses, ReadStep, IsBadOffset, place_of, moved};
-ghost use Rattle.scroll.specs.declared.error.Error.TheVariants.{BadOffset};
+ghost use Rattle.std.specs.Prelude.{◌≡◌, [], ◌∷◌, IfOk, IfErr, OnErr};
+ghost use Rattle.std.specs.String.{string_bytes};
+ghost use Rattle.scroll.specs.Runs.{Reads, Refuses, ReadsHere, RefusesHere, ReadStep, UnlessNoMemory, ReadsWide, is_signed, bytes_in};
+ghost use Rattle.scroll.specs.Arrays.{ReadsArray, RefusesArray};
+ghost use Rattle.scroll.specs.Bytes.{RefusesShort};
+ghost use Rattle.scroll.specs.Errors.{IsBadOffset};
+ghost use Rattle.scroll.specs.Texts.{ReadsText, RefusesText};
+ghost use Rattle.scroll.specs.declared.error.Error.TheVariants.{BadOffset, NoMemory};
 
 use super::{Answer, Kind, Place, Value, Width};
+use crate::cstr::{CStr, CString};
+use crate::ctx::StrCtx;
 use crate::endian::Endian;
 use crate::error::{Error, Result};
 use crate::pread::Pread;
 use crate::source::ReadFrom;
+use std::alloc::Global;
 use std::result;
 
 // Answers a read. A cursor that it uses moves by the size of what was read, once the answer's value stands.
-pub fn read(buffer: &[u8], cursor: &mut usize, place: Place, kind: Kind) -> Answer
-    ensures { ReadStep buffer.now cursor.old place kind result cursor.new }
+pub fn read(
+    alloc: Global,
+    buffer: &[u8],
+    cursor: &mut usize,
+    place: Place,
+    kind: Kind,
+) -> Result<Answer>
+    ensures answered { IfOk result (λ answer. ReadStep buffer.now cursor.old place kind answer cursor.new) }
+    ensures only_memory { IfErr result (λ e. e ≡ NoMemory) }
+    ensures stays { OnErr result (cursor.new ≡ cursor.old) }
 {
     let mut after = *cursor;
-    match read_value(buffer, &mut after, place, kind) {
+    match read_value(alloc, buffer, &mut after, place, kind) {
         Ok(value) => {
             *cursor = after;
-            Answer::Read(value)
+            Ok(Answer::Read(value))
         }
-        Err(error) => Answer::Refused(error),
+        Err(Error::NoMemory) => Err(Error::NoMemory),
+        Err(error) => Ok(Answer::Refused(error)),
     }
 }
 
-fn read_value(buffer: &[u8], cursor: &mut usize, place: Place, kind: Kind) -> Result<Value>
-    ensures read { IfOk result (λ x. (n : ℕ) × ReadsAt (Reads kind) buffer.now (place_of place cursor.old) x n × (cursor.new ≡ moved place cursor.old n)) }
-    ensures refused { IfErr result (RefusesAt (Refuses kind) IsBadOffset buffer.now (place_of place cursor.old)) }
-    ensures stays { OnErr result (cursor.new ≡ cursor.old) }
+// Reads a value of a kind, and copies what would borrow the buffer. Refuses by `NoMemory` where there is no memory for the
+// copy, and only there.
+fn read_value(
+    alloc: Global,
+    buffer: &[u8],
+    cursor: &mut usize,
+    place: Place,
+    kind: Kind,
+) -> Result<Value>
+    ensures read { IfOk result (λ x. ReadsHere (Reads kind) buffer.now cursor.old place x cursor.new) }
+    ensures refused { IfErr result (UnlessNoMemory (λ e. RefusesHere (Refuses kind) IsBadOffset buffer.now cursor.old place e cursor.new)) }
 {
-    let Kind::Number(width, order) = kind;
+    match kind {
+        Kind::Number(width, order) => read_number(buffer, cursor, place, width, order),
+        Kind::Text(ctx) => {
+            let text: &str = read_at(buffer, cursor, place, ctx)?;
+            Ok(Value::Text(copy_text(alloc, text)?))
+        }
+        Kind::Bytes(len) => {
+            let bytes: &[u8] = read_at(buffer, cursor, place, len)?;
+            Ok(Value::Bytes(copy_bytes(alloc, bytes)?))
+        }
+        Kind::CStr => {
+            let text: CStr = read_at(buffer, cursor, place, ())?;
+            Ok(Value::CStr(copy_bytes(alloc, text.to_bytes())?))
+        }
+        Kind::CString => {
+            let text: CString = read_at(buffer, cursor, place, &alloc)?;
+            Ok(Value::CStr(copy_bytes(alloc, text.as_bytes())?))
+        }
+        Kind::Uleb => read_at(buffer, cursor, place, ()).map(Value::Uleb),
+        Kind::Sleb => read_at(buffer, cursor, place, ()).map(Value::Sleb),
+        Kind::U8x0(order) => {
+            let _none: [u8; 0] = read_at(buffer, cursor, place, order)?;
+            Ok(Value::U8x0)
+        }
+        Kind::U16x3(order) => read_at(buffer, cursor, place, order).map(Value::U16x3),
+        Kind::Textx2(ctx) => {
+            let (first, second) = read_texts(buffer, cursor, place, ctx)?;
+            let first = copy_text(alloc, first)?;
+            Ok(Value::Textx2(first, copy_text(alloc, second)?))
+        }
+    }
+}
+
+fn read_number(
+    buffer: &[u8],
+    cursor: &mut usize,
+    place: Place,
+    width: Width,
+    order: Endian,
+) -> Result<Value>
+    ensures read { IfOk result (λ x. ReadsHere (ReadsWide (is_signed width) (bytes_in width) order) buffer.now cursor.old place x cursor.new) }
+    ensures refused { IfErr result (λ e. RefusesHere (RefusesShort (bytes_in width)) IsBadOffset buffer.now cursor.old place e cursor.new) }
+{
     match width {
         Width::U8 => read_at(buffer, cursor, place, order).map(|x: u8| Value::Unsigned(x.into())),
         Width::I8 => read_at(buffer, cursor, place, order).map(|x: i8| Value::Signed(x.into())),
@@ -45,6 +110,46 @@ fn read_value(buffer: &[u8], cursor: &mut usize, place: Place, kind: Kind) -> Re
     }
 }
 
+// Reads an array of two texts, and takes it apart, since a `match` can't bind an array of references.
+fn read_texts<'b>(
+    buffer: &'b [u8],
+    cursor: &mut usize,
+    place: Place,
+    ctx: StrCtx,
+) -> Result<(&'b str, &'b str)>
+    ensures read { IfOk result (λ x. ReadsHere (λ source x n. ReadsArray (ReadsText ctx) 2 source (x.0.now ∷ x.1.now ∷ []) n) buffer.now cursor.old place x cursor.new) }
+    ensures refused { IfErr result (λ e. RefusesHere (RefusesArray (ReadsText ctx) (RefusesText ctx) IsBadOffset 2) IsBadOffset buffer.now cursor.old place e cursor.new) }
+{
+    read_at(buffer, cursor, place, ctx).map(both)
+}
+
+// The two texts of an array.
+fn both<'b>(texts: [&'b str; 2]) -> (&'b str, &'b str)
+    ensures { texts.entry ≡ result.0 ∷ result.1 ∷ [] }
+{
+    (texts[0], texts[1])
+}
+
+fn copy_text(alloc: Global, text: &str) -> Result<String>
+    ensures copied { IfOk result (λ copy. string_bytes copy ≡ text.now) }
+    ensures only_memory { IfErr result (λ e. e ≡ NoMemory) }
+{
+    match String::from_str(alloc, text) {
+        Ok(copy) => Ok(copy),
+        Err(_) => Err(Error::NoMemory),
+    }
+}
+
+fn copy_bytes(alloc: Global, bytes: &[u8]) -> Result<Vec<u8>>
+    ensures copied { IfOk result (λ copy. copy.items ≡ bytes.now) }
+    ensures only_memory { IfErr result (λ e. e ≡ NoMemory) }
+{
+    match Vec::from_slice(alloc, bytes) {
+        Ok(copy) => Ok(copy),
+        Err(_) => Err(Error::NoMemory),
+    }
+}
+
 // Reads a value of any type at the place of a command.
 fn read_at<'b, Ctx: Copy, E: From<Error>, N: ReadFrom<&'b [u8], Ctx, Error = E>>(
     buffer: &'b [u8],
@@ -52,9 +157,8 @@ fn read_at<'b, Ctx: Copy, E: From<Error>, N: ReadFrom<&'b [u8], Ctx, Error = E>>
     place: Place,
     ctx: Ctx,
 ) -> result::Result<N, E>
-    ensures read { IfOk result (λ x. (n : ℕ) × ReadsAt (N.reads ctx) buffer.now (place_of place cursor.old) x n × (cursor.new ≡ moved place cursor.old n)) }
-    ensures refused { IfErr result (RefusesAt (N.refuses ctx) (λ o e. E.from_gives (BadOffset o) e) buffer.now (place_of place cursor.old)) }
-    ensures stays { OnErr result (cursor.new ≡ cursor.old) }
+    ensures read { IfOk result (λ x. ReadsHere (N.reads ctx) buffer.now cursor.old place x cursor.new) }
+    ensures refused { IfErr result (λ e. RefusesHere (N.refuses ctx) (λ o e. E.from_gives (BadOffset o) e) buffer.now cursor.old place e cursor.new) }
 {
     match place {
         Place::At(offset) => buffer.pread_with(offset, ctx),

@@ -12,9 +12,9 @@ use crate::error::{Error, Result};
 use crate::slice;
 
 // Answers a write, and moves a cursor that it uses by the size of what was written.
-pub fn write(buffer: &mut [u8], cursor: &mut usize, place: Place, put: Put) -> Answer
-    ensures answer { WriteStep buffer.old cursor.old place (leaves_of put) result cursor.new }
-    ensures after { buffer.new ≡ seen buffer.old (pieces (length buffer.old) (place_of place cursor.old) (leaves_of put)) }
+pub fn write(buffer: &mut [u8], cursor: &mut usize, place: Place, put: Put<'_>) -> Answer
+    ensures answer { WriteStep buffer.old cursor.old place (leaves_of put.entry) result cursor.new }
+    ensures after { buffer.new ≡ seen buffer.old (pieces (length buffer.old) (place_of place cursor.old) (leaves_of put.entry)) }
 {
     match write_value(buffer, cursor, place, put) {
         Ok(size) => Answer::Wrote(size),
@@ -22,8 +22,8 @@ pub fn write(buffer: &mut [u8], cursor: &mut usize, place: Place, put: Put) -> A
     }
 }
 
-fn write_value(buffer: &mut [u8], cursor: &mut usize, place: Place, put: Put) -> Result<usize>
-    ensures wrote { WritesLeaves buffer.old (place_of place cursor.old) (leaves_of put) buffer.new result }
+fn write_value(buffer: &mut [u8], cursor: &mut usize, place: Place, put: Put<'_>) -> Result<usize>
+    ensures wrote { WritesLeaves buffer.old (place_of place cursor.old) (leaves_of put.entry) buffer.new result }
     ensures moves { IfOk result (λ n. cursor.new ≡ moved place cursor.old n) }
     ensures stays { OnErr result (cursor.new ≡ cursor.old) }
 {
@@ -38,6 +38,11 @@ fn write_value(buffer: &mut [u8], cursor: &mut usize, place: Place, put: Put) ->
         Put::I64(x, order) => write_at(buffer, cursor, place, x, order),
         Put::U128(x, order) => write_at(buffer, cursor, place, x, order),
         Put::I128(x, order) => write_at(buffer, cursor, place, x, order),
+        Put::Text(text) => write_at(buffer, cursor, place, text, ()),
+        Put::Bytes(bytes) => write_at(buffer, cursor, place, bytes, ()),
+        Put::CStr(text) => write_at(buffer, cursor, place, text, ()),
+        Put::U16x3(xs, order) => write_at(buffer, cursor, place, xs, order),
+        Put::Bytesx2(first, second) => write_at(buffer, cursor, place, [first, second], ()),
     }
 }
 

@@ -32,7 +32,7 @@ fn check_run<const N: usize>(
     alloc: Global,
     first: [u8; N],
     cursor: usize,
-    commands: &[Command],
+    commands: &[Command<'_>],
     wanted: &[Answer],
     last: [u8; N],
     last_cursor: usize,

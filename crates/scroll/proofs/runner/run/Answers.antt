@@ -1,5 +1,6 @@
-use Rattle.std.proofs.Common.{◌++◌, ◌∷◌, [], ap, ◌∙◌}
+use Rattle.std.proofs.Common.{◌≡◌, ◌++◌, ◌∷◌, [], ap, ◌∙◌, sym, subst, get_or, rules}
 use Rattle.scroll.proofs.RunLemmas.{IsRun-none, IsRun-next}
+use Rattle.scroll.specs.Runs.{IsStep}
 use Rattle.scroll.proofs.runner.run.Goals as goal
 
 pub loop-command-init : goal.loop-command-init
@@ -7,5 +8,7 @@ loop-command-init c = IsRun-none c.args.buffer.now c.args.cursor.now c.args.answ
 
 pub loop-command-preserved : goal.loop-command-preserved
 loop-command-preserved c =
-    let items = c.push_reserved.ensures.items ∙ ap (λ xs. xs ++ c.step-answer.result ∷ []) c.reserve.ensures.items in
-    IsRun-next _ _ _ _ _ _ _ _ _ _ _ _ _ c.loop-command-test.true c.loop-command.invariant items c.step-answer.ensures
+    let items = c.push_reserved.ensures.items ∙ ap (λ xs. xs ++ c.in_ok-answer.answer ∷ []) c.reserve.ensures.items in
+    let command : get_or c.args.commands.now c.loop-command.command-index c.command-item.result ≡ c.command-item.result = search rules in
+    let step = subst (λ k. IsStep c.loop-command.buffer c.step.new.buffer c.loop-command.cursor k c.in_ok-answer.answer c.step.new.cursor) (sym command) c.in_ok-answer.ensures.answered in
+    IsRun-next _ _ _ _ _ _ _ _ _ _ _ _ _ c.loop-command-test.true c.loop-command.invariant items step

@@ -9,7 +9,7 @@ use Rattle.scroll.specs.CStrings.{ReadsCString, RefusesCString}
 use Rattle.scroll.specs.Leb128.{ReadsUleb, ReadsSleb}
 use Rattle.scroll.specs.LebRefusals.{RefusesUleb, RefusesSleb}
 use Rattle.scroll.specs.Numbers.{number, signed_number, ReadsNumber, ReadsSigned}
-use Rattle.scroll.specs.Runs.{IsBadOffset}
+use Rattle.scroll.specs.Errors.{IsBadOffset}
 use Rattle.scroll.specs.Texts.{ReadsText, RefusesText, ReadsSlice, RefusesSlice}
 use Rattle.scroll.proofs.laws.reads.place_has_one_answer.Goals as goal
 

@@ -1,6 +1,7 @@
-use Rattle.std.proofs.Common.{rules}
+use Rattle.std.proofs.Common.{rules, [], ◌∷◌}
 use Rattle.std.specs.Int.{w8, w16, w32, w64, w128}
 use Rattle.scroll.proofs.NumberLeaves.{number-leaf, signed-leaf}
+use Rattle.scroll.proofs.PutLeaves.{bytes-leaf, numbers-leaves, slices-leaves}
 use Rattle.scroll.proofs.runner.write.write_value.Goals as goal
 
 pub returns-in-U8-clause-wrote : goal.returns-in-U8-clause-wrote
@@ -32,3 +33,19 @@ returns-in-U128-clause-wrote c = rw c.in-U128.is (number-leaf 16 _ _ _ _ _ _ c.w
 
 pub returns-in-I128-clause-wrote : goal.returns-in-I128-clause-wrote
 returns-in-I128-clause-wrote c = rw c.in-I128.is (signed-leaf 16 w128 _ c.in-I128.x _ _ _ _ (search rules) c.write_at-in-I128.ensures.wrote)
+
+pub returns-in-Text-clause-wrote : goal.returns-in-Text-clause-wrote
+returns-in-Text-clause-wrote c = rw c.in-Text.is (bytes-leaf _ _ _ _ _ c.write_at-in-Text.ensures.wrote)
+
+pub returns-in-Bytes-clause-wrote : goal.returns-in-Bytes-clause-wrote
+returns-in-Bytes-clause-wrote c = rw c.in-Bytes.is (bytes-leaf _ _ _ _ _ c.write_at-in-Bytes.ensures.wrote)
+
+pub returns-in-CStr-clause-wrote : goal.returns-in-CStr-clause-wrote
+returns-in-CStr-clause-wrote c = rw c.in-CStr.is (bytes-leaf _ _ _ _ _ c.write_at-in-CStr.ensures.wrote)
+
+pub returns-in-U16x3-clause-wrote : goal.returns-in-U16x3-clause-wrote
+returns-in-U16x3-clause-wrote c = rw c.in-U16x3.is (numbers-leaves 2 _ _ _ _ _ _ c.write_at-in-U16x3.ensures.wrote (search rules))
+
+pub returns-in-Bytesx2-clause-wrote : goal.returns-in-Bytesx2-clause-wrote
+returns-in-Bytesx2-clause-wrote c =
+    rw c.in-Bytesx2.is (slices-leaves (c.in-Bytesx2.first ∷ c.in-Bytesx2.second ∷ []) _ _ _ _ c.write_at-in-Bytesx2.ensures.wrote (search rules))
