@@ -6,7 +6,7 @@ use Rattle.scroll.specs.Leaves.{WritesLeaves, HasLeaves}
 use Rattle.scroll.specs.Leb128.{Counted}
 use Rattle.scroll.specs.LebWrites.{uleb_text, sleb_text, WritesUleb, WritesSleb}
 use Rattle.scroll.specs.LebWriteLaws.{length-spelling}
-use Rattle.scroll.specs.Runs.{IsBadOffset}
+use Rattle.scroll.specs.Errors.{IsBadOffset}
 use Rattle.scroll.specs.Spelling.{unsigned_form}
 use Rattle.scroll.specs.Writes.{AnswersWrite}
 use Rattle.scroll.specs.declared.error.Error.{Error}
