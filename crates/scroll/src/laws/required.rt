@@ -2,7 +2,7 @@
 ghost use Rattle.std.specs.Prelude.{◌≡◌, ◌≤◌, ℕ, List, length, take};
 ghost use Rattle.scroll.specs.Arrays.{RefusesArray};
 ghost use Rattle.scroll.specs.Laws.{IsWithin};
-ghost use Rattle.scroll.specs.Runs.{IsBadOffset};
+ghost use Rattle.scroll.specs.Errors.{IsBadOffset};
 ghost use Rattle.scroll.specs.Texts.{ReadsText, RefusesText};
 ghost use Rattle.scroll.specs.declared.ctx.str_ctx.StrCtx.TheVariants.{Required};
 ghost use Rattle.scroll.specs.declared.error.Error.TheVariants.{BadOffset};
