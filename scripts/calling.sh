@@ -6,7 +6,7 @@
 #
 # Above each block of Rust code stands a line that begins with the file's name, as "From `src/examples/chunk.rt`". The
 # parts of the block, parted by empty lines, stand in that file in the same order, with `crate::` in place of
-# `scroll::`. The last line is `N blocks, M wrong`, and the exit status is 0 where M is 0.
+# `scroll::`. The last line is `N passed, M failed`, which counts blocks. The exit status is 0 where M is 0 and N is not.
 set -u
 
 top=$(CDPATH='' cd -- "$(dirname -- "$0")/.." && pwd) || exit 1
@@ -65,7 +65,8 @@ code && $0 == "" {
 }
 code { part = part $0 "\n" }
 END {
-    print blocks + 0 " blocks, " bad + 0 " wrong"
+    print "calling: " blocks + 0 " blocks of CALLING.md were compared"
+    print blocks - bad " passed, " bad + 0 " failed"
     exit (bad > 0 || blocks == 0)
 }
 ' CALLING.md

@@ -2,6 +2,7 @@
 # Runs every check of the repository over a copy of its files, and shows what each says as it comes:
 #
 #     rt ci                  every proof from nothing, the tests, and the program's stored run
+#     scripts/calling.sh     the code of CALLING.md is in the files that were proved
 #     scripts/sessions.sh    the stored sessions, by the program that rt ci proved and built
 #     scripts/cuts.sh        sessions with their buffers cut, likewise
 #     scripts/faults.sh      the sessions and the tests where memory is refused and streams fail, by what rt ci built
@@ -90,6 +91,7 @@ fi
 run_step rt ci
 is_proved=$status
 program=crates/scroll_run/out/scroll_run
+run_step sh scripts/calling.sh
 run_step sh scripts/sessions.sh "$program"
 run_step sh scripts/cuts.sh "$program"
 run_step sh scripts/faults.sh

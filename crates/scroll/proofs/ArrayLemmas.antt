@@ -1,5 +1,5 @@
 -- Arrays go on by one element.
-use Rattle.std.proofs.Common.{◌≡◌, ℕ, ◌+◌, ◌++◌, List, [], ◌∷◌, length, map, Option, Some, sym, ap, ◌∙◌, refl, arith, subst, append-nil}
+use Rattle.std.proofs.Common.{◌≡◌, ℕ, ◌+◌, ◌++◌, List, [], ◌∷◌, length, map, Option, Some, sym, ap, ◌∙◌, refl, arith, subst, append_assoc, ◌≤◌}
 use Rattle.std.proofs.lemmas.List.{length_push}
 use Rattle.scroll.specs.Callers.{ReadsAll-push}
 use Rattle.scroll.specs.Arrays.{WritesAll}
@@ -44,7 +44,20 @@ WritesAll-push writes old from [] mid to x new n h w =
 WritesAll-push writes old from (y ∷ vs) mid to x new n h w =
     (h.0, h.1, h.2, WritesAll-push writes h.0 (from + h.1) vs mid to x new n h.3 w)
 
--- the values before an empty rest are all
-pub only-front : {A : Type 0} (xs ys zs : List A) → xs ≡ ys ++ zs → length zs ≡ 0 → ys ≡ xs
-only-front xs ys [] e h = sym (append-nil ys) ∙ sym e
-only-front xs ys (z ∷ zs) e h = absurd (omega arith)
+-- so many values of an array are written, others are left, and the last that is written ends at a place
+pub record IsPartWritten {V : Type 0} (writes : V → List ℕ → List ℕ → ℕ → Type 0) (all left : List V) (old new : List ℕ) (count place : ℕ) : Type 0 where
+  pub done : List V
+  pub split : all ≡ done ++ left
+  pub len : length done ≡ count
+  pub written : WritesAll writes old 0 done new place
+  pub inside : place ≤ length new
+
+-- one more value
+pub IsPartWritten-next : {V : Type 0} (writes : V → List ℕ → List ℕ → ℕ → Type 0) (all left left' : List V) (old new new' : List ℕ) (count place n : ℕ) (x : V) → IsPartWritten writes all left old new count place → left ≡ x ∷ left' → WritesAt (writes x) new place new' n → place + n ≤ length new' → IsPartWritten writes all left' old new' (count + 1) (place + n)
+IsPartWritten-next writes all left left' old new new' count place n x was next wrote inside = record {
+  done = was.done ++ x ∷ [];
+  split = was.split ∙ ap (λ l. was.done ++ l) next ∙ sym (append_assoc was.done (x ∷ []) left');
+  len = omega (arith, length_push was.done x, was.len);
+  written = WritesAll-push writes old 0 was.done new place x new' n was.written wrote;
+  inside = inside;
+}

@@ -113,9 +113,13 @@ impl<Ctx: Copy, T: TryIntoCtx<Ctx, Error = Error> + Drop, const N: usize> TryInt
         if !fits::<array::IntoIter<T, N>>() {
             return Err(Error::NoMemory);
         }
+        let mut values = self.into_iter();
         let mut offset = 0;
-        for value in self {
-            offset += write_next(value, dst, offset, ctx)?;
+        for _i in 0..N {
+            match values.next() {
+                Some(value) => offset += write_next(value, dst, offset, ctx)?,
+                None => unreachable!(),
+            }
         }
         Ok(offset)
     }

@@ -1,0 +1,102 @@
+// A number of one's own, which is refused with a text of its own.
+ghost use Rattle.std.specs.Prelude.{◌≡◌, ◌≤◌, ◌<◌, length, codes, Some, ◌⊎◌};
+ghost use Rattle.std.proofs.Common.{rules};
+ghost use Rattle.scroll.specs.Errors.{line_of};
+ghost use Rattle.scroll.specs.NumberLaws.{WritesNumber-keeps};
+ghost use Rattle.scroll.specs.Numbers.{ReadsNumber, WritesNumber};
+ghost use Rattle.scroll.specs.declared.error.Error.TheVariants.{NoMemory};
+
+use crate::ctx::{TryFromCtx, TryIntoCtx};
+use crate::{BE, Endian, Error, LE, Pread, Pwrite, Result};
+use std::alloc::{AllocError, Global};
+use std::result;
+
+// A byte order, and the memory for the text of an error.
+#[derive(Clone, Copy)]
+struct Order {
+    order: Endian,
+    alloc: Global,
+}
+
+#[derive(Clone, Copy, Debug)]
+struct Foo(u16);
+
+// The refusal, or that there was no memory for its text.
+fn whatever(alloc: Global) -> Error
+    ensures { (line_of result ≡ Some (codes "whatever")) ⊎ (result ≡ NoMemory) }
+{
+    match format!(in alloc; "whatever") {
+        Ok(text) => Error::Custom(text),
+        Err(_) => Error::NoMemory,
+    }
+}
+
+impl<'a> TryFromCtx<'a, Order> for Foo {
+    type Error = Error;
+
+    ghost reads = { λ ctx source x n. ReadsNumber 2 ctx.order source x.0 n };
+
+    ghost refuses = { λ _ source e. (length source < 2) × ((line_of e ≡ Some (codes "whatever")) ⊎ (e ≡ NoMemory)) };
+
+    ghost reads_bounded = { λ ctx source x n h. Prim.search rules };
+
+    fn try_from_ctx(from: &'a [u8], ctx: Order) -> Result<(Foo, usize)> {
+        if from.len() < 2 {
+            return Err(whatever(ctx.alloc));
+        }
+        let n = from.pread_with(0, ctx.order)?;
+        Ok((Foo(n), 2))
+    }
+}
+
+impl TryIntoCtx<Order> for Foo {
+    type Error = Error;
+
+    ghost writes = { λ ctx x old new n. WritesNumber 2 ctx.order x.0 old new n };
+
+    ghost refuses = { λ _ _ old new e. (length old < 2) × (new ≡ old) × ((line_of e ≡ Some (codes "whatever")) ⊎ (e ≡ NoMemory)) };
+
+    ghost writes_bounded = { λ ctx x old new n h. Prim.search rules };
+
+    ghost writes_keeps = { λ ctx x. WritesNumber-keeps 2 ctx.order x.0 };
+
+    fn try_into_ctx(self, dst: &mut [u8], ctx: Order) -> Result<usize> {
+        if dst.len() < 2 {
+            return Err(whatever(ctx.alloc));
+        }
+        self.0.try_into_ctx(dst, ctx.order)
+    }
+}
+
+#[test]
+fn refused_with_its_own_text(rt: HostRuntime) -> result::Result<(), AllocError> {
+    let little = Order {
+        order: LE,
+        alloc: rt.alloc(),
+    };
+    let big = Order {
+        order: BE,
+        alloc: rt.alloc(),
+    };
+    let bytes: [u8; 4] = [0xde, 0xad, 0, 0];
+    let source = &bytes[..];
+    assert!(rt; matches!(&source.pread_with::<Foo>(0, little), Ok(Foo(44510))));
+    assert!(rt; matches!(&source.pread_with::<Foo>(0, big), Ok(Foo(57005))));
+    let cut: Result<Foo> = source.pread_with(3, little);
+    let line = match cut {
+        Err(error) => format!(in rt.alloc(); "{error}")?,
+        Ok(_) => format!(in rt.alloc(); "a value")?,
+    };
+    assert_eq!(rt; line.as_str(), "whatever");
+    let mut out = [0u8; 4];
+    let mut target = &mut out[..];
+    assert!(rt; matches!(&target.pwrite_with(Foo(0x7f), 1, little), Ok(2)));
+    assert!(rt;
+        matches!(
+            &target.pwrite_with(Foo(0x7f), 3, little),
+            Err(Error::Custom(_))
+        )
+    );
+    assert_eq!(rt; out, [0, 0x7f, 0, 0]);
+    Ok(())
+}
