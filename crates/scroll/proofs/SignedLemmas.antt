@@ -1,8 +1,9 @@
 -- Two's complement by two shifts.
-use Rattle.std.proofs.Common.{◌≡◌, ℕ, suc, ◌+◌, ◌-◌, ◌*◌, ◌/◌, ◌%◌, ◌^◌, ◌<◌, ◌≤◌, inl, inr, true, false, nat_lt, if◌then◌else◌, sym, ap, ◌∙◌, arith, pos, negsuc, ◌-ℤ◌, FitsSigned, to_z}
+use Rattle.std.proofs.Common.{bit_or, ◌≡◌, ℕ, suc, ◌+◌, ◌-◌, ◌*◌, ◌/◌, ◌%◌, ◌^◌, ◌<◌, ◌≤◌, inl, inr, true, false, nat_lt, if◌then◌else◌, sym, ap, ◌∙◌, arith, pos, negsuc, ◌-ℤ◌, FitsSigned, to_z}
 use Rattle.std.proofs.Math.Nat.{mod-eq_of_lt, mul-le-mul_right, one-le-pow, pow-le-pow_right}
 use Rattle.std.proofs.Math.Facts.{to_z-neg}
-use Rattle.std.proofs.lemmas.Nat.{pow-add, div-mul-add}
+use Rattle.std.proofs.lemmas.Nat.{pow-add, div-mul-add, mod-mul-add}
+use Rattle.std.specs.Int.Bits.{or_shifted_r}
 use Rattle.std.proofs.lemmas.Int.{ints, to_z_pos, fits_signed_from_abs}
 use Rattle.std.proofs.lemmas.Bool.{cases_lt}
 use Rattle.std.proofs.lemmas.Bool.Decides.{nat_tests}
@@ -61,3 +62,42 @@ signed_groups_fit g n some few room =
     let eight : n - 1 ≤ 8 = omega arith in
     let most : 128 ^ (n - 1) ≤ 128 ^ 8 = pow-le-pow_right {n = 128} (omega arith) eight in
     nine_fits g (128 ^ n) (64 * 128 ^ (n - 1)) (omega (arith, power)) (omega (arith, most)) room
+
+-- ---- the sign by a mask
+-- groups below 2 ^ 63 are their own signed number
+pub groups_positive : (g n : ℕ) → n ≤ 9 → g < 128 ^ n → to_z w64 g ≡ pos g
+groups_positive g n few room =
+    let most : 128 ^ n ≤ 128 ^ 9 = pow-le-pow_right {n = 128} (omega arith) few in
+    to_z_pos w64 g (omega (arith, most))
+
+-- a number less a larger one
+less_whole : (u p k : ℕ) → u + suc k ≡ p → negsuc k ≡ pos u -ℤ pos p
+less_whole u p k h = omega (arith, ints)
+
+-- ones from place k on
+ones_above : (p q : ℕ) → q * p ≡ 2 ^ 64 → 0 < q → 0 < p → 18446744073709551615 * p % 2 ^ 64 ≡ (q - 1) * p
+ones_above p q whole some positive =
+    let before : q ≡ q - 1 + 1 = omega arith in
+    let split : (q - 1) * p + p ≡ 2 ^ 64 = omega (arith, rw before at whole) in
+    let form : 18446744073709551615 * p ≡ (p - 1) * 2 ^ 64 + (q - 1) * p = omega (arith, split) in
+    ap (λ x. x % 2 ^ 64) form ∙ mod-mul-add (p - 1) (2 ^ 64) ((q - 1) * p) (omega (arith, split))
+
+pub groups_negative : (g n : ℕ) → n ≤ 9 → g < 128 ^ n → to_z w64 (bit_or g (18446744073709551615 * 2 ^ (7 * n) % 2 ^ 64)) ≡ pos g -ℤ pos (128 ^ n)
+groups_negative g n few room =
+    let p = 2 ^ (7 * n) in
+    let q = 2 ^ (64 - 7 * n) in
+    let width : 64 - 7 * n + 7 * n ≡ 64 = omega arith in
+    let whole : q * p ≡ 2 ^ 64 = sym (pow-add 2 (64 - 7 * n) (7 * n)) ∙ ap (λ k. 2 ^ k) width in
+    let some : 0 < q = one-le-pow (64 - 7 * n) 2 (omega arith) in
+    let positive : 0 < p = one-le-pow (7 * n) 2 (omega arith) in
+    let small : g < p = rw (pow_128 n) room in
+    let places : 7 * n ≤ 63 = omega arith in
+    let most : 2 ^ (7 * n) ≤ 2 ^ 63 = pow-le-pow_right {n = 2} (omega arith) places in
+    let mask = ones_above p q whole some positive in
+    let before : q ≡ q - 1 + 1 = omega arith in
+    let split : (q - 1) * p + p ≡ 2 ^ 64 = omega (arith, rw before at whole) in
+    let joined : bit_or g ((q - 1) * p) ≡ (q - 1) * p + g = or_shifted_r (q - 1) (7 * n) g small in
+    let k = p - g - 1 in
+    let turned : (q - 1) * p + g ≡ 2 ^ 64 - suc k = omega (arith, split) in
+    ap (λ x. to_z w64 (bit_or g x)) mask ∙ ap (to_z w64) joined ∙ ap (to_z w64) turned
+    ∙ to_z-neg w64 k (omega (arith, most)) ∙ less_whole g p k (omega arith) ∙ ap (λ x. pos g -ℤ pos x) (pow_128 n)
