@@ -80,7 +80,7 @@ fn a_bad_offset_counts_from_its_own_array(rt: HostRuntime) {
     let bytes: [u8; 5] = [0x61, 0, 0x62, 0, 0x63];
     let offset = &mut 0;
     let texts: Result<[[&str; 2]; 2]> = bytes[..].gread_with(offset, StrCtx::Delimiter(0));
-    assert!(rt; matches!(&texts, Err(Error::BadOffset(2))));
+    assert!(rt; texts.is_err_and(|e| matches!(e, Error::BadOffset(2))));
     assert_eq!(rt; *offset, 0);
     let pair: Result<[&str; 2]> = bytes[..].gread_with(offset, StrCtx::Delimiter(0));
     assert!(rt; matches!(&pair, Ok(["a", "b"])));
