@@ -9,10 +9,10 @@ use Rattle.scroll.specs.declared.runner.Place.{Place}
 ReadsAll-map : {V W : Type 0} (f : V → W) (reads : List ℕ → W → ℕ → Type 0) (s : List ℕ) (from : ℕ) (vs : List V) (to : ℕ) → ReadsAll (λ s v n. reads s (f v) n) s from vs to → ReadsAll reads s from (map f vs) to
 ReadsAll-map f reads s from [] to h = h
 ReadsAll-map f reads s from (v ∷ vs) to h = (
-    h.0,
-    record { inside = h.1.inside; value = h.1.value },
-    ReadsAll-map f reads s (from + h.0) vs to h.2,
-  )
+  h.0,
+  record { inside = h.1.inside; value = h.1.value },
+  ReadsAll-map f reads s (from + h.0) vs to h.2,
+)
 
 RefusesArray-map : {V W E : Type 0} (f : V → W) (reads : List ℕ → W → ℕ → Type 0) (refuses : List ℕ → E → Type 0) (past_end : ℕ → E → Type 0) (count : ℕ) (s : List ℕ) (e : E) → RefusesArray (λ s v n. reads s (f v) n) refuses past_end count s e → RefusesArray reads refuses past_end count s e
 RefusesArray-map f reads refuses past_end count s e h = record {
@@ -30,10 +30,10 @@ RefusesAt-by refuses refuses' past_end by buffer place e (inr h) = inr (h.0, by 
 -- an array that is refused where a command acts
 RefusesHere-map : {V W E : Type 0} (f : V → W) (reads : List ℕ → W → ℕ → Type 0) (refuses : List ℕ → E → Type 0) (past_end : ℕ → E → Type 0) (count : ℕ) (buffer : List ℕ) (cursor : ℕ) (at : Place) (e : E) (after : ℕ) → RefusesHere (RefusesArray (λ s v n. reads s (f v) n) refuses past_end count) past_end buffer cursor at e after → RefusesHere (RefusesArray reads refuses past_end count) past_end buffer cursor at e after
 RefusesHere-map f reads refuses past_end count buffer cursor at e after h = (
-    RefusesAt-by (RefusesArray (λ s v n. reads s (f v) n) refuses past_end count) (RefusesArray reads refuses past_end count) past_end
-    (RefusesArray-map f reads refuses past_end count) buffer (place_of at cursor) e h.0,
-    h.1,
-  )
+  RefusesAt-by (RefusesArray (λ s v n. reads s (f v) n) refuses past_end count) (RefusesArray reads refuses past_end count) past_end
+      (RefusesArray-map f reads refuses past_end count) buffer (place_of at cursor) e h.0,
+  h.1,
+)
 
 -- the same of the error of a result
 pub err-map : {T V W E : Type 0} (f : V → W) (reads : List ℕ → W → ℕ → Type 0) (refuses : List ℕ → E → Type 0) (past_end : ℕ → E → Type 0) (count : ℕ) (buffer : List ℕ) (cursor : ℕ) (at : Place) (after : ℕ) (r : Result T E) → IfErr r (λ e. RefusesHere (RefusesArray (λ s v n. reads s (f v) n) refuses past_end count) past_end buffer cursor at e after) → IfErr r (λ e. RefusesHere (RefusesArray reads refuses past_end count) past_end buffer cursor at e after)

@@ -9,6 +9,7 @@ mod numbers;
 mod own_type;
 mod printed;
 mod required;
+mod run_kinds;
 mod runs;
 mod search;
 mod slices;

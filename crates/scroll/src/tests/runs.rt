@@ -10,6 +10,16 @@ fn is_same(a: &Answer, b: &Answer) -> bool {
     match (a, b) {
         (Answer::Read(Value::Unsigned(x)), Answer::Read(Value::Unsigned(y))) => x == y,
         (Answer::Read(Value::Signed(x)), Answer::Read(Value::Signed(y))) => x == y,
+        (Answer::Read(Value::Text(x)), Answer::Read(Value::Text(y))) => x == y,
+        (Answer::Read(Value::Bytes(x)), Answer::Read(Value::Bytes(y))) => x == y,
+        (Answer::Read(Value::CStr(x)), Answer::Read(Value::CStr(y))) => x == y,
+        (Answer::Read(Value::Uleb(x)), Answer::Read(Value::Uleb(y))) => x == y,
+        (Answer::Read(Value::Sleb(x)), Answer::Read(Value::Sleb(y))) => x == y,
+        (Answer::Read(Value::U8x0), Answer::Read(Value::U8x0)) => true,
+        (Answer::Read(Value::U16x3(x)), Answer::Read(Value::U16x3(y))) => x == y,
+        (Answer::Read(Value::Textx2(x, x2)), Answer::Read(Value::Textx2(y, y2))) => {
+            x == y && x2 == y2
+        }
         (Answer::Wrote(x), Answer::Wrote(y)) => x == y,
         (
             Answer::Refused(Error::TooBig { size, len }),
@@ -21,13 +31,22 @@ fn is_same(a: &Answer, b: &Answer) -> bool {
             ),
         ) => size == size2 && len == len2,
         (Answer::Refused(Error::BadOffset(x)), Answer::Refused(Error::BadOffset(y))) => x == y,
+        (
+            Answer::Refused(Error::BadInput { size, msg }),
+            Answer::Refused(
+                Error::BadInput {
+                    size: size2,
+                    msg: msg2,
+                },
+            ),
+        ) => size == size2 && msg == msg2,
         _ => false,
     }
 }
 
 // Runs the commands, and wants these answers. Where memory was refused, wants what the first commands alone answer and
 // leave, and that a second run of all finds memory, since one allocation is refused at most.
-fn check_run<const N: usize>(
+pub fn check_run<const N: usize>(
     rt: &impl Abort,
     alloc: Global,
     first: [u8; N],

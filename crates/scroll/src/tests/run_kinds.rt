@@ -1,0 +1,227 @@
+// Runs of commands that read and write texts, byte slices, C strings, LEB128 and arrays. Each stands where memory is refused,
+// too: see `check_run`.
+use super::runs::check_run;
+use crate::cstr::CStr;
+use crate::ctx::{NULL, StrCtx};
+use crate::runner::{Answer, Command, Kind, Place, Put, Value, Width};
+use crate::{BE, Error, LE, Pread, Sleb128, Uleb128};
+use std::alloc::{AllocError, Global};
+
+const HERE: Place = Place::Cursor;
+
+fn text(alloc: Global, text: &str) -> Result<Answer, AllocError> {
+    Ok(Answer::Read(Value::Text(String::from_str(alloc, text)?)))
+}
+
+fn bytes(alloc: Global, bytes: &[u8]) -> Result<Answer, AllocError> {
+    Ok(Answer::Read(Value::Bytes(Vec::from_slice(alloc, bytes)?)))
+}
+
+fn c_string(alloc: Global, bytes: &[u8]) -> Result<Answer, AllocError> {
+    Ok(Answer::Read(Value::CStr(Vec::from_slice(alloc, bytes)?)))
+}
+
+fn too_big(size: usize, len: usize) -> Answer {
+    Answer::Refused(Error::TooBig { size, len })
+}
+
+fn bad_input(size: usize, msg: &'static str) -> Answer {
+    Answer::Refused(Error::BadInput { size, msg })
+}
+
+fn texts_wanted(alloc: Global) -> Result<[Answer; 9], AllocError> {
+    Ok([
+        text(alloc, "a")?,
+        text(alloc, "c")?,
+        Answer::Refused(Error::BadOffset(4)),
+        text(alloc, "ab")?,
+        too_big(4, 3),
+        Answer::Wrote(2),
+        bad_input(3, "invalid utf8"),
+        bytes(alloc, &[0xff, 0x7a])?,
+        bytes(alloc, &[])?,
+    ])
+}
+
+#[test]
+fn texts_and_slices(rt: HostRuntime) {
+    let Ok(wanted) = texts_wanted(rt.alloc()) else {
+        return;
+    };
+    check_run(
+        &rt,
+        rt.alloc(),
+        [0x61, 0x62, 0x63],
+        0,
+        &[
+            Command::Read(HERE, Kind::Text(StrCtx::DelimiterUntil(b'b', 3))),
+            Command::Read(HERE, Kind::Text(StrCtx::DelimiterUntil(b'b', 1))),
+            Command::Read(HERE, Kind::Text(StrCtx::Delimiter(NULL))),
+            Command::Read(Place::At(0), Kind::Text(StrCtx::Length(2))),
+            Command::Read(Place::At(0), Kind::Text(StrCtx::Length(4))),
+            Command::Write(Place::At(1), Put::Bytes(&[0xff, 0x7a])),
+            Command::Read(Place::At(0), Kind::Text(StrCtx::Delimiter(NULL))),
+            Command::Read(Place::At(1), Kind::Bytes(2)),
+            Command::Read(Place::At(3), Kind::Bytes(0)),
+        ],
+        &wanted,
+        [0x61, 0xff, 0x7a],
+        4,
+    );
+    check_run(
+        &rt,
+        rt.alloc(),
+        [0; 4],
+        0,
+        &[
+            Command::Write(HERE, Put::Text("abc")),
+            Command::Write(HERE, Put::Text("de")),
+            Command::Write(HERE, Put::Bytes(&[])),
+        ],
+        &[Answer::Wrote(3), too_big(2, 1), Answer::Wrote(0)],
+        [0x61, 0x62, 0x63, 0],
+        3,
+    );
+}
+
+const NO_ZERO: &str = "The input doesn't contain a null byte";
+
+fn c_strings_wanted(alloc: Global) -> Result<[Answer; 6], AllocError> {
+    Ok([
+        Answer::Wrote(3),
+        c_string(alloc, b"ab")?,
+        c_string(alloc, b"ab")?,
+        c_string(alloc, b"")?,
+        too_big(3, 1),
+        bad_input(0, NO_ZERO),
+    ])
+}
+
+#[test]
+fn c_strings(rt: HostRuntime) {
+    let Ok(wanted) = c_strings_wanted(rt.alloc()) else {
+        return;
+    };
+    let Some(written) = CStr::from_bytes_until_nul(b"ab\0cd") else {
+        return;
+    };
+    check_run(
+        &rt,
+        rt.alloc(),
+        [0xff; 4],
+        0,
+        &[
+            Command::Write(HERE, Put::CStr(written)),
+            Command::Read(Place::At(0), Kind::CStr),
+            Command::Read(Place::At(0), Kind::CString),
+            Command::Read(Place::At(2), Kind::CString),
+            Command::Write(HERE, Put::CStr(written)),
+            Command::Read(HERE, Kind::CString),
+        ],
+        &wanted,
+        [0x61, 0x62, 0, 0xff],
+        3,
+    );
+}
+
+#[test]
+fn numbers_in_leb128(rt: HostRuntime) {
+    let padded: crate::Result<Uleb128> = b"\x80\x00"[..].pread(0);
+    let below: crate::Result<Sleb128> = b"\xff\x7e"[..].pread(0);
+    let Ok(padded) = padded else {
+        return;
+    };
+    let Ok(below) = below else {
+        return;
+    };
+    check_run(
+        &rt,
+        rt.alloc(),
+        [0x80, 0x00, 0xff, 0x7e, 0x80],
+        0,
+        &[
+            Command::Read(HERE, Kind::Uleb),
+            Command::Read(HERE, Kind::Sleb),
+            Command::Read(HERE, Kind::Uleb),
+            Command::Read(HERE, Kind::Sleb),
+            Command::Read(Place::At(0), Kind::Number(Width::U16, BE)),
+        ],
+        &[
+            Answer::Read(Value::Uleb(padded)),
+            Answer::Read(Value::Sleb(below)),
+            too_big(1, 0),
+            too_big(1, 0),
+            Answer::Read(Value::Unsigned(0x8000)),
+        ],
+        [0x80, 0x00, 0xff, 0x7e, 0x80],
+        4,
+    );
+    let long = [0x80u8; 10];
+    check_run(
+        &rt,
+        rt.alloc(),
+        long,
+        0,
+        &[
+            Command::Read(HERE, Kind::Uleb),
+            Command::Read(HERE, Kind::Sleb),
+        ],
+        &[
+            bad_input(10, "failed to parse"),
+            bad_input(10, "failed to parse"),
+        ],
+        long,
+        0,
+    );
+}
+
+fn arrays_wanted(alloc: Global) -> Result<[Answer; 7], AllocError> {
+    Ok([
+        Answer::Read(Value::U16x3([1, 2, 0x6100])),
+        too_big(2, 1),
+        Answer::Read(Value::Textx2(String::from_str(alloc, "a")?, String::from_str(alloc, "")?)),
+        Answer::Refused(Error::BadOffset(2)),
+        Answer::Read(Value::U8x0),
+        Answer::Refused(Error::BadOffset(8)),
+        too_big(2, 1),
+    ])
+}
+
+#[test]
+fn arrays(rt: HostRuntime) {
+    let Ok(wanted) = arrays_wanted(rt.alloc()) else {
+        return;
+    };
+    check_run(
+        &rt,
+        rt.alloc(),
+        [1, 0, 2, 0, 0, 0x61, 0],
+        0,
+        &[
+            Command::Read(HERE, Kind::U16x3(LE)),
+            Command::Read(HERE, Kind::U16x3(LE)),
+            Command::Read(Place::At(5), Kind::Textx2(StrCtx::Delimiter(NULL))),
+            Command::Read(Place::At(6), Kind::Textx2(StrCtx::Delimiter(0xff))),
+            Command::Read(HERE, Kind::U8x0(LE)),
+            Command::Read(Place::At(8), Kind::U8x0(BE)),
+            Command::Read(Place::At(4), Kind::Textx2(StrCtx::Length(2))),
+        ],
+        &wanted,
+        [1, 0, 2, 0, 0, 0x61, 0],
+        6,
+    );
+    check_run(
+        &rt,
+        rt.alloc(),
+        [0; 5],
+        0,
+        &[
+            Command::Write(HERE, Put::U16x3([258, 772, 1286], BE)),
+            Command::Write(Place::At(3), Put::Bytesx2(&[7], &[8, 9])),
+            Command::Write(HERE, Put::Bytesx2(&[5], &[6, 7])),
+        ],
+        &[too_big(2, 1), too_big(2, 1), Answer::Wrote(3)],
+        [5, 6, 7, 7, 0],
+        3,
+    );
+}
