@@ -1,30 +1,241 @@
--- Lemmas on what stands behind a verb, and on the ranges of signed numbers.
-use Rattle.std.proofs.Common.{◌≡◌, ◌≤◌, ℕ, ℤ, List, arith}
+-- Lemmas on what stands behind a first word.
+use Rattle.std.proofs.Common.{◌≡◌, ◌≢◌, ◌<◌, ◌^◌, Bor, map, ◌+◌, ◌*◌, ◌++◌, ℕ, List, [], ◌∷◌, length, take, get_or, codes, if◌then◌else◌, ◌==◌, arith, refl, sym, ap, subst, ◌∙◌, Option, Some, None, Result, Ok, Err}
+use Rattle.std.proofs.lemmas.List.{take_more}
 use Rattle.std.proofs.lemmas.Grind.{common_steps}
+use Rattle.std.specs.Option.{MatchOption, option_or}
+use Rattle.std.specs.Result.{IfOk}
+use Rattle.scroll.specs.declared.endian.Endian.{Endian}
 use Rattle.scroll.specs.declared.runner.Command.{Command}
-use Rattle.scroll.specs.declared.runner.Command.TheVariants as command
-use Rattle.scroll.specs.declared.runner.Kind.{Kind}
-use Rattle.scroll.specs.declared.runner.Place.TheVariants as place
 use Rattle.scroll.specs.declared.runner.Put.{Put}
-use Rattle.scroll_run.specs.Commands.{SpellsKind, SpellsOffset, SpellsPut, SpellsRest, SpellsSigned}
+use Rattle.scroll.specs.declared.runner.Width.{Width}
+use Rattle.scroll.specs.declared.runner.Width.TheVariants as width
+use Rattle.scroll_run.specs.Commands.{AreCommandsOf, FindsCommand, IsCommandOf, SpellsCommand, SpellsOffset, SpellsRest, verb_word}
+use Rattle.scroll_run.specs.Puts.{FindsPut, SpellBytes, SpellPutRest, SpellThree, SpellTwo, SpellsPut}
+use Rattle.scroll_run.specs.Words.{SpellsBytes, SpellsNumber, name_word, order_word, width_word}
+use Rattle.scroll_run.specs.declared.commands.CommandLine.{CommandLine}
+use Rattle.scroll_run.specs.declared.commands.Verb.{Verb}
 use Rattle.scroll_run.specs.declared.commands.Verb.TheVariants as verb
+use Rattle.scroll_run.specs.declared.words.Name.{Name}
+use Rattle.scroll_run.specs.declared.words.Name.TheVariants as name
+use Rattle.scroll_run.specs.declared.written.Written.{Written}
 
--- a number of a range is one of each wider range
-pub widen : (half most : ℕ) (word : List ℕ) (x : ℤ) → half ≤ most → SpellsSigned half word x → SpellsSigned most word x
-widen half most word x le s = grind (arith, common_steps)
+-- a word as one number
+abbrev code : List ℕ → ℕ
+code [] = 0
+code (b ∷ bs) = b + 256 * code bs
 
--- an offset and a kind stand behind `pread`
-pub behind_pread : (words : List (List ℕ)) (c : Command) → SpellsRest verb.Pread words c → (n : ℕ) × (rest : List (List ℕ)) × (what : Kind) × SpellsOffset words n rest × SpellsKind rest what
-behind_pread words (command.Read (place.At n) what) s = (n, s.0, what, s.1, s.2)
-behind_pread words (command.Read place.Cursor what) s = absurd s
-behind_pread words (command.Write at x) s = absurd s
+-- the width of a word
+abbrev width_at : ℕ → Width
+width_at k =
+    if k == code (codes "u8") then width.U8
+    else if k == code (codes "i8") then width.I8
+    else if k == code (codes "u16") then width.U16
+    else if k == code (codes "i16") then width.I16
+    else if k == code (codes "u32") then width.U32
+    else if k == code (codes "i32") then width.I32
+    else if k == code (codes "u64") then width.U64
+    else if k == code (codes "i64") then width.I64
+    else if k == code (codes "u128") then width.U128
+    else width.I128
 
--- an offset and what is written stand behind `pwrite`
-pub behind_pwrite : (words : List (List ℕ)) (c : Command) → SpellsRest verb.Pwrite words c → (n : ℕ) × (rest : List (List ℕ)) × (x : Put) × SpellsOffset words n rest × SpellsPut rest x
-behind_pwrite words (command.Write (place.At n) x) s = (n, s.0, x, s.1, s.2)
-behind_pwrite words (command.Write place.Cursor x) s = absurd s
-behind_pwrite words (command.Read at what) s = absurd s
+-- what a word names
+abbrev name_at : ℕ → Name
+name_at k =
+    if k == code (codes "str") then name.Text
+    else if k == code (codes "bytes") then name.Bytes
+    else if k == code (codes "cstr") then name.CStr
+    else if k == code (codes "cstring") then name.CString
+    else if k == code (codes "uleb") then name.Uleb
+    else if k == code (codes "sleb") then name.Sleb
+    else if k == code (codes "u8x0") then name.U8x0
+    else if k == code (codes "u16x3") then name.U16x3
+    else if k == code (codes "strx2") then name.Textx2
+    else if k == code (codes "bytesx2") then name.Bytesx2
+    else name.Number (width_at k)
 
--- what follows an offset is known by the words
-pub same_rest : (words more rest : List (List ℕ)) (m n : ℕ) → SpellsOffset words m more → SpellsOffset words n rest → rest ≡ more
-same_rest words more rest m n h s = let e = h.1 in let f = s.1 in cc
+named : (n : Name) → name_at (code (name_word n)) ≡ n
+named (name.Number width.U8) = refl
+named (name.Number width.I8) = refl
+named (name.Number width.U16) = refl
+named (name.Number width.I16) = refl
+named (name.Number width.U32) = refl
+named (name.Number width.I32) = refl
+named (name.Number width.U64) = refl
+named (name.Number width.I64) = refl
+named (name.Number width.U128) = refl
+named (name.Number width.I128) = refl
+named name.Text = refl
+named name.Bytes = refl
+named name.CStr = refl
+named name.CString = refl
+named name.Uleb = refl
+named name.Sleb = refl
+named name.U8x0 = refl
+named name.U16x3 = refl
+named name.Textx2 = refl
+named name.Bytesx2 = refl
+
+-- no two names have one word
+pub same_name : (m n : Name) → name_word m ≡ name_word n → m ≡ n
+same_name m n e = sym (named m) ∙ ap (λ w. name_at (code w)) e ∙ named n
+
+-- the verb of a word
+abbrev verb_at : ℕ → Verb
+verb_at k =
+    if k == code (codes "pread") then verb.Pread
+    else if k == code (codes "gread") then verb.Gread
+    else if k == code (codes "pwrite") then verb.Pwrite
+    else verb.Gwrite
+
+verbed : (v : Verb) → verb_at (code (verb_word v)) ≡ v
+verbed verb.Pread = refl
+verbed verb.Gread = refl
+verbed verb.Pwrite = refl
+verbed verb.Gwrite = refl
+
+-- no two verbs have one word
+same_verb : (v w : Verb) → verb_word v ≡ verb_word w → v ≡ w
+same_verb v w e = sym (verbed v) ∙ ap (λ t. verb_at (code t)) e ∙ verbed w
+
+-- lists with one first word and one rest
+heads : (texts : List (List ℕ)) (a b : List ℕ) (more rest : List (List ℕ)) → texts ≡ a ∷ more → texts ≡ b ∷ rest → b ≡ a
+heads texts a b more rest e f = cc
+
+tails : (texts : List (List ℕ)) (a b : List ℕ) (more rest : List (List ℕ)) → texts ≡ a ∷ more → texts ≡ b ∷ rest → rest ≡ more
+tails texts a b more rest e f = cc
+
+-- bytes by the one word that spells them
+pub bytes_by_word : {V E : Type 0} (items : V → List ℕ) (texts : List (List ℕ)) (word : List ℕ) (r : Result (Option V) E) → texts ≡ word ∷ []
+    → IfOk r (λ found. MatchOption found ((bytes : List ℕ) → ¬ (SpellsBytes word bytes)) (λ v. SpellsBytes word (items v)))
+    → IfOk r (λ found. MatchOption found ((bytes : List ℕ) → ¬ (SpellBytes texts bytes)) (λ v. SpellBytes texts (items v)))
+bytes_by_word items texts word (Ok (Some v)) e h = (word, e, h)
+bytes_by_word items texts word (Ok None) e h =
+    λ bytes s. h bytes (subst (λ w. SpellsBytes w bytes) (heads texts word s.0 [] [] e s.1) s.2)
+bytes_by_word items texts word (Err x) e h = tt
+
+-- what is written by its name
+pub put_by_name : {E : Type 0} (r : Result (Option Written) E) (texts : List (List ℕ)) (n : Name) (rest : List (List ℕ)) → texts ≡ name_word n ∷ rest
+    → IfOk r (FindsPut (SpellPutRest n rest)) → IfOk r (FindsPut (SpellsPut texts))
+put_by_name (Ok (Some x)) texts n rest e h = λ p is. (n, rest, e, h p is)
+put_by_name (Ok None) texts n rest e h =
+    λ p s.
+    let m = same_name s.0 n (heads texts _ _ rest s.1 e s.2) in
+    let more = tails texts (name_word n) (name_word s.0) rest s.1 e s.2 in
+    h p (subst (λ k. SpellPutRest k rest p) m (subst (λ ws. SpellPutRest s.0 ws p) more s.3))
+put_by_name (Err x) texts n rest e h = tt
+
+-- a command by its verb
+pub command_by_verb : {E : Type 0} (r : Result (Option CommandLine) E) (texts : List (List ℕ)) (v : Verb) (rest : List (List ℕ)) → texts ≡ verb_word v ∷ rest
+    → IfOk r (FindsCommand (SpellsRest v rest)) → IfOk r (FindsCommand (SpellsCommand texts))
+command_by_verb (Ok (Some x)) texts v rest e h = λ c is. (v, rest, e, h c is)
+command_by_verb (Ok None) texts v rest e h =
+    λ c s.
+    let m = same_verb s.0 v (heads texts _ _ rest s.1 e s.2) in
+    let more = tails texts (verb_word v) (verb_word s.0) rest s.1 e s.2 in
+    h c (subst (λ k. SpellsRest k rest c) m (subst (λ ws. SpellsRest s.0 ws c) more s.3))
+command_by_verb (Err x) texts v rest e h = tt
+
+-- words spell an offset in one way
+same_offset : (texts more rest : List (List ℕ)) (m n : ℕ) → SpellsOffset texts m more → SpellsOffset texts n rest → n ≡ m
+same_offset texts more rest m n h s = let e = h.1 in let f = s.1 in let x = h.2.2 in let y = s.2.2 in cc
+
+same_rest : (texts more rest : List (List ℕ)) (m n : ℕ) → SpellsOffset texts m more → SpellsOffset texts n rest → rest ≡ more
+same_rest texts more rest m n h s = let e = h.1 in let f = s.1 in cc
+
+-- a command behind an offset
+pub command_by_offset : (IsSpelled : ℕ → List (List ℕ) → Command → Type 0) (found : Option CommandLine) (texts : List (List ℕ)) (n : ℕ) (rest : List (List ℕ)) → SpellsOffset texts n rest
+    → FindsCommand (IsSpelled n rest) found
+    → FindsCommand (λ c. (offset : ℕ) × (more : List (List ℕ)) × SpellsOffset texts offset more × IsSpelled offset more c) found
+command_by_offset IsSpelled (Some x) texts n rest o h = λ c is. (n, rest, o, h c is)
+command_by_offset IsSpelled None texts n rest o h =
+    λ c s.
+    let m = same_offset texts rest s.1 n s.0 o s.2 in
+    let more = same_rest texts rest s.1 n s.0 o s.2 in
+    h c (subst (λ k. IsSpelled k rest c) m (subst (λ ws. IsSpelled s.0 ws c) more s.3))
+
+pub result_by_offset : {E : Type 0} (IsSpelled : ℕ → List (List ℕ) → Command → Type 0) (r : Result (Option CommandLine) E) (texts : List (List ℕ)) (n : ℕ) (rest : List (List ℕ)) → SpellsOffset texts n rest
+    → IfOk r (FindsCommand (IsSpelled n rest))
+    → IfOk r (FindsCommand (λ c. (offset : ℕ) × (more : List (List ℕ)) × SpellsOffset texts offset more × IsSpelled offset more c))
+result_by_offset IsSpelled (Ok found) texts n rest o h = command_by_offset IsSpelled found texts n rest o h
+result_by_offset IsSpelled (Err e) texts n rest o h = tt
+
+AreCommandsOf-more : (xs : List CommandLine) (cs : List Command) (x : CommandLine) (c : Command) → AreCommandsOf xs cs → IsCommandOf x c → AreCommandsOf (xs ++ x ∷ []) (cs ++ c ∷ [])
+AreCommandsOf-more [] [] x c h s = (s, tt)
+AreCommandsOf-more (y ∷ xs) (d ∷ cs) x c h s = (h.0, AreCommandsOf-more xs cs x c h.1 s)
+AreCommandsOf-more [] (d ∷ cs) x c h s = absurd h
+AreCommandsOf-more (y ∷ xs) [] x c h s = absurd h
+
+-- the line at i has its command too
+pub commands_next : (lines : List CommandLine) (i : ℕ) (cs : List Command) (x : CommandLine) (c : Command) → AreCommandsOf (take i lines) cs → i < length lines → x ≡ get_or lines i x → IsCommandOf x c → AreCommandsOf (take (i + 1) lines) (cs ++ c ∷ [])
+commands_next lines i cs x c h lt e s =
+    let more = take_more lines i x lt in
+    rw more (AreCommandsOf-more (take i lines) cs (get_or lines i x) c h (subst (λ y. IsCommandOf y c) e s))
+
+-- a word spells bytes in one way
+same_bytes : (word a b : List ℕ) → SpellsBytes word a → SpellsBytes word b → a ≡ b
+same_bytes word a b h s = grind (arith, common_steps)
+
+pub one_bytes : (texts : List (List ℕ)) (a b : List ℕ) → SpellBytes texts a → SpellBytes texts b → a ≡ b
+one_bytes texts a b h s = same_bytes h.0 a b h.2 (subst (λ w. SpellsBytes w b) (heads texts h.0 s.0 [] [] h.1 s.1) s.2)
+
+-- four words, by their places
+pub four_words : (words : List (Bor (List ℕ))) (d : Bor (List ℕ)) → length words ≡ 4
+    → map (λ w. w.now) words ≡ (get_or words 0 d).now ∷ (get_or words 1 d).now ∷ (get_or words 2 d).now ∷ (get_or words 3 d).now ∷ []
+four_words [] d e = absurd (omega arith)
+four_words (u ∷ []) d e = absurd (omega arith)
+four_words (u ∷ v ∷ []) d e = absurd (omega arith)
+four_words (u ∷ v ∷ w ∷ []) d e = absurd (omega arith)
+four_words (u ∷ v ∷ w ∷ x ∷ []) d e = refl
+four_words (u ∷ v ∷ w ∷ x ∷ y ∷ more) d e = absurd (omega arith)
+
+-- what each of four words spells, where they spell three numbers
+pub each_of_three : (texts : List (List ℕ)) (a b c d : List ℕ) → texts ≡ a ∷ b ∷ c ∷ d ∷ [] → (p : Put) → SpellThree texts p
+    → (order : Endian) × (x y z : ℕ) × (a ≡ order_word order) × SpellsNumber (2 ^ 16) b x × SpellsNumber (2 ^ 16) c y × SpellsNumber (2 ^ 16) d z
+each_of_three texts a b c d e p s =
+    let f = s.7 in
+    let first : s.1 ≡ b = cc in
+    let second : s.2 ≡ c = cc in
+    let third : s.3 ≡ d = cc in
+    let order : a ≡ order_word s.0 = cc in
+    (s.0, s.4, s.5, s.6, order, rw first at s.8, rw second at s.9, rw third at s.10)
+
+-- four words of which the first is that of a byte order
+pub behind_order : (texts : List (List ℕ)) (a o b c d : List ℕ) → texts ≡ a ∷ b ∷ c ∷ d ∷ [] → a ≡ o → texts ≡ o ∷ b ∷ c ∷ d ∷ []
+behind_order texts a o b c d e h = e ∙ ap (λ w. w ∷ b ∷ c ∷ d ∷ []) h
+
+-- what the first word and the rest spell, where they spell two slices
+pub each_of_two : (texts : List (List ℕ)) (word : List ℕ) (more : List (List ℕ)) → texts ≡ word ∷ more → (x y : List ℕ) → SpellTwo texts x y → SpellsBytes word x × SpellBytes more y
+each_of_two texts word more e x y s =
+    let head = heads texts word s.0 more s.1 e s.2 in
+    let tail = tails texts word s.0 more s.1 e s.2 in
+    (subst (λ w. SpellsBytes w x) head s.3, subst (λ ws. SpellBytes ws y) tail s.4)
+
+-- what a word names, by what it is found to name
+pub named_by : (word : List ℕ) (a b c d e f : Option Name)
+    → MatchOption a ((w : Width) → ¬ (word ≡ width_word w)) (λ n. word ≡ name_word n)
+    → MatchOption b ((word ≢ codes "str") × (word ≢ codes "strx2")) (λ n. word ≡ name_word n)
+    → MatchOption c ((word ≢ codes "bytes") × (word ≢ codes "bytesx2")) (λ n. word ≡ name_word n)
+    → MatchOption d ((word ≢ codes "cstr") × (word ≢ codes "cstring")) (λ n. word ≡ name_word n)
+    → MatchOption e ((word ≢ codes "uleb") × (word ≢ codes "sleb")) (λ n. word ≡ name_word n)
+    → MatchOption f ((word ≢ codes "u8x0") × (word ≢ codes "u16x3")) (λ n. word ≡ name_word n)
+    → MatchOption (option_or (option_or (option_or (option_or (option_or a b) c) d) e) f) ((n : Name) → ¬ (word ≡ name_word n)) (λ n. word ≡ name_word n)
+named_by word (Some n) b c d e f p q r s t u = p
+named_by word None (Some n) c d e f p q r s t u = q
+named_by word None None (Some n) d e f p q r s t u = r
+named_by word None None None (Some n) e f p q r s t u = s
+named_by word None None None None (Some n) f p q r s t u = t
+named_by word None None None None None (Some n) p q r s t u = u
+named_by word None None None None None None p q r s t u = λ n. none n
+  where
+    none : (n : Name) → ¬ (word ≡ name_word n)
+    none (name.Number w) = p w
+    none name.Text = q.0
+    none name.Textx2 = q.1
+    none name.Bytes = r.0
+    none name.Bytesx2 = r.1
+    none name.CStr = s.0
+    none name.CString = s.1
+    none name.Uleb = t.0
+    none name.Sleb = t.1
+    none name.U8x0 = u.0
+    none name.U16x3 = u.1

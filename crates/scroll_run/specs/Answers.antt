@@ -1,5 +1,5 @@
 -- What a session prints.
-use Rattle.std.specs.Prelude.{◌≡◌, ◌<◌, ◌≤◌, ◌++◌, ◌==◌, ◌⊎◌, ℕ, List, [], ◌∷◌, length, map, codes, if◌then◌else◌, Option, IfSome}
+use Rattle.std.specs.Prelude.{◌≡◌, ◌<◌, ◌≤◌, ◌++◌, ◌==◌, ◌⊎◌, ℕ, List, [], ◌∷◌, length, codes, slice_index, string_bytes, if◌then◌else◌, Option, IfSome}
 use Rattle.std.specs.Fmt.{decimal, signed_decimal}
 use Rattle.std.specs.Io.KnownBytes.{Consumes, IsAtEnd, Keeps}
 use Rattle.hex.specs.Hex.{encode_lower}
@@ -8,8 +8,10 @@ use Rattle.scroll.specs.Runs.{IsRun}
 use Rattle.scroll.specs.declared.error.Error.{Error}
 use Rattle.scroll.specs.declared.runner.Answer.{Answer}
 use Rattle.scroll.specs.declared.runner.Answer.TheVariants as answer
+use Rattle.scroll.specs.declared.runner.Command.{Command}
+use Rattle.scroll.specs.declared.runner.Value.{Value}
 use Rattle.scroll.specs.declared.runner.Value.TheVariants as value
-use Rattle.scroll_run.specs.Commands.{command_of}
+use Rattle.scroll_run.specs.Commands.{AreCommandsOf}
 use Rattle.scroll_run.specs.Lines.{lines_of, SpellScript, IsFirstBadLine}
 use Rattle.scroll_run.specs.Output.{AppendsFront}
 use Rattle.scroll_run.specs.declared.lines.Script.{Script}
@@ -22,10 +24,25 @@ hex_text bytes = if length bytes == 0 then codes "-" else encode_lower bytes
 abbrev pub Says : Error → List ℕ → Type 0
 Says e text = IfSome (line_of e) (λ line. text ≡ line)
 
+-- the line of a value
+abbrev pub value_line : Value → List ℕ
+value_line (value.Unsigned x) = codes "number " ++ decimal x ++ codes "\n"
+value_line (value.Signed x) = codes "number " ++ signed_decimal x ++ codes "\n"
+value_line (value.Text text) = codes "text " ++ hex_text (string_bytes text) ++ codes "\n"
+value_line (value.Bytes bytes) = codes "bytes " ++ hex_text bytes.items ++ codes "\n"
+value_line (value.CStr text) = codes "cstr " ++ hex_text text.items ++ codes "\n"
+value_line (value.Uleb x) = codes "uleb " ++ decimal x.value ++ codes " " ++ decimal x.count ++ codes "\n"
+value_line (value.Sleb x) = codes "sleb " ++ signed_decimal x.value ++ codes " " ++ decimal x.count ++ codes "\n"
+value_line value.U8x0 = codes "numbers\n"
+value_line (value.U16x3 xs) =
+    codes "numbers " ++ decimal (slice_index xs 0) ++ codes " " ++ decimal (slice_index xs 1) ++ codes " "
+    ++ decimal (slice_index xs 2) ++ codes "\n"
+value_line (value.Textx2 first second) =
+    codes "texts " ++ hex_text (string_bytes first) ++ codes " " ++ hex_text (string_bytes second) ++ codes "\n"
+
 -- the line of an answer
 abbrev pub IsAnswerLine : Answer → List ℕ → Type 0
-IsAnswerLine (answer.Read (value.Unsigned x)) line = line ≡ codes "number " ++ decimal x ++ codes "\n"
-IsAnswerLine (answer.Read (value.Signed x)) line = line ≡ codes "number " ++ signed_decimal x ++ codes "\n"
+IsAnswerLine (answer.Read x) line = line ≡ value_line x
 IsAnswerLine (answer.Wrote n) line = line ≡ codes "wrote " ++ decimal n ++ codes "\n"
 IsAnswerLine (answer.Refused e) line = (text : List ℕ) × Says e text × (line ≡ codes "error " ++ text ++ codes "\n")
 
@@ -40,13 +57,19 @@ pub record Prints (answers : List Answer) (buffer : List ℕ) (cursor : ℕ) (te
   pub lines : AreAnswerLines answers front
   pub whole : text ≡ front ++ codes "buffer " ++ hex_text buffer ++ codes "\n" ++ codes "cursor " ++ decimal cursor ++ codes "\n"
 
--- a script is run, and its answers are printed
-pub record RunsScript (script : Script) (text : List ℕ) : Type 0 where
+-- commands are run over a buffer from a cursor, and their answers are printed
+pub record RunsCommands (first : List ℕ) (from : ℕ) (commands : List Command) (text : List ℕ) : Type 0 where
   pub answers : List Answer
   pub buffer : List ℕ
   pub cursor : ℕ
-  pub ran : IsRun script.buffer.items buffer script.cursor cursor (map command_of script.commands.items) [] answers
+  pub ran : IsRun first buffer from cursor commands [] answers
   pub prints : Prints answers buffer cursor text
+
+-- the commands of a script are run, and their answers are printed
+pub record RunsScript (script : Script) (text : List ℕ) : Type 0 where
+  pub commands : List Command
+  pub held : AreCommandsOf script.commands.items commands
+  pub runs : RunsCommands script.buffer.items script.cursor commands text
 
 -- the input is over the limit
 pub record IsTooLong (input text : List ℕ) (status : ℕ) : Type 0 where
@@ -65,9 +88,11 @@ pub record IsBadInput (input text : List ℕ) (status : ℕ) : Type 0 where
 -- the input spells a script, which is run
 pub record IsAnswered (input text : List ℕ) (status : ℕ) : Type 0 where
   pub short : length input ≤ 65536
-  pub script : Script
-  pub spelled : SpellScript (lines_of input) script
-  pub runs : RunsScript script text
+  pub buffer : List ℕ
+  pub cursor : ℕ
+  pub commands : List Command
+  pub spelled : SpellScript (lines_of input) buffer cursor commands
+  pub runs : RunsCommands buffer cursor commands text
   pub status_is : status ≡ 0
 
 -- what an input is answered with, while memory lasts

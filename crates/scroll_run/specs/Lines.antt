@@ -2,10 +2,9 @@
 use Rattle.std.specs.Prelude.{◌≡◌, ◌<◌, ◌+◌, ◌-◌, ◌^◌, ◌++◌, ◌==◌, ⊤, ℕ, zero, suc, List, [], ◌∷◌, length, slice_index, slice_index_or, take, codes, if◌then◌else◌}
 use Rattle.std.specs.List.{slice_split}
 use Rattle.scroll.specs.declared.runner.Command.{Command}
-use Rattle.scroll_run.specs.Commands.{SpellsCommand, SpellsNumber, command_of}
-use Rattle.scroll_run.specs.Words.{SpellsBytes, words_of}
+use Rattle.scroll_run.specs.Commands.{IsCommandOf, SpellsCommand}
+use Rattle.scroll_run.specs.Words.{SpellsBytes, SpellsNumber, words_of}
 use Rattle.scroll_run.specs.declared.commands.CommandLine.{CommandLine}
-use Rattle.scroll_run.specs.declared.lines.Script.{Script}
 use Rattle.scroll_run.specs.declared.lines.Stop.{Stop}
 use Rattle.scroll_run.specs.declared.lines.Stop.TheVariants.{BadLine, NoMemory}
 
@@ -26,21 +25,29 @@ abbrev pub SpellsCursor : List ℕ → ℕ → Type 0
 SpellsCursor line n = (word : List ℕ) × (line ≡ codes "cursor " ++ word) × SpellsNumber (2 ^ 64) word n
 
 -- lines spell commands, one each
-abbrev pub SpellCommands : List (List ℕ) → List CommandLine → Type 0
+abbrev pub SpellCommands : List (List ℕ) → List Command → Type 0
 SpellCommands [] [] = ⊤
-SpellCommands (line ∷ lines) (c ∷ cs) = SpellsCommand (words_of line) (command_of c) × SpellCommands lines cs
+SpellCommands (line ∷ lines) (c ∷ cs) = SpellsCommand (words_of line) c × SpellCommands lines cs
 SpellCommands [] (c ∷ cs) = ⊥
 SpellCommands (line ∷ lines) [] = ⊥
 
+-- lines spell what is held of them, one each: whatever command borrows from it is spelled
+abbrev pub SpellHeld : List (List ℕ) → List CommandLine → Type 0
+SpellHeld [] [] = ⊤
+SpellHeld (line ∷ lines) (x ∷ xs) =
+    ((c : Command) → IsCommandOf x c → SpellsCommand (words_of line) c) × SpellHeld lines xs
+SpellHeld [] (x ∷ xs) = ⊥
+SpellHeld (line ∷ lines) [] = ⊥
+
 -- lines spell a script: a buffer, a cursor and commands
-pub record SpellScript (lines : List (List ℕ)) (script : Script) : Type 0 where
+pub record SpellScript (lines : List (List ℕ)) (buffer : List ℕ) (cursor : ℕ) (commands : List Command) : Type 0 where
   pub first : List ℕ
   pub second : List ℕ
   pub rest : List (List ℕ)
   pub lines_are : lines ≡ first ∷ second ∷ rest
-  pub buffer : SpellsBuffer first script.buffer.items
-  pub cursor : SpellsCursor second script.cursor
-  pub commands : SpellCommands rest script.commands.items
+  pub buffer_is : SpellsBuffer first buffer
+  pub cursor_is : SpellsCursor second cursor
+  pub commands_are : SpellCommands rest commands
 
 -- a line spells some command
 abbrev pub IsCommand : List ℕ → Type 0

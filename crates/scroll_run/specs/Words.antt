@@ -1,19 +1,37 @@
 -- What the words of a line spell.
-use Rattle.std.specs.Prelude.{◌≡◌, ◌<◌, ◌⊎◌, ℕ, List, [], length, Ok, codes, ◌==◌}
+use Rattle.std.specs.Prelude.{◌≡◌, ◌<◌, ◌+◌, ◌++◌, ◌⊎◌, ℕ, ℤ, pos, neg_ℤ, List, [], ◌∷◌, length, Ok, codes, ◌==◌}
 use Rattle.std.specs.List.{slice_split}
-use Rattle.hex.specs.Hex.{decode_of}
+use Rattle.std.specs.Str.Parse.{IsNumeral, digits_value}
+use Rattle.hex.specs.Hex.{decode_of, decode_sized}
 use Rattle.scroll.specs.declared.endian.Endian.{Endian}
 use Rattle.scroll.specs.declared.endian.Endian.TheVariants.{Little, Big}
 use Rattle.scroll.specs.declared.runner.Width.{Width}
 use Rattle.scroll.specs.declared.runner.Width.TheVariants as width
+use Rattle.scroll_run.specs.declared.words.Name.{Name}
+use Rattle.scroll_run.specs.declared.words.Name.TheVariants as name
 
 -- the words of a line: what stands before, between and after its spaces
 abbrev pub words_of : List ℕ → List (List ℕ)
 words_of line = slice_split (λ b. b == 32) line
 
+-- a word of digits spells their value, where it is below the limit
+abbrev pub SpellsNumber : ℕ → List ℕ → ℕ → Type 0
+SpellsNumber limit word x = IsNumeral 10 word × (digits_value 10 word < limit) × (x ≡ digits_value 10 word)
+
+-- a word spells a signed number: digits below half spell their value, and a minus and digits up to half the value below
+-- zero
+abbrev pub SpellsSigned : ℕ → List ℕ → ℤ → Type 0
+SpellsSigned half word x =
+    ((n : ℕ) × SpellsNumber half word n × (x ≡ pos n))
+    ⊎ ((digits : List ℕ) × (n : ℕ) × (word ≡ codes "-" ++ digits) × SpellsNumber (half + 1) digits n × (x ≡ neg_ℤ (pos n)))
+
 -- a word spells bytes: none by `-`, or each by two hexadecimal digits of either case
 abbrev pub SpellsBytes : List ℕ → List ℕ → Type 0
 SpellsBytes word bytes = ((word ≡ codes "-") × (bytes ≡ [])) ⊎ ((0 < length word) × (decode_of word ≡ Ok bytes))
+
+-- a word spells one byte by two hexadecimal digits of either case
+abbrev pub SpellsByte : List ℕ → ℕ → Type 0
+SpellsByte word byte = decode_sized word 1 ≡ Ok (byte ∷ [])
 
 -- the word of a type of number
 abbrev pub width_word : Width → List ℕ
@@ -32,3 +50,17 @@ width_word width.I128 = codes "i128"
 abbrev pub order_word : Endian → List ℕ
 order_word Little = codes "le"
 order_word Big = codes "be"
+
+-- the word of what is read or written
+abbrev pub name_word : Name → List ℕ
+name_word (name.Number w) = width_word w
+name_word name.Text = codes "str"
+name_word name.Bytes = codes "bytes"
+name_word name.CStr = codes "cstr"
+name_word name.CString = codes "cstring"
+name_word name.Uleb = codes "uleb"
+name_word name.Sleb = codes "sleb"
+name_word name.U8x0 = codes "u8x0"
+name_word name.U16x3 = codes "u16x3"
+name_word name.Textx2 = codes "strx2"
+name_word name.Bytesx2 = codes "bytesx2"

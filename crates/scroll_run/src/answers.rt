@@ -1,6 +1,6 @@
 //! The lines of the output.
-ghost use Rattle.std.specs.Prelude.{◌≡◌, ◌++◌, ℕ, List, IfOk, OnOk, string_bytes};
-ghost use Rattle.scroll_run.specs.Answers.{IsAnswerLine, Prints, hex_text};
+ghost use Rattle.std.specs.Prelude.{◌≡◌, ◌++◌, ℕ, List, codes, IfOk, OnOk, string_bytes};
+ghost use Rattle.scroll_run.specs.Answers.{IsAnswerLine, Prints, hex_text, value_line};
 
 use scroll::runner::{Answer, Value};
 use std::alloc::{AllocError, Global};
@@ -29,12 +29,53 @@ fn print_answer(alloc: Global, text: &mut String, answer: &Answer) -> Result<(),
     ensures { OnOk result ((line : List ℕ) × (string_bytes text.new ≡ string_bytes text.old ++ line) × IsAnswerLine answer.now line) }
 {
     match answer {
-        Answer::Read(Value::Unsigned(number)) => writeln!(text, "number {number}"),
-        Answer::Read(Value::Signed(number)) => writeln!(text, "number {number}"),
+        Answer::Read(value) => print_value(alloc, text, value),
         Answer::Wrote(size) => writeln!(text, "wrote {size}"),
         Answer::Refused(error) => {
             let says = format!(in alloc; "{error}")?;
             writeln!(text, "error {says}")
+        }
+    }
+}
+
+// Appends the line of a value.
+fn print_value(alloc: Global, text: &mut String, value: &Value) -> Result<(), AllocError>
+    ensures { OnOk result (string_bytes text.new ≡ string_bytes text.old ++ value_line value.now) }
+{
+    match value {
+        Value::Unsigned(number) => writeln!(text, "number {number}"),
+        Value::Signed(number) => writeln!(text, "number {number}"),
+        Value::Text(found) => {
+            let bytes = print_bytes(alloc, found.as_bytes())?;
+            writeln!(text, "text {bytes}")
+        }
+        Value::Bytes(found) => {
+            let bytes = print_bytes(alloc, found)?;
+            writeln!(text, "bytes {bytes}")
+        }
+        Value::CStr(found) => {
+            let bytes = print_bytes(alloc, found)?;
+            writeln!(text, "cstr {bytes}")
+        }
+        Value::Uleb(found) => {
+            let number = u64::from(*found);
+            let size = found.size();
+            writeln!(text, "uleb {number} {size}")
+        }
+        Value::Sleb(found) => {
+            let number = i64::from(*found);
+            let size = found.size();
+            writeln!(text, "sleb {number} {size}")
+        }
+        Value::U8x0 => writeln!(text, "numbers"),
+        Value::U16x3(numbers) => {
+            let [first, second, third] = numbers;
+            writeln!(text, "numbers {first} {second} {third}")
+        }
+        Value::Textx2(first, second) => {
+            let first = print_bytes(alloc, first.as_bytes())?;
+            let second = print_bytes(alloc, second.as_bytes())?;
+            writeln!(text, "texts {first} {second}")
         }
     }
 }

@@ -1,6 +1,8 @@
 //! The lines of an input.
 ghost use Rattle.std.specs.Prelude.{◌≡◌, ℕ, List, IfOk, MatchOption, MatchResult, map};
-ghost use Rattle.scroll_run.specs.Lines.{lines_of, without_feed, SpellScript, SpellsBuffer, SpellsCursor, SpellCommands, Stops, StopsCommands};
+ghost use Rattle.scroll.specs.declared.runner.Command.{Command};
+ghost use Rattle.scroll_run.specs.Commands.{AreCommandsOf};
+ghost use Rattle.scroll_run.specs.Lines.{lines_of, without_feed, SpellHeld, SpellScript, SpellsBuffer, SpellsCursor, Stops, StopsCommands};
 ghost use Rattle.scroll_run.specs.declared.lines.Stop.TheVariants.{NoMemory};
 
 use crate::commands::{CommandLine, parse_command};
@@ -45,7 +47,7 @@ pub struct Script {
 
 /// What the lines of an input say, each up to its line feed, which the last one need not have.
 pub fn parse_script(alloc: Global, input: &[u8]) -> Result<Script, Stop>
-    ensures { MatchResult result (SpellScript (lines_of input.now)) (Stops (lines_of input.now)) }
+    ensures { MatchResult result (λ script. (commands : List Command) → AreCommandsOf script.commands.items commands → SpellScript (lines_of input.now) script.buffer.items script.cursor commands) (Stops (lines_of input.now)) }
 {
     let lines = split(alloc, without_last_feed(input), b'\n')?;
     parse_lines(alloc, &lines)
@@ -63,7 +65,7 @@ fn without_last_feed(input: &[u8]) -> &[u8]
 
 // What lines say.
 fn parse_lines(alloc: Global, lines: &[&[u8]]) -> Result<Script, Stop>
-    ensures { let texts = map (λ line. line.now) lines.now in MatchResult result (SpellScript texts) (Stops texts) }
+    ensures { let texts = map (λ line. line.now) lines.now in MatchResult result (λ script. (commands : List Command) → AreCommandsOf script.commands.items commands → SpellScript texts script.buffer.items script.cursor commands) (Stops texts) }
 {
     let Some((first, rest)) = lines.split_first() else {
         return Err(Stop::BadLine(1));
@@ -104,7 +106,7 @@ fn parse_cursor(line: &[u8]) -> Option<usize>
 
 // The commands of lines that begin at the third line.
 fn parse_commands(alloc: Global, lines: &[&[u8]]) -> Result<Vec<CommandLine>, Stop>
-    ensures { let texts = map (λ line. line.now) lines.now in MatchResult result (λ commands. SpellCommands texts commands.items) (StopsCommands texts) }
+    ensures { let texts = map (λ line. line.now) lines.now in MatchResult result (λ held. SpellHeld texts held.items) (StopsCommands texts) }
 {
     let mut commands = Vec::new(alloc);
     for line in lines {

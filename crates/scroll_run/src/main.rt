@@ -7,12 +7,14 @@
 mod answers;
 mod commands;
 mod input;
+mod kinds;
 mod lines;
 mod output;
 pub mod session;
 #[cfg(test)]
 mod tests;
 mod words;
+mod written;
 
 use std::process::ExitCode;
 

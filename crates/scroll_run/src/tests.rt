@@ -1,5 +1,6 @@
 // Whole sessions.
 mod cursor;
+mod kinds;
 mod numbers;
 mod sessions;
 mod streams;

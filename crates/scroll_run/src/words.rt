@@ -1,17 +1,44 @@
 //! Lines and words, and what a word spells.
-ghost use Rattle.std.specs.Prelude.{◌≡◌, ◌<◌, ◌^◌, IfOk, MatchOption, SomeIff, ℕ, ℤ, List, ◌==◌, map};
+ghost use Rattle.std.specs.Prelude.{◌≡◌, ◌≢◌, codes, ◌<◌, ◌^◌, IfOk, MatchOption, SomeIff, ℕ, ℤ, List, ◌==◌, map};
 ghost use Rattle.std.specs.List.{slice_split};
 ghost use Rattle.std.specs.Str.Parse.{IsNumeral, digits_value};
 ghost use Rattle.scroll.specs.declared.endian.Endian.{Endian};
 ghost use Rattle.scroll.specs.declared.runner.Width.{Width};
-ghost use Rattle.scroll_run.specs.Commands.{SpellsSigned};
-ghost use Rattle.scroll_run.specs.Words.{SpellsBytes, width_word, order_word};
+ghost use Rattle.scroll_run.specs.Words.{SpellsByte, SpellsBytes, SpellsSigned, name_word, order_word, width_word};
+ghost use Rattle.scroll_run.specs.declared.words.Name.{Name};
 
-use hex::FromHexError;
+use hex::{FromHex, FromHexError};
 use scroll::Endian;
 use scroll::runner::Width;
 use std::alloc::{AllocError, Global};
 use std::str;
+
+/// What is read or written, as a word names it.
+#[derive(Clone, Copy)]
+pub enum Name {
+    /// A number of a type.
+    Number(Width),
+    /// A text.
+    Text,
+    /// A slice of bytes.
+    Bytes,
+    /// A C string, which is borrowed where it is read.
+    CStr,
+    /// A C string that owns its memory.
+    CString,
+    /// An unsigned number in LEB128.
+    Uleb,
+    /// A signed number in LEB128.
+    Sleb,
+    /// An array of no `u8`.
+    U8x0,
+    /// An array of three `u16`.
+    U16x3,
+    /// An array of two texts.
+    Textx2,
+    /// An array of two slices of bytes.
+    Bytesx2,
+}
 
 /// The parts of a text before, between and after its separators.
 pub fn split(alloc: Global, text: &[u8], separator: u8) -> Result<Vec<&[u8]>, AllocError>
@@ -69,6 +96,88 @@ pub fn parse_bytes(alloc: Global, word: &[u8]) -> Result<Option<Vec<u8>>, AllocE
         Ok(bytes) => Ok(Some(bytes)),
         Err(FromHexError::OutOfMemory) => Err(AllocError),
         Err(_) => Ok(None),
+    }
+}
+
+/// The byte that two hexadecimal digits of either case spell.
+pub fn parse_byte(word: &[u8]) -> Option<u8>
+    ensures { MatchOption result ((byte : ℕ) → ¬ (SpellsByte word.now byte)) (SpellsByte word.now) }
+{
+    let bytes = <[u8; 1] as FromHex>::from_hex(word).ok()?;
+    Some(bytes[0])
+}
+
+/// What a word names.
+pub fn parse_name(word: &[u8]) -> Option<Name>
+    ensures { MatchOption result ((name : Name) → ¬ (word.now ≡ name_word name)) (λ name. word.now ≡ name_word name) }
+{
+    let number = parse_number_name(word);
+    let texts = number.or(parse_text_name(word));
+    let slices = texts.or(parse_slice_name(word));
+    let c_strings = slices.or(parse_c_string_name(word));
+    let leb128 = c_strings.or(parse_leb128_name(word));
+    leb128.or(parse_array_name(word))
+}
+
+// A number of a type, where a word names one.
+fn parse_number_name(word: &[u8]) -> Option<Name>
+    ensures { MatchOption result ((width : Width) → ¬ (word.now ≡ width_word width)) (λ name. word.now ≡ name_word name) }
+{
+    Some(Name::Number(parse_width(word)?))
+}
+
+// A text or two, where a word names them.
+fn parse_text_name(word: &[u8]) -> Option<Name>
+    ensures { MatchOption result ((word.now ≢ codes "str") × (word.now ≢ codes "strx2")) (λ name. word.now ≡ name_word name) }
+{
+    match word {
+        b"str" => Some(Name::Text),
+        b"strx2" => Some(Name::Textx2),
+        _ => None,
+    }
+}
+
+// A slice or two, where a word names them.
+fn parse_slice_name(word: &[u8]) -> Option<Name>
+    ensures { MatchOption result ((word.now ≢ codes "bytes") × (word.now ≢ codes "bytesx2")) (λ name. word.now ≡ name_word name) }
+{
+    match word {
+        b"bytes" => Some(Name::Bytes),
+        b"bytesx2" => Some(Name::Bytesx2),
+        _ => None,
+    }
+}
+
+// A C string, where a word names one.
+fn parse_c_string_name(word: &[u8]) -> Option<Name>
+    ensures { MatchOption result ((word.now ≢ codes "cstr") × (word.now ≢ codes "cstring")) (λ name. word.now ≡ name_word name) }
+{
+    match word {
+        b"cstr" => Some(Name::CStr),
+        b"cstring" => Some(Name::CString),
+        _ => None,
+    }
+}
+
+// A number in LEB128, where a word names one.
+fn parse_leb128_name(word: &[u8]) -> Option<Name>
+    ensures { MatchOption result ((word.now ≢ codes "uleb") × (word.now ≢ codes "sleb")) (λ name. word.now ≡ name_word name) }
+{
+    match word {
+        b"uleb" => Some(Name::Uleb),
+        b"sleb" => Some(Name::Sleb),
+        _ => None,
+    }
+}
+
+// An array of numbers, where a word names one.
+fn parse_array_name(word: &[u8]) -> Option<Name>
+    ensures { MatchOption result ((word.now ≢ codes "u8x0") × (word.now ≢ codes "u16x3")) (λ name. word.now ≡ name_word name) }
+{
+    match word {
+        b"u8x0" => Some(Name::U8x0),
+        b"u16x3" => Some(Name::U16x3),
+        _ => None,
     }
 }
 

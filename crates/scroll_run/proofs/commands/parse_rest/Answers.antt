@@ -1,20 +1,24 @@
-use Rattle.scroll_run.proofs.CommandLemmas.{behind_pread, behind_pwrite, same_rest}
+use Rattle.scroll.specs.declared.runner.Place.TheVariants as place
+use Rattle.scroll_run.specs.Commands.{SpellsRead, SpellsWrite}
+use Rattle.scroll_run.proofs.CommandLemmas.{command_by_offset, result_by_offset}
 use Rattle.scroll_run.proofs.commands.parse_rest.Goals as goal
 
-pub returns-in_err-offset-in-Pread : goal.returns-in_err-offset-in-Pread
-returns-in_err-offset-in-Pread c =
-    rw (c.from_residual.ensures, c.in-Pread.is)
-    (λ k s. let t = behind_pread _ k s in c.in_err-offset-in-Pread.ensures t.0 t.1 t.3)
+pub returns-in-Some : goal.returns-in-Some
+returns-in-Some c =
+    rw c.in-Pread.is (command_by_offset (λ n. SpellsRead (place.At n)) c.parse_read.result _ _ _ c.in-Some.ensures c.parse_read.ensures)
 
-pub returns-in_err-offset-in-Pwrite : goal.returns-in_err-offset-in-Pwrite
-returns-in_err-offset-in-Pwrite c =
-    rw (c.from_residual-in_err-offset-in-Pwrite.ensures, c.in-Pwrite.is)
-    (λ k s. let t = behind_pwrite _ k s in c.in_err-offset-in-Pwrite.ensures t.0 t.1 t.3)
+pub returns-in-None : goal.returns-in-None
+returns-in-None c = rw c.in-Pread.is (λ k s. c.in-None.ensures s.0 s.1 s.2)
 
-pub returns-in_err-parse_written-in-Pwrite : goal.returns-in_err-parse_written-in-Pwrite
-returns-in_err-parse_written-in-Pwrite c =
-    rw (c.from_residual-in_err-parse_written-in-Pwrite.ensures, c.in-Pwrite.is)
-    (λ k s.
-    let t = behind_pwrite _ k s in
-    let rest = same_rest _ _ _ _ _ c.in_ok-offset-in-Pwrite.ensures t.3 in
-    c.in_err-parse_written-in-Pwrite.ensures t.2 (rw rest at t.4))
+pub returns-in-Gread : goal.returns-in-Gread
+returns-in-Gread c = rw c.in-Gread.is c.parse_read-in-Gread.ensures
+
+pub returns-in-Some-parse_offset : goal.returns-in-Some-parse_offset
+returns-in-Some-parse_offset c =
+    rw c.in-Pwrite.is (result_by_offset (λ n. SpellsWrite (place.At n)) c.parse_write.result _ _ _ c.in-Some-parse_offset.ensures c.parse_write.ensures)
+
+pub returns-in-None-parse_offset : goal.returns-in-None-parse_offset
+returns-in-None-parse_offset c = rw c.in-Pwrite.is (λ k s. c.in-None-parse_offset.ensures s.0 s.1 s.2)
+
+pub returns-in-Gwrite : goal.returns-in-Gwrite
+returns-in-Gwrite c = rw c.in-Gwrite.is c.parse_write-in-Gwrite.ensures

@@ -1,5 +1,5 @@
 use Rattle.std.proofs.Common.{◌+◌, rules}
-use Rattle.scroll_run.proofs.LineLemmas.{stops_here, spells_next}
+use Rattle.scroll_run.proofs.LineLemmas.{stops_here, held_next}
 use Rattle.scroll_run.proofs.lines.parse_commands.Goals as goal
 
 pub returns-in-None : goal.returns-in-None
@@ -10,4 +10,4 @@ returns-in-None c =
 pub loop-line-preserved : goal.loop-line-preserved
 loop-line-preserved c =
     let some = rw c.in-Some.is at c.in_ok-command.ensures in
-    rw c.in_ok-push-in-Some.ensures.items (spells_next c.args.lines.now _ c.loop-line.commands.items c.loop-line.line-index c.in-Some.command c.loop-line.invariant (search rules) some)
+    rw c.in_ok-push-in-Some.ensures.items (held_next c.args.lines.now _ c.loop-line.commands.items c.loop-line.line-index c.in-Some.command c.loop-line.invariant (search rules) some)

@@ -1,6 +1,6 @@
 use Rattle.std.proofs.Common.{◌∷◌, map, ap, ◌∙◌}
 use Rattle.std.proofs.lemmas.Result.{err_from_is_err_and}
-use Rattle.scroll_run.proofs.LineLemmas.{first_bad, second_bad, stops_lines}
+use Rattle.scroll_run.proofs.LineLemmas.{SpellHeld-commands, first_bad, second_bad, stops_lines}
 use Rattle.scroll_run.proofs.lines.parse_lines.Goals as goal
 
 pub returns-in_default-2 : goal.returns-in_default-2
@@ -17,3 +17,17 @@ returns-in_err-commands c =
     let p = err_from_is_err_and c.from_residual-in_err-commands.result c.from_residual-in_err-commands.ensures.1 in
     let both = c.in-Some.ensures.cases.0 ∙ ap (λ rest. c.in-Some.first.now ∷ rest) c.in-Some-split_first.ensures.cases.0 in
     rw (p.1, p.2) (stops_lines _ _ _ _ _ _ _ (ap (map (λ line. line.now)) both) (rw c.in-Some-2.is at c.in_ok-buffer.ensures) c.in-Some-parse_cursor.ensures c.in_err-commands.ensures)
+
+pub returns : goal.returns
+returns c =
+    let both = c.in-Some.ensures.cases.0 ∙ ap (λ rest. c.in-Some.first.now ∷ rest) c.in-Some-split_first.ensures.cases.0 in
+    λ commands held.
+    record {
+      first = _;
+      second = _;
+      rest = _;
+      lines_are = ap (map (λ line. line.now)) both;
+      buffer_is = rw c.in-Some-2.is at c.in_ok-buffer.ensures;
+      cursor_is = c.in-Some-parse_cursor.ensures;
+      commands_are = SpellHeld-commands _ _ commands c.in_ok-commands.ensures held;
+    }

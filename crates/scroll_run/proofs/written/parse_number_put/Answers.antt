@@ -1,6 +1,6 @@
 use Rattle.std.proofs.Common.{◌^◌, arith}
-use Rattle.scroll_run.proofs.CommandLemmas.{widen}
-use Rattle.scroll_run.proofs.commands.parse_number_put.Goals as goal
+use Rattle.scroll_run.proofs.NumberLemmas.{widen}
+use Rattle.scroll_run.proofs.written.parse_number_put.Goals as goal
 
 pub returns-in_err-parse_signed-in-I8 : goal.returns-in_err-parse_signed-in-I8
 returns-in_err-parse_signed-in-I8 c =

@@ -1,0 +1,90 @@
+-- What is written, as words spell it.
+use Rattle.std.specs.Prelude.{◌≡◌, ◌^◌, ℕ, ℤ, List, [], ◌∷◌, length, string_bytes, IsUtf8, Option, None, Some}
+use Rattle.std.specs.Borrow.{Bor}
+use Rattle.scroll.specs.CStringTexts.{c_str_text, c_string_text}
+use Rattle.scroll.specs.Texts.{first_place}
+use Rattle.scroll.specs.declared.cstr.CStr.{CStr}
+use Rattle.scroll.specs.declared.endian.Endian.{Endian}
+use Rattle.scroll.specs.declared.runner.Put.{Put}
+use Rattle.scroll.specs.declared.runner.Put.TheVariants as put
+use Rattle.scroll.specs.declared.runner.Width.{Width}
+use Rattle.scroll.specs.declared.runner.Width.TheVariants as width
+use Rattle.scroll_run.specs.Words.{SpellsBytes, SpellsNumber, SpellsSigned, name_word, order_word}
+use Rattle.scroll_run.specs.declared.words.Name.{Name}
+use Rattle.scroll_run.specs.declared.words.Name.TheVariants as name
+use Rattle.scroll_run.specs.declared.written.Written.{Written}
+use Rattle.scroll_run.specs.declared.written.Written.TheVariants as written
+
+-- a word spells a number in the range of its type, to be written in a byte order
+abbrev pub SpellsValue : Width → Endian → List ℕ → Put → Type 0
+SpellsValue width.U8 order word p = (x : ℕ) × SpellsNumber (2 ^ 8) word x × (p ≡ put.U8 x order)
+SpellsValue width.I8 order word p = (x : ℤ) × SpellsSigned (2 ^ 7) word x × (p ≡ put.I8 x order)
+SpellsValue width.U16 order word p = (x : ℕ) × SpellsNumber (2 ^ 16) word x × (p ≡ put.U16 x order)
+SpellsValue width.I16 order word p = (x : ℤ) × SpellsSigned (2 ^ 15) word x × (p ≡ put.I16 x order)
+SpellsValue width.U32 order word p = (x : ℕ) × SpellsNumber (2 ^ 32) word x × (p ≡ put.U32 x order)
+SpellsValue width.I32 order word p = (x : ℤ) × SpellsSigned (2 ^ 31) word x × (p ≡ put.I32 x order)
+SpellsValue width.U64 order word p = (x : ℕ) × SpellsNumber (2 ^ 64) word x × (p ≡ put.U64 x order)
+SpellsValue width.I64 order word p = (x : ℤ) × SpellsSigned (2 ^ 63) word x × (p ≡ put.I64 x order)
+SpellsValue width.U128 order word p = (x : ℕ) × SpellsNumber (2 ^ 128) word x × (p ≡ put.U128 x order)
+SpellsValue width.I128 order word p = (x : ℤ) × SpellsSigned (2 ^ 127) word x × (p ≡ put.I128 x order)
+
+-- words spell a number of a type: a byte order and a value
+abbrev pub SpellNumber : Width → List (List ℕ) → Put → Type 0
+SpellNumber w words p =
+    (order : Endian) × (word : List ℕ) × (words ≡ order_word order ∷ word ∷ []) × SpellsValue w order word p
+
+-- words spell bytes
+abbrev pub SpellBytes : List (List ℕ) → List ℕ → Type 0
+SpellBytes words bytes = (word : List ℕ) × (words ≡ word ∷ []) × SpellsBytes word bytes
+
+-- words spell a text, by bytes that are UTF-8
+abbrev pub SpellText : List (List ℕ) → List ℕ → Type 0
+SpellText words text = SpellBytes words text × IsUtf8 text
+
+-- words spell the text of a C string, by bytes without a zero
+abbrev pub SpellCString : List (List ℕ) → List ℕ → Type 0
+SpellCString words text = SpellBytes words text × (first_place 0 text ≡ length text)
+
+-- words spell three numbers of 16 bits: a byte order and the values
+abbrev pub SpellThree : List (List ℕ) → Put → Type 0
+SpellThree words p =
+    (order : Endian) × (first second third : List ℕ) × (x y z : ℕ) × (words ≡ order_word order ∷ first ∷ second ∷ third ∷ [])
+    × SpellsNumber (2 ^ 16) first x × SpellsNumber (2 ^ 16) second y × SpellsNumber (2 ^ 16) third z
+    × (p ≡ put.U16x3 (x ∷ y ∷ z ∷ []) order)
+
+-- words spell two slices of bytes
+abbrev pub SpellTwo : List (List ℕ) → List ℕ → List ℕ → Type 0
+SpellTwo words x y =
+    (first : List ℕ) × (rest : List (List ℕ)) × (words ≡ first ∷ rest) × SpellsBytes first x × SpellBytes rest y
+
+-- the words behind the word of what is written spell the rest of it
+abbrev pub SpellPutRest : Name → List (List ℕ) → Put → Type 0
+SpellPutRest (name.Number w) words p = SpellNumber w words p
+SpellPutRest name.Text words p = (text : Bor (List ℕ)) × SpellText words text.now × (p ≡ put.Text text)
+SpellPutRest name.Bytes words p = (bytes : Bor (List ℕ)) × SpellBytes words bytes.now × (p ≡ put.Bytes bytes)
+SpellPutRest name.CStr words p = (text : CStr) × SpellCString words (c_str_text text) × (p ≡ put.CStr text)
+SpellPutRest name.U16x3 words p = SpellThree words p
+SpellPutRest name.Bytesx2 words p = (x y : Bor (List ℕ)) × SpellTwo words x.now y.now × (p ≡ put.Bytesx2 x y)
+SpellPutRest name.CString words p = ⊥
+SpellPutRest name.Uleb words p = ⊥
+SpellPutRest name.Sleb words p = ⊥
+SpellPutRest name.U8x0 words p = ⊥
+SpellPutRest name.Textx2 words p = ⊥
+
+-- words spell what is written
+abbrev pub SpellsPut : List (List ℕ) → Put → Type 0
+SpellsPut words p = (n : Name) × (rest : List (List ℕ)) × (words ≡ name_word n ∷ rest) × SpellPutRest n rest p
+
+-- what a command writes where it borrows from what a line holds
+abbrev pub IsPutOf : Written → Put → Type 0
+IsPutOf (written.Plain q) p = p ≡ q
+IsPutOf (written.Text s) p = (text : Bor (List ℕ)) × (p ≡ put.Text text) × (text.now ≡ string_bytes s)
+IsPutOf (written.Bytes v) p = (bytes : Bor (List ℕ)) × (p ≡ put.Bytes bytes) × (bytes.now ≡ v.items)
+IsPutOf (written.CStr s) p = (text : CStr) × (p ≡ put.CStr text) × (c_str_text text ≡ c_string_text s)
+IsPutOf (written.Bytesx2 v w) p =
+    (x y : Bor (List ℕ)) × (p ≡ put.Bytesx2 x y) × (x.now ≡ v.items) × (y.now ≡ w.items)
+
+-- what is found where something is spelled, or not: whatever borrows from it is spelled
+abbrev pub FindsPut : (Put → Type 0) → Option Written → Type 0
+FindsPut IsSpelled None = (p : Put) → ¬ (IsSpelled p)
+FindsPut IsSpelled (Some x) = (p : Put) → IsPutOf x p → IsSpelled p

@@ -1,0 +1,185 @@
+//! What is written, as the words of a line spell it.
+ghost use Rattle.std.specs.Prelude.{◌^◌, ℕ, List, IfOk, MatchOption, map};
+ghost use Rattle.scroll.specs.declared.runner.Put.{Put};
+ghost use Rattle.scroll_run.specs.Puts.{FindsPut, IsPutOf, SpellBytes, SpellNumber, SpellPutRest, SpellThree, SpellsPut, SpellsValue};
+ghost use Rattle.scroll_run.specs.Words.{SpellsNumber};
+ghost use Rattle.scroll_run.specs.declared.words.Name.TheVariants as name;
+
+use crate::words::{Name, parse_bytes, parse_name, parse_number, parse_order, parse_signed};
+use scroll::cstr::CString;
+use scroll::runner::{Put, Width};
+use scroll::{Endian, Error};
+use std::alloc::{AllocError, Global};
+
+/// What a line writes, with the bytes that it holds.
+#[derive(Drop)]
+pub enum Written {
+    /// What borrows nothing.
+    Plain(Put<'static>),
+    /// A text.
+    Text(String),
+    /// A slice of bytes.
+    Bytes(Vec<u8>),
+    /// A C string.
+    CStr(CString),
+    /// Two slices of bytes.
+    Bytesx2(Vec<u8>, Vec<u8>),
+}
+
+impl Written {
+    /// What is written, as a command has it.
+    pub fn put(&self) -> Put<'_>
+        ensures { IsPutOf self.now result }
+    {
+        match self {
+            Written::Plain(put) => *put,
+            Written::Text(text) => Put::Text(text.as_str()),
+            Written::Bytes(bytes) => Put::Bytes(bytes.as_slice()),
+            Written::CStr(text) => Put::CStr(text.as_c_str()),
+            Written::Bytesx2(first, second) => Put::Bytesx2(first.as_slice(), second.as_slice()),
+        }
+    }
+}
+
+/// What is written, as words spell it.
+pub fn parse_written(alloc: Global, words: &[&[u8]]) -> Result<Option<Written>, AllocError>
+    ensures { let texts = map (λ word. word.now) words.now in IfOk result (FindsPut (SpellsPut texts)) }
+{
+    let Some((word, rest)) = words.split_first() else {
+        return Ok(None);
+    };
+    match parse_name(word) {
+        Some(name) => parse_put_rest(alloc, name, rest),
+        None => Ok(None),
+    }
+}
+
+// What is written under a name, as the words behind it spell it.
+fn parse_put_rest(alloc: Global, name: Name, words: &[&[u8]]) -> Result<Option<Written>, AllocError>
+    ensures { let texts = map (λ word. word.now) words.now in IfOk result (FindsPut (SpellPutRest name texts)) }
+{
+    match name {
+        Name::Number(width) => Ok(parse_number_words(width, words)),
+        Name::Text => parse_text(alloc, words),
+        Name::Bytes => parse_slice(alloc, words),
+        Name::CStr => parse_c_string(alloc, words),
+        Name::U16x3 => Ok(parse_three(words)),
+        Name::Bytesx2 => parse_two(alloc, words),
+        Name::CString | Name::Uleb | Name::Sleb | Name::U8x0 | Name::Textx2 => Ok(None),
+    }
+}
+
+// A number of a type: a byte order and a value.
+fn parse_number_words(width: Width, words: &[&[u8]]) -> Option<Written>
+    ensures { let texts = map (λ word. word.now) words.now in FindsPut (SpellNumber width texts) result }
+{
+    match words {
+        [order, value] => {
+            let put = parse_number_put(width, parse_order(order)?, value)?;
+            Some(Written::Plain(put))
+        }
+        _ => None,
+    }
+}
+
+// The number of a width that a word spells.
+fn parse_number_put(width: Width, order: Endian, word: &[u8]) -> Option<Put<'static>>
+    ensures { MatchOption result ((put : Put) → ¬ (SpellsValue width order word.now put)) (SpellsValue width order word.now) }
+{
+    match width {
+        Width::U8 => Some(Put::U8(u8::try_from(parse_number(word)?).ok()?, order)),
+        Width::I8 => Some(Put::I8(i8::try_from(parse_signed(word)?).ok()?, order)),
+        Width::U16 => Some(Put::U16(u16::try_from(parse_number(word)?).ok()?, order)),
+        Width::I16 => Some(Put::I16(i16::try_from(parse_signed(word)?).ok()?, order)),
+        Width::U32 => Some(Put::U32(u32::try_from(parse_number(word)?).ok()?, order)),
+        Width::I32 => Some(Put::I32(i32::try_from(parse_signed(word)?).ok()?, order)),
+        Width::U64 => Some(Put::U64(u64::try_from(parse_number(word)?).ok()?, order)),
+        Width::I64 => Some(Put::I64(i64::try_from(parse_signed(word)?).ok()?, order)),
+        Width::U128 => Some(Put::U128(parse_number(word)?, order)),
+        Width::I128 => Some(Put::I128(parse_signed(word)?, order)),
+    }
+}
+
+// The bytes that the one word spells.
+fn parse_last_bytes(alloc: Global, words: &[&[u8]]) -> Result<Option<Vec<u8>>, AllocError>
+    ensures { let texts = map (λ word. word.now) words.now in IfOk result (λ found. MatchOption found ((bytes : List ℕ) → ¬ (SpellBytes texts bytes)) (λ bytes. SpellBytes texts bytes.items)) }
+{
+    match words {
+        [word] => parse_bytes(alloc, word),
+        _ => Ok(None),
+    }
+}
+
+// A text.
+fn parse_text(alloc: Global, words: &[&[u8]]) -> Result<Option<Written>, AllocError>
+    ensures { let texts = map (λ word. word.now) words.now in IfOk result (FindsPut (SpellPutRest name.Text texts)) }
+{
+    let Some(bytes) = parse_last_bytes(alloc, words)? else {
+        return Ok(None);
+    };
+    match String::from_utf8(bytes) {
+        Ok(text) => Ok(Some(Written::Text(text))),
+        Err(_) => Ok(None),
+    }
+}
+
+// A slice of bytes.
+fn parse_slice(alloc: Global, words: &[&[u8]]) -> Result<Option<Written>, AllocError>
+    ensures { let texts = map (λ word. word.now) words.now in IfOk result (FindsPut (SpellPutRest name.Bytes texts)) }
+{
+    match parse_last_bytes(alloc, words)? {
+        Some(bytes) => Ok(Some(Written::Bytes(bytes))),
+        None => Ok(None),
+    }
+}
+
+// A C string, by its text.
+fn parse_c_string(alloc: Global, words: &[&[u8]]) -> Result<Option<Written>, AllocError>
+    ensures { let texts = map (λ word. word.now) words.now in IfOk result (FindsPut (SpellPutRest name.CStr texts)) }
+{
+    let Some(text) = parse_last_bytes(alloc, words)? else {
+        return Ok(None);
+    };
+    match CString::new(alloc, &text) {
+        Ok(text) => Ok(Some(Written::CStr(text))),
+        Err(Error::BadInput { .. }) => Ok(None),
+        Err(_) => Err(AllocError),
+    }
+}
+
+// Three numbers of 16 bits: a byte order and the values.
+fn parse_three(words: &[&[u8]]) -> Option<Written>
+    ensures { let texts = map (λ word. word.now) words.now in FindsPut (SpellThree texts) result }
+{
+    let [order, first, second, third] = words else {
+        return None;
+    };
+    let order = parse_order(order)?;
+    let first = parse_u16(first)?;
+    let second = parse_u16(second)?;
+    let third = parse_u16(third)?;
+    Some(Written::Plain(Put::U16x3([first, second, third], order)))
+}
+
+// The number of 16 bits that a word spells.
+fn parse_u16(word: &[u8]) -> Option<u16>
+    ensures { MatchOption result ((x : ℕ) → ¬ (SpellsNumber (2 ^ 16) word.now x)) (SpellsNumber (2 ^ 16) word.now) }
+{
+    u16::try_from(parse_number(word)?).ok()
+}
+
+// Two slices of bytes.
+fn parse_two(alloc: Global, words: &[&[u8]]) -> Result<Option<Written>, AllocError>
+    ensures { let texts = map (λ word. word.now) words.now in IfOk result (FindsPut (SpellPutRest name.Bytesx2 texts)) }
+{
+    let Some((word, rest)) = words.split_first() else {
+        return Ok(None);
+    };
+    let Some(first) = parse_bytes(alloc, word)? else {
+        return Ok(None);
+    };
+    match parse_last_bytes(alloc, rest)? {
+        Some(second) => Ok(Some(Written::Bytesx2(first, second))),
+        None => Ok(None),
+    }
+}
