@@ -4,7 +4,7 @@ ghost use Rattle.scroll.specs.Arrays.{ReadsArray, RefusesArray};
 ghost use Rattle.scroll.specs.Bytes.{RefusesShort};
 ghost use Rattle.scroll.specs.Numbers.{ReadsNumber};
 ghost use Rattle.scroll.specs.Reads.{ReadsBetween, RefusesAt};
-ghost use Rattle.scroll.specs.Runs.{IsBadOffset};
+ghost use Rattle.scroll.specs.Errors.{IsBadOffset};
 ghost use Rattle.scroll.specs.declared.endian.Endian.TheVariants.{Little};
 
 use crate::{Error, LE, Pread, Result};
