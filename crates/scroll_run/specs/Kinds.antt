@@ -33,12 +33,14 @@ abbrev pub end_word : End → List ℕ
 end_word end.Delimiter = codes "delim"
 end_word end.Until = codes "until"
 end_word end.Length = codes "len"
+end_word end.Required = codes "required"
 
 -- the words behind the word of an end spell the rest of it
 abbrev pub SpellEndRest : End → List (List ℕ) → StrCtx → Type 0
 SpellEndRest end.Delimiter words ctx = (d : ℕ) × SpellLastByte words d × (ctx ≡ context.Delimiter d)
 SpellEndRest end.Until words ctx = (d limit : ℕ) × SpellLastLimit words d limit × (ctx ≡ context.DelimiterUntil d limit)
 SpellEndRest end.Length words ctx = (n : ℕ) × SpellLastNumber words n × (ctx ≡ context.Length n)
+SpellEndRest end.Required words ctx = (d : ℕ) × SpellLastByte words d × (ctx ≡ context.Required d)
 
 -- words spell where a text ends
 abbrev pub SpellEnd : List (List ℕ) → StrCtx → Type 0

@@ -20,6 +20,8 @@ enum End {
     Until,
     // At a length.
     Length,
+    // Before a delimiter that has to be there.
+    Required,
 }
 
 /// The kind that words spell.
@@ -68,6 +70,7 @@ fn parse_end_rest(end: End, words: &[&[u8]]) -> Option<StrCtx>
             Some(StrCtx::DelimiterUntil(delimiter, limit))
         }
         End::Length => Some(StrCtx::Length(parse_last_usize(words)?)),
+        End::Required => Some(StrCtx::Required(parse_last_byte(words)?)),
     }
 }
 
@@ -79,6 +82,7 @@ fn parse_end_word(word: &[u8]) -> Option<End>
         b"delim" => Some(End::Delimiter),
         b"until" => Some(End::Until),
         b"len" => Some(End::Length),
+        b"required" => Some(End::Required),
         _ => None,
     }
 }

@@ -33,6 +33,10 @@ fn each_kind_is_answered(rt: HostRuntime) -> Result<(), Fail> {
             "buffer 6162006364\ncursor 0\ngread strx2 delim 00\npwrite 0 bytesx2 01 -\npwrite 2 bytesx2 0203 040506\n",
             "texts 6162 6364\nwrote 1\nerror type is too big (3) for 1\nbuffer 0162020364\ncursor 6\n",
         ),
+        (
+            "buffer 6162\ncursor 0\ngread str required 00\ngread str required 62\n",
+            "error bad input missing delimiter (2)\ntext 61\nbuffer 6162\ncursor 2\n",
+        ),
     ] {
         expect_session(&rt, rt.alloc(), input.as_bytes(), wanted, 0)?;
     }

@@ -137,6 +137,8 @@ fn a_command_is_bad(rt: HostRuntime) -> Result<(), Fail> {
         "pread 0 str len",
         "pread 0 str len 18446744073709551616",
         "pread 0 str end 00",
+        "pread 0 str required",
+        "pread 0 str required 0",
         "pread 0 bytes",
         "pread 0 bytes -1",
         "pread 0 bytes 1 1",

@@ -11,3 +11,7 @@ returns-in_err-delimiter-in-Until c =
 pub returns-in_err-parse_last_usize-in-Length : goal.returns-in_err-parse_last_usize-in-Length
 returns-in_err-parse_last_usize-in-Length c =
     rw (c.from_residual-in_err-parse_last_usize-in-Length.ensures, c.in-Length.is) (λ ctx s. c.in_err-parse_last_usize-in-Length.ensures s.0 s.1)
+
+pub returns-in_err-parse_last_byte-in-Required : goal.returns-in_err-parse_last_byte-in-Required
+returns-in_err-parse_last_byte-in-Required c =
+    rw (c.from_residual-in_err-parse_last_byte-in-Required.ensures, c.in-Required.is) (λ ctx s. c.in_err-parse_last_byte-in-Required.ensures s.0 s.1)
