@@ -207,7 +207,7 @@ try_test() {
     number=1
     while [ -n "$is_well" ]; do
         run_with "FAULT_MEMORY=$number" "$tests" "$name" >"$work/out" 2>&1 </dev/null
-        if [ "$status" -ne 0 ] && ! { is_met && grep -Eqx 'error: (AllocError|NoMemory|Kind\(OutOfMemory\))' "$work/out"; }; then
+        if [ "$status" -ne 0 ] && ! { is_met && grep -Eqx '[Ee]rror: (AllocError|NoMemory|Kind\(OutOfMemory\))' "$work/out"; }; then
             complain "call $number for memory is refused" "the test ends with status $status"
         fi
         is_met || break

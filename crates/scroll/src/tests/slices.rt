@@ -40,11 +40,14 @@ fn writes_where_room_is_made_sure_of(rt: HostRuntime) {
 }
 
 #[test]
-fn arrays_and_vectors_are_read_as_they_are(rt: HostRuntime) {
+fn arrays_and_vectors_are_read_as_they_are(rt: HostRuntime) -> Result<()> {
     let bytes: [u8; 3] = [1, 2, 3];
     assert!(rt; matches!(&bytes.pread_with::<u16>(1, BE), Ok(0x0203)));
-    let bytes = vec![in rt.alloc(); 1u8, 2, 3].expect(&rt, "there is memory");
+    let Ok(bytes) = vec![in rt.alloc(); 1u8, 2, 3] else {
+        return Err(Error::NoMemory);
+    };
     assert!(rt; matches!(&bytes.pread_with::<u16>(1, BE), Ok(0x0203)));
+    Ok(())
 }
 
 #[test]
