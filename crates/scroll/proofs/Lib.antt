@@ -17,6 +17,7 @@ pub mod FlagLemmas
 pub mod VectorLemmas
 pub mod StopLemmas
 pub mod LebLemmas
+pub mod ZeroLemmas
 pub mod WordLemmas
 pub mod SpellingLemmas
 pub mod SignedSpellingLemmas

@@ -12,6 +12,7 @@ use Rattle.std.specs.Int.Bits.{or_shifted_r, or_zero_r}
 use Rattle.std.specs.List.{slice_get}
 use Rattle.scroll.specs.Leb128.{IsCut, IsComplete, end_of, group, groups_value, unsigned_of, count_of, signed_of, ReadsUleb, ReadsSleb, ReadsGroups, EndsInBlock, EndsInSignedBlock}
 use Rattle.scroll.proofs.LebLemmas.{groups_lt, groups_more, end_at, end_below, open_before, gives_front, sign_is_top}
+use Rattle.scroll.proofs.SignedLemmas.{less_whole}
 use Rattle.scroll.proofs.SignedSpellingLemmas.{sign_of_groups}
 
 -- ---- a text that ends in the first eight bytes
@@ -113,10 +114,6 @@ not_sign t h = (
   elim (cases_lt 0 t) [ inl some ↦ some | inr none ↦ absurd (h (let z : t ≡ 0 = omega arith in rw z refl)) ],
   λ e. h (rw e refl),
 )
-
--- a number less a larger one
-less_whole : (u p k : ℕ) → u + suc k ≡ p → negsuc k ≡ pos u -ℤ pos p
-less_whole u p k h = omega (arith, ints)
 
 pub tenth_reads_signed : (s : List ℕ) (g t : ℕ) → 9 ≤ end_of s → slice_get s 9 ≡ Some t → g ≡ groups_value s 9 → t < 256 → t ≡ bit_and t 1 * 127
     → FitsSigned w64 (to_z w64 (bit_or g (t * 2 ^ 63 % 2 ^ 64))) → ReadsSleb s (to_z w64 (bit_or g (t * 2 ^ 63 % 2 ^ 64))) 10

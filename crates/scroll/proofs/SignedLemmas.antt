@@ -71,7 +71,7 @@ groups_positive g n few room =
     to_z_pos w64 g (omega (arith, most))
 
 -- a number less a larger one
-less_whole : (u p k : ℕ) → u + suc k ≡ p → negsuc k ≡ pos u -ℤ pos p
+pub less_whole : (u p k : ℕ) → u + suc k ≡ p → negsuc k ≡ pos u -ℤ pos p
 less_whole u p k h = omega (arith, ints)
 
 -- ones from place k on

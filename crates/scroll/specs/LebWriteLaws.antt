@@ -1,19 +1,15 @@
 -- What a write of a number in LEB128 owes to its trait: the bytes behind the text stay.
-use Rattle.std.proofs.Common.{◌≡◌, ℕ, ℤ, ◌++◌, List, length, drop, arith}
-use Rattle.std.proofs.lemmas.Grind.{common_steps}
+use Rattle.std.proofs.Common.{◌≡◌, ℕ, ℤ, List, length, drop}
 use Rattle.std.proofs.lemmas.List.FromFn.{length-map-range_with_len}
 use Rattle.scroll.specs.Bytes.{WritesFront}
 use Rattle.scroll.specs.Leb128.{Counted}
+use Rattle.scroll.specs.NumberLaws.{drop-front}
 use Rattle.scroll.specs.Spelling.{spelled_byte, spelling, unsigned_form}
 use Rattle.scroll.specs.LebWrites.{WritesUleb, WritesSleb}
 
 -- a text of n bytes has n bytes
 pub length-spelling : (v n : ℕ) → length (spelling v n) ≡ n
 length-spelling v n = length-map-range_with_len (spelled_byte v n) 0 n
-
--- what stands behind the first w bytes
-drop-front : (w : ℕ) (bytes old new : List ℕ) → length bytes ≡ w → new ≡ bytes ++ drop w old → drop w new ≡ drop w old
-drop-front w bytes old new len is = grind (arith, common_steps)
 
 spelling-keeps : (v w : ℕ) (old new : List ℕ) (n : ℕ) → WritesFront w (spelling v w) old new n → drop n new ≡ drop n old
 spelling-keeps v w old new n h = rw h.size (drop-front w (spelling v w) old new (length-spelling v w) h.after)

@@ -14,8 +14,8 @@ length-number_bytes Big w x = length-map-range_with_len (λ i. x / 256 ^ (w - 1 
 pub length-signed_bytes : (order : Endian) (w : ℕ) (x : ℤ) → length (signed_bytes order w x) ≡ w
 length-signed_bytes order w x = length-number_bytes order w _
 
--- what stands behind the first w bytes
-drop-front : (w : ℕ) (bytes old new : List ℕ) → length bytes ≡ w → new ≡ bytes ++ drop w old → drop w new ≡ drop w old
+-- bytes that were written at the front leave those behind them
+pub drop-front : (w : ℕ) (bytes old new : List ℕ) → length bytes ≡ w → new ≡ bytes ++ drop w old → drop w new ≡ drop w old
 drop-front w bytes old new len is = grind (arith, common_steps)
 
 pub number_bytes-keeps : (w : ℕ) (order : Endian) (x : ℕ) (old new : List ℕ) → new ≡ number_bytes order w x ++ drop w old → drop w new ≡ drop w old
