@@ -1,5 +1,6 @@
 -- The leaves of an array are those of its elements, in order.
 use Rattle.std.proofs.Common.{◌≡◌, ℕ, ◌+◌, ◌≤◌, ◌<◌, ◌++◌, List, [], ◌∷◌, length, drop, arith, refl, sym, ◌∙◌, ap, inl, inr, Some, None, Ok, Err, append_assoc}
+use Rattle.std.proofs.lemmas.Grind.{flat_map-append}
 use Rattle.std.proofs.lemmas.Bool.{cases_lt}
 use Rattle.std.proofs.lemmas.List.Sums.{sum_by-append, sum_by-cons}
 use Rattle.std.specs.List.{sum_by, flat_map}
@@ -47,10 +48,6 @@ pieces-stop n o (l ∷ ls) ks e h = elim (cases_lt n (o + length l)) as (λ _. (
         left_over-fits n o l (ls ++ ks) k ∙ rest.1,
       )
 ]
-
-flat_map-append : {V : Type 0} (f : V → List (List ℕ)) (xs ys : List V) → flat_map f (xs ++ ys) ≡ flat_map f xs ++ flat_map f ys
-flat_map-append f [] ys = refl
-flat_map-append f (x ∷ xs) ys = ap (λ z. f x ++ z) (flat_map-append f xs ys) ∙ sym (append_assoc (f x) (flat_map f xs) (flat_map f ys))
 
 -- leaves that were laid down whole from a place, up to another
 record Laid (old : List ℕ) (place : ℕ) (leaves : List (List ℕ)) (new : List ℕ) (stop : ℕ) : Type 0 where

@@ -1,14 +1,10 @@
 -- Arrays go on by one element.
 use Rattle.std.proofs.Common.{◌≡◌, ℕ, ◌+◌, ◌++◌, List, [], ◌∷◌, length, map, Option, Some, sym, ap, ◌∙◌, refl, arith, subst, append_assoc, ◌≤◌}
-use Rattle.std.proofs.lemmas.List.{length_push}
+use Rattle.std.proofs.lemmas.List.{length_push, map-append}
 use Rattle.scroll.specs.Callers.{ReadsAll-push}
 use Rattle.scroll.specs.Arrays.{WritesAll}
 use Rattle.scroll.specs.Reads.{ReadsBetween, ReadsAll}
 use Rattle.scroll.specs.Writes.{WritesAt}
-
-map-push : {A B : Type 0} (f : A → B) (xs : List A) (x : A) → map f (xs ++ x ∷ []) ≡ map f xs ++ f x ∷ []
-map-push f [] x = refl
-map-push f (y ∷ xs) x = ap (λ l. f y ∷ l) (map-push f xs x)
 
 -- lists whose optional values are the same are the same
 pub map_some-same : {A : Type 0} → (xs ys : List A) → map (λ (x : A). Some x) xs ≡ map (λ (x : A). Some x) ys → xs ≡ ys
@@ -32,7 +28,7 @@ pub record IsFilled {V : Type 0} (reads : List ℕ → V → ℕ → Type 0) (s 
 pub IsFilled-push : {V : Type 0} (reads : List ℕ → V → ℕ → Type 0) (s : List ℕ) (slots slots' : List (Option V)) (count place to : ℕ) (x : V) → IsFilled reads s slots count place → slots' ≡ slots ++ Some x ∷ [] → ReadsBetween reads s place to x → IsFilled reads s slots' (count + 1) to
 IsFilled-push {V} reads s slots slots' count place to x was pushed read = record {
   values = was.values ++ x ∷ [];
-  slots = pushed ∙ ap (λ l. l ++ Some x ∷ []) was.slots ∙ sym (map-push (λ (y : V). Some y) was.values x);
+  slots = pushed ∙ ap (λ l. l ++ Some x ∷ []) was.slots ∙ sym (map-append (λ (y : V). Some y) was.values (x ∷ []));
   len = omega (arith, length_push was.values x, was.len);
   each = ReadsAll-push reads s 0 was.values place to read.0 x was.each read.1 read.2;
 }
