@@ -1,12 +1,12 @@
 -- Signed numbers and their texts.
-use Rattle.std.proofs.Common.{◌≡◌, ℕ, suc, ◌+◌, ◌-◌, ◌*◌, ◌^◌, ◌<◌, ◌≤◌, ◌↔◌, inl, inr, true, false, nat_lt, if◌then◌else◌, List, ◌++◌, take, length, refl, sym, ap, ◌∙◌, arith, ℤ, pos, negsuc, ◌-ℤ◌, FitsSigned}
+use Rattle.std.proofs.Common.{◌≡◌, ℕ, suc, ◌+◌, ◌-◌, ◌*◌, ◌^◌, ◌<◌, ◌≤◌, ◌↔◌, inl, inr, true, false, nat_lt, if◌then◌else◌, List, ◌++◌, take, length, refl, sym, ap, ◌∙◌, arith, ℤ, pos, negsuc, ◌-ℤ◌, FitsSigned, to_z, of_z}
 use Rattle.std.proofs.Math.Nat.{pow-le-pow_right}
-use Rattle.std.proofs.lemmas.Int.{ints}
+use Rattle.std.proofs.lemmas.Int.{ints, to_z-of_z}
 use Rattle.std.proofs.lemmas.Bool.{cases_lt}
 use Rattle.std.proofs.lemmas.Bool.Decides.{nat_tests}
 use Rattle.std.proofs.lemmas.List.Elements.{All-get_or}
 use Rattle.std.specs.List.{All}
-use Rattle.scroll.specs.Leb128.{end_of, count_of, unsigned_of, signed_of, ReadsGroups, ReadsSleb}
+use Rattle.scroll.specs.Leb128.{end_of, count_of, unsigned_of, signed_of, ReadsGroups, ReadsSleb, EndsInBlock, EndsInSignedBlock}
 use Rattle.std.specs.Int.{w64}
 use Rattle.scroll.specs.Spelling.{HoldsGroups, spelling, unsigned_form, HasSignedSpelling, BeginsWithSigned}
 use Rattle.scroll.proofs.LebLemmas.{sign_is_top, groups_lt}
@@ -82,6 +82,15 @@ gives_signed_spelling s v n g =
 pub sign_of_groups : (s : List ℕ) (g n : ℕ) (z : ℤ) → end_of s < length s → g ≡ unsigned_of s → n ≡ count_of s
     → z ≡ (if nat_lt g (64 * 128 ^ (n - 1)) then pos g else pos g -ℤ pos (128 ^ n)) → z ≡ signed_of s
 sign_of_groups s g n z within g_is n_is e = e ∙ rw (sign_is_top s g n within g_is n_is, g_is, n_is) refl
+
+-- the same of a text that ends within eight bytes
+pub block_signed : (s : List ℕ) (g n : ℕ) (z : ℤ) → length s ≡ 8 → EndsInBlock s g n → FitsSigned w64 z
+    → z ≡ (if nat_lt g (64 * 128 ^ (n - 1)) then pos g else pos g -ℤ pos (128 ^ n)) → EndsInSignedBlock s (to_z w64 (of_z w64 z)) n
+block_signed s g n z eight r fits e =
+    record { within = r.within; value = to_z-of_z w64 z fits ∙ sign_of_groups s g n z (rw eight r.within) r.value r.size e; size = r.size }
+
+pub block_below : (s : List ℕ) (g n : ℕ) → EndsInBlock s g n → g < 128 ^ n
+block_below s g n r = rw (r.value, r.size) (groups_lt s (count_of s))
 
 -- a longer spelling is padded
 pub longer_signed_spelling : (v : ℤ) (m n : ℕ) → HasSignedSpelling v m → m ≤ n → n ≤ 10 → HasSignedSpelling v n

@@ -22,8 +22,7 @@ pub fn sleb_block(b: [u8; 8]) -> Option<(i64, usize)>
     ensures read { IfSome result (λ read. EndsInSignedBlock b read.0 read.1) }
     ensures none { IfNone result (8 ≤ end_of b) }
 {
-    let (groups, count) = uleb_block(b)?;
-    Some((two_complement(groups, count), count))
+    signed_in(u64::from_le_bytes(b))
 }
 
 // All eight groups of eight bytes, as one number.
@@ -46,6 +45,30 @@ fn groups_in(word: u64) -> Option<(u64, usize)>
     if word & 0x8000 == 0 {
         return Some((word & 0x7f | (word & 0x7f00) >> 1, 2));
     }
+    counted_groups(word)
+}
+
+// The signed number that these groups are, and how many there are.
+#[inline(always)]
+fn signed_in(word: u64) -> Option<(i64, usize)>
+    ensures { MatchOption result (8 ≤ end_of (to_le_bytes w64 word)) (λ read. EndsInSignedBlock (to_le_bytes w64 word) read.0 read.1) }
+{
+    // A shift by a constant is one step, and one by a count is three.
+    if word & 0x80 == 0 {
+        return Some((two_complement(word & 0x7f, 1), 1));
+    }
+    if word & 0x8000 == 0 {
+        return Some((two_complement(word & 0x7f | (word & 0x7f00) >> 1, 2), 2));
+    }
+    let (groups, count) = counted_groups(word)?;
+    Some((two_complement(groups, count), count))
+}
+
+// The groups up to the end, whose place is counted.
+#[inline(always)]
+fn counted_groups(word: u64) -> Option<(u64, usize)>
+    ensures { MatchOption result (8 ≤ end_of (to_le_bytes w64 word)) (λ read. EndsInBlock (to_le_bytes w64 word) read.0 read.1) }
+{
     let filled = word | GROUPS;
     if filled == u64::MAX {
         return None;

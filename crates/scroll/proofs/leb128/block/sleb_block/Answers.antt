@@ -1,22 +1,12 @@
-use Rattle.std.proofs.Common.{◌≡◌, length, FitsSigned, rules, ◌∙◌}
-use Rattle.std.specs.Int.{w64}
-use Rattle.std.proofs.lemmas.Int.{to_z-of_z}
-use Rattle.scroll.proofs.LebLemmas.{groups_lt}
-use Rattle.scroll.proofs.SignedSpellingLemmas.{sign_of_groups}
+use Rattle.std.proofs.Common.{rules, ℕ, List, MatchOption, ◌≤◌, subst}
+use Rattle.std.proofs.lemmas.Nat.{le_bytes_8}
+use Rattle.scroll.specs.Leb128.{end_of, EndsInSignedBlock}
+use Rattle.scroll.proofs.BlockLemmas.{by_clauses}
 use Rattle.scroll.proofs.leb128.block.sleb_block.Goals as goal
 
-pub two_complement-requires-clause-low : goal.two_complement-requires-clause-low
-two_complement-requires-clause-low c =
-    let r = c.in_ok-groups.ensures.read in
-    rw (r.value, r.size) (groups_lt c.args.b _)
-
-pub returns-clause-read : goal.returns-clause-read
-returns-clause-read c =
-    let r = c.in_ok-groups.ensures.read in
-    let eight : length c.args.b ≡ 8 = search rules in
-    let fits : FitsSigned w64 c.two_complement.result = search rules in
-    record {
-      within = r.within;
-      value = to_z-of_z w64 c.two_complement.result fits ∙ sign_of_groups c.args.b _ _ c.two_complement.result (rw eight r.within) r.value r.size c.two_complement.ensures;
-      size = r.size;
-    }
+pub returns : goal.returns
+returns c =
+    let back = le_bytes_8 c.args.b _ (search rules) (search rules) c.from_le_bytes.ensures in
+    let both = by_clauses (8 ≤ end_of c.args.b) (λ read. EndsInSignedBlock c.args.b read.0 read.1) c.signed_in.result
+    (subst (λ (s : List ℕ). MatchOption c.signed_in.result (8 ≤ end_of s) (λ read. EndsInSignedBlock s read.0 read.1)) back c.signed_in.ensures) in
+    record { read = both.0; none = both.1 }
