@@ -7,7 +7,7 @@ use Rattle.std.proofs.lemmas.List.Sums.{prefix_len_passes, prefix_len_stops}
 use Rattle.std.specs.List.{All}
 use Rattle.scroll.proofs.FrontLemmas.{begins-length, begins-split}
 use Rattle.scroll.proofs.LocalLemmas.{take-same}
-use Rattle.scroll.proofs.OneLemmas.{one-Ok, one-Err}
+use Rattle.scroll.specs.OneAnswer.{one-Ok, one-Err}
 use Rattle.scroll.proofs.TextReadLemmas.{first_place-fronts, same-bad_input}
 use Rattle.scroll.specs.Bytes.{WritesFront}
 use Rattle.scroll.specs.CStrings.{ReadsCString, RefusesCString}

@@ -6,7 +6,7 @@ use Rattle.std.proofs.lemmas.List.{get_or-take}
 use Rattle.std.specs.Prelude.{nat_lt, if◌then◌else◌, FitsSigned}
 use Rattle.std.specs.Int.{w64}
 use Rattle.scroll.proofs.LebLemmas.{end_at, end_below, open_before, groups_same}
-use Rattle.scroll.proofs.OneLemmas.{one-Ok, one-Err}
+use Rattle.scroll.specs.OneAnswer.{one-Ok, one-Err}
 use Rattle.scroll.specs.Laws.{IsLocal, SameError, AllowsOne}
 use Rattle.scroll.specs.Leb128.{end_of, count_of, group, groups_value, unsigned_of, signed_of, IsComplete, IsCut, ReadsUleb, ReadsSleb}
 use Rattle.scroll.specs.LebRefusals.{RefusesUleb, RefusesSleb}

@@ -28,7 +28,6 @@ pub mod ReverseLemmas
 pub mod FrontLemmas
 pub mod StandLemmas
 pub mod LocalLemmas
-pub mod OneLemmas
 pub mod TextReadLemmas
 pub mod CStringReadLemmas
 pub mod LebReadLemmas

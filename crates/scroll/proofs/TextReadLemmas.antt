@@ -8,7 +8,7 @@ use Rattle.std.specs.List.{All}
 use Rattle.std.specs.Str.{is_utf8}
 use Rattle.scroll.proofs.FrontLemmas.{begins-length, begins-split}
 use Rattle.scroll.proofs.LocalLemmas.{take-same}
-use Rattle.scroll.proofs.OneLemmas.{one-Ok, one-Err, same-too_big}
+use Rattle.scroll.specs.OneAnswer.{one-Ok, one-Err, same-too_big}
 use Rattle.scroll.proofs.TextLemmas.{first_place-take}
 use Rattle.scroll.specs.Errors.{IsBadInput}
 use Rattle.scroll.specs.Laws.{IsLocal, IsWithin, SameError, AllowsOne}

@@ -16,6 +16,22 @@ pub record RefusesArray {V E : Type 0} (reads : List ℕ → V → ℕ → Type 
   pub each : ReadsAll reads source 0 front stop
   pub error : RefusesAt refuses past_end source stop e
 
+-- the value of an array of arrays, by the lengths of the arrays from the outermost on; with no length, one element
+abbrev pub Nested : Type 0 → List ℕ → Type 0
+Nested V [] = V
+Nested V (count ∷ counts) = List (Nested V counts)
+
+-- an array of arrays, read
+abbrev pub ReadsNested : {V : Type 0} → (List ℕ → V → ℕ → Type 0) → (counts : List ℕ) → List ℕ → Nested V counts → ℕ → Type 0
+ReadsNested reads [] = reads
+ReadsNested reads (count ∷ counts) = ReadsArray (ReadsNested reads counts) count
+
+-- an array of arrays, refused
+abbrev pub RefusesNested : {V E : Type 0} → (List ℕ → V → ℕ → Type 0) → (List ℕ → E → Type 0) → (ℕ → E → Type 0) → List ℕ → List ℕ → E → Type 0
+RefusesNested reads refuses past_end [] = refuses
+RefusesNested reads refuses past_end (count ∷ counts) =
+    RefusesArray (ReadsNested reads counts) (RefusesNested reads refuses past_end counts) past_end count
+
 -- values written one after the other, from a place to another
 abbrev pub WritesAll : {V : Type 0} → (V → List ℕ → List ℕ → ℕ → Type 0) → List ℕ → ℕ → List V → List ℕ → ℕ → Type 0
 WritesAll writes old from [] new to = (new ≡ old) × (to ≡ from)

@@ -26,3 +26,4 @@ pub mod LebWriteLaws
 pub mod Loads
 pub mod Runs
 pub mod Laws
+pub mod OneAnswer

@@ -25,7 +25,7 @@ pub use self::numbers::{
     size_is_that_of_reads_and_writes as law_11,
 };
 pub use self::reads::{
-    array_depends_on_its_bytes, array_size_is_bounded, place_has_one_answer,
+    array_depends_on_its_bytes, array_has_one_answer, array_size_is_bounded, place_has_one_answer,
     place_has_one_answer as law_10, read_depends_on_its_bytes, read_depends_on_its_bytes as law_4,
     read_size_is_bounded, read_size_is_bounded as law_5,
 };

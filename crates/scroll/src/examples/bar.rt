@@ -1,9 +1,10 @@
-// Two numbers that are read where the caller has made sure of room.
-ghost use Rattle.std.specs.Prelude.{◌≡◌, drop};
-ghost use Rattle.scroll.specs.Numbers.{number, signed_number};
+// Two numbers that are read and written where the caller has made sure of room. No proof file has a word on them.
+ghost use Rattle.std.specs.Prelude.{◌≡◌, ◌++◌, drop};
+ghost use Rattle.std.proofs.Common.{rules};
+ghost use Rattle.scroll.specs.Numbers.{number, signed_number, number_bytes, signed_bytes};
 
-use crate::ctx::FromCtx;
-use crate::{Cread, Endian, LE};
+use crate::ctx::{FromCtx, IntoCtx};
+use crate::{BE, Cread, Cwrite, Endian, LE, slice};
 
 #[derive(Clone, Copy, Debug)]
 struct Bar {
@@ -23,10 +24,48 @@ impl FromCtx<Endian> for Bar {
     }
 }
 
+impl IntoCtx<Endian> for Bar {
+    ghost need = { λ _. 8 };
+
+    ghost leaves = { λ order x old new. new ≡ (signed_bytes order 4 x.foo ++ number_bytes order 4 x.bar) ++ drop 8 old };
+
+    ghost leaves_keeps = { λ order x old new h. Prim.search rules };
+
+    fn into_ctx(self, dst: &mut [u8], ctx: Endian) {
+        slice::cwrite_with(dst, self.foo, 0, ctx);
+        slice::cwrite_with(dst, self.bar, 4, ctx);
+    }
+}
+
 #[test]
 fn two_numbers_where_there_is_room(rt: HostRuntime) {
     let bytes: [u8; 8] = [0xff, 0xff, 0xff, 0xff, 0xef, 0xbe, 0xad, 0xde];
     let bar: Bar = bytes[..].cread_with(0, LE);
+    assert_eq!(rt; bar.foo, -1);
+    assert_eq!(rt; bar.bar, 0xdeadbeef);
+}
+
+#[test]
+fn written_where_there_is_room(rt: HostRuntime) {
+    let bar = Bar {
+        foo: -1,
+        bar: 0xdeadbeef,
+    };
+    for (order, wanted) in [
+        (LE, [0xff, 0xff, 0xff, 0xff, 0xef, 0xbe, 0xad, 0xde, 7]),
+        (BE, [0xff, 0xff, 0xff, 0xff, 0xde, 0xad, 0xbe, 0xef, 7]),
+    ] {
+        let mut bytes = [7u8; 9];
+        let mut target = &mut bytes[..];
+        target.cwrite_with(bar, 0, order);
+        assert_eq!(rt; bytes, wanted);
+    }
+    let mut bytes = [0u8; 8];
+    let mut target = &mut bytes[..];
+    target.cwrite(-1i32, 0);
+    target.cwrite(0xdeadbeefu32, 4);
+    assert_eq!(rt; bytes, [0xff, 0xff, 0xff, 0xff, 0xef, 0xbe, 0xad, 0xde]);
+    let bar: Bar = bytes[..].cread(0);
     assert_eq!(rt; bar.foo, -1);
     assert_eq!(rt; bar.bar, 0xdeadbeef);
 }

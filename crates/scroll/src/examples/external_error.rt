@@ -10,7 +10,7 @@ use std::fmt;
 use std::result::Result;
 
 #[derive(Debug, Drop)]
-struct ExternalError {}
+pub struct ExternalError {}
 
 impl fmt::Display for ExternalError {
     ghost output = { λ _. Some (codes "ExternalError") };

@@ -1,11 +1,12 @@
-// Three numbers, read one after the other.
-ghost use Rattle.std.specs.Prelude.{◌≡◌, ◌≤◌, ◌<◌, ◌++◌, length, drop, ◌⊎◌};
+// Three numbers, read and written one after the other.
+ghost use Rattle.std.specs.Prelude.{◌≡◌, ◌≤◌, ◌<◌, ◌-◌, ◌++◌, length, drop, ◌⊎◌};
 ghost use Rattle.std.proofs.Common.{rules};
-ghost use Rattle.scroll.specs.Bytes.{RefusesShort};
-ghost use Rattle.scroll.specs.Numbers.{number};
+ghost use Rattle.scroll.specs.Bytes.{RefusesShort, WritesFront, LeavesShort};
+ghost use Rattle.scroll.specs.Numbers.{number, number_bytes};
+ghost use Rattle.scroll.specs.declared.error.Error.TheVariants.{TooBig};
 
-use crate::ctx::TryFromCtx;
-use crate::{BE, Endian, Error, Pread, Result};
+use crate::ctx::{TryFromCtx, TryIntoCtx};
+use crate::{BE, Endian, Error, Pread, Pwrite, Result, slice};
 
 #[derive(Clone, Copy, Debug)]
 struct Data {
@@ -34,6 +35,29 @@ impl<'a> TryFromCtx<'a, Endian> for Data {
     }
 }
 
+impl TryIntoCtx<Endian> for Data {
+    type Error = Error;
+
+    ghost writes = { λ order x. WritesFront 7 (number_bytes order 4 x.one ++ number_bytes order 2 x.two ++ number_bytes order 1 x.three) };
+
+    // The numbers before the one that is refused stand written.
+    ghost refuses = { λ order x old new e. LeavesShort 4 old new e
+        ⊎ (((4 ≤ length old) × (length old < 6) × (new ≡ number_bytes order 4 x.one ++ drop 4 old) × (e ≡ TooBig 2 (length old - 4)))
+        ⊎ ((length old ≡ 6) × (new ≡ number_bytes order 4 x.one ++ number_bytes order 2 x.two) × (e ≡ TooBig 1 0))) };
+
+    ghost writes_bounded = { λ order x old new n h. Prim.search rules };
+
+    ghost writes_keeps = { λ order x old new n h. Prim.search rules };
+
+    fn try_into_ctx(self, dst: &mut [u8], ctx: Endian) -> Result<usize> {
+        let mut offset = 0;
+        slice::gwrite_with(dst, self.one, &mut offset, ctx)?;
+        slice::gwrite_with(dst, self.two, &mut offset, ctx)?;
+        slice::gwrite_with(dst, self.three, &mut offset, ctx)?;
+        Ok(offset)
+    }
+}
+
 #[test]
 fn three_numbers(rt: HostRuntime) {
     let bytes: [u8; 7] = [0xde, 0xad, 0xbe, 0xef, 0xfa, 0xce, 0xff];
@@ -50,4 +74,32 @@ fn three_numbers(rt: HostRuntime) {
     );
     let cut: Result<Data> = bytes[..].pread_with(1, BE);
     assert!(rt; matches!(&cut, Err(Error::TooBig { size: 1, len: 0 })));
+}
+
+#[test]
+fn written_back(rt: HostRuntime) {
+    let bytes: [u8; 7] = [0xde, 0xad, 0xbe, 0xef, 0xfa, 0xce, 0xff];
+    let data = Data {
+        one: 0xdeadbeef,
+        two: 0xface,
+        three: 0xff,
+    };
+    let mut out = [0u8; 7];
+    let mut target = &mut out[..];
+    assert!(rt; matches!(&target.pwrite_with(data, 0, BE), Ok(7)));
+    assert_eq!(rt; out, bytes);
+    for (len, size, left, wanted) in [
+        (0, 4, 0, [0, 0, 0, 0, 0, 0, 0]),
+        (3, 4, 3, [0, 0, 0, 0, 0, 0, 0]),
+        (5, 2, 1, [0xde, 0xad, 0xbe, 0xef, 0, 0, 0]),
+        (6, 1, 0, [0xde, 0xad, 0xbe, 0xef, 0xfa, 0xce, 0]),
+    ] {
+        let mut out = [0u8; 7];
+        let mut target = &mut out[..len];
+        let cut = target.pwrite_with(data, 0, BE);
+        assert!(rt;
+            matches!(&cut, Err(Error::TooBig { size: s, len: l }) if *s == size && *l == left)
+        );
+        assert_eq!(rt; out, wanted);
+    }
 }

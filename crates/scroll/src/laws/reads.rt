@@ -1,10 +1,10 @@
 // Laws of reads.
 ghost use Rattle.std.specs.Prelude.{◌≡◌, ◌≤◌, ◌<◌, ◌+◌, ℕ, List, length};
-ghost use Rattle.scroll.specs.Arrays.{ReadsArray, RefusesArray};
+ghost use Rattle.scroll.specs.Arrays.{ReadsArray, RefusesArray, ReadsNested, RefusesNested};
 ghost use Rattle.scroll.specs.Bytes.{RefusesShort};
 ghost use Rattle.scroll.specs.CStrings.{ReadsCString, RefusesCString};
 ghost use Rattle.scroll.specs.Laws.{IsLocal, IsBounded, IsWithin, AllowsOneAtEach};
-ghost use Rattle.scroll.specs.Leb128.{ReadsUleb, ReadsSleb};
+ghost use Rattle.scroll.specs.Leb128.{ReadsUleb, ReadsSleb, ReadsCountedUleb, ReadsCountedSleb};
 ghost use Rattle.scroll.specs.LebRefusals.{RefusesUleb, RefusesSleb};
 ghost use Rattle.scroll.specs.Numbers.{ReadsNumber, ReadsSigned};
 ghost use Rattle.scroll.specs.Errors.{IsBadOffset};
@@ -14,6 +14,7 @@ ghost use Rattle.scroll.specs.declared.ctx.str_ctx.StrCtx.TheVariants.{Length};
 ghost use Rattle.scroll.specs.declared.endian.Endian.{Endian};
 
 use crate::ctx::TryFromCtx;
+use crate::error::Error;
 
 /// A read that fits its source has the same value and size on every source that is at least as long and begins with the
 /// bytes that were read.
@@ -52,7 +53,8 @@ pub fn array_size_is_bounded<'a, Ctx: Copy, T: TryFromCtx<'a, Ctx>>()
 {}
 
 /// Exactly one answer is allowed at each place of each buffer, so a read at an offset answers what a read with a cursor
-/// there answers.
+/// there answers. So it is of arrays of each length, of arrays of such arrays, and so on: `counts` has the lengths, from the
+/// outermost on.
 pub fn place_has_one_answer()
     ensures number { (w : ℕ) (order : Endian) → AllowsOneAtEach (ReadsNumber w order) (RefusesShort w) }
     ensures signed { (w : ℕ) (order : Endian) → AllowsOneAtEach (ReadsSigned w order) (RefusesShort w) }
@@ -61,20 +63,24 @@ pub fn place_has_one_answer()
     ensures c_string { AllowsOneAtEach ReadsCString RefusesCString }
     ensures uleb { AllowsOneAtEach ReadsUleb RefusesUleb }
     ensures sleb { AllowsOneAtEach ReadsSleb RefusesSleb }
-    ensures numbers { (w : ℕ) (order : Endian) (count : ℕ)
-        → AllowsOneAtEach (ReadsArray (ReadsNumber w order) count) (RefusesArray (ReadsNumber w order) (RefusesShort w) IsBadOffset count) }
-    ensures signed_numbers { (w : ℕ) (order : Endian) (count : ℕ)
-        → AllowsOneAtEach (ReadsArray (ReadsSigned w order) count) (RefusesArray (ReadsSigned w order) (RefusesShort w) IsBadOffset count) }
-    ensures slices { (n count : ℕ)
-        → AllowsOneAtEach (ReadsArray (ReadsSlice n) count) (RefusesArray (ReadsSlice n) (RefusesSlice n) IsBadOffset count) }
-    ensures texts { (ctx : StrCtx) (count : ℕ)
-        → AllowsOneAtEach (ReadsArray (ReadsText ctx) count) (RefusesArray (ReadsText ctx) (RefusesText ctx) IsBadOffset count) }
-    ensures c_strings { (count : ℕ)
-        → AllowsOneAtEach (ReadsArray ReadsCString count) (RefusesArray ReadsCString RefusesCString IsBadOffset count) }
-    ensures nested { (w : ℕ) (order : Endian) (count outer : ℕ)
-        → AllowsOneAtEach (ReadsArray (ReadsArray (ReadsNumber w order) count) outer)
-        (RefusesArray (ReadsArray (ReadsNumber w order) count) (RefusesArray (ReadsNumber w order) (RefusesShort w) IsBadOffset count) IsBadOffset outer) }
-    ensures nested_texts { (ctx : StrCtx) (count outer : ℕ)
-        → AllowsOneAtEach (ReadsArray (ReadsArray (ReadsText ctx) count) outer)
-        (RefusesArray (ReadsArray (ReadsText ctx) count) (RefusesArray (ReadsText ctx) (RefusesText ctx) IsBadOffset count) IsBadOffset outer) }
+    ensures numbers { (w : ℕ) (order : Endian) (counts : List ℕ)
+        → AllowsOneAtEach (ReadsNested (ReadsNumber w order) counts) (RefusesNested (ReadsNumber w order) (RefusesShort w) IsBadOffset counts) }
+    ensures signed_numbers { (w : ℕ) (order : Endian) (counts : List ℕ)
+        → AllowsOneAtEach (ReadsNested (ReadsSigned w order) counts) (RefusesNested (ReadsSigned w order) (RefusesShort w) IsBadOffset counts) }
+    ensures slices { (n : ℕ) (counts : List ℕ)
+        → AllowsOneAtEach (ReadsNested (ReadsSlice n) counts) (RefusesNested (ReadsSlice n) (RefusesSlice n) IsBadOffset counts) }
+    ensures texts { (ctx : StrCtx) (counts : List ℕ)
+        → AllowsOneAtEach (ReadsNested (ReadsText ctx) counts) (RefusesNested (ReadsText ctx) (RefusesText ctx) IsBadOffset counts) }
+    ensures c_strings { (counts : List ℕ)
+        → AllowsOneAtEach (ReadsNested ReadsCString counts) (RefusesNested ReadsCString RefusesCString IsBadOffset counts) }
+    ensures ulebs { (counts : List ℕ)
+        → AllowsOneAtEach (ReadsNested ReadsCountedUleb counts) (RefusesNested ReadsCountedUleb RefusesUleb IsBadOffset counts) }
+    ensures slebs { (counts : List ℕ)
+        → AllowsOneAtEach (ReadsNested ReadsCountedSleb counts) (RefusesNested ReadsCountedSleb RefusesSleb IsBadOffset counts) }
+{}
+
+/// The same of an array of values of any type whose errors are those of the crate, where it holds of the values.
+pub fn array_has_one_answer<'a, Ctx: Copy, T: TryFromCtx<'a, Ctx, Error = Error>>()
+    ensures { (ctx : Ctx) (count : ℕ) → AllowsOneAtEach (T.reads ctx) (T.refuses ctx)
+        → AllowsOneAtEach (ReadsArray (T.reads ctx) count) (RefusesArray (T.reads ctx) (T.refuses ctx) IsBadOffset count) }
 {}

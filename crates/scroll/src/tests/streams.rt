@@ -149,7 +149,7 @@ fn writers_of_one_byte_a_call(rt: HostRuntime) {
 }
 
 #[test]
-fn numbers_over_memory(rt: HostRuntime) -> Result<(), Fail> {
+fn numbers_from_memory(rt: HostRuntime) -> Result<(), Fail> {
     let bytes: [u8; 8] = [0xef, 0xbe, 0xb0, 0xb0, 0xfe, 0xed, 0xde, 0xad];
     let mut source = &bytes[..];
     assert_eq!(rt; source.ioread_with::<u16>(LE)?, 48879);
@@ -157,14 +157,22 @@ fn numbers_over_memory(rt: HostRuntime) -> Result<(), Fail> {
     assert_eq!(rt; source.ioread::<u8>()?, 176);
     assert_eq!(rt; source.ioread_with::<u32>(BE)?, 4277001901);
     assert!(rt; source.ioread::<u8>().is_err());
+    let mut source = &bytes[..2];
+    assert_eq!(rt; source.ioread::<u16>()?, 48879);
+    assert!(rt; source.is_empty());
     let bytes: [u8; 12] = [1, 0, 0, 0, 0, 0, 0, 0, 0xef, 0xbe, 0, 0];
     let mut source = &bytes[..];
     assert_eq!(rt; source.ioread::<u64>()?, 1);
     assert_eq!(rt; source.ioread::<u32>()?, 48879);
     let mut source = &bytes[..];
-    assert_eq!(rt; source.ioread_with::<i64>(LE)?, 1);
+    assert_eq!(rt; source.ioread_with::<u64>(LE)?, 1);
     assert_eq!(rt; source.len(), 4);
     assert!(rt; source.ioread_with::<u64>(LE).is_err());
+    Ok(())
+}
+
+#[test]
+fn numbers_to_memory(rt: HostRuntime) -> Result<(), Fail> {
     let mut bytes = [0u8; 10];
     let mut target = &mut bytes[..];
     target.write_all(b"hello")?;
@@ -173,6 +181,15 @@ fn numbers_over_memory(rt: HostRuntime) -> Result<(), Fail> {
         bytes,
         [0x68, 0x65, 0x6c, 0x6c, 0x6f, 0xde, 0xad, 0xbe, 0xef, 0]
     );
+    for (order, wanted) in [
+        (BE, [0xde, 0xad, 0xbe, 0xef, 0]),
+        (LE, [0xef, 0xbe, 0xad, 0xde, 0]),
+    ] {
+        let mut bytes = [0u8; 5];
+        let mut target = &mut bytes[..];
+        target.iowrite_with(0xdeadbeefu32, order)?;
+        assert_eq!(rt; bytes, wanted);
+    }
     let mut bytes = [0u8; 5];
     let mut target = &mut bytes[..];
     target.iowrite(0xdeadbeefu32)?;

@@ -1,8 +1,9 @@
--- Exactly one answer.
+-- Exactly one answer: lemmas that give the law of a type, of its arrays, and of arrays of these.
 use Rattle.std.proofs.Common.{◌≡◌, ℕ, zero, suc, ◌+◌, ◌≤◌, ◌<◌, List, [], ◌∷◌, length, drop, arith, refl, sym, ◌∙◌, ap, subst, inl, inr, ◌⊎◌, Result, Ok, Err}
 use Rattle.std.proofs.lemmas.Bool.{cases_lt}
-use Rattle.scroll.specs.Arrays.{ReadsArray, RefusesArray}
+use Rattle.scroll.specs.Arrays.{ReadsArray, RefusesArray, ReadsNested, RefusesNested}
 use Rattle.scroll.specs.Bytes.{ReadsFront, RefusesShort}
+use Rattle.scroll.specs.Leb128.{Counted}
 use Rattle.scroll.specs.Laws.{SameError, SameAnswer, Allows, AllowsOne, AllowsOneAtEach}
 use Rattle.scroll.specs.Reads.{ReadsAt, RefusesAt, ReadsAll}
 use Rattle.scroll.specs.Errors.{IsBadOffset}
@@ -171,3 +172,30 @@ one-array reads refuses one count =
     (λ vs n a. (a.len, a.each))
     (λ e a. (a.front, a.stop, a.fewer, a.each, a.error))
     (one-all reads refuses s (one s) count 0))
+
+-- arrays of arrays
+pub one-nested : {V : Type 0} (reads : List ℕ → V → ℕ → Type 0) (refuses : List ℕ → Error → Type 0) → AllowsOneAtEach reads refuses → (counts : List ℕ) → AllowsOneAtEach (ReadsNested reads counts) (RefusesNested reads refuses IsBadOffset counts)
+one-nested reads refuses one [] = one
+one-nested reads refuses one (count ∷ counts) =
+    one-array (ReadsNested reads counts) (RefusesNested reads refuses IsBadOffset counts) (one-nested reads refuses one counts) count
+
+-- a value with its size beside it
+abbrev Sized : {V : Type 0} → (V → ℕ → Type 0) → Counted V → ℕ → Type 0
+Sized P x n = P x.value n × (x.count ≡ n)
+
+sized-same : {V : Type 0} (x : V × ℕ) (w : Counted V) (m : ℕ) → (w.value, m) ≡ x → w.count ≡ m → (w ≡ record { value = x.0; count = x.1 }) × (m ≡ x.1)
+sized-same {V} x w m same count =
+    let size : m ≡ x.1 = ap (λ y. y.1) same in
+    let value : w.value ≡ x.0 = ap (λ y. y.0) same in
+    let counted : ℕ → Counted V = λ k. record { value = w.value; count = k } in
+    let valued : V → Counted V = λ v. record { value = v; count = x.1 } in
+    (ap counted (count ∙ size) ∙ ap valued value, size)
+
+one-sized-of : {V : Type 0} (P : V → ℕ → Type 0) (Q : Error → Type 0) (r : Result (V × ℕ) Error) → Allows P Q r → ((q : Result (V × ℕ) Error) → Allows P Q q → SameAnswer q r) → AllowsOne (Sized P) Q
+one-sized-of P Q (Ok x) allowed only = one-Ok (Sized P) Q (record { value = x.0; count = x.1 }) x.1 (allowed, refl)
+    (λ w m r. sized-same x w m (only (Ok (w.value, m)) r.0) r.1) (λ e q. only (Err e) q)
+one-sized-of P Q (Err e) allowed only = one-Err (Sized P) Q e allowed
+    (λ w m r. only (Ok (w.value, m)) r.0) (λ d q. only (Err d) q)
+
+pub one-sized : {V : Type 0} (reads : List ℕ → V → ℕ → Type 0) (refuses : List ℕ → Error → Type 0) → ((s : List ℕ) → AllowsOne (reads s) (refuses s)) → (s : List ℕ) → AllowsOne (λ (x : Counted V) n. reads s x.value n × (x.count ≡ n)) (refuses s)
+one-sized reads refuses one s = one-sized-of (reads s) (refuses s) (one s).answer (one s).allowed (one s).only

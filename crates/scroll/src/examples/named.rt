@@ -1,0 +1,92 @@
+// A number and a name whose length stands before it, in a context of one's own. No proof file has a word on it.
+ghost use Rattle.std.specs.Prelude.{◌≡◌, ◌≤◌, ◌+◌, length, drop, ◌⊎◌};
+ghost use Rattle.std.proofs.Common.{rules};
+ghost use Rattle.scroll.specs.Bytes.{RefusesShort};
+ghost use Rattle.scroll.specs.Numbers.{number};
+ghost use Rattle.scroll.specs.Texts.{ReadsText, RefusesText};
+ghost use Rattle.scroll.specs.declared.ctx.str_ctx.StrCtx.TheVariants.{Length};
+
+use crate::ctx::{StrCtx, TryFromCtx};
+use crate::{BE, Endian, Error, LE, Pread, Result};
+
+// A byte order.
+#[derive(Clone, Copy)]
+struct Context(Endian);
+
+#[derive(Clone, Copy, Debug)]
+struct Data<'a> {
+    name: &'a str,
+    id: u32,
+}
+
+impl<'a> TryFromCtx<'a, Context> for Data<'a> {
+    type Error = Error;
+
+    // The number, the length in two bytes, and the name of that length.
+    ghost reads = { λ ctx source x n. let len = number ctx.0 2 (drop 4 source) in
+        (6 ≤ length source) × (x.id ≡ number ctx.0 4 source) × ReadsText (Length len) (drop 6 source) x.name.now len × (n ≡ 6 + len) };
+
+    // The first of the three that is refused.
+    ghost refuses = { λ ctx source e. RefusesShort 4 source e
+        ⊎ (((4 ≤ length source) × RefusesShort 2 (drop 4 source) e)
+        ⊎ ((6 ≤ length source) × RefusesText (Length (number ctx.0 2 (drop 4 source))) (drop 6 source) e)) };
+
+    ghost reads_bounded = { λ ctx source x n h. Prim.search rules };
+
+    fn try_from_ctx(from: &'a [u8], ctx: Context) -> Result<(Data<'a>, usize)> {
+        let mut offset = 0;
+        let id = from.gread_with(&mut offset, ctx.0)?;
+        let len: u16 = from.gread_with(&mut offset, ctx.0)?;
+        let name = from.gread_with(&mut offset, StrCtx::Length(len as usize))?;
+        Ok((Data { name, id }, offset))
+    }
+}
+
+#[test]
+fn a_number_and_a_name(rt: HostRuntime) {
+    let bytes = b"\x01\x02\x03\x04\x00\x08UserName";
+    let source = bytes.as_slice();
+    let data: Result<Data> = source.pread_with(0, Context(BE));
+    assert!(rt;
+        matches!(
+            &data,
+            Ok(Data {
+                name: "UserName",
+                id: 16909060
+            })
+        )
+    );
+    let offset = &mut 0;
+    let data: Result<Data> = source.gread_with(offset, Context(BE));
+    assert!(rt; data.is_ok());
+    assert_eq!(rt; *offset, 14);
+    let long: Result<Data> = source.pread_with(0, Context(LE));
+    assert!(rt; matches!(&long, Err(Error::TooBig { size: 2048, len: 8 })));
+}
+
+#[test]
+fn cut_at_each_length(rt: HostRuntime) {
+    let bytes = b"\x01\x02\x03\x04\x00\x08UserName";
+    for cut in 0..14 {
+        let (wanted, start) = match cut {
+            0..4 => (4, 0),
+            4..6 => (2, 4),
+            _ => (8, 6),
+        };
+        let read: Result<Data> = bytes[..cut].pread_with(0, Context(BE));
+        assert!(rt;
+            matches!(&read, Err(Error::TooBig { size, len }) if *size == wanted && *len == cut - start),
+            "{cut}"
+        );
+    }
+    let no_text: Result<Data> = b"\x01\x02\x03\x04\x00\x01\xffe"[..].pread_with(0, Context(BE));
+    assert!(rt;
+        matches!(
+            &no_text,
+            Err(Error::BadInput {
+                size: 2,
+                msg: "invalid utf8"
+            })
+        )
+    );
+}

@@ -1,0 +1,242 @@
+// Three numbers whose width is told by the context, and a name and a value, each behind its length. The numbers have to
+// rise, and the error is of one's own.
+ghost use Rattle.std.specs.Prelude.{◌≡◌, ℕ, ◌≤◌, ◌<◌, ◌+◌, ◌*◌, [], ◌∷◌, length, take, drop, ◌⊎◌, IfOk, IfErr, IsUtf8};
+ghost use Rattle.std.proofs.Common.{rules};
+ghost use Rattle.std.proofs.lemmas.Grind.{common_steps};
+ghost use Rattle.scroll.specs.Bytes.{RefusesShort};
+ghost use Rattle.scroll.specs.Numbers.{number};
+ghost use Rattle.scroll.specs.Texts.{ReadsText, RefusesText, ReadsSlice, RefusesSlice};
+ghost use Rattle.scroll.specs.declared.ctx.str_ctx.StrCtx.TheVariants.{Length};
+ghost use Rattle.scroll.specs.declared.error.Error.{Error};
+ghost use Rattle.scroll.specs.declared.examples.sized_fields.DataError.TheVariants.{BadFieldMatchup, Scroll};
+ghost use Rattle.scroll.specs.declared.examples.sized_fields.FieldSize.TheVariants.{U32, U64};
+
+use crate::ctx::{StrCtx, TryFromCtx};
+use crate::{BE, Endian, Error, Pread, Result};
+use std::result;
+
+// How wide the fields are.
+#[derive(Clone, Copy, Debug)]
+enum FieldSize {
+    U32,
+    U64,
+}
+
+#[derive(Clone, Copy, Debug)]
+struct Context {
+    fieldsize: FieldSize,
+    endianess: Endian,
+}
+
+#[derive(Clone, Copy, Debug)]
+struct Data<'b> {
+    field_a: u64,
+    field_b: u64,
+    field_c: u64,
+    name: &'b str,
+    value: &'b [u8],
+}
+
+#[derive(Debug, Drop)]
+enum DataError {
+    // The fields don't rise.
+    BadFieldMatchup,
+    Scroll(Error),
+}
+
+impl From<Error> for DataError {
+    ghost from_gives = { λ error e. e ≡ Scroll error };
+
+    fn from(error: Error) -> DataError {
+        DataError::Scroll(error)
+    }
+}
+
+// The three fields at the start of a source, and how many bytes they take.
+fn read_fields(from: &[u8], ctx: Context) -> Result<([u64; 3], usize)>
+    ensures room { IfOk result (λ x. let w : ℕ = elim ctx.fieldsize [ U32 ↦ 4 | U64 ↦ 8 ] in (3 * w ≤ length from.now) × (x.1 ≡ 3 * w)) }
+    ensures fields { IfOk result (λ x. let w : ℕ = elim ctx.fieldsize [ U32 ↦ 4 | U64 ↦ 8 ] in
+        x.0 ≡ number ctx.endianess w from.now ∷ number ctx.endianess w (drop w from.now) ∷ number ctx.endianess w (drop (2 * w) from.now) ∷ []) }
+    ensures refused { IfErr result (λ e. let w : ℕ = elim ctx.fieldsize [ U32 ↦ 4 | U64 ↦ 8 ] in
+        RefusesShort w from.now e ⊎ (((w ≤ length from.now) × RefusesShort w (drop w from.now) e)
+        ⊎ ((2 * w ≤ length from.now) × RefusesShort w (drop (2 * w) from.now) e))) }
+{
+    let mut offset = 0;
+    match ctx.fieldsize {
+        FieldSize::U32 => {
+            let a: u32 = from.gread_with(&mut offset, ctx.endianess)?;
+            let b: u32 = from.gread_with(&mut offset, ctx.endianess)?;
+            let c: u32 = from.gread_with(&mut offset, ctx.endianess)?;
+            Ok(([a as u64, b as u64, c as u64], offset))
+        }
+        FieldSize::U64 => {
+            let a = from.gread_with(&mut offset, ctx.endianess)?;
+            let b = from.gread_with(&mut offset, ctx.endianess)?;
+            let c = from.gread_with(&mut offset, ctx.endianess)?;
+            Ok(([a, b, c], offset))
+        }
+    }
+}
+
+// The name at an offset, behind its length.
+fn read_name<'b>(from: &'b [u8], offset: &mut usize, order: Endian) -> Result<&'b str>
+    requires { offset.old ≤ length from.now }
+    ensures read { IfOk result (λ name. let len = number order 2 (drop offset.old from.now) in
+        (offset.old + 2 ≤ length from.now) × ReadsText (Length len) (drop (offset.old + 2) from.now) name.now len × (offset.new ≡ offset.old + 2 + len)) }
+    ensures refused { IfErr result (λ e. RefusesShort 2 (drop offset.old from.now) e
+        ⊎ ((offset.old + 2 ≤ length from.now) × RefusesText (Length (number order 2 (drop offset.old from.now))) (drop (offset.old + 2) from.now) e)) }
+{
+    let len: u16 = from.gread_with(offset, order)?;
+    from.gread_with(offset, StrCtx::Length(len as usize))
+}
+
+// The value at an offset, behind its length.
+fn read_value<'b>(from: &'b [u8], offset: &mut usize, order: Endian) -> Result<&'b [u8]>
+    requires { offset.old ≤ length from.now }
+    ensures read { IfOk result (λ value. let len = number order 2 (drop offset.old from.now) in
+        (offset.old + 2 ≤ length from.now) × ReadsSlice len (drop (offset.old + 2) from.now) value.now len × (offset.new ≡ offset.old + 2 + len)) }
+    ensures refused { IfErr result (λ e. RefusesShort 2 (drop offset.old from.now) e
+        ⊎ ((offset.old + 2 ≤ length from.now) × RefusesSlice (number order 2 (drop offset.old from.now)) (drop (offset.old + 2) from.now) e)) }
+{
+    let len: u16 = from.gread_with(offset, order)?;
+    from.gread_with(offset, len as usize)
+}
+
+impl<'b> TryFromCtx<'b, Context> for Data<'b> {
+    type Error = DataError;
+
+    ghost reads = { λ ctx source x n.
+        let w : ℕ = elim ctx.fieldsize [ U32 ↦ 4 | U64 ↦ 8 ] in
+        let name_len = number ctx.endianess 2 (drop (3 * w) source) in
+        let value_at = 3 * w + 2 + name_len in
+        let value_len = number ctx.endianess 2 (drop value_at source) in
+        (x.field_a ≡ number ctx.endianess w source) × (x.field_b ≡ number ctx.endianess w (drop w source)) × (x.field_c ≡ number ctx.endianess w (drop (2 * w) source))
+        × (x.field_a < x.field_b) × (x.field_b < x.field_c)
+        × ReadsText (Length name_len) (drop (3 * w + 2) source) x.name.now name_len
+        × (value_at + 2 ≤ length source) × ReadsSlice value_len (drop (value_at + 2) source) x.value.now value_len
+        × (n ≡ value_at + 2 + value_len) };
+
+    // The first that is refused; and where none is, the fields that don't rise.
+    ghost refuses = { λ ctx source e.
+        let w : ℕ = elim ctx.fieldsize [ U32 ↦ 4 | U64 ↦ 8 ] in
+        let name_len = number ctx.endianess 2 (drop (3 * w) source) in
+        let is_name = IsUtf8 (take name_len (drop (3 * w + 2) source)) in
+        let value_at = 3 * w + 2 + name_len in
+        let value_len = number ctx.endianess 2 (drop value_at source) in
+        ((s : Error) × (e ≡ Scroll s) × (RefusesShort w source s
+        ⊎ (((w ≤ length source) × RefusesShort w (drop w source) s)
+        ⊎ (((2 * w ≤ length source) × RefusesShort w (drop (2 * w) source) s)
+        ⊎ (((3 * w ≤ length source) × RefusesShort 2 (drop (3 * w) source) s)
+        ⊎ (((3 * w + 2 ≤ length source) × RefusesText (Length name_len) (drop (3 * w + 2) source) s)
+        ⊎ (((value_at ≤ length source) × is_name × RefusesShort 2 (drop value_at source) s)
+        ⊎ ((value_at + 2 ≤ length source) × is_name × RefusesSlice value_len (drop (value_at + 2) source) s))))))))
+        ⊎ ((e ≡ BadFieldMatchup) × (value_at + 2 + value_len ≤ length source) × is_name
+        × ((number ctx.endianess w (drop w source) ≤ number ctx.endianess w source)
+        ⊎ (number ctx.endianess w (drop (2 * w) source) ≤ number ctx.endianess w (drop w source)))) };
+
+    ghost reads_bounded = { λ ctx source x n h. Prim.search (rules, common_steps) };
+
+    fn try_from_ctx(from: &'b [u8], ctx: Context) -> result::Result<(Data<'b>, usize), DataError> {
+        let (fields, mut offset) = read_fields(from, ctx)?;
+        let name = read_name(from, &mut offset, ctx.endianess)?;
+        let value = read_value(from, &mut offset, ctx.endianess)?;
+        let [field_a, field_b, field_c] = fields;
+        if field_a >= field_b || field_b >= field_c {
+            return Err(DataError::BadFieldMatchup);
+        }
+        let data = Data {
+            field_a,
+            field_b,
+            field_c,
+            name,
+            value,
+        };
+        Ok((data, offset))
+    }
+}
+
+const NARROW: &[u8; 26] =
+    b"\x00\x02\x03\x04\x01\x02\x03\x04\xde\xad\xbe\xef\x00\x08UserName\x00\x02\xca\xfe";
+
+const WIDE: &[u8; 38] =
+    b"\0\0\0\0\x00\x02\x03\x04\0\0\0\0\x01\x02\x03\x04\0\0\0\0\xde\xad\xbe\xef\x00\x08UserName\x00\x02\xca\xfe";
+
+#[test]
+fn by_fields_of_either_width(rt: HostRuntime) {
+    for (fieldsize, bytes) in [
+        (FieldSize::U32, NARROW.as_slice()),
+        (FieldSize::U64, WIDE.as_slice()),
+    ] {
+        let ctx = Context {
+            fieldsize,
+            endianess: BE,
+        };
+        let read: result::Result<Data, DataError> = bytes.pread_with(0, ctx);
+        match read {
+            Ok(data) => {
+                assert_eq!(rt; data.field_a, 0x00020304);
+                assert_eq!(rt; data.field_b, 0x01020304);
+                assert_eq!(rt; data.field_c, 0xdeadbeef);
+                assert_eq!(rt; data.name, "UserName");
+                assert_eq!(rt; data.value, [0xca, 0xfe].as_slice());
+            }
+            Err(_) => assert!(rt; false),
+        }
+        let offset = &mut 0;
+        let read: result::Result<Data, DataError> = bytes.gread_with(offset, ctx);
+        assert!(rt; read.is_ok());
+        assert_eq!(rt; *offset, bytes.len());
+    }
+    let ctx = Context {
+        fieldsize: FieldSize::U64,
+        endianess: BE,
+    };
+    let long: result::Result<Data, DataError> = NARROW[..].pread_with(0, ctx);
+    assert!(rt;
+        matches!(
+            &long,
+            Err(DataError::Scroll(Error::TooBig {
+                size: 51966,
+                len: 0
+            }))
+        )
+    );
+}
+
+#[test]
+fn cut_or_out_of_order(rt: HostRuntime) {
+    let ctx = Context {
+        fieldsize: FieldSize::U32,
+        endianess: BE,
+    };
+    for (cut, wanted, left) in [
+        (0, 4, 0),
+        (7, 4, 3),
+        (11, 4, 3),
+        (13, 2, 1),
+        (21, 8, 7),
+        (22, 2, 0),
+        (25, 2, 1),
+    ] {
+        let read: result::Result<Data, DataError> = NARROW[..cut].pread_with(0, ctx);
+        assert!(rt;
+            matches!(&read, Err(DataError::Scroll(Error::TooBig { size, len })) if *size == wanted && *len == left),
+            "{cut}"
+        );
+    }
+    for bytes in [
+        b"\0\0\0\x02\0\0\0\x02\0\0\0\x03\0\0\0\0",
+        b"\0\0\0\x01\0\0\0\x02\0\0\0\x02\0\0\0\0",
+        b"\0\0\0\x03\0\0\0\x02\0\0\0\x01\0\0\0\0",
+    ] {
+        let read: result::Result<Data, DataError> = bytes[..].pread_with(0, ctx);
+        assert!(rt; matches!(&read, Err(DataError::BadFieldMatchup)));
+        let cut: result::Result<Data, DataError> = bytes[..15].pread_with(0, ctx);
+        assert!(rt;
+            matches!(
+                &cut,
+                Err(DataError::Scroll(Error::TooBig { size: 2, len: 1 }))
+            )
+        );
+    }
+}

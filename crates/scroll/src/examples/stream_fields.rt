@@ -1,0 +1,110 @@
+// Two numbers over streams: each by itself, and both as a type of one's own.
+ghost use Rattle.std.specs.Prelude.{◌≡◌, ◌≤◌, ◌++◌, length, take, drop, IfOk, OnOk};
+ghost use Rattle.std.proofs.Common.{rules};
+ghost use Rattle.scroll.specs.Numbers.{number, signed_number, number_bytes, signed_bytes};
+
+use crate::ctx::{FromCtx, IntoCtx, SizeWith};
+use crate::{BE, Cread, Endian, IOread, IOwrite, LE, slice};
+use std::io;
+use std::test::Fail;
+
+#[derive(Clone, Copy, Debug, PartialEq, Eq)]
+struct Foo {
+    foo: i64,
+    bar: u32,
+}
+
+impl FromCtx<Endian> for Foo {
+    ghost need = { λ _. 12 };
+
+    ghost makes = { λ order source x. (x.foo ≡ signed_number order 8 source) × (x.bar ≡ number order 4 (drop 8 source)) };
+
+    fn from_ctx(this: &[u8], ctx: Endian) -> Foo {
+        Foo {
+            foo: this.cread_with(0, ctx),
+            bar: this.cread_with(8, ctx),
+        }
+    }
+}
+
+impl IntoCtx<Endian> for Foo {
+    ghost need = { λ _. 12 };
+
+    ghost leaves = { λ order x old new. new ≡ (signed_bytes order 8 x.foo ++ number_bytes order 4 x.bar) ++ drop 12 old };
+
+    ghost leaves_keeps = { λ order x old new h. Prim.search rules };
+
+    fn into_ctx(self, dst: &mut [u8], ctx: Endian) {
+        slice::cwrite_with(dst, self.foo, 0, ctx);
+        slice::cwrite_with(dst, self.bar, 8, ctx);
+    }
+}
+
+impl SizeWith<Endian> for Foo {
+    ghost size = { λ _. 12 };
+
+    fn size_with(_ctx: &Endian) -> usize {
+        12
+    }
+}
+
+// The next twelve bytes of a source.
+fn read_foo(source: &mut &[u8], order: Endian) -> io::Result<Foo>
+    ensures foo { IfOk result (λ x. x.foo ≡ signed_number order 8 (take 12 source.old.now)) }
+    ensures bar { IfOk result (λ x. x.bar ≡ number order 4 (drop 8 (take 12 source.old.now))) }
+    ensures rest { OnOk result (source.new.now ≡ drop 12 source.old.now) }
+{
+    let foo = source.ioread_with(order)?;
+    Ok(foo)
+}
+
+// Appends the twelve bytes of a value.
+fn write_foo(target: &mut Vec<u8>, foo: Foo, order: Endian) -> io::Result<()>
+    ensures { OnOk result (target.new.items ≡ target.old.items ++ (signed_bytes order 8 foo.foo ++ number_bytes order 4 foo.bar)) }
+{
+    target.iowrite_with(foo, order)
+}
+
+const BYTES: [u8; 12] = [0x0b, 0x0b, 0, 0, 0, 0, 0, 0, 0xef, 0xbe, 0, 0];
+
+#[test]
+fn read_one_after_the_other_and_at_once(rt: HostRuntime) -> Result<(), Fail> {
+    let mut source = &BYTES[..];
+    let foo: i64 = source.ioread_with(LE)?;
+    let bar: u32 = source.ioread_with(LE)?;
+    assert_eq!(rt; foo, 2827);
+    assert_eq!(rt; bar, 48879);
+    assert!(rt; source.ioread_with::<u64>(LE).is_err());
+    let mut source = &BYTES[..];
+    assert_eq!(rt; read_foo(&mut source, LE)?, Foo { foo, bar });
+    assert!(rt; source.is_empty());
+    assert!(rt; read_foo(&mut source, LE).is_err());
+    let mut source = &BYTES[..];
+    let big = Foo {
+        foo: 0x0b0b_0000_0000_0000,
+        bar: 0xefbe_0000,
+    };
+    assert_eq!(rt; read_foo(&mut source, BE)?, big);
+    Ok(())
+}
+
+#[test]
+fn written_as_it_reads(rt: HostRuntime) -> Result<(), Fail> {
+    for order in [LE, BE] {
+        let mut source = &BYTES[..];
+        let foo = read_foo(&mut source, order)?;
+        let mut target = Vec::new(rt.alloc());
+        write_foo(&mut target, foo, order)?;
+        assert_eq!(rt; target.as_slice(), BYTES.as_slice());
+    }
+    let mut bytes = [7u8; 13];
+    let mut room = &mut bytes[..];
+    let foo = Foo {
+        foo: 2827,
+        bar: 48879,
+    };
+    room.iowrite_with(foo, LE)?;
+    assert!(rt; room.iowrite_with(foo, LE).is_err());
+    assert_eq!(rt; &bytes[..12], BYTES.as_slice());
+    Ok(())
+}

@@ -1,0 +1,76 @@
+// A number that is read from a source of exactly its two bytes, with an error of one's own.
+ghost use Rattle.std.specs.Prelude.{◌≡◌, ◌≤◌, ◌<◌, length, ◌⊎◌};
+ghost use Rattle.std.proofs.Common.{rules};
+ghost use Rattle.scroll.specs.NumberLaws.{WritesNumber-keeps};
+ghost use Rattle.scroll.specs.Numbers.{ReadsNumber, WritesNumber};
+
+use super::external_error::ExternalError;
+use crate::ctx::{TryFromCtx, TryIntoCtx};
+use crate::{BE, Endian, LE, Pread, Pwrite};
+use std::result::Result;
+
+#[derive(Clone, Copy, Debug)]
+struct Foo(u16);
+
+impl<'a> TryFromCtx<'a, Endian> for Foo {
+    type Error = ExternalError;
+
+    ghost reads = { λ order source x n. (length source ≤ 2) × ReadsNumber 2 order source x.0 n };
+
+    ghost refuses = { λ _ source _. (2 < length source) ⊎ (length source < 2) };
+
+    ghost reads_bounded = { λ order source x n h. Prim.search rules };
+
+    fn try_from_ctx(from: &'a [u8], ctx: Endian) -> Result<(Foo, usize), ExternalError> {
+        if from.len() > 2 {
+            return Err(ExternalError {});
+        }
+        let n = from.pread_with(0, ctx)?;
+        Ok((Foo(n), 2))
+    }
+}
+
+impl TryIntoCtx<Endian> for Foo {
+    type Error = ExternalError;
+
+    ghost writes = { λ order x. WritesNumber 2 order x.0 };
+
+    ghost refuses = { λ _ _ old new _. (length old < 2) × (new ≡ old) };
+
+    ghost writes_bounded = { λ order x old new n h. Prim.search rules };
+
+    ghost writes_keeps = { λ order x. WritesNumber-keeps 2 order x.0 };
+
+    fn try_into_ctx(self, dst: &mut [u8], ctx: Endian) -> Result<usize, ExternalError> {
+        if dst.len() < 2 {
+            return Err(ExternalError {});
+        }
+        let size = self.0.try_into_ctx(dst, ctx)?;
+        Ok(size)
+    }
+}
+
+#[test]
+fn at_each_offset(rt: HostRuntime) {
+    let bytes: [u8; 4] = [0xde, 0xad, 0, 0];
+    for offset in [0, 1, 3, 4, 5] {
+        let refused: Result<Foo, ExternalError> = bytes[..].pread_with(offset, LE);
+        assert!(rt; matches!(&refused, Err(ExternalError {})), "{offset}");
+    }
+    let last: Result<Foo, ExternalError> = bytes[..].pread_with(2, LE);
+    assert!(rt; matches!(&last, Ok(Foo(0))));
+    for (order, wanted) in [(LE, 0xadde), (BE, 0xdead)] {
+        let whole: Result<Foo, ExternalError> = bytes[..2].pread_with(0, order);
+        assert!(rt; matches!(&whole, Ok(Foo(n)) if *n == wanted));
+    }
+}
+
+#[test]
+fn written_where_there_is_room(rt: HostRuntime) {
+    let mut out = [0xffu8; 4];
+    let mut target = &mut out[..];
+    assert!(rt; matches!(&target.pwrite_with(Foo(0x7f), 1, LE), Ok(2)));
+    assert!(rt; matches!(&target.pwrite_with(Foo(0x7f), 3, LE), Err(ExternalError {})));
+    assert!(rt; matches!(&target.pwrite_with(Foo(0x7f), 5, LE), Err(ExternalError {})));
+    assert_eq!(rt; out, [0xff, 0x7f, 0, 0xff]);
+}
