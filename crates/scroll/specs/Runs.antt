@@ -10,6 +10,7 @@ use Rattle.scroll.specs.History.{Piece, seen}
 use Rattle.scroll.specs.Leaves.{pieces, AnswersLeaves}
 use Rattle.scroll.specs.Leb128.{ReadsCountedUleb, ReadsCountedSleb}
 use Rattle.scroll.specs.LebRefusals.{RefusesUleb, RefusesSleb}
+use Rattle.scroll.specs.LebWrites.{uleb_text, sleb_text}
 use Rattle.scroll.specs.Numbers.{ReadsNumber, ReadsSigned, number_bytes, signed_bytes}
 use Rattle.scroll.specs.Reads.{ReadsAt, RefusesAt}
 use Rattle.scroll.specs.Texts.{ReadsText, RefusesText, ReadsSlice, RefusesSlice}
@@ -102,6 +103,8 @@ leaves_of (put.I128 x order) = signed_bytes order 16 x ∷ []
 leaves_of (put.Text text) = text.now ∷ []
 leaves_of (put.Bytes bytes) = bytes.now ∷ []
 leaves_of (put.CStr text) = (c_str_text text ++ 0 ∷ []) ∷ []
+leaves_of (put.Uleb x) = uleb_text x ∷ []
+leaves_of (put.Sleb x) = sleb_text x ∷ []
 leaves_of (put.U16x3 xs order) = map (number_bytes order 2) xs
 leaves_of (put.Bytesx2 first second) = first.now ∷ second.now ∷ []
 

@@ -81,6 +81,10 @@ pub enum Put<'c> {
     Text(&'c str),
     Bytes(&'c [u8]),
     CStr(CStr<'c>),
+    /// An unsigned number in LEB128, by its text.
+    Uleb(Uleb128),
+    /// A signed number in LEB128, by its text.
+    Sleb(Sleb128),
     U16x3([u16; 3], Endian),
     Bytesx2(&'c [u8], &'c [u8]),
 }
@@ -153,7 +157,7 @@ pub fn run(
         if answers.reserve(1).is_err() {
             return Err(Error::NoMemory);
         }
-        let answer = step(alloc, buffer, cursor, *command)?;
+        let answer = step(alloc, buffer, cursor, command)?;
         answers.push_reserved(answer);
     }
     Ok(())
@@ -164,15 +168,15 @@ fn step(
     alloc: Global,
     buffer: &mut [u8],
     cursor: &mut usize,
-    command: Command<'_>,
+    command: &Command<'_>,
 ) -> Result<Answer>
-    ensures answered { IfOk result (λ answer. IsStep buffer.old buffer.new cursor.old command.entry answer cursor.new) }
+    ensures answered { IfOk result (λ answer. IsStep buffer.old buffer.new cursor.old command.now answer cursor.new) }
     ensures only_memory { IfErr result (λ e. e ≡ NoMemory) }
     ensures same { OnErr result (buffer.new ≡ buffer.old) }
     ensures stays { OnErr result (cursor.new ≡ cursor.old) }
 {
     match command {
-        Command::Read(place, kind) => read::read(alloc, buffer, cursor, place, kind),
-        Command::Write(place, put) => Ok(write::write(buffer, cursor, place, put)),
+        Command::Read(place, kind) => read::read(alloc, buffer, cursor, *place, *kind),
+        Command::Write(place, put) => Ok(write::write(buffer, cursor, *place, put)),
     }
 }

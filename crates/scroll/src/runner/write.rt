@@ -12,9 +12,9 @@ use crate::error::{Error, Result};
 use crate::slice;
 
 // Answers a write, and moves a cursor that it uses by the size of what was written.
-pub fn write(buffer: &mut [u8], cursor: &mut usize, place: Place, put: Put<'_>) -> Answer
-    ensures answer { WriteStep buffer.old cursor.old place (leaves_of put.entry) result cursor.new }
-    ensures after { buffer.new ≡ seen buffer.old (pieces (length buffer.old) (place_of place cursor.old) (leaves_of put.entry)) }
+pub fn write(buffer: &mut [u8], cursor: &mut usize, place: Place, put: &Put<'_>) -> Answer
+    ensures answer { WriteStep buffer.old cursor.old place (leaves_of put.now) result cursor.new }
+    ensures after { buffer.new ≡ seen buffer.old (pieces (length buffer.old) (place_of place cursor.old) (leaves_of put.now)) }
 {
     match write_value(buffer, cursor, place, put) {
         Ok(size) => Answer::Wrote(size),
@@ -22,27 +22,29 @@ pub fn write(buffer: &mut [u8], cursor: &mut usize, place: Place, put: Put<'_>) 
     }
 }
 
-fn write_value(buffer: &mut [u8], cursor: &mut usize, place: Place, put: Put<'_>) -> Result<usize>
-    ensures wrote { WritesLeaves buffer.old (place_of place cursor.old) (leaves_of put.entry) buffer.new result }
+fn write_value(buffer: &mut [u8], cursor: &mut usize, place: Place, put: &Put<'_>) -> Result<usize>
+    ensures wrote { WritesLeaves buffer.old (place_of place cursor.old) (leaves_of put.now) buffer.new result }
     ensures moves { IfOk result (λ n. cursor.new ≡ moved place cursor.old n) }
     ensures stays { OnErr result (cursor.new ≡ cursor.old) }
 {
     match put {
-        Put::U8(x, order) => write_at(buffer, cursor, place, x, order),
-        Put::I8(x, order) => write_at(buffer, cursor, place, x, order),
-        Put::U16(x, order) => write_at(buffer, cursor, place, x, order),
-        Put::I16(x, order) => write_at(buffer, cursor, place, x, order),
-        Put::U32(x, order) => write_at(buffer, cursor, place, x, order),
-        Put::I32(x, order) => write_at(buffer, cursor, place, x, order),
-        Put::U64(x, order) => write_at(buffer, cursor, place, x, order),
-        Put::I64(x, order) => write_at(buffer, cursor, place, x, order),
-        Put::U128(x, order) => write_at(buffer, cursor, place, x, order),
-        Put::I128(x, order) => write_at(buffer, cursor, place, x, order),
-        Put::Text(text) => write_at(buffer, cursor, place, text, ()),
-        Put::Bytes(bytes) => write_at(buffer, cursor, place, bytes, ()),
-        Put::CStr(text) => write_at(buffer, cursor, place, text, ()),
-        Put::U16x3(xs, order) => write_at(buffer, cursor, place, xs, order),
-        Put::Bytesx2(first, second) => write_at(buffer, cursor, place, [first, second], ()),
+        Put::U8(x, order) => write_at(buffer, cursor, place, *x, *order),
+        Put::I8(x, order) => write_at(buffer, cursor, place, *x, *order),
+        Put::U16(x, order) => write_at(buffer, cursor, place, *x, *order),
+        Put::I16(x, order) => write_at(buffer, cursor, place, *x, *order),
+        Put::U32(x, order) => write_at(buffer, cursor, place, *x, *order),
+        Put::I32(x, order) => write_at(buffer, cursor, place, *x, *order),
+        Put::U64(x, order) => write_at(buffer, cursor, place, *x, *order),
+        Put::I64(x, order) => write_at(buffer, cursor, place, *x, *order),
+        Put::U128(x, order) => write_at(buffer, cursor, place, *x, *order),
+        Put::I128(x, order) => write_at(buffer, cursor, place, *x, *order),
+        Put::Text(text) => write_at(buffer, cursor, place, *text, ()),
+        Put::Bytes(bytes) => write_at(buffer, cursor, place, *bytes, ()),
+        Put::CStr(text) => write_at(buffer, cursor, place, *text, ()),
+        Put::Uleb(number) => write_at(buffer, cursor, place, *number, ()),
+        Put::Sleb(number) => write_at(buffer, cursor, place, *number, ()),
+        Put::U16x3(xs, order) => write_at(buffer, cursor, place, *xs, *order),
+        Put::Bytesx2(first, second) => write_at(buffer, cursor, place, [*first, *second], ()),
     }
 }
 

@@ -44,10 +44,8 @@ fn texts_wanted(alloc: Global) -> Result<[Answer; 9], AllocError> {
 }
 
 #[test]
-fn texts_and_slices(rt: HostRuntime) {
-    let Ok(wanted) = texts_wanted(rt.alloc()) else {
-        return;
-    };
+fn texts_and_slices(rt: HostRuntime) -> Result<(), AllocError> {
+    let wanted = texts_wanted(rt.alloc())?;
     check_run(
         &rt,
         rt.alloc(),
@@ -82,6 +80,7 @@ fn texts_and_slices(rt: HostRuntime) {
         [0x61, 0x62, 0x63, 0],
         3,
     );
+    Ok(())
 }
 
 const NO_ZERO: &str = "The input doesn't contain a null byte";
@@ -98,13 +97,9 @@ fn c_strings_wanted(alloc: Global) -> Result<[Answer; 6], AllocError> {
 }
 
 #[test]
-fn c_strings(rt: HostRuntime) {
-    let Ok(wanted) = c_strings_wanted(rt.alloc()) else {
-        return;
-    };
-    let Some(written) = CStr::from_bytes_until_nul(b"ab\0cd") else {
-        return;
-    };
+fn c_strings(rt: HostRuntime) -> Result<(), AllocError> {
+    let wanted = c_strings_wanted(rt.alloc())?;
+    let written = CStr::from_bytes_until_nul(b"ab\0cd").expect(&rt, "a zero stands there");
     check_run(
         &rt,
         rt.alloc(),
@@ -122,18 +117,13 @@ fn c_strings(rt: HostRuntime) {
         [0x61, 0x62, 0, 0xff],
         3,
     );
+    Ok(())
 }
 
 #[test]
-fn numbers_in_leb128(rt: HostRuntime) {
-    let padded: crate::Result<Uleb128> = b"\x80\x00"[..].pread(0);
-    let below: crate::Result<Sleb128> = b"\xff\x7e"[..].pread(0);
-    let Ok(padded) = padded else {
-        return;
-    };
-    let Ok(below) = below else {
-        return;
-    };
+fn numbers_in_leb128(rt: HostRuntime) -> crate::Result<()> {
+    let padded: Uleb128 = b"\x80\x00"[..].pread(0)?;
+    let below: Sleb128 = b"\xff\x7e"[..].pread(0)?;
     check_run(
         &rt,
         rt.alloc(),
@@ -173,6 +163,46 @@ fn numbers_in_leb128(rt: HostRuntime) {
         long,
         0,
     );
+    Ok(())
+}
+
+#[test]
+fn numbers_in_leb128_are_written(rt: HostRuntime) -> crate::Result<()> {
+    let padded: Uleb128 = b"\x80\x00"[..].pread(0)?;
+    let below: Sleb128 = b"\xff\x7f"[..].pread(0)?;
+    check_run(
+        &rt,
+        rt.alloc(),
+        [0xee; 10],
+        0,
+        &[
+            Command::Write(HERE, Put::Uleb(padded)),
+            Command::Write(HERE, Put::Uleb(Uleb128::shortest(0))),
+            Command::Write(HERE, Put::Sleb(below)),
+            Command::Write(HERE, Put::Sleb(Sleb128::shortest(-1))),
+            Command::Write(Place::At(1), Put::Uleb(Uleb128::shortest(u64::MAX))),
+            Command::Write(Place::At(11), Put::Sleb(Sleb128::shortest(0))),
+            Command::Write(Place::At(9), Put::Sleb(Sleb128::shortest(-65))),
+            Command::Write(HERE, Put::Sleb(Sleb128::shortest(64))),
+            Command::Read(Place::At(0), Kind::Uleb),
+            Command::Read(Place::At(3), Kind::Sleb),
+        ],
+        &[
+            Answer::Wrote(2),
+            Answer::Wrote(1),
+            Answer::Wrote(2),
+            Answer::Wrote(1),
+            too_big(10, 9),
+            Answer::Refused(Error::BadOffset(11)),
+            too_big(2, 1),
+            Answer::Wrote(2),
+            Answer::Read(Value::Uleb(padded)),
+            Answer::Read(Value::Sleb(below)),
+        ],
+        [0x80, 0, 0, 0xff, 0x7f, 0x7f, 0xc0, 0, 0xee, 0xee],
+        8,
+    );
+    Ok(())
 }
 
 fn arrays_wanted(alloc: Global) -> Result<[Answer; 7], AllocError> {
@@ -188,10 +218,8 @@ fn arrays_wanted(alloc: Global) -> Result<[Answer; 7], AllocError> {
 }
 
 #[test]
-fn arrays(rt: HostRuntime) {
-    let Ok(wanted) = arrays_wanted(rt.alloc()) else {
-        return;
-    };
+fn arrays(rt: HostRuntime) -> Result<(), AllocError> {
+    let wanted = arrays_wanted(rt.alloc())?;
     check_run(
         &rt,
         rt.alloc(),
@@ -224,4 +252,5 @@ fn arrays(rt: HostRuntime) {
         [5, 6, 7, 7, 0],
         3,
     );
+    Ok(())
 }

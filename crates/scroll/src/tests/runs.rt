@@ -1,8 +1,9 @@
 // Runs of commands. Each run here also stands where memory is refused (`rt try --test --fail-alloc N`): then the answers
 // are those of the first commands, and the buffer and the cursor are as these left them.
+use crate::ctx::StrCtx;
 use crate::runner::{Answer, Command, Kind, Place, Put, Value, Width, run};
 use crate::{BE, Error, LE};
-use std::alloc::Global;
+use std::alloc::{AllocError, Global};
 use std::process::Abort;
 
 // Whether two answers are the same.
@@ -192,13 +193,52 @@ fn no_commands(rt: HostRuntime) {
     );
 }
 
+// The buffer 61 00 00 and the cursor 0, after none of the commands below, after the first, after two and after all three.
+const LEFT: [([u8; 3], usize); 4] = [
+    ([0x61, 0, 0], 0),
+    ([0x62, 0, 0], 1),
+    ([0x62, 0, 0], 2),
+    ([0x62, 0, 0], 2),
+];
+
+// Wants that these answers are those of the first commands, and that buffer and cursor are as they left them.
+fn check_front(
+    rt: &impl Abort,
+    answers: &[Answer],
+    wanted: &[Answer; 3],
+    buffer: [u8; 3],
+    cursor: usize,
+) {
+    assert!(rt; answers.len() < 4);
+    let (left, left_cursor) = LEFT[answers.len()];
+    assert_eq!(rt; buffer, left);
+    assert_eq!(rt; cursor, left_cursor);
+    for (answer, want) in answers.iter().zip(wanted.iter()) {
+        assert!(rt; is_same(answer, want), "{answer:?} for {want:?}");
+    }
+}
+
+// The commands run behind none to four other answers, so that the list of answers grows at each command in turn. A refusal
+// is looked into, and then the test ends with it.
 #[test]
-fn answers_stand_behind_those_before(rt: HostRuntime) {
-    let mut buffer = [1u8];
-    let mut cursor = 0;
-    let mut answers = Vec::new(rt.alloc());
-    let commands = [Command::Read(Place::At(0), Kind::Number(Width::U8, LE))];
-    for wanted in [1, 2] {
+fn answers_stand_up_to_a_refusal(rt: HostRuntime) -> Result<(), AllocError> {
+    let text = String::from_str(rt.alloc(), "b")?;
+    let wanted = [
+        Answer::Wrote(1),
+        Answer::Read(Value::CStr(Vec::new(rt.alloc()))),
+        Answer::Read(Value::Text(text)),
+    ];
+    let commands = [
+        Command::Write(Place::Cursor, Put::U8(98, LE)),
+        Command::Read(Place::Cursor, Kind::CString),
+        Command::Read(Place::At(0), Kind::Text(StrCtx::Length(1))),
+    ];
+    for before in 0..5 {
+        let mut answers = Vec::new(rt.alloc());
+        for size in 0..before {
+            answers.push(Answer::Wrote(size))?;
+        }
+        let (mut buffer, mut cursor) = LEFT[0];
         let done = run(
             rt.alloc(),
             &mut buffer,
@@ -206,12 +246,20 @@ fn answers_stand_behind_those_before(rt: HostRuntime) {
             &commands,
             &mut answers,
         );
-        if done.is_err() {
-            return;
+        assert!(rt; answers.len() >= before);
+        let (stood, added) = answers.split_at(before);
+        for (size, answer) in stood.iter().enumerate() {
+            assert!(rt; is_same(answer, &Answer::Wrote(size)));
         }
-        assert_eq!(rt; answers.len(), wanted);
+        check_front(&rt, added, &wanted, buffer, cursor);
+        match done {
+            Ok(()) => assert_eq!(rt; added.len(), 3),
+            Err(error) => {
+                assert!(rt; matches!(&error, Error::NoMemory));
+                assert!(rt; added.len() < 3);
+                return Err(AllocError);
+            }
+        }
     }
-    for answer in &answers {
-        assert!(rt; matches!(answer, Answer::Read(Value::Unsigned(1))));
-    }
+    Ok(())
 }

@@ -1,5 +1,6 @@
 use Rattle.std.proofs.Common.{rules, [], ◌∷◌}
 use Rattle.std.specs.Int.{w8, w16, w32, w64, w128}
+use Rattle.scroll.proofs.LebLeaves.{uleb-leaf, sleb-leaf}
 use Rattle.scroll.proofs.NumberLeaves.{number-leaf, signed-leaf}
 use Rattle.scroll.proofs.PutLeaves.{bytes-leaf, numbers-leaves, slices-leaves}
 use Rattle.scroll.proofs.runner.write.write_value.Goals as goal
@@ -42,6 +43,12 @@ returns-in-Bytes-clause-wrote c = rw c.in-Bytes.is (bytes-leaf _ _ _ _ _ c.write
 
 pub returns-in-CStr-clause-wrote : goal.returns-in-CStr-clause-wrote
 returns-in-CStr-clause-wrote c = rw c.in-CStr.is (bytes-leaf _ _ _ _ _ c.write_at-in-CStr.ensures.wrote)
+
+pub returns-in-Uleb-clause-wrote : goal.returns-in-Uleb-clause-wrote
+returns-in-Uleb-clause-wrote c = rw c.in-Uleb.is (uleb-leaf c.in-Uleb.number _ _ _ _ c.write_at-in-Uleb.ensures.wrote)
+
+pub returns-in-Sleb-clause-wrote : goal.returns-in-Sleb-clause-wrote
+returns-in-Sleb-clause-wrote c = rw c.in-Sleb.is (sleb-leaf c.in-Sleb.number _ _ _ _ c.write_at-in-Sleb.ensures.wrote)
 
 pub returns-in-U16x3-clause-wrote : goal.returns-in-U16x3-clause-wrote
 returns-in-U16x3-clause-wrote c = rw c.in-U16x3.is (numbers-leaves 2 _ _ _ _ _ _ c.write_at-in-U16x3.ensures.wrote (search rules))
