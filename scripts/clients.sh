@@ -4,7 +4,8 @@
 #     sh scripts/clients.sh [NAME..]
 #
 # NAME names a folder of clients/: all that have a file src/lib.rt.txt, where none is named. A client's files are copied
-# without their `.txt`. The library is copied with what its out/ keeps, so that what is proved there is not proved again.
+# without their `.txt`. The library is proved and built in the tree itself, by `rt lib` over what its out/ keeps, and
+# copied as built: so it is not proved again for the clients, nor for scripts/edits.sh after this.
 #
 # A client passes where it stands in the layout of `rt fmt`, names no proof of the library, and `rt check`,
 # `rt check --test` and `rt test` end well, with one test at least. It is printed with its counts: functions, tests, lines
@@ -35,11 +36,12 @@ list_clients() {
     done
 }
 
-# A workspace with the library alone. In a copy, nothing that is kept for the tree can be changed.
-copy_library() {
+# Proves and builds the library, and makes a workspace with it alone.
+make_workspace() {
+    (cd "$top/crates/scroll" && rt lib) >"$room/said" 2>&1 || return
     mkdir -p "$tree/crates" || return
     cp "$top/HANDLES" "$tree/" && grep '^scroll:' "$top/crates.txt" >"$tree/crates.txt" || return
-    tar -C "$top/crates" --exclude=scroll/must-fail -cf - scroll | tar -C "$tree/crates" -xf -
+    tar -C "$top/crates" --exclude=scroll/must-fail --exclude=scroll/out/incremental -cf - scroll | tar -C "$tree/crates" -xf -
 }
 
 # Copies a client into the workspace. A file that is no part of a crate is left out, and said to be.
@@ -115,8 +117,8 @@ try_client() {
     set -- $(list_clients)
 }
 start=$(date +%s)
-if ! copy_library || ! run scroll lib; then
-    fail scroll 'the library could not be copied, proved and built'
+if ! make_workspace; then
+    fail scroll 'the library could not be proved, built and copied'
     echo "0 passed, 1 failed"
     exit 1
 fi
