@@ -1,22 +1,25 @@
 #!/bin/sh
-# Compares the code that crates/scroll/CALLING.md shows with the files that stand there, which the gate compiles and
-# proves, so that the two can't part:
+# Compares the code and the proofs that crates/scroll/CALLING.md shows with the files that stand there, or in clients/,
+# which the gate compiles and proves, so that the two can't part:
 #
 #     scripts/calling.sh
 #
-# Above each block of Rust code stands a line that begins with the file's name, as "From `src/examples/chunk.rt`". The
-# parts of the block, parted by empty lines, stand in that file in the same order, with `crate::` in place of
-# `scroll::`. The last line is `N passed, M failed`, which counts blocks. The exit status is 0 where M is 0 and N is not.
+# Above each block of Rust or of antt stands a line that begins with the file's name, as "From `src/examples/chunk.rt`" or
+# "From `clients/object_files/src/sections.rt.txt`". The parts of the block, parted by empty lines, stand in that file in
+# the same order; in a file of src/ with `crate::` in place of `scroll::`. The last line is `N passed, M failed`, which
+# counts blocks. The exit status is 0 where M is 0 and N is not.
 set -u
 
 top=$(CDPATH='' cd -- "$(dirname -- "$0")/.." && pwd) || exit 1
 cd "$top/crates/scroll" || exit 1
 
 awk '
-function load(name,    line) {
+function load(name,    line, is_client) {
+    is_client = name ~ /^clients\//
+    if (is_client) name = "../../" name
     text = "\n"
     while ((getline line < name) > 0) {
-        sub(/^use crate::/, "use scroll::", line)
+        if (!is_client) sub(/^use crate::/, "use scroll::", line)
         text = text line "\n"
     }
     close(name)
@@ -34,7 +37,7 @@ function look(part,    at) {
     place += at + length(part) - 1
 }
 
-!code && /^From `src\// {
+!code && /^From `(src|clients)\// {
     split($0, words, "`")
     file = words[2]
 }
@@ -45,7 +48,7 @@ function look(part,    at) {
     file = ""
     next
 }
-/^```rust/ {
+/^```(rust|antt)/ {
     code = 1
     blocks += 1
     wrong = 0

@@ -6,6 +6,7 @@
 #     scripts/sessions.sh    the stored sessions, by the program that rt ci proved and built
 #     scripts/cuts.sh        sessions with their buffers cut, likewise
 #     scripts/faults.sh      the sessions and the tests where memory is refused and streams fail, by what rt ci built
+#     scripts/clients.sh     the clients of the library, each proved and tested as a crate of its own
 #     scripts/edits.sh       the must-fail edits, in lanes side by side; rt ci has none to try here
 #     scripts/misuse.sh      what must not compile
 #
@@ -97,10 +98,11 @@ run_step sh scripts/cuts.sh "$program"
 run_step sh scripts/faults.sh
 put_edits_back || failed=$((failed + 1))
 if [ "$is_proved" -eq 0 ]; then
+    run_step sh scripts/clients.sh
     run_step sh scripts/edits.sh
     run_step sh scripts/misuse.sh
 else
-    echo "check: rt ci failed, so the edits were not tried" >>"$room/steps"
+    echo "check: rt ci failed, so neither the clients nor the edits were tried" >>"$room/steps"
     failed=$((failed + 1))
 fi
 

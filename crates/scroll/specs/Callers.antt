@@ -1,9 +1,10 @@
 -- Lemmas for callers: what was read at a place and where the cursor then stands, lists of reads, bytes that are written
 -- one behind the other, and a number beside its bytes.
-use Rattle.std.proofs.Common.{◌≡◌, ℕ, zero, suc, ◌+◌, ◌-◌, ◌*◌, ◌^◌, ◌<◌, ◌≤◌, ◌++◌, List, [], ◌∷◌, length, take, drop, slice_index, Fits, w8, refl, sym, ap, ◌∙◌, arith, append_assoc}
-use Rattle.std.proofs.Math.Nat.{mul-le-mul_right, pow-suc}
+use Rattle.std.proofs.Common.{◌≡◌, ℕ, zero, suc, ◌+◌, ◌-◌, ◌*◌, ◌^◌, ◌<◌, ◌≤◌, ◌++◌, List, [], ◌∷◌, length, take, drop, slice_index, Some, Fits, w8, refl, sym, ap, ◌∙◌, arith, append_assoc}
+use Rattle.std.proofs.Math.Nat.{mul-le-mul_right, mul-suc, pow-suc}
 use Rattle.std.proofs.lemmas.Grind.{common_steps}
 use Rattle.std.proofs.lemmas.List.{get_or-drop, take-append-drop, drop_at, take_at, drop-drop, length-append, get_or-take, get_or_append_left}
+use Rattle.std.specs.List.{slice_get}
 use Rattle.scroll.specs.Bytes.{sum_below, ReadsFront, WritesFront}
 use Rattle.scroll.specs.Numbers.{number}
 use Rattle.scroll.specs.SumLemmas.{sum_below-same, sum_below-backwards}
@@ -28,6 +29,16 @@ ReadsAll-push {V} reads buffer from (w ∷ ws) mid to n v h is r = (h.0, h.1, Re
 -- one more value at the end, read with a cursor
 pub ReadsAll-next : {V : Type 0} (reads : List ℕ → V → ℕ → Type 0) (buffer : List ℕ) (from : ℕ) (vs : List V) (mid to : ℕ) (v : V) → ReadsAll reads buffer from vs mid → ReadsBetween reads buffer mid to v → ReadsAll reads buffer from (vs ++ v ∷ []) to
 ReadsAll-next reads buffer from vs mid to v h read = ReadsAll-push reads buffer from vs mid to read.0 v h read.1 read.2
+
+-- of values of one size that are read one after the other, each stands at its place
+pub ReadsAll-at : {X : Type 0} (f : List ℕ → X) (w : ℕ) (buffer : List ℕ) (from : ℕ) (xs : List X) (to : ℕ) → ReadsAll (ReadsFront w f) buffer from xs to → (i : ℕ) → i < length xs → slice_get xs i ≡ Some (f (drop (from + w * i) buffer))
+ReadsAll-at f w buffer from [] to h i l = absurd (omega (arith, l))
+ReadsAll-at f w buffer from (x ∷ xs) to h zero l =
+    let place : from + w * 0 ≡ from = omega arith in
+    rw place (ap (λ v. Some v) h.1.value.value)
+ReadsAll-at f w buffer from (x ∷ xs) to h (suc i) l =
+    let place : from + h.0 + w * i ≡ from + w * suc i = omega (arith, h.1.value.size, mul-suc w i) in
+    rw (← place) (ReadsAll-at f w buffer (from + h.0) xs to h.2 i (omega (arith, l)))
 
 -- a buffer that is `first` at the start, with `front` over its first `place` bytes
 pub record Begins (place : ℕ) (front first now : List ℕ) : Type 0 where
