@@ -3,8 +3,9 @@
 use Rattle.std.proofs.Common.{◌≡◌, ℕ, zero, suc, ◌+◌, ◌-◌, ◌*◌, ◌^◌, ◌<◌, ◌≤◌, ◌++◌, List, [], ◌∷◌, length, take, drop, slice_index, Some, Fits, w8, refl, sym, ap, ◌∙◌, arith, append_assoc}
 use Rattle.std.proofs.Math.Nat.{mul-le-mul_right, mul-suc, pow-suc}
 use Rattle.std.proofs.lemmas.Grind.{common_steps}
-use Rattle.std.proofs.lemmas.List.{get_or-drop, take-append-drop, drop_at, take_at, drop-drop, length-append, get_or-take, get_or_append_left}
+use Rattle.std.proofs.lemmas.List.{get_or-drop, take-append-drop, drop_at, take_at, drop-drop, length-append, get_or-take, get_or_append_left, length-take-le}
 use Rattle.std.specs.List.{slice_get}
+use borrow.Rule.Slice.PartMut.{put_mid}
 use Rattle.scroll.specs.Bytes.{sum_below, ReadsFront, WritesFront}
 use Rattle.scroll.specs.Numbers.{number}
 use Rattle.scroll.specs.SumLemmas.{sum_below-same, sum_below-backwards}
@@ -49,6 +50,10 @@ pub record Begins (place : ℕ) (front first now : List ℕ) : Type 0 where
 pub begin : (first : List ℕ) → Begins 0 [] first first
 begin first = record { len = refl; is = refl }
 
+-- or nothing yet from a place on
+pub begin-at : (place : ℕ) (first : List ℕ) → place ≤ length first → Begins place (take place first) first first
+begin-at place first room = record { len = length-take-le place first room; is = sym (take-append-drop place first) }
+
 -- bytes that are written behind those that were
 pub grow : {place w : ℕ} {front : List ℕ} (bytes : List ℕ) {first a b : List ℕ} → Begins place front first a → length bytes ≡ w → take place b ≡ take place a → drop place b ≡ bytes ++ drop w (drop place a) → Begins (place + w) (front ++ bytes) first b
 grow {place} {w} {front} bytes {first} {a} {b} h size before after =
@@ -64,6 +69,12 @@ grow {place} {w} {front} bytes {first} {a} {b} h size before after =
 pub grow-write : {place w from n : ℕ} {front bytes first a b : List ℕ} → Begins place front first a → length bytes ≡ w → from ≡ place → WritesAt (WritesFront w bytes) a from b n → Begins (place + w) (front ++ bytes) first b
 grow-write {place} {w} {from} {n} {front} {bytes} {first} {a} {b} h size is wrote = grow bytes h size (rw (← is) wrote.before) (rw (← is) wrote.after.after)
 
+-- bytes that are copied behind them, by `copy_from_slice` to a part of the buffer
+pub grow-copy : {place : ℕ} (w : ℕ) {front : List ℕ} (bytes : List ℕ) {first a : List ℕ} → Begins place front first a → length bytes ≡ w → place ≤ length a → Begins (place + w) (front ++ bytes) first (put_mid place w a bytes)
+grow-copy {place} w {front} bytes {first} {a} h size room =
+    let len : length (take place a) ≡ place = length-take-le place a room in
+    grow bytes h size (take_at (take place a) (bytes ++ drop w (drop place a)) place len) (drop_at (take place a) (bytes ++ drop w (drop place a)) place len)
+
 -- a byte is the number of width 1 at its place
 pub byte-at : (order : Endian) (buffer : List ℕ) (place : ℕ) → number order 1 (drop place buffer) ≡ slice_index buffer place
 byte-at Little buffer place = grind (arith, common_steps)
@@ -74,11 +85,12 @@ pub number-front : (order : Endian) (w : ℕ) (s t : List ℕ) → ((i : ℕ) �
 number-front Little w s t h = sum_below-same _ _ w (λ i l. ap (λ b. b * 256 ^ i) (h i l))
 number-front Big w s t h = sum_below-same _ _ w (λ i l. ap (λ b. b * 256 ^ (w - 1 - i)) (h i l))
 
-byte-bound : (place : ℕ) (s : List ℕ) → ((i : ℕ) → Fits w8 (slice_index s i)) → (i : ℕ) → slice_index (drop place s) i < 256
+-- the bytes from a place on are bytes
+pub byte-bound : (place : ℕ) (s : List ℕ) → ((i : ℕ) → Fits w8 (slice_index s i)) → (i : ℕ) → slice_index (drop place s) i < 256
 byte-bound place s h i = rw (get_or-drop place s i 0) (omega (arith, (h (place + i)).fits))
 
 -- digits to the base 256, each times its power
-digits-bound : (d : ℕ → ℕ) → ((i : ℕ) → d i < 256) → (w : ℕ) → sum_below (λ i. d i * 256 ^ i) w < 256 ^ w
+pub digits-bound : (d : ℕ → ℕ) → ((i : ℕ) → d i < 256) → (w : ℕ) → sum_below (λ i. d i * 256 ^ i) w < 256 ^ w
 digits-bound d h zero = omega arith
 digits-bound d h (suc w) =
     let before = digits-bound d h w in

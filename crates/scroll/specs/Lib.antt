@@ -15,6 +15,7 @@ pub mod Fits
 pub mod Arrays
 pub mod ArrayLaws
 pub mod Callers
+pub mod RoundTrips
 pub mod History
 pub mod Leaves
 pub mod Streams
