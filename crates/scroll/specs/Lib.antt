@@ -24,6 +24,7 @@ pub mod LebRefusals
 pub mod Spelling
 pub mod LebWrites
 pub mod LebWriteLaws
+pub mod Spans
 pub mod Loads
 pub mod Runs
 pub mod Laws
