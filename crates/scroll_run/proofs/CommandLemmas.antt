@@ -1,5 +1,5 @@
 -- Lemmas on what stands behind a first word.
-use Rattle.std.proofs.Common.{◌≡◌, ◌≢◌, ◌<◌, ◌^◌, Bor, map, ◌+◌, ◌*◌, ◌++◌, ℕ, List, [], ◌∷◌, length, take, get_or, codes, if◌then◌else◌, ◌==◌, arith, refl, sym, ap, subst, ◌∙◌, Option, Some, None, Result, Ok, Err}
+use Rattle.std.proofs.Common.{◌≡◌, ◌≢◌, ◌<◌, ◌^◌, Bor, map, ◌+◌, ◌*◌, ◌++◌, ℕ, ℤ, List, [], ◌∷◌, length, take, get_or, codes, if◌then◌else◌, ◌==◌, arith, refl, sym, ap, subst, ◌∙◌, Option, Some, None, Result, Ok, Err}
 use Rattle.std.proofs.lemmas.List.{take_more}
 use Rattle.std.proofs.lemmas.Grind.{common_steps}
 use Rattle.std.specs.Option.{MatchOption, option_or}
@@ -10,8 +10,8 @@ use Rattle.scroll.specs.declared.runner.Put.{Put}
 use Rattle.scroll.specs.declared.runner.Width.{Width}
 use Rattle.scroll.specs.declared.runner.Width.TheVariants as width
 use Rattle.scroll_run.specs.Commands.{AreCommandsOf, FindsCommand, IsCommandOf, SpellsCommand, SpellsOffset, SpellsRest, verb_word}
-use Rattle.scroll_run.specs.Puts.{FindsPut, SpellBytes, SpellPutRest, SpellThree, SpellTwo, SpellsPut}
-use Rattle.scroll_run.specs.Words.{SpellsBytes, SpellsNumber, name_word, order_word, width_word}
+use Rattle.scroll_run.specs.Puts.{FindsPut, SpellBytes, SpellLastSigned, SpellPutRest, SpellThree, SpellTwo, SpellsPut}
+use Rattle.scroll_run.specs.Words.{SpellsBytes, SpellsNumber, SpellsSigned, name_word, order_word, width_word}
 use Rattle.scroll_run.specs.declared.commands.CommandLine.{CommandLine}
 use Rattle.scroll_run.specs.declared.commands.Verb.{Verb}
 use Rattle.scroll_run.specs.declared.commands.Verb.TheVariants as verb
@@ -113,6 +113,14 @@ bytes_by_word items texts word (Ok None) e h =
     λ bytes s. h bytes (subst (λ w. SpellsBytes w bytes) (heads texts word s.0 [] [] e s.1) s.2)
 bytes_by_word items texts word (Err x) e h = tt
 
+-- a signed number by the one word that spells it
+pub signed_by_word : (texts : List (List ℕ)) (word : List ℕ) (r : Option ℤ) → texts ≡ word ∷ []
+    → MatchOption r ((x : ℤ) → ¬ (SpellsSigned (2 ^ 63) word x)) (SpellsSigned (2 ^ 63) word)
+    → MatchOption r ((x : ℤ) → ¬ (SpellLastSigned texts x)) (SpellLastSigned texts)
+signed_by_word texts word (Some v) e h = (word, e, h)
+signed_by_word texts word None e h =
+    λ x s. h x (subst (λ w. SpellsSigned (2 ^ 63) w x) (heads texts word s.0 [] [] e s.1) s.2)
+
 -- what is written by its name
 pub put_by_name : {E : Type 0} (r : Result (Option Written) E) (texts : List (List ℕ)) (n : Name) (rest : List (List ℕ)) → texts ≡ name_word n ∷ rest
     → IfOk r (FindsPut (SpellPutRest n rest)) → IfOk r (FindsPut (SpellsPut texts))
@@ -177,6 +185,12 @@ same_bytes word a b h s = grind (arith, common_steps)
 
 pub one_bytes : (texts : List (List ℕ)) (a b : List ℕ) → SpellBytes texts a → SpellBytes texts b → a ≡ b
 one_bytes texts a b h s = same_bytes h.0 a b h.2 (subst (λ w. SpellsBytes w b) (heads texts h.0 s.0 [] [] h.1 s.1) s.2)
+
+-- one word, by its place
+pub one_word : (words : List (Bor (List ℕ))) (d : Bor (List ℕ)) → length words ≡ 1 → map (λ w. w.now) words ≡ (get_or words 0 d).now ∷ []
+one_word [] d e = absurd (omega arith)
+one_word (w ∷ []) d e = refl
+one_word (w ∷ v ∷ more) d e = absurd (omega arith)
 
 -- four words, by their places
 pub four_words : (words : List (Bor (List ℕ))) (d : Bor (List ℕ)) → length words ≡ 4

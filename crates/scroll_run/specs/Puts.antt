@@ -2,6 +2,9 @@
 use Rattle.std.specs.Prelude.{◌≡◌, ◌^◌, ℕ, ℤ, List, [], ◌∷◌, length, string_bytes, IsUtf8, Option, None, Some}
 use Rattle.std.specs.Borrow.{Bor}
 use Rattle.scroll.specs.CStringTexts.{c_str_text, c_string_text}
+use Rattle.scroll.specs.Leb128.{Counted}
+use Rattle.scroll.specs.LebWrites.{IsLeast}
+use Rattle.scroll.specs.Spelling.{HasSpelling, HasSignedSpelling}
 use Rattle.scroll.specs.Texts.{first_place}
 use Rattle.scroll.specs.declared.cstr.CStr.{CStr}
 use Rattle.scroll.specs.declared.endian.Endian.{Endian}
@@ -9,6 +12,7 @@ use Rattle.scroll.specs.declared.runner.Put.{Put}
 use Rattle.scroll.specs.declared.runner.Put.TheVariants as put
 use Rattle.scroll.specs.declared.runner.Width.{Width}
 use Rattle.scroll.specs.declared.runner.Width.TheVariants as width
+use Rattle.scroll_run.specs.Kinds.{SpellLastNumber}
 use Rattle.scroll_run.specs.Words.{SpellsBytes, SpellsNumber, SpellsSigned, name_word, order_word}
 use Rattle.scroll_run.specs.declared.words.Name.{Name}
 use Rattle.scroll_run.specs.declared.words.Name.TheVariants as name
@@ -57,17 +61,28 @@ abbrev pub SpellTwo : List (List ℕ) → List ℕ → List ℕ → Type 0
 SpellTwo words x y =
     (first : List ℕ) × (rest : List (List ℕ)) × (words ≡ first ∷ rest) × SpellsBytes first x × SpellBytes rest y
 
+-- words that are one word, which is a signed number of 64 bits
+abbrev pub SpellLastSigned : List (List ℕ) → ℤ → Type 0
+SpellLastSigned words x = (word : List ℕ) × (words ≡ word ∷ []) × SpellsSigned (2 ^ 63) word x
+
+-- words spell a number in LEB128 with its shortest text, unsigned or signed
+abbrev pub SpellUleb : List (List ℕ) → Counted ℕ → Type 0
+SpellUleb words x = SpellLastNumber words x.value × IsLeast (HasSpelling x.value) x.count
+
+abbrev pub SpellSleb : List (List ℕ) → Counted ℤ → Type 0
+SpellSleb words x = SpellLastSigned words x.value × IsLeast (HasSignedSpelling x.value) x.count
+
 -- the words behind the word of what is written spell the rest of it
 abbrev pub SpellPutRest : Name → List (List ℕ) → Put → Type 0
 SpellPutRest (name.Number w) words p = SpellNumber w words p
 SpellPutRest name.Text words p = (text : Bor (List ℕ)) × SpellText words text.now × (p ≡ put.Text text)
 SpellPutRest name.Bytes words p = (bytes : Bor (List ℕ)) × SpellBytes words bytes.now × (p ≡ put.Bytes bytes)
 SpellPutRest name.CStr words p = (text : CStr) × SpellCString words (c_str_text text) × (p ≡ put.CStr text)
+SpellPutRest name.Uleb words p = (x : Counted ℕ) × SpellUleb words x × (p ≡ put.Uleb x)
+SpellPutRest name.Sleb words p = (x : Counted ℤ) × SpellSleb words x × (p ≡ put.Sleb x)
 SpellPutRest name.U16x3 words p = SpellThree words p
 SpellPutRest name.Bytesx2 words p = (x y : Bor (List ℕ)) × SpellTwo words x.now y.now × (p ≡ put.Bytesx2 x y)
 SpellPutRest name.CString words p = ⊥
-SpellPutRest name.Uleb words p = ⊥
-SpellPutRest name.Sleb words p = ⊥
 SpellPutRest name.U8x0 words p = ⊥
 SpellPutRest name.Textx2 words p = ⊥
 

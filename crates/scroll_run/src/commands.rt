@@ -51,7 +51,8 @@ pub fn borrow_commands(alloc: Global, lines: &[CommandLine]) -> Result<Vec<Comma
 {
     let mut commands = Vec::with_capacity(alloc, lines.len())?;
     for line in lines {
-        commands.push(line.command())?;
+        commands.reserve(1)?;
+        commands.push_reserved(line.command());
     }
     Ok(commands)
 }

@@ -1,14 +1,15 @@
 //! What is written, as the words of a line spell it.
-ghost use Rattle.std.specs.Prelude.{◌^◌, ℕ, List, IfOk, MatchOption, map};
+ghost use Rattle.std.specs.Prelude.{◌≡◌, ◌^◌, ℕ, ℤ, List, IfOk, MatchOption, map};
 ghost use Rattle.scroll.specs.declared.runner.Put.{Put};
-ghost use Rattle.scroll_run.specs.Puts.{FindsPut, IsPutOf, SpellBytes, SpellNumber, SpellPutRest, SpellThree, SpellsPut, SpellsValue};
-ghost use Rattle.scroll_run.specs.Words.{SpellsNumber};
+ghost use Rattle.scroll_run.specs.Kinds.{SpellLastNumber};
+ghost use Rattle.scroll_run.specs.Puts.{FindsPut, IsPutOf, SpellBytes, SpellLastSigned, SpellNumber, SpellPutRest, SpellThree, SpellsPut, SpellsValue};
+ghost use Rattle.scroll_run.specs.Words.{SpellsNumber, SpellsSigned};
 ghost use Rattle.scroll_run.specs.declared.words.Name.TheVariants as name;
 
 use crate::words::{Name, parse_bytes, parse_name, parse_number, parse_order, parse_signed};
 use scroll::cstr::CString;
 use scroll::runner::{Put, Width};
-use scroll::{Endian, Error};
+use scroll::{Endian, Error, Sleb128, Uleb128};
 use std::alloc::{AllocError, Global};
 
 /// What a line writes, with the bytes that it holds.
@@ -32,12 +33,37 @@ impl Written {
         ensures { IsPutOf self.now result }
     {
         match self {
-            Written::Plain(put) => *put,
+            Written::Plain(put) => copied(put),
             Written::Text(text) => Put::Text(text.as_str()),
             Written::Bytes(bytes) => Put::Bytes(bytes.as_slice()),
             Written::CStr(text) => Put::CStr(text.as_c_str()),
             Written::Bytesx2(first, second) => Put::Bytesx2(first.as_slice(), second.as_slice()),
         }
+    }
+}
+
+// A copy of what borrows nothing.
+fn copied(put: &Put<'static>) -> Put<'static>
+    ensures { result ≡ put.now }
+{
+    match put {
+        Put::U8(x, order) => Put::U8(*x, *order),
+        Put::I8(x, order) => Put::I8(*x, *order),
+        Put::U16(x, order) => Put::U16(*x, *order),
+        Put::I16(x, order) => Put::I16(*x, *order),
+        Put::U32(x, order) => Put::U32(*x, *order),
+        Put::I32(x, order) => Put::I32(*x, *order),
+        Put::U64(x, order) => Put::U64(*x, *order),
+        Put::I64(x, order) => Put::I64(*x, *order),
+        Put::U128(x, order) => Put::U128(*x, *order),
+        Put::I128(x, order) => Put::I128(*x, *order),
+        Put::Text(text) => Put::Text(text),
+        Put::Bytes(bytes) => Put::Bytes(bytes),
+        Put::CStr(text) => Put::CStr(*text),
+        Put::Uleb(number) => Put::Uleb(*number),
+        Put::Sleb(number) => Put::Sleb(*number),
+        Put::U16x3(xs, order) => Put::U16x3(*xs, *order),
+        Put::Bytesx2(first, second) => Put::Bytesx2(first, second),
     }
 }
 
@@ -63,9 +89,11 @@ fn parse_put_rest(alloc: Global, name: Name, words: &[&[u8]]) -> Result<Option<W
         Name::Text => parse_text(alloc, words),
         Name::Bytes => parse_slice(alloc, words),
         Name::CStr => parse_c_string(alloc, words),
+        Name::Uleb => Ok(parse_uleb(words)),
+        Name::Sleb => Ok(parse_sleb(words)),
         Name::U16x3 => Ok(parse_three(words)),
         Name::Bytesx2 => parse_two(alloc, words),
-        Name::CString | Name::Uleb | Name::Sleb | Name::U8x0 | Name::Textx2 => Ok(None),
+        Name::CString | Name::U8x0 | Name::Textx2 => Ok(None),
     }
 }
 
@@ -73,12 +101,12 @@ fn parse_put_rest(alloc: Global, name: Name, words: &[&[u8]]) -> Result<Option<W
 fn parse_number_words(width: Width, words: &[&[u8]]) -> Option<Written>
     ensures { let texts = map (λ word. word.now) words.now in FindsPut (SpellNumber width texts) result }
 {
-    match words {
-        [order, value] => {
-            let put = parse_number_put(width, parse_order(order)?, value)?;
-            Some(Written::Plain(put))
-        }
-        _ => None,
+    let [order, value] = words else {
+        return None;
+    };
+    match parse_number_put(width, parse_order(order)?, value) {
+        Some(put) => Some(Written::Plain(put)),
+        None => None,
     }
 }
 
@@ -145,6 +173,56 @@ fn parse_c_string(alloc: Global, words: &[&[u8]]) -> Result<Option<Written>, All
         Err(Error::BadInput { .. }) => Ok(None),
         Err(_) => Err(AllocError),
     }
+}
+
+// A number in LEB128, with its shortest text.
+fn parse_uleb(words: &[&[u8]]) -> Option<Written>
+    ensures { let texts = map (λ word. word.now) words.now in FindsPut (SpellPutRest name.Uleb texts) result }
+{
+    let value = parse_last_u64(words)?;
+    Some(Written::Plain(Put::Uleb(Uleb128::shortest(value))))
+}
+
+// A signed number in LEB128, with its shortest text.
+fn parse_sleb(words: &[&[u8]]) -> Option<Written>
+    ensures { let texts = map (λ word. word.now) words.now in FindsPut (SpellPutRest name.Sleb texts) result }
+{
+    let value = parse_last_i64(words)?;
+    Some(Written::Plain(Put::Sleb(Sleb128::shortest(value))))
+}
+
+// The number of 64 bits that the one word spells.
+fn parse_last_u64(words: &[&[u8]]) -> Option<u64>
+    ensures { let texts = map (λ word. word.now) words.now in MatchOption result ((x : ℕ) → ¬ (SpellLastNumber texts x)) (SpellLastNumber texts) }
+{
+    match words {
+        [word] => parse_u64(word),
+        _ => None,
+    }
+}
+
+// The number of 64 bits that a word spells.
+fn parse_u64(word: &[u8]) -> Option<u64>
+    ensures { MatchOption result ((x : ℕ) → ¬ (SpellsNumber (2 ^ 64) word.now x)) (SpellsNumber (2 ^ 64) word.now) }
+{
+    u64::try_from(parse_number(word)?).ok()
+}
+
+// The signed number of 64 bits that the one word spells.
+fn parse_last_i64(words: &[&[u8]]) -> Option<i64>
+    ensures { let texts = map (λ word. word.now) words.now in MatchOption result ((x : ℤ) → ¬ (SpellLastSigned texts x)) (SpellLastSigned texts) }
+{
+    match words {
+        [word] => parse_i64(word),
+        _ => None,
+    }
+}
+
+// The signed number of 64 bits that a word spells.
+fn parse_i64(word: &[u8]) -> Option<i64>
+    ensures { MatchOption result ((x : ℤ) → ¬ (SpellsSigned (2 ^ 63) word.now x)) (SpellsSigned (2 ^ 63) word.now) }
+{
+    i64::try_from(parse_signed(word)?).ok()
 }
 
 // Three numbers of 16 bits: a byte order and the values.

@@ -26,6 +26,10 @@ fn each_kind_is_answered(rt: HostRuntime) -> Result<(), Fail> {
             "uleb 130 2\nsleb -129 2\nerror type is too big (1) for 0\nbuffer 8201ff7e80\ncursor 4\n",
         ),
         (
+            "buffer 0000000000\ncursor 0\ngwrite uleb 130\npread 0 uleb\ngwrite sleb -129\npwrite 4 sleb 64\n",
+            "wrote 2\nuleb 130 2\nwrote 2\nerror type is too big (2) for 1\nbuffer 8201ff7e00\ncursor 4\n",
+        ),
+        (
             "buffer 010002000300\ncursor 0\ngread u8x0 le\ngread u16x3 le\npread 1 u16x3 le\npwrite 0 u16x3 be 258 772 65535\n",
             "numbers\nnumbers 1 2 3\nerror type is too big (2) for 1\nwrote 6\nbuffer 01020304ffff\ncursor 6\n",
         ),

@@ -12,6 +12,12 @@ returns-in-Bytes c = rw c.in-Bytes.is c.parse_slice.ensures
 pub returns-in-CStr : goal.returns-in-CStr
 returns-in-CStr c = rw c.in-CStr.is c.parse_c_string.ensures
 
+pub returns-in-Uleb : goal.returns-in-Uleb
+returns-in-Uleb c = rw c.in-Uleb.is c.parse_uleb.ensures
+
+pub returns-in-Sleb : goal.returns-in-Sleb
+returns-in-Sleb c = rw c.in-Sleb.is c.parse_sleb.ensures
+
 pub returns-in-U16x3 : goal.returns-in-U16x3
 returns-in-U16x3 c = rw c.in-U16x3.is c.parse_three.ensures
 
