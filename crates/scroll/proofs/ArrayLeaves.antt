@@ -1,5 +1,5 @@
 -- The leaves of an array are those of its elements, in order.
-use Rattle.std.proofs.Common.{◌≡◌, ℕ, ◌+◌, ◌≤◌, ◌<◌, ◌++◌, List, [], ◌∷◌, length, drop, arith, refl, sym, ◌∙◌, ap, inl, inr, Some, None, Ok, Err, append_assoc}
+use Rattle.std.proofs.Common.{◌≡◌, ℕ, ◌+◌, ◌++◌, List, [], ◌∷◌, length, drop, arith, refl, sym, ◌∙◌, ap, inl, inr, Some, None}
 use Rattle.std.proofs.lemmas.Grind.{flat_map-append}
 use Rattle.std.proofs.lemmas.Bool.{cases_lt}
 use Rattle.std.proofs.lemmas.List.Sums.{sum_by-append, sum_by-cons}
@@ -8,7 +8,7 @@ use Rattle.scroll.proofs.LeafLemmas.{pieces-fits, pieces-misfit, left_over-fits,
 use Rattle.scroll.proofs.SeenLemmas.{length-seen, seen-append, seen-nil}
 use Rattle.scroll.specs.Arrays.{WritesAll, WritesArray, LeavesArray}
 use Rattle.scroll.specs.History.{seen}
-use Rattle.scroll.specs.Leaves.{pieces, left_over, WritesLeaves, HasLeaves}
+use Rattle.scroll.specs.Leaves.{pieces, left_over, HasLeaves}
 use Rattle.scroll.specs.Writes.{WritesAt, LeavesAt}
 use Rattle.scroll.specs.declared.error.Error.{Error}
 

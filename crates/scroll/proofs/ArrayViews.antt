@@ -1,5 +1,5 @@
 -- Arrays whose elements are seen as other values: texts as their bytes.
-use Rattle.std.proofs.Common.{◌≡◌, ◌<◌, ◌≤◌, ℕ, ◌+◌, List, [], ◌∷◌, length, map, drop, inl, inr, sym, subst, Result, Ok, Err, IfErr}
+use Rattle.std.proofs.Common.{◌<◌, ℕ, ◌+◌, List, [], ◌∷◌, map, drop, inl, inr, sym, subst, Result, Ok, Err, IfErr}
 use Rattle.std.proofs.lemmas.List.{length-map}
 use Rattle.scroll.specs.Arrays.{RefusesArray}
 use Rattle.scroll.specs.Reads.{ReadsAll, RefusesAt}

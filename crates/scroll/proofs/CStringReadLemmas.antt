@@ -1,5 +1,5 @@
 -- C strings depend on the bytes that they take alone, and have exactly one answer.
-use Rattle.std.proofs.Common.{◌≡◌, ◌≢◌, ℕ, zero, suc, ◌+◌, ◌≤◌, ◌<◌, ◌++◌, List, [], ◌∷◌, length, take, drop, arith, refl, sym, ◌∙◌, ap, codes, length-append, append_assoc, inl, inr, length-take, get_or, ◌==◌, not, true, false, true≢false, subst}
+use Rattle.std.proofs.Common.{◌≡◌, ◌≢◌, ℕ, ◌+◌, ◌≤◌, ◌<◌, ◌++◌, List, [], ◌∷◌, length, take, drop, arith, refl, sym, ◌∙◌, ap, codes, length-append, append_assoc, inl, inr, length-take, get_or, ◌==◌, not, true, false, true≢false, subst}
 use Rattle.std.proofs.lemmas.Bool.{cases_lt}
 use Rattle.std.proofs.lemmas.List.{take_at, take_more, get_or-take, length-take-le}
 use Rattle.std.proofs.lemmas.List.Elements.{All-head, All-tail, All-from_get_or}
@@ -14,7 +14,6 @@ use Rattle.scroll.specs.CStrings.{ReadsCString, RefusesCString}
 use Rattle.scroll.specs.Laws.{IsLocal, IsWithin, AllowsOne}
 use Rattle.scroll.specs.TextLaws.{first_place-le}
 use Rattle.scroll.specs.Texts.{first_place}
-use Rattle.scroll.specs.declared.error.Error.{Error}
 use Rattle.scroll.specs.declared.error.Error.TheVariants.{BadInput}
 
 pub local-c_string : IsLocal ReadsCString

@@ -1,5 +1,5 @@
 -- Words whose bytes are 128 where a test passes and 0 elsewhere, and how searches make them.
-use Rattle.std.proofs.Common.{◌≡◌, ℕ, zero, suc, ◌+◌, ◌-◌, ◌*◌, ◌/◌, ◌%◌, ◌^◌, ◌<◌, ◌≤◌, inl, inr, Bool, true, false, cond, nat_le, ◌==◌, List, [], ◌∷◌, length, get_or, Some, None, position, bit_and, bit_or, bit_xor, refl, sym, ap, ◌∙◌, arith, pow-suc}
+use Rattle.std.proofs.Common.{◌≡◌, ℕ, suc, ◌+◌, ◌-◌, ◌*◌, ◌/◌, ◌%◌, ◌^◌, ◌<◌, ◌≤◌, inl, inr, Bool, true, false, cond, nat_le, ◌==◌, List, [], ◌∷◌, length, get_or, Some, None, position, bit_and, bit_or, bit_xor, refl, sym, ap, ◌∙◌, arith}
 use Rattle.std.proofs.Math.Nat.{mul_assoc}
 use Rattle.std.proofs.lemmas.Nat.{and_mask, and_le_l, and_le_r, le_or_l, le_or_r, or_lt, xor_lt, pow-add}
 use Rattle.std.proofs.lemmas.Nat.Bits.{and_pow}

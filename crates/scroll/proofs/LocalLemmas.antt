@@ -1,12 +1,12 @@
 -- Reads that depend on the bytes that they take alone, and that take no more than there are.
-use Rattle.std.proofs.Common.{◌≡◌, ℕ, ℤ, ◌+◌, ◌≤◌, ◌<◌, ◌*◌, ◌^◌, List, [], ◌∷◌, length, take, drop, get_or, arith, refl, sym, ◌∙◌, ap, length-drop, pos, ◌-ℤ◌}
+use Rattle.std.proofs.Common.{◌≡◌, ℕ, ◌+◌, ◌≤◌, ◌*◌, ◌^◌, List, [], ◌∷◌, length, take, drop, get_or, arith, sym, ◌∙◌, ap, length-drop, pos, ◌-ℤ◌}
 use Rattle.std.proofs.lemmas.List.{get_or-take, take-take, drop-take}
 use Rattle.std.specs.Prelude.{nat_lt, if◌then◌else◌}
 use Rattle.scroll.specs.Callers.{number-front}
 use Rattle.scroll.specs.ArrayLaws.{ReadsArray-bounded}
 use Rattle.scroll.specs.Arrays.{ReadsArray}
 use Rattle.scroll.specs.Laws.{IsLocal, IsBounded, IsWithin}
-use Rattle.scroll.specs.Numbers.{number, signed_number, ReadsNumber, ReadsSigned}
+use Rattle.scroll.specs.Numbers.{number, ReadsNumber, ReadsSigned}
 use Rattle.scroll.specs.Reads.{ReadsAll}
 use Rattle.scroll.specs.declared.endian.Endian.{Endian}
 

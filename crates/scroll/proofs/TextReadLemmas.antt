@@ -1,19 +1,16 @@
 -- Texts, byte slices and C strings depend on the bytes that they take alone, and have exactly one answer.
-use Rattle.std.proofs.Common.{◌≡◌, ◌≢◌, ℕ, zero, suc, min, ◌+◌, ◌≤◌, ◌<◌, ◌++◌, List, [], ◌∷◌, length, take, drop, arith, refl, sym, ◌∙◌, ap, subst, inl, inr, ◌⊎◌, IsUtf8, codes, true≢false, length-append, append_assoc}
+use Rattle.std.proofs.Common.{◌≡◌, ℕ, min, ◌+◌, ◌≤◌, ◌<◌, List, length, take, arith, refl, sym, ◌∙◌, ap, subst, inl, inr, ◌⊎◌, IsUtf8, codes, true≢false}
 use Rattle.std.proofs.lemmas.Bool.{cases_lt, cases_Bool}
-use Rattle.std.proofs.lemmas.List.{take_at}
-use Rattle.std.proofs.lemmas.List.Elements.{All-head, All-tail}
 use Rattle.std.proofs.lemmas.Str.{IsUtf8-from_is_utf8, is_utf8-from_IsUtf8}
-use Rattle.std.specs.List.{All}
 use Rattle.std.specs.Str.{is_utf8}
-use Rattle.scroll.proofs.FrontLemmas.{begins-length, begins-split}
+use Rattle.scroll.proofs.FrontLemmas.{begins-length}
 use Rattle.scroll.proofs.LocalLemmas.{take-same}
 use Rattle.scroll.specs.OneAnswer.{one-Ok, one-Err, same-too_big}
 use Rattle.scroll.proofs.TextLemmas.{first_place-take}
 use Rattle.scroll.specs.Errors.{IsBadInput}
 use Rattle.scroll.specs.Laws.{IsLocal, IsWithin, SameError, AllowsOne}
 use Rattle.scroll.specs.TextLaws.{first_place-le}
-use Rattle.scroll.specs.Texts.{first_place, wanted_len, text_len, delimiter_len, HasDelimiter, ReadsText, RefusesInvalid, RefusesMissing, RefusesText, ReadsSlice, RefusesSlice}
+use Rattle.scroll.specs.Texts.{first_place, wanted_len, text_len, delimiter_len, HasDelimiter, ReadsText, RefusesInvalid, RefusesMissing, RefusesText, ReadsSlice}
 use Rattle.scroll.specs.declared.ctx.str_ctx.StrCtx.{StrCtx}
 use Rattle.scroll.specs.declared.ctx.str_ctx.StrCtx.TheVariants.{Delimiter, DelimiterUntil, Length, Required}
 use Rattle.scroll.specs.declared.error.Error.{Error}

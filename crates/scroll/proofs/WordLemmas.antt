@@ -1,10 +1,9 @@
 -- A word of lanes: what masks, shifts and counts of zeros do lane by lane.
-use Rattle.std.proofs.Common.{◌≡◌, ℕ, zero, suc, ◌+◌, ◌-◌, ◌*◌, ◌/◌, ◌%◌, ◌^◌, ◌<◌, List, [], ◌∷◌, map, length, bit_and, bit_or, refl, sym, ap, ◌∙◌, arith, pow-suc}
-use Rattle.std.proofs.Math.Nat.{mod-eq_of_lt, mul_assoc}
+use Rattle.std.proofs.Common.{◌≡◌, ℕ, ◌+◌, ◌-◌, ◌*◌, ◌/◌, ◌%◌, ◌^◌, ◌<◌, List, [], ◌∷◌, map, length, bit_and, bit_or, refl, ap, ◌∙◌, arith, pow-suc}
+use Rattle.std.proofs.Math.Nat.{mod-eq_of_lt}
 use Rattle.std.proofs.lemmas.Nat.{and_mask, and_block, or_block, from_le_bytes-to_le_bytes_8}
 use Rattle.std.specs.Int.{w64, to_le_bytes}
 use Rattle.std.specs.Int.Bits.{or_shifted_r, and_zero_r, and_zero_l, or_zero_l}
-use Rattle.std.specs.Int.Count.{count_trailing_zeros}
 use Rattle.std.specs.List.{AllByRecursion}
 use Rattle.scroll.specs.Leb128.{group, groups_value}
 

@@ -1,5 +1,5 @@
 -- What the implementations for arrays owe to their traits: the size is bounded, and the bytes behind what was written stay.
-use Rattle.std.proofs.Common.{◌≡◌, ℕ, ◌+◌, ◌-◌, ◌≤◌, List, [], ◌∷◌, length, take, drop, refl, sym, ap, ◌∙◌, arith, length-drop, length-append}
+use Rattle.std.proofs.Common.{◌≡◌, ℕ, ◌+◌, ◌-◌, ◌≤◌, List, [], ◌∷◌, length, drop, refl, sym, ap, ◌∙◌, arith, length-drop}
 use Rattle.std.proofs.lemmas.List.{drop-drop}
 use Rattle.scroll.specs.Arrays.{ReadsArray, WritesAll, WritesArray}
 use Rattle.scroll.specs.Reads.{ReadsAll}

@@ -1,4 +1,4 @@
-use Rattle.std.proofs.Common.{◌≡◌, ◌++◌, ℕ, List, length, refl, sym, ap, ◌∙◌, subst}
+use Rattle.std.proofs.Common.{length, refl, sym, ap, ◌∙◌, subst}
 use Rattle.scroll.proofs.SeenLemmas.{length-seen, seen-append}
 use Rattle.scroll.proofs.StandLemmas.{seen-exchange}
 use Rattle.scroll.specs.History.{seen}

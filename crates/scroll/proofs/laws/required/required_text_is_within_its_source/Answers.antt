@@ -1,4 +1,4 @@
-use Rattle.std.proofs.Common.{◌≡◌, ◌≤◌, ℕ, List, length, inl, inr, refl, arith}
+use Rattle.std.proofs.Common.{◌≤◌, ℕ, List, length, inl, inr, refl, arith}
 use Rattle.scroll.proofs.LocalLemmas.{within-array}
 use Rattle.scroll.proofs.TextReadLemmas.{local-text, within-required}
 use Rattle.scroll.specs.Texts.{ReadsText, RefusesText}

@@ -1,4 +1,4 @@
-use Rattle.std.proofs.Common.{◌≡◌, ℕ, ◌≤◌, List, length, replicate, take, arith}
+use Rattle.std.proofs.Common.{◌≡◌, ℕ, length, replicate, take, arith}
 use Rattle.std.proofs.lemmas.Grind.{common_steps}
 use Rattle.std.proofs.lemmas.List.{take-replicate}
 use Rattle.scroll.proofs.lesser.IOwrite.iowrite_with.Goals as goal
