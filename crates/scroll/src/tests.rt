@@ -3,6 +3,7 @@ mod arrays;
 mod c_strings;
 mod calls;
 mod cursor;
+mod laws;
 mod leb128;
 mod leb128_writes;
 mod numbers;

@@ -69,3 +69,20 @@ fn texts_by_default_and_up_to_a_space(rt: HostRuntime) {
     let read: Result<&str> = b"hello_world\0more words".as_slice().pread(0);
     assert!(rt; matches!(&read, Ok("hello_world")));
 }
+
+#[test]
+fn two_bytes_at_once(rt: HostRuntime) {
+    let bytes: [u8; 2] = [0x48, 0x49];
+    let mut copy = [0u8; 2];
+    let mut offset = 0;
+    let answer: Result<()> = bytes[..].gread_inout(&mut offset, &mut copy);
+    assert!(rt; answer.is_ok());
+    assert_eq!(rt; copy, bytes);
+    assert_eq!(rt; offset, 2);
+    let mut copy = [0u8; 2];
+    let mut offset = 0;
+    let answer: Result<()> = bytes[..].gread_inout_with(&mut offset, &mut copy, LE);
+    assert!(rt; answer.is_ok());
+    assert_eq!(rt; copy, bytes);
+    assert_eq!(rt; offset, 2);
+}
