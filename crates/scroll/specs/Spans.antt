@@ -3,13 +3,14 @@ use Rattle.std.proofs.Common.{◌≡◌, ℕ, ◌+◌, ◌-◌, ◌<◌, ◌≤�
 use Rattle.std.proofs.lemmas.Grind.{take_at_read, flat_map-append}
 use Rattle.std.proofs.lemmas.List.{append-nil, flat_map_more, take-append-drop, length-take-le, take_at, drop_at, drop-drop, get_or-drop}
 use Rattle.std.proofs.lemmas.List.Elements.{All-from_get_or}
+use Rattle.std.proofs.lemmas.List.FromFn.{length-map-range_with_len}
 use Rattle.std.specs.List.{All, flat_map, slice_range}
 use Rattle.scroll.specs.Bytes.{WritesFront, LeavesShort}
 use Rattle.scroll.specs.Errors.{IsBadOffset}
 use Rattle.scroll.specs.Leb128.{Counted, ReadsUleb, ReadsSleb, ReadsCountedUleb, ReadsCountedSleb}
-use Rattle.scroll.specs.LebWrites.{uleb_text, sleb_text}
+use Rattle.scroll.specs.LebWrites.{uleb_text, sleb_text, WritesUleb, WritesSleb}
 use Rattle.scroll.specs.Reads.{ReadsBetween}
-use Rattle.scroll.specs.Spelling.{BeginsWith, BeginsWithSigned, spelling, unsigned_form}
+use Rattle.scroll.specs.Spelling.{BeginsWith, BeginsWithSigned, spelling, spelled_byte, unsigned_form}
 use Rattle.scroll.specs.Writes.{WritesAt, RefusesWriteAt}
 use Rattle.scroll.specs.declared.error.Error.{Error}
 use Rattle.scroll.specs.declared.error.Error.TheVariants.{TooBig}
@@ -149,6 +150,25 @@ front-write {t} {old} {new} {w} {p} {e} len inside (inr h) =
       short = omega (arith, h.after.short, length-drop p old, inside, len);
       error = rw (len, ← length-drop p old) h.after.error;
     }
+
+-- a number in LEB128 that was written, and one that was refused
+length-uleb_text : (x : Counted ℕ) → length (uleb_text x) ≡ x.count
+length-uleb_text x = length-map-range_with_len (spelled_byte x.value x.count) 0 x.count
+
+pub uleb-puts : (x : Counted ℕ) {old new : List ℕ} {n p q : ℕ} → WritesAt (WritesUleb x) old p new n → q ≡ p + n → Puts (uleb_text x) old new p q
+uleb-puts x = puts-write (length-uleb_text x)
+
+pub uleb-front : (x : Counted ℕ) {old new : List ℕ} {p : ℕ} {e : Error} → p ≤ length old → RefusesWriteAt (LeavesShort x.count) IsBadOffset old p new e → PutsFront (uleb_text x) old new p e
+uleb-front x = front-write (length-uleb_text x)
+
+length-sleb_text : (x : Counted ℤ) → length (sleb_text x) ≡ x.count
+length-sleb_text x = length-map-range_with_len (spelled_byte (unsigned_form x.value x.count) x.count) 0 x.count
+
+pub sleb-puts : (x : Counted ℤ) {old new : List ℕ} {n p q : ℕ} → WritesAt (WritesSleb x) old p new n → q ≡ p + n → Puts (sleb_text x) old new p q
+sleb-puts x = puts-write (length-sleb_text x)
+
+pub sleb-front : (x : Counted ℤ) {old new : List ℕ} {p : ℕ} {e : Error} → p ≤ length old → RefusesWriteAt (LeavesShort x.count) IsBadOffset old p new e → PutsFront (sleb_text x) old new p e
+sleb-front x = front-write (length-sleb_text x)
 
 -- a refusal before a text, and one behind it
 pub front-first : {t old new : List ℕ} {p : ℕ} {e : Error} (u : List ℕ) → PutsFront t old new p e → PutsFront (t ++ u) old new p e
