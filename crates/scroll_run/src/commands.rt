@@ -51,6 +51,7 @@ pub fn borrow_commands(alloc: Global, lines: &[CommandLine]) -> Result<Vec<Comma
 {
     let mut commands = Vec::with_capacity(alloc, lines.len())?;
     for line in lines {
+        // (the prover does not take a command as an argument of `push`, which can fail)
         commands.reserve(1)?;
         commands.push_reserved(line.command());
     }

@@ -42,7 +42,8 @@ impl Written {
     }
 }
 
-// A copy of what borrows nothing.
+// A copy of what borrows nothing, part by part: the prover does not copy it as a whole from behind a reference, since it may
+// hold a number in LEB128.
 fn copied(put: &Put<'static>) -> Put<'static>
     ensures { result ≡ put.now }
 {
