@@ -3,15 +3,15 @@ use Rattle.std.proofs.Common.{◌≡◌, ◌≢◌, ℕ, zero, suc, ◌+◌, ◌
 use Rattle.std.proofs.Math.Nat.{add_comm, add-mul, add_assoc, add-mul-div_right, add-mul-mod_self_right, div-add-mod', mod-eq_of_lt, mod-lt, mul-add-mod_self_right, mul-le-mul_right, mul_assoc, mul_comm, one-le-pow, pow-suc}
 use Rattle.std.proofs.Math.Seq.{take-add}
 use Rattle.std.proofs.lemmas.Bool.{cases_lt}
-use Rattle.std.proofs.lemmas.Grind.{same_number_lists}
-use Rattle.std.proofs.lemmas.List.{append-nil, drop_at, take_at, take_more, get_or_append_left, length-take-le}
+use Rattle.std.proofs.lemmas.Grind.{flat_map-append, same_number_lists}
+use Rattle.std.proofs.lemmas.List.{append-nil, drop-drop, drop_at, take_at, take_more, get_or_append_left, length-take-le}
 use Rattle.std.proofs.lemmas.List.Elements.{All-head, All-tail}
 use Rattle.std.proofs.lemmas.List.FromFn.{get_or-map-range_with_len}
 use Rattle.std.proofs.lemmas.List.Sums.{passes_at_first}
 use Rattle.std.proofs.lemmas.Nat.{div-mul-add, pow-add}
 use Rattle.std.specs.List.{All, flat_map}
 use Rattle.scroll.specs.Bytes.{sum_below}
-use Rattle.scroll.specs.Callers.{byte-bound, digits-bound, number-front}
+use Rattle.scroll.specs.Callers.{Begins, grow, byte-bound, digits-bound, number-front}
 use Rattle.scroll.specs.NumberLaws.{length-number_bytes}
 use Rattle.scroll.specs.Numbers.{number, number_bytes}
 use Rattle.scroll.specs.Reads.{ReadsAt, ReadsAll}
@@ -178,4 +178,23 @@ ReadsAll-again {V} reads bytes (v ∷ vs) again front rest =
         value = rw behind (first (others ++ rest));
       },
       subst (λ n. ReadsAll reads (front ++ (bytes v ++ others) ++ rest) n vs (length (front ++ (bytes v ++ others)))) (length-append front (bytes v)) whole,
+    )
+
+-- values that are written one behind the other: one more
+pub grow-next : {V : Type 0} (bytes : V → List ℕ) (vs : List V) (i : ℕ) (d : V) {place w : ℕ} {first a b : List ℕ} → Begins place (flat_map bytes (take i vs)) first a → i < length vs → length (bytes (get_or vs i d)) ≡ w → take place b ≡ take place a → drop place b ≡ bytes (get_or vs i d) ++ drop w (drop place a) → Begins (place + w) (flat_map bytes (take (i + 1) vs)) first b
+grow-next bytes vs i d {place} {w} {first} {a} {b} h inside size before after =
+    let more : flat_map bytes (take (i + 1) vs) ≡ flat_map bytes (take i vs) ++ bytes (get_or vs i d) =
+    ap (flat_map bytes) (take_more vs i d inside) ∙ flat_map-append bytes (take i vs) (get_or vs i d ∷ [])
+    ∙ ap (λ l. flat_map bytes (take i vs) ++ l) (append-nil (bytes (get_or vs i d))) in
+    subst (λ l. Begins (place + w) l first b) (sym more) (grow (bytes (get_or vs i d)) h size before after)
+
+-- bytes that were written from a place on: those before it stay, and these stand there
+pub grown-at : {to place : ℕ} (n : ℕ) (bytes : List ℕ) {first now : List ℕ} → Begins to (take place first ++ bytes) first now → place ≤ length first → to ≡ place + n → (take place now ≡ take place first) × (drop place now ≡ bytes ++ drop n (drop place first))
+grown-at {to} {place} n bytes {first} {now} h room is =
+    let len : length (take place first) ≡ place = length-take-le place first room in
+    let rest : drop to first ≡ drop n (drop place first) = ap (λ m. drop m first) is ∙ sym (drop-drop n place first) in
+    let whole : now ≡ take place first ++ (bytes ++ drop n (drop place first)) =
+    h.is ∙ ap (λ l. take place first ++ bytes ++ l) rest ∙ append_assoc (take place first) bytes (drop n (drop place first)) in (
+      ap (take place) whole ∙ take_at (take place first) (bytes ++ drop n (drop place first)) place len,
+      ap (drop place) whole ∙ drop_at (take place first) (bytes ++ drop n (drop place first)) place len,
     )
