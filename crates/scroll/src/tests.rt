@@ -3,6 +3,8 @@ mod arrays;
 mod c_strings;
 mod calls;
 mod cursor;
+mod drops;
+mod extremes;
 mod leb128;
 mod leb128_writes;
 mod numbers;

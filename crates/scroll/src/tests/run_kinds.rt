@@ -6,6 +6,7 @@ use crate::ctx::{NULL, StrCtx};
 use crate::runner::{Answer, Command, Kind, Place, Put, Value, Width};
 use crate::{BE, Error, LE, Pread, Sleb128, Uleb128};
 use std::alloc::{AllocError, Global};
+use std::test::Fail;
 
 const HERE: Place = Place::Cursor;
 
@@ -44,10 +45,8 @@ fn texts_wanted(alloc: Global) -> Result<[Answer; 9], AllocError> {
 }
 
 #[test]
-fn texts_and_slices(rt: HostRuntime) {
-    let Ok(wanted) = texts_wanted(rt.alloc()) else {
-        return;
-    };
+fn texts_and_slices(rt: HostRuntime) -> Result<(), Fail> {
+    let wanted = texts_wanted(rt.alloc())?;
     check_run(
         &rt,
         rt.alloc(),
@@ -82,6 +81,38 @@ fn texts_and_slices(rt: HostRuntime) {
         [0x61, 0x62, 0x63, 0],
         3,
     );
+    Ok(())
+}
+
+// Values of hundreds of bytes are copied as short ones are.
+#[test]
+fn long_values(rt: HostRuntime) -> Result<(), Fail> {
+    let alloc = rt.alloc();
+    let mut first = [b'a'; 300];
+    first[299] = 0;
+    let letters = str::from_utf8(&first[..299])?;
+    let wanted = [
+        text(alloc, letters)?,
+        bytes(alloc, &first)?,
+        c_string(alloc, letters.as_bytes())?,
+        c_string(alloc, letters.as_bytes())?,
+    ];
+    check_run(
+        &rt,
+        alloc,
+        first,
+        0,
+        &[
+            Command::Read(HERE, Kind::Text(StrCtx::Delimiter(NULL))),
+            Command::Read(Place::At(0), Kind::Bytes(300)),
+            Command::Read(Place::At(0), Kind::CStr),
+            Command::Read(Place::At(0), Kind::CString),
+        ],
+        &wanted,
+        first,
+        300,
+    );
+    Ok(())
 }
 
 const NO_ZERO: &str = "The input doesn't contain a null byte";
@@ -98,13 +129,9 @@ fn c_strings_wanted(alloc: Global) -> Result<[Answer; 6], AllocError> {
 }
 
 #[test]
-fn c_strings(rt: HostRuntime) {
-    let Ok(wanted) = c_strings_wanted(rt.alloc()) else {
-        return;
-    };
-    let Some(written) = CStr::from_bytes_until_nul(b"ab\0cd") else {
-        return;
-    };
+fn c_strings(rt: HostRuntime) -> Result<(), Fail> {
+    let wanted = c_strings_wanted(rt.alloc())?;
+    let written = CStr::from_bytes_until_nul(b"ab\0cd").ok_or("no zero")?;
     check_run(
         &rt,
         rt.alloc(),
@@ -122,18 +149,13 @@ fn c_strings(rt: HostRuntime) {
         [0x61, 0x62, 0, 0xff],
         3,
     );
+    Ok(())
 }
 
 #[test]
-fn numbers_in_leb128(rt: HostRuntime) {
+fn numbers_in_leb128(rt: HostRuntime) -> Result<(), Fail> {
     let padded: crate::Result<Uleb128> = b"\x80\x00"[..].pread(0);
     let below: crate::Result<Sleb128> = b"\xff\x7e"[..].pread(0);
-    let Ok(padded) = padded else {
-        return;
-    };
-    let Ok(below) = below else {
-        return;
-    };
     check_run(
         &rt,
         rt.alloc(),
@@ -147,8 +169,8 @@ fn numbers_in_leb128(rt: HostRuntime) {
             Command::Read(Place::At(0), Kind::Number(Width::U16, BE)),
         ],
         &[
-            Answer::Read(Value::Uleb(padded)),
-            Answer::Read(Value::Sleb(below)),
+            Answer::Read(Value::Uleb(padded?)),
+            Answer::Read(Value::Sleb(below?)),
             too_big(1, 0),
             too_big(1, 0),
             Answer::Read(Value::Unsigned(0x8000)),
@@ -173,6 +195,7 @@ fn numbers_in_leb128(rt: HostRuntime) {
         long,
         0,
     );
+    Ok(())
 }
 
 fn arrays_wanted(alloc: Global) -> Result<[Answer; 7], AllocError> {
@@ -188,10 +211,8 @@ fn arrays_wanted(alloc: Global) -> Result<[Answer; 7], AllocError> {
 }
 
 #[test]
-fn arrays(rt: HostRuntime) {
-    let Ok(wanted) = arrays_wanted(rt.alloc()) else {
-        return;
-    };
+fn arrays(rt: HostRuntime) -> Result<(), Fail> {
+    let wanted = arrays_wanted(rt.alloc())?;
     check_run(
         &rt,
         rt.alloc(),
@@ -224,4 +245,5 @@ fn arrays(rt: HostRuntime) {
         [5, 6, 7, 7, 0],
         3,
     );
+    Ok(())
 }

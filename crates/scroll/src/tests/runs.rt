@@ -1,7 +1,7 @@
 // Runs of commands. Each run here also stands where memory is refused (`rt try --test --fail-alloc N`): then the answers
 // are those of the first commands, and the buffer and the cursor are as these left them.
 use crate::runner::{Answer, Command, Kind, Place, Put, Value, Width, run};
-use crate::{BE, Error, LE};
+use crate::{BE, Error, LE, Result};
 use std::alloc::Global;
 use std::process::Abort;
 
@@ -193,25 +193,23 @@ fn no_commands(rt: HostRuntime) {
 }
 
 #[test]
-fn answers_stand_behind_those_before(rt: HostRuntime) {
+fn answers_stand_behind_those_before(rt: HostRuntime) -> Result<()> {
     let mut buffer = [1u8];
     let mut cursor = 0;
     let mut answers = Vec::new(rt.alloc());
     let commands = [Command::Read(Place::At(0), Kind::Number(Width::U8, LE))];
     for wanted in [1, 2] {
-        let done = run(
+        run(
             rt.alloc(),
             &mut buffer,
             &mut cursor,
             &commands,
             &mut answers,
-        );
-        if done.is_err() {
-            return;
-        }
+        )?;
         assert_eq!(rt; answers.len(), wanted);
     }
     for answer in &answers {
         assert!(rt; matches!(answer, Answer::Read(Value::Unsigned(1))));
     }
+    Ok(())
 }
