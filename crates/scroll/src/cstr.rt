@@ -144,7 +144,7 @@ impl CString {
 
 // A text, and a zero behind it. Memory for both is asked for once.
 fn with_zero(alloc: Global, text: &[u8]) -> result::Result<Vec<u8>, AllocError>
-    ensures { IfOk result (λ bytes. bytes.items ≡ text.now ++ 0 ∷ []) }
+    ensures held { IfOk result (λ bytes. bytes.items ≡ text.now ++ 0 ∷ []) }
 {
     let mut bytes = Vec::with_capacity(alloc, text.len() + 1)?;
     bytes.extend_from_slice(text)?;

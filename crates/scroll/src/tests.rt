@@ -4,6 +4,8 @@ mod c_strings;
 mod calls;
 mod cursor;
 mod laws;
+mod drops;
+mod extremes;
 mod leb128;
 mod leb128_writes;
 mod numbers;

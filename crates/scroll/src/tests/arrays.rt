@@ -1,11 +1,6 @@
 // Arrays, read and written: values from outside, and what a refusal leaves.
-ghost use Rattle.std.specs.Prelude.{◌≡◌, ◌≤◌, ◌<◌, length};
-ghost use Rattle.std.proofs.Common.{rules};
-ghost use Rattle.scroll.specs.Bytes.{RefusesShort};
-
 use crate::ctx::{SizeWith, StrCtx, TryFromCtx, TryIntoCtx};
 use crate::{BE, Endian, Error, LE, Pread, Pwrite, Result};
-use std::cell::Cell;
 use std::result;
 
 #[test]
@@ -118,45 +113,4 @@ fn through_the_bounds(rt: HostRuntime) {
     let values: [u16; 2] = [0x102, 0x304];
     assert!(rt; matches!(&put_values(values, &mut out, LE), Ok(4)));
     assert_eq!(rt; out, [2, 1, 4, 3]);
-}
-
-// A byte that counts its drops.
-struct Counted<'c> {
-    byte: u8,
-    drops: &'c Cell<u32>,
-}
-
-impl<'c> Drop for Counted<'c> {
-    fn drop(self) {
-        let Counted { byte: _, drops } = self;
-        drops.set(drops.get().wrapping_add(1));
-    }
-}
-
-impl<'a, 'c> TryFromCtx<'a, &'c Cell<u32>> for Counted<'c> {
-    type Error = Error;
-
-    ghost reads = { λ _ source x n. (1 ≤ length source) × (n ≡ 1) };
-
-    ghost refuses = { λ _. RefusesShort 1 };
-
-    ghost reads_bounded = { λ _ source x n h. Prim.search rules };
-
-    fn try_from_ctx(from: &'a [u8], drops: &'c Cell<u32>) -> Result<(Counted<'c>, usize)> {
-        let (byte, size) = u8::try_from_ctx(from, LE)?;
-        Ok((Counted { byte, drops }, size))
-    }
-}
-
-#[test]
-fn a_refused_read_drops_its_elements(rt: HostRuntime) {
-    let drops = Cell::new(0);
-    let bytes: [u8; 3] = [7, 8, 9];
-    let cut: Result<[Counted; 3]> = bytes[..2].pread_with(0, &drops);
-    assert!(rt; cut.is_err_and(|e| matches!(e, Error::TooBig { size: 1, len: 0 })));
-    assert_eq!(rt; drops.get(), 2);
-    let whole: Result<[Counted; 3]> = bytes[..].pread_with(0, &drops);
-    assert_eq!(rt; drops.get(), 2);
-    drop(whole);
-    assert_eq!(rt; drops.get(), 5);
 }

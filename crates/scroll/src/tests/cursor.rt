@@ -159,13 +159,6 @@ fn gread_inout_that_stops(rt: HostRuntime) {
     assert!(rt; matches!(&answer, Err(Error::TooBig { size: 2, len: 0 })));
     assert_eq!(rt; three, [0x0504, 0x0706, 9]);
     assert_eq!(rt; offset, 7);
-    let mut none: [u16; 0] = [];
-    for start in [9, usize::MAX] {
-        let mut offset = start;
-        let answer: Result<()> = bytes[..].gread_inout_with(&mut offset, &mut none, LE);
-        assert!(rt; answer.is_ok());
-        assert_eq!(rt; offset, start);
-    }
 }
 
 #[test]
@@ -179,9 +172,5 @@ fn default_writes(rt: HostRuntime) {
     let cut: Result<usize> = target.gwrite(0u32, &mut offset);
     assert!(rt; matches!(&cut, Err(Error::TooBig { size: 4, len: 2 })));
     assert_eq!(rt; offset, 6);
-    let mut offset = usize::MAX;
-    let past: Result<usize> = target.gwrite_with(0u8, &mut offset, LE);
-    assert!(rt; matches!(&past, Err(Error::BadOffset(usize::MAX))));
-    assert_eq!(rt; offset, usize::MAX);
     assert_eq!(rt; bytes, [0xef, 0xbe, 0xef, 0xbe, 2, 1, 0, 0]);
 }

@@ -6,6 +6,7 @@ use crate::ctx::{NULL, StrCtx};
 use crate::runner::{Answer, Command, Kind, Place, Put, Value, Width};
 use crate::{BE, Error, LE, Pread, Sleb128, Uleb128};
 use std::alloc::{AllocError, Global};
+use std::test::Fail;
 
 const HERE: Place = Place::Cursor;
 
@@ -79,6 +80,37 @@ fn texts_and_slices(rt: HostRuntime) -> Result<(), AllocError> {
         &[Answer::Wrote(3), too_big(2, 1), Answer::Wrote(0)],
         [0x61, 0x62, 0x63, 0],
         3,
+    );
+    Ok(())
+}
+
+// Values of hundreds of bytes are copied as short ones are.
+#[test]
+fn long_values(rt: HostRuntime) -> Result<(), Fail> {
+    let alloc = rt.alloc();
+    let mut first = [b'a'; 300];
+    first[299] = 0;
+    let letters = str::from_utf8(&first[..299])?;
+    let wanted = [
+        text(alloc, letters)?,
+        bytes(alloc, &first)?,
+        c_string(alloc, letters.as_bytes())?,
+        c_string(alloc, letters.as_bytes())?,
+    ];
+    check_run(
+        &rt,
+        alloc,
+        first,
+        0,
+        &[
+            Command::Read(HERE, Kind::Text(StrCtx::Delimiter(NULL))),
+            Command::Read(Place::At(0), Kind::Bytes(300)),
+            Command::Read(Place::At(0), Kind::CStr),
+            Command::Read(Place::At(0), Kind::CString),
+        ],
+        &wanted,
+        first,
+        300,
     );
     Ok(())
 }

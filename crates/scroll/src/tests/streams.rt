@@ -13,16 +13,17 @@ use std::test::Fail;
 #[derive(Clone, Copy)]
 enum Fault {
     Never,
-    At(usize),
-    OddInterrupted,
+    At(usize, ErrorKind),
+    // All but each third call.
+    Interrupted,
 }
 
 impl Fault {
     // How a call fails.
     fn at(self, call: usize) -> Option<ErrorKind> {
         match self {
-            Fault::At(at) if at == call => Some(ErrorKind::Other),
-            Fault::OddInterrupted if call % 2 == 1 => Some(ErrorKind::Interrupted),
+            Fault::At(at, kind) if at == call => Some(kind),
+            Fault::Interrupted if call % 3 != 0 => Some(ErrorKind::Interrupted),
             _ => None,
         }
     }
@@ -47,7 +48,7 @@ impl<'a> Read for Source<'a> {
     }
 }
 
-// A writer of one byte a call, which has room for so many bytes.
+// A writer of one byte a call, which has room for so many bytes, and fails where it is flushed.
 #[derive(Drop)]
 struct Sink {
     held: [u8; 5],
@@ -72,80 +73,104 @@ impl Write for Sink {
     }
 
     fn flush(&mut self) -> io::Result<()> {
-        Ok(())
+        Err(io::Error::from(ErrorKind::BrokenPipe))
     }
 }
 
 const BYTES: [u8; 4] = [0xde, 0xad, 0xbe, 0xef];
 
+// Two kinds, so that an error of a kind that is always the same is none of the stream's.
+const KINDS: [ErrorKind; 2] = [ErrorKind::Other, ErrorKind::PermissionDenied];
+
+fn make_source(rest: &[u8], fault: Fault) -> Source<'_> {
+    Source {
+        rest,
+        fault,
+        calls: 0,
+    }
+}
+
+fn make_sink(room: usize, fault: Fault) -> Sink {
+    Sink {
+        held: [0x11; 5],
+        len: 0,
+        room,
+        fault,
+        calls: 0,
+    }
+}
+
+fn fails_by<T>(answer: &io::Result<T>, kind: ErrorKind) -> bool {
+    matches!(answer, Err(error) if error.kind() == kind)
+}
+
 #[test]
 fn readers_of_one_byte_a_call(rt: HostRuntime) -> Result<(), Fail> {
-    for (fault, wanted) in [
-        (Fault::Never, None),
-        (Fault::OddInterrupted, None),
-        (Fault::At(1), Some(ErrorKind::Other)),
-        (Fault::At(2), Some(ErrorKind::Other)),
-        (Fault::At(3), Some(ErrorKind::Other)),
-        (Fault::At(4), Some(ErrorKind::Other)),
-        (Fault::At(5), None),
+    for fault in [
+        Fault::Never,
+        Fault::Interrupted,
+        Fault::At(5, ErrorKind::Other),
     ] {
-        let mut source = Source {
-            rest: &BYTES,
-            fault,
-            calls: 0,
-        };
-        match source.ioread_with::<u32>(BE) {
-            Ok(x) => {
-                assert!(rt; wanted.is_none());
-                assert_eq!(rt; x, 3735928559);
-            }
-            Err(error) => assert!(rt; wanted == Some(error.kind())),
+        let mut source = make_source(&BYTES, fault);
+        assert_eq!(rt; source.ioread_with::<u32>(BE)?, 3735928559);
+        let mut source = make_source(&BYTES, fault);
+        assert_eq!(rt; source.ioread::<u32>()?, 4022250974);
+    }
+    for kind in KINDS {
+        for at in 1..5 {
+            let mut source = make_source(&BYTES, Fault::At(at, kind));
+            assert!(rt; fails_by(&source.ioread_with::<u32>(BE), kind), "{at}");
+            let mut source = make_source(&BYTES, Fault::At(at, kind));
+            assert!(rt; fails_by(&source.ioread::<u32>(), kind), "{at}");
         }
     }
     for len in 0..4 {
-        let mut source = Source {
-            rest: &BYTES[..len],
-            fault: Fault::Never,
-            calls: 0,
-        };
-        let cut = source.ioread_with::<u32>(LE);
-        assert!(rt;
-            matches!(&cut, Err(error) if error.kind() == ErrorKind::UnexpectedEof),
-            "{len}"
-        );
+        for fault in [Fault::Never, Fault::Interrupted] {
+            let mut source = make_source(&BYTES[..len], fault);
+            let cut = source.ioread_with::<u32>(LE);
+            assert!(rt; fails_by(&cut, ErrorKind::UnexpectedEof), "{len}");
+            let mut source = make_source(&BYTES[..len], fault);
+            let cut = source.ioread::<u32>();
+            assert!(rt; fails_by(&cut, ErrorKind::UnexpectedEof), "{len}");
+        }
     }
     Ok(())
 }
 
+// Nothing is flushed: the writer would fail.
 #[test]
-fn writers_of_one_byte_a_call(rt: HostRuntime) {
-    for (fault, room, wanted) in [
-        (Fault::Never, 5, None),
-        (Fault::OddInterrupted, 5, None),
-        (Fault::At(1), 5, Some(ErrorKind::Other)),
-        (Fault::At(2), 5, Some(ErrorKind::Other)),
-        (Fault::At(3), 5, Some(ErrorKind::Other)),
-        (Fault::At(4), 5, Some(ErrorKind::Other)),
-        (Fault::At(5), 4, None),
-        (Fault::Never, 3, Some(ErrorKind::WriteZero)),
-        (Fault::Never, 0, Some(ErrorKind::WriteZero)),
+fn writers_of_one_byte_a_call(rt: HostRuntime) -> Result<(), Fail> {
+    for (room, fault) in [
+        (5, Fault::Never),
+        (5, Fault::Interrupted),
+        (4, Fault::At(5, ErrorKind::Other)),
     ] {
-        let mut target = Sink {
-            held: [0x11; 5],
-            len: 0,
-            room,
-            fault,
-            calls: 0,
-        };
-        match target.iowrite_with(0xdeadbeefu32, BE) {
-            Ok(()) => {
-                assert!(rt; wanted.is_none());
-                assert_eq!(rt; target.held, [0xde, 0xad, 0xbe, 0xef, 0x11]);
-                assert_eq!(rt; target.len, 4);
-            }
-            Err(error) => assert!(rt; wanted == Some(error.kind())),
+        let mut target = make_sink(room, fault);
+        target.iowrite_with(0xdeadbeefu32, BE)?;
+        assert_eq!(rt; target.held, [0xde, 0xad, 0xbe, 0xef, 0x11]);
+        let mut target = make_sink(room, fault);
+        target.iowrite(0xdeadbeefu32)?;
+        assert_eq!(rt; target.held, [0xef, 0xbe, 0xad, 0xde, 0x11]);
+    }
+    for kind in KINDS {
+        for at in 1..5 {
+            let mut target = make_sink(5, Fault::At(at, kind));
+            assert!(rt; fails_by(&target.iowrite_with(1u32, BE), kind), "{at}");
+            let mut target = make_sink(5, Fault::At(at, kind));
+            assert!(rt; fails_by(&target.iowrite(1u32), kind), "{at}");
         }
     }
+    for room in 0..4 {
+        let mut target = make_sink(room, Fault::Never);
+        let cut = target.iowrite_with(1u32, LE);
+        assert!(rt; fails_by(&cut, ErrorKind::WriteZero), "{room}");
+        let mut target = make_sink(room, Fault::Interrupted);
+        assert!(rt;
+            fails_by(&target.iowrite(1u32), ErrorKind::WriteZero),
+            "{room}"
+        );
+    }
+    Ok(())
 }
 
 #[test]

@@ -1,0 +1,120 @@
+// Values are let go where a call is refused: those of an array, those that were to be written, those that a bulk read
+// replaces. No clause speaks of a value that is dropped.
+ghost use Rattle.std.specs.Prelude.{◌≡◌, ◌≤◌, length};
+ghost use Rattle.std.proofs.Common.{rules};
+ghost use Rattle.scroll.specs.Bytes.{RefusesShort, LeavesShort};
+ghost use Rattle.scroll.specs.NumberLaws.{WritesNumber-keeps};
+ghost use Rattle.scroll.specs.Numbers.{WritesNumber};
+ghost use Rattle.scroll.specs.declared.endian.Endian.TheVariants.{Little};
+
+use crate::ctx::{TryFromCtx, TryIntoCtx};
+use crate::{Error, LE, Pread, Pwrite, Result, slice};
+use std::cell::Cell;
+
+// A byte that counts its drops.
+struct Counted<'c> {
+    byte: u8,
+    drops: &'c Cell<u32>,
+}
+
+impl<'c> Drop for Counted<'c> {
+    fn drop(self) {
+        let Counted { byte: _, drops } = self;
+        drops.set(drops.get().wrapping_add(1));
+    }
+}
+
+impl<'a, 'c> TryFromCtx<'a, &'c Cell<u32>> for Counted<'c> {
+    type Error = Error;
+
+    ghost reads = { λ _ source x n. (1 ≤ length source) × (n ≡ 1) };
+
+    ghost refuses = { λ _. RefusesShort 1 };
+
+    ghost reads_bounded = { λ _ source x n h. Prim.search rules };
+
+    fn try_from_ctx(from: &'a [u8], drops: &'c Cell<u32>) -> Result<(Counted<'c>, usize)> {
+        let (byte, size) = u8::try_from_ctx(from, LE)?;
+        Ok((Counted { byte, drops }, size))
+    }
+}
+
+impl<'c> TryIntoCtx<()> for Counted<'c> {
+    type Error = Error;
+
+    ghost writes = { λ _ x. WritesNumber 1 Little x.byte };
+
+    ghost refuses = { λ _ _. LeavesShort 1 };
+
+    ghost writes_bounded = { λ _ x old new n h. Prim.search rules };
+
+    ghost writes_keeps = { λ _ x. WritesNumber-keeps 1 Little x.byte };
+
+    fn try_into_ctx(self, dst: &mut [u8], _ctx: ()) -> Result<usize> {
+        self.byte.try_into_ctx(dst, LE)
+    }
+}
+
+// Three bytes, from 7 on.
+fn three(drops: &Cell<u32>) -> [Counted<'_>; 3] {
+    [
+        Counted { byte: 7, drops },
+        Counted { byte: 8, drops },
+        Counted { byte: 9, drops },
+    ]
+}
+
+#[test]
+fn a_refused_read_drops_its_elements(rt: HostRuntime) {
+    let drops = Cell::new(0);
+    let bytes: [u8; 3] = [7, 8, 9];
+    let cut: Result<[Counted; 3]> = bytes[..2].pread_with(0, &drops);
+    assert!(rt; cut.is_err_and(|e| matches!(e, Error::TooBig { size: 1, len: 0 })));
+    assert_eq!(rt; drops.get(), 2);
+    let whole: Result<[Counted; 3]> = bytes[..].pread_with(0, &drops);
+    assert_eq!(rt; drops.get(), 2);
+    drop(whole);
+    assert_eq!(rt; drops.get(), 5);
+}
+
+#[test]
+fn a_bulk_read_drops_what_it_replaces(rt: HostRuntime) {
+    let drops = Cell::new(0);
+    let bytes: [u8; 2] = [1, 2];
+    let mut held = three(&drops);
+    let offset = &mut 0;
+    let cut: Result<()> = bytes[..].gread_inout_with(offset, &mut held, &drops);
+    assert!(rt; matches!(&cut, Err(Error::TooBig { size: 1, len: 0 })));
+    assert_eq!(rt; drops.get(), 2);
+    let [first, second, third] = &held;
+    assert_eq!(rt; [first.byte, second.byte, third.byte], [1, 2, 9]);
+    drop(held);
+    assert_eq!(rt; drops.get(), 5);
+}
+
+#[test]
+fn writes_drop_their_values(rt: HostRuntime) {
+    let drops = Cell::new(0);
+    let mut bytes = [0u8; 2];
+    let mut target = &mut bytes[..];
+    // (the first is written, the second is refused, and the third is left)
+    let cut: Result<usize> = target.pwrite(three(&drops), 1);
+    assert!(rt; matches!(&cut, Err(Error::TooBig { size: 1, len: 0 })));
+    assert_eq!(rt; drops.get(), 3);
+    let past: Result<usize> = target.pwrite(three(&drops), 3);
+    assert!(rt; matches!(&past, Err(Error::BadOffset(3))));
+    assert_eq!(rt; drops.get(), 6);
+    assert_eq!(rt; bytes, [0, 7]);
+    let offset = &mut 1;
+    let wrote: Result<usize> = slice::gwrite(
+        &mut bytes,
+        Counted {
+            byte: 5,
+            drops: &drops,
+        },
+        offset,
+    );
+    assert!(rt; matches!(&wrote, Ok(1)));
+    assert_eq!(rt; drops.get(), 7);
+    assert_eq!(rt; bytes, [0, 5]);
+}
