@@ -91,7 +91,8 @@ fn gathered(word: u64) -> u64
     fours & 0x0000_0000_0fff_ffff | (fours & 0x0fff_ffff_0000_0000) >> 4
 }
 
-// The signed number that `count` groups are in two's complement.
+// The signed number that `count` groups are in two's complement. The sign bit of the last group is turned over, and then taken
+// away: where it was set, that is the power of 128 less. One shift by a count, and no branch.
 #[inline(always)]
 pub fn two_complement(groups: u64, count: usize) -> i64
     requires some { 1 ≤ count }
@@ -99,6 +100,6 @@ pub fn two_complement(groups: u64, count: usize) -> i64
     requires low { groups < 128 ^ count }
     ensures { result ≡ (if nat_lt groups (64 * 128 ^ (count - 1)) then pos groups else pos groups -ℤ pos (128 ^ count)) }
 {
-    let unused = 64 - 7 * count;
-    (groups << unused).cast_signed() >> unused
+    let sign = 0x40u64 << (7 * (count - 1));
+    (groups ^ sign).wrapping_sub(sign).cast_signed()
 }

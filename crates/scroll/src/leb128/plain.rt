@@ -1,8 +1,9 @@
 // LEB128 byte by byte.
-ghost use Rattle.std.specs.Prelude.{◌≡◌, ◌≤◌, ◌<◌, ◌^◌, nat_lt, pos, ◌-ℤ◌, if◌then◌else◌, IfOk, IfErr};
+ghost use Rattle.std.specs.Prelude.{IfOk, IfErr};
 ghost use Rattle.scroll.specs.Leb128.{ReadsUleb, ReadsSleb};
 ghost use Rattle.scroll.specs.LebRefusals.{RefusesUleb, RefusesSleb};
 
+use super::block::two_complement;
 use crate::error::{Error, Result};
 
 /// The value and the size of the unsigned number at the front of `src`, which is read byte by byte.
@@ -48,7 +49,7 @@ pub fn plain_sleb(src: &[u8]) -> Result<(i64, usize)>
         };
         groups |= u64::from(byte & 0x7f) << (7 * i);
         if byte < 0x80 {
-            return Ok((sign_extended(groups, i + 1, byte), i + 1));
+            return Ok((two_complement(groups, i + 1), i + 1));
         }
     }
     match src.get(9) {
@@ -61,20 +62,5 @@ pub fn plain_sleb(src: &[u8]) -> Result<(i64, usize)>
             msg: "failed to parse",
         }),
         None => Err(Error::TooBig { size: 1, len: 0 }),
-    }
-}
-
-// The signed number that `count` groups are in two's complement, where `last` ends their text. The sign is put in by one
-// mask: shifting the groups up and down by their count takes longer.
-#[inline(always)]
-fn sign_extended(groups: u64, count: usize, last: u8) -> i64
-    requires few { count ≤ 9 }
-    requires low { groups < 128 ^ count }
-    ensures { result ≡ (if nat_lt last 64 then pos groups else pos groups -ℤ pos (128 ^ count)) }
-{
-    if last < 0x40 {
-        groups.cast_signed()
-    } else {
-        (groups | u64::MAX << (7 * count)).cast_signed()
     }
 }

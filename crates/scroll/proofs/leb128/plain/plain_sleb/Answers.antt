@@ -2,8 +2,8 @@ use Rattle.std.proofs.Common.{◌≡◌, ◌+◌, ◌*◌, ◌%◌, ◌^◌, bit
 use Rattle.std.specs.Int.{w64}
 use Rattle.std.proofs.lemmas.Int.{to_z-of_z}
 use Rattle.scroll.specs.Leb128.{end_of, groups_value}
-use Rattle.scroll.proofs.LebLemmas.{late_end, no_end, groups_lt, last_signs, group_fits, or_group, gives_at, byte_there, not_there}
-use Rattle.scroll.proofs.LoadLemmas.{tenth_reads_signed, tenth_is_cut, tenth_refused_signed}
+use Rattle.scroll.proofs.LebLemmas.{late_end, no_end, groups_lt, group_fits, or_group, gives_at, byte_there, not_there}
+use Rattle.scroll.proofs.LoadLemmas.{groups_read_signed, tenth_reads_signed, tenth_is_cut, tenth_refused_signed}
 use Rattle.scroll.proofs.leb128.plain.plain_sleb.Goals as goal
 
 pub returns-in_default-clause-refused : goal.returns-in_default-clause-refused
@@ -13,8 +13,8 @@ returns-in_default-clause-refused c =
     let end = no_end c.args.src.now (rw whole at c.loop-i.invariant.open_so_far) in
     ((omega arith, omega arith), refl, refl)
 
-pub sign_extended-requires-clause-low : goal.sign_extended-requires-clause-low
-sign_extended-requires-clause-low c =
+pub two_complement-requires-clause-low : goal.two_complement-requires-clause-low
+two_complement-requires-clause-low c =
     let s = c.args.src.now in
     let look = c.in-Some.ensures.lookup in
     let there = byte_there s c.loop-i.i _ look.0 look.1 in
@@ -29,11 +29,9 @@ returns-then-byte-lt128-clause-read c =
     let there = byte_there s c.loop-i.i _ look.0 look.1 in
     let fits = group_fits s c.loop-i.i (omega arith) (inr (λ nine. omega arith)) in
     let groups = gives_at s c.loop-i.i c.loop-i.groups c.from.result _ (2 ^ 64) there.0 (omega arith) c.loop-i.invariant.open_so_far there.2 c.if-byte-lt128.true fits c.loop-i.invariant.value c.from.ensures in
-    let fits_signed : FitsSigned w64 c.sign_extended.result = search rules in
-    let back = to_z-of_z w64 c.sign_extended.result fits_signed in
-    let place : end_of s ≡ c.loop-i.i = omega (arith, groups.size) in
-    let value = last_signs s _ (c.loop-i.i + 1) _ c.sign_extended.result groups (ap (λ j. get_or s j 0) place ∙ there.2) c.sign_extended.ensures in
-    record { complete = groups.complete; fits = rw value at fits_signed; value = back ∙ value; size = groups.size }
+    let fits_signed : FitsSigned w64 c.two_complement.result = search rules in
+    let back = to_z-of_z w64 c.two_complement.result fits_signed in
+    rw back (groups_read_signed s _ (c.loop-i.i + 1) c.two_complement.result groups fits_signed c.two_complement.ensures)
 
 pub loop-i-preserved : goal.loop-i-preserved
 loop-i-preserved c =
