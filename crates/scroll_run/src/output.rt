@@ -43,6 +43,9 @@ fn write_all<W: Write>(output: &mut W, bytes: &[u8]) -> io::Result<()>
             }
         }
     }
+    if rest.is_empty() {
+        return Ok(());
+    }
     Err(io::Error::from(ErrorKind::Other))
 }
 

@@ -48,6 +48,18 @@ fn round_trip_a_c_str(rt: HostRuntime) {
 #[test]
 fn texts_that_are_held(rt: HostRuntime) {
     let alloc = rt.alloc();
+    for (text, place) in [
+        (b"a\0b".as_slice(), 1),
+        (b"\0".as_slice(), 0),
+        (b"ab\0\0".as_slice(), 2),
+    ] {
+        for _ in 0..2 {
+            let refused = CString::new(alloc, text);
+            assert!(rt;
+                matches!(&refused, Err(Error::BadInput { size, msg: "nul byte in text" }) if *size == place)
+            );
+        }
+    }
     for (text, wanted) in [
         (b"".as_slice(), b"\0".as_slice()),
         (b"a".as_slice(), b"a\0".as_slice()),
@@ -61,18 +73,8 @@ fn texts_that_are_held(rt: HostRuntime) {
         assert_eq!(rt; string.as_c_str().to_bytes(), text);
         assert_eq!(rt; string.as_c_str().to_bytes_with_nul(), wanted);
     }
-    for (text, place) in [
-        (b"a\0b".as_slice(), 1),
-        (b"\0".as_slice(), 0),
-        (b"ab\0\0".as_slice(), 2),
-    ] {
-        for _ in 0..2 {
-            let refused = CString::new(alloc, text);
-            assert!(rt;
-                matches!(&refused, Err(Error::BadInput { size, msg: "nul byte in text" }) if *size == place)
-            );
-        }
-    }
+    let long = [b'a'; 300];
+    assert_eq!(rt; make(&rt, alloc, &long).as_bytes(), long.as_slice());
 }
 
 #[test]
@@ -148,6 +150,39 @@ fn the_empty_text(rt: HostRuntime) {
     let cut: Result<CStr> = source.gread_with(&mut offset, ());
     assert!(rt; matches!(&cut, Err(Error::BadInput { size: 0, .. })));
     assert_eq!(rt; offset, 1);
+}
+
+// Whether two C strings that were asked for are there. Any error but want of memory ends the test.
+fn are_held(rt: &impl Abort, made: Result<[CString; 2]>, wanted: [&[u8]; 2]) -> bool {
+    match made {
+        Ok(strings) => {
+            let [first, second] = &strings;
+            assert_eq!(rt; [first.as_bytes(), second.as_bytes()], wanted);
+            true
+        }
+        Err(error) => {
+            assert!(rt; matches!(error, Error::NoMemory));
+            false
+        }
+    }
+}
+
+#[test]
+fn arrays_of_c_strings(rt: HostRuntime) {
+    let alloc = rt.alloc();
+    let source = b"ab\0\0c".as_slice();
+    let cut: Result<[CString; 2]> = source.pread_with(4, &alloc);
+    assert!(rt; cut.is_err_and(|e| matches!(e, Error::BadInput { size: 0, .. })));
+    let cut: Result<[CStr; 3]> = source.pread_with(0, ());
+    assert!(rt; cut.is_err_and(|e| matches!(e, Error::BadInput { size: 0, .. })));
+    let wanted = [b"ab".as_slice(), b"".as_slice()];
+    let mut offset = 0;
+    let first = are_held(&rt, source.gread_with(&mut offset, &alloc), wanted);
+    assert_eq!(rt; offset, if first { 4 } else { 0 });
+    offset = 0;
+    let second = are_held(&rt, source.gread_with(&mut offset, &alloc), wanted);
+    assert_eq!(rt; offset, if second { 4 } else { 0 });
+    assert!(rt; first || second);
 }
 
 #[test]

@@ -15,7 +15,8 @@ enum Fault {
     Never,
     At(usize, ErrorKind),
     Odd(ErrorKind),
-    Always(ErrorKind),
+    UpTo(usize, ErrorKind),
+    From(usize, ErrorKind),
 }
 
 impl Fault {
@@ -24,7 +25,8 @@ impl Fault {
         match self {
             Fault::At(at, kind) if at == call => Some(kind),
             Fault::Odd(kind) if call % 2 == 1 => Some(kind),
-            Fault::Always(kind) => Some(kind),
+            Fault::UpTo(last, kind) if call <= last => Some(kind),
+            Fault::From(first, kind) if call >= first => Some(kind),
             _ => None,
         }
     }
@@ -173,19 +175,50 @@ fn writer_takes_nothing(rt: HostRuntime) -> Result<(), Fail> {
     Ok(())
 }
 
+// How often a reader is asked, and how often a writer is beyond once a byte, and to flush.
+const CALLS: usize = 131_072;
+
 #[test]
 fn interrupted_for_ever(rt: HostRuntime) -> Result<(), Fail> {
-    let interrupted = Fault::Always(ErrorKind::Interrupted);
+    let interrupted = Fault::From(1, ErrorKind::Interrupted);
     let mut input = make_source(1, interrupted);
     let mut output = make_sink(Vec::new(rt.alloc()), 1, Fault::Never);
     let answer = session(rt.alloc(), &mut input, &mut output);
     assert!(rt; matches!(&answer, Err(e) if e.kind() == ErrorKind::Other));
-    assert_eq!(rt; input.calls, 131_072);
+    assert_eq!(rt; input.calls, CALLS);
     assert_eq!(rt; output.calls, 0);
-    let mut input = INPUT;
-    let mut output = make_sink(Vec::new(rt.alloc()), 1, interrupted);
-    let answer = session(rt.alloc(), &mut input, &mut output);
-    assert!(rt; matches!(&answer, Err(e) if e.kind() == ErrorKind::Other));
-    assert!(rt; output.held.is_empty());
+    // from the first byte on, from the last one on, and where the writer is flushed
+    for first in [1, OUTPUT.len(), OUTPUT.len() + 1] {
+        let mut input = INPUT;
+        let fault = Fault::From(first, ErrorKind::Interrupted);
+        let mut output = make_sink(Vec::new(rt.alloc()), 1, fault);
+        let answer = session(rt.alloc(), &mut input, &mut output);
+        assert!(rt; matches!(&answer, Err(e) if e.kind() == ErrorKind::Other));
+        assert!(rt; output.held.as_slice() == &OUTPUT[..first - 1], "{first}");
+        assert_eq!(rt; output.calls, OUTPUT.len() + CALLS);
+    }
+    Ok(())
+}
+
+#[test]
+fn interrupted_as_often_as_may_be(rt: HostRuntime) -> Result<(), Fail> {
+    // (a last call finds the end of the input)
+    let spare = CALLS - INPUT.len() - 1;
+    for (more, is_read) in [(0, true), (1, false)] {
+        let mut input = make_source(1, Fault::UpTo(spare + more, ErrorKind::Interrupted));
+        let mut output = Vec::new(rt.alloc());
+        let answer = session(rt.alloc(), &mut input, &mut output);
+        assert!(rt; is_read == matches!(&answer, Ok(0)));
+        assert!(rt; output.as_slice() == if is_read { OUTPUT } else { b"" });
+    }
+    for (more, is_written) in [(0, true), (1, false)] {
+        let mut input = INPUT;
+        let fault = Fault::UpTo(CALLS + more, ErrorKind::Interrupted);
+        let mut output = make_sink(Vec::new(rt.alloc()), 1, fault);
+        let answer = session(rt.alloc(), &mut input, &mut output);
+        assert!(rt; is_written == matches!(&answer, Ok(0)));
+        assert_eq!(rt; output.held.len(), OUTPUT.len() - more);
+        assert_eq!(rt; output.is_flushed, is_written);
+    }
     Ok(())
 }
