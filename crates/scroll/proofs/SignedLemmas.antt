@@ -24,31 +24,31 @@ turned g k h is small room =
     let form : bit_and g h ≡ g / h % 2 * h = rw (← is) at (and_pow g k) in
     let some : 0 < h = omega (arith, is, one-le-pow k 2 (omega arith)) in
     elim (cases_lt g h) [
-  | inl low ↦
-      let t : nat_lt g h ≡ true = grind (arith, nat_tests) in
-      let value : 0 * h + g ≡ g = omega arith in
-      let none : g / h ≡ 0 = rw value at (div-mul-add 0 h g low) in
-      let nothing : 0 % 2 * h ≡ 0 = omega arith in
-      let clear : bit_and g h ≡ 0 = form ∙ ap (λ q. q % 2 * h) none ∙ nothing in
-      let sum : bit_xor g h + (2 ^ 64 - h) ≡ 1 * 2 ^ 64 + g = omega (arith, total, clear) in
-      let word : (bit_xor g h + (2 ^ 64 - h)) % 2 ^ 64 ≡ g = ap (λ x. x % 2 ^ 64) sum ∙ mod-mul-add 1 (2 ^ 64) g (omega arith) in
-      rw (t, word) (to_z_pos w64 g (omega arith))
-  | inr high ↦
-      let t : nat_lt g h ≡ false = grind (arith, nat_tests) in
-      let rest = 2 * h - g - 1 in
-      let value : 1 * h + (g - h) ≡ g = omega arith in
-      let one : g / h ≡ 1 = rw value at (div-mul-add 1 h (g - h) (omega arith)) in
-      let once : 1 % 2 * h ≡ h = omega arith in
-      let set : bit_and g h ≡ h = form ∙ ap (λ q. q % 2 * h) one ∙ once in
-      let sum : bit_xor g h + (2 ^ 64 - h) ≡ 2 ^ 64 - suc rest = omega (arith, total, set) in
-      let word : (bit_xor g h + (2 ^ 64 - h)) % 2 ^ 64 ≡ 2 ^ 64 - suc rest = ap (λ x. x % 2 ^ 64) sum ∙ mod-eq_of_lt (omega arith) in
-      rw (t, word) (to_z-neg w64 rest (omega arith) ∙ less_whole g (2 * h) rest (omega arith))
-]
+      | inl low ↦
+          let t : nat_lt g h ≡ true = grind (arith, nat_tests) in
+          let value : 0 * h + g ≡ g = omega arith in
+          let none : g / h ≡ 0 = rw value at (div-mul-add 0 h g low) in
+          let nothing : 0 % 2 * h ≡ 0 = omega arith in
+          let clear : bit_and g h ≡ 0 = form ∙ ap (λ q. q % 2 * h) none ∙ nothing in
+          let sum : bit_xor g h + (2 ^ 64 - h) ≡ 1 * 2 ^ 64 + g = omega (arith, total, clear) in
+          let word : (bit_xor g h + (2 ^ 64 - h)) % 2 ^ 64 ≡ g = ap (λ x. x % 2 ^ 64) sum ∙ mod-mul-add 1 (2 ^ 64) g (omega arith) in
+          rw (t, word) (to_z_pos w64 g (omega arith))
+      | inr high ↦
+          let t : nat_lt g h ≡ false = grind (arith, nat_tests) in
+          let rest = 2 * h - g - 1 in
+          let value : 1 * h + (g - h) ≡ g = omega arith in
+          let one : g / h ≡ 1 = rw value at (div-mul-add 1 h (g - h) (omega arith)) in
+          let once : 1 % 2 * h ≡ h = omega arith in
+          let set : bit_and g h ≡ h = form ∙ ap (λ q. q % 2 * h) one ∙ once in
+          let sum : bit_xor g h + (2 ^ 64 - h) ≡ 2 ^ 64 - suc rest = omega (arith, total, set) in
+          let word : (bit_xor g h + (2 ^ 64 - h)) % 2 ^ 64 ≡ 2 ^ 64 - suc rest = ap (λ x. x % 2 ^ 64) sum ∙ mod-eq_of_lt (omega arith) in
+          rw (t, word) (to_z-neg w64 rest (omega arith) ∙ less_whole g (2 * h) rest (omega arith))
+    ]
 
 -- up to nine groups in two's complement
 pub signed_groups : (g n : ℕ) → 1 ≤ n → n ≤ 9 → g < 128 ^ n
     → to_z w64 ((bit_xor g (64 * 2 ^ (7 * (n - 1)) % 2 ^ 64) + (2 ^ 64 - 64 * 2 ^ (7 * (n - 1)) % 2 ^ 64)) % 2 ^ 64)
-        ≡ (if nat_lt g (64 * 128 ^ (n - 1)) then pos g else pos g -ℤ pos (128 ^ n))
+    ≡ (if nat_lt g (64 * 128 ^ (n - 1)) then pos g else pos g -ℤ pos (128 ^ n))
 signed_groups g n some few room =
     let h = 64 * 128 ^ (n - 1) in
     let back : n - 1 + 1 ≡ n = omega arith in
