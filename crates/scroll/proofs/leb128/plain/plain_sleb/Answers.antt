@@ -1,7 +1,7 @@
-use Rattle.std.proofs.Common.{◌≡◌, ◌+◌, ◌*◌, ◌%◌, ◌^◌, bit_or, to_z, get_or, length, inr, ap, ◌∙◌, refl, arith, rules, below_more, FitsSigned}
+use Rattle.std.proofs.Common.{◌≡◌, ◌+◌, ◌*◌, ◌%◌, ◌^◌, bit_or, to_z, length, inr, ap, ◌∙◌, refl, arith, rules, below_more, FitsSigned}
 use Rattle.std.specs.Int.{w64}
 use Rattle.std.proofs.lemmas.Int.{to_z-of_z}
-use Rattle.scroll.specs.Leb128.{end_of, groups_value}
+use Rattle.scroll.specs.Leb128.{groups_value}
 use Rattle.scroll.proofs.LebLemmas.{late_end, no_end, groups_lt, group_fits, or_group, gives_at, byte_there, not_there}
 use Rattle.scroll.proofs.LoadLemmas.{groups_read_signed, tenth_reads_signed, tenth_is_cut, tenth_refused_signed}
 use Rattle.scroll.proofs.leb128.plain.plain_sleb.Goals as goal
