@@ -32,6 +32,7 @@ impl<'a> CStr<'a> {
 
     /// The C string at the front of `bytes`: its first bytes up to and with the first zero. `None` is answered exactly where
     /// there is no zero.
+    #[inline(always)]
     pub fn from_bytes_until_nul(bytes: &'a [u8]) -> Option<CStr<'a>>
         ensures found { OnSome result (first_place 0 bytes.now < length bytes.now) }
         ensures text { IfSome result (λ s. c_str_text s ≡ take (first_place 0 bytes.now) bytes.now) }
@@ -47,6 +48,7 @@ impl<'a> CStr<'a> {
     }
 
     /// The text, without the zero.
+    #[inline]
     pub fn to_bytes(self) -> &'a [u8]
         ensures text { result.now ≡ c_str_text self.entry }
         ensures no_zero { first_place 0 result.now ≡ length result.now }
@@ -55,6 +57,7 @@ impl<'a> CStr<'a> {
     }
 
     /// The text, and the zero behind it.
+    #[inline]
     pub fn to_bytes_with_nul(self) -> &'a [u8]
         ensures text { result.now ≡ c_str_text self.entry ++ 0 ∷ [] }
         ensures one_zero { IsCString result.now }

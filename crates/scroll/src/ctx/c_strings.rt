@@ -23,6 +23,7 @@ impl<'a> TryFromCtx<'a, ()> for CStr<'a> {
 
     /// The text before the first zero of `from`; the size in bytes counts the zero. A source without a zero is refused by
     /// [`Error::BadInput`], with the size 0.
+    #[inline(always)]
     fn try_from_ctx(from: &'a [u8], _ctx: ()) -> Result<(CStr<'a>, usize)> {
         match CStr::from_bytes_until_nul(from) {
             Some(text) => Ok((text, text.to_bytes_with_nul().len())),

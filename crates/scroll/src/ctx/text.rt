@@ -74,13 +74,18 @@ fn required_text(delimiter: u8, from: &[u8]) -> Result<Option<&str>>
     ensures refused { IfErr result (λ e. IsBadInput e (length from.now) (codes "missing delimiter")) }
 {
     let size = from.len();
-    if first_place(delimiter, from) == size {
+    let found = text_before(delimiter, from);
+    let place = match found {
+        Some(text) => text.len(),
+        None => first_place(delimiter, from),
+    };
+    if place == size {
         return Err(Error::BadInput {
             size,
             msg: "missing delimiter",
         });
     }
-    Ok(text_before(delimiter, from))
+    Ok(found)
 }
 
 /// The bytes of a text, with no delimiter and no length. A shorter target is [`Error::TooBig`], and stays.
