@@ -71,8 +71,8 @@ weigh() {
 }
 
 # Shares the lanes out, and prints a line for each share: the crate, the number of the share and how many shares the
-# crate has. The first edit of a share costs a check from nothing, and each further one about a sixth of that. So each
-# crate gets one share, and then each lane that is left goes to the crate whose shares take longest.
+# crate has. Where nothing was kept, the first edit of a share costs a check from nothing, and each further one about a
+# sixth of that. So each crate gets one share, and then each lane that is left goes to the crate whose shares take longest.
 share_out() {
     for crate in $(cut -d ' ' -f 1 "$room/edits" | uniq); do
         echo "$crate $(weigh "$crate") $(grep -c "^$crate " "$room/edits")"
@@ -115,6 +115,18 @@ make_libraries() {
     done
 }
 
+# Gives a share, whose job runs, what the tree's own checks of the crate kept, as soon as rt has made the folder in which
+# the checks of the edits keep theirs: so the first of them is no check from nothing. Where nothing was kept, or this comes
+# too late, it is one.
+give_kept() {
+    [ -d "$copy/kept" ] || return
+    until [ -d "$(echo "$copy"/tmp/rt-edits-*)" ]; do
+        kill -0 "$job" 2>/dev/null || return
+        sleep 0.05
+    done
+    mv "$copy"/kept/* "$copy"/tmp/rt-edits-*/
+}
+
 # Tries one share in a copy of its own. The names of the folders in which rt checks the edits, with the times at which
 # they came, go into $room/CRATE.SHARE.checks.
 try_share() {
@@ -126,9 +138,11 @@ try_share() {
     while read -r name; do
         cp "crates/$1/must-fail/$name.edit" "$copy/tree/crates/$1/must-fail/"
     done <"$copy.names"
+    [ ! -d "crates/$1/out/incremental" ] || cp -R "crates/$1/out/incremental" "$copy/kept" || return
     (cd "$copy/tree" && TMPDIR=$copy/tmp exec rt must-fail "$1") >"$copy.said" 2>&1 &
     job=$!
     trap 'kill $job 2>/dev/null; exit 1' HUP INT TERM
+    give_kept
     : >"$copy.checks"
     while kill -0 "$job" 2>/dev/null; do
         for check in "$copy"/tmp/rt-edit-*; do

@@ -25,14 +25,11 @@ stop() {
     exit 1
 }
 
-# Copies the library, with the modules behind its own.
+# Copies the library, with what its checks kept and with the modules behind its own.
 copy_library() {
-    cd "$top" || return
-    set --
-    for crate in crates/*; do
-        set -- "$@" "--exclude=$crate/out"
-    done
-    tar -cf - "$@" crates crates.txt | tar -C "$room" -xf - || return
+    mkdir "$room/crates" || return
+    grep '^scroll:' "$top/crates.txt" >"$room/crates.txt" || return
+    cp -R "$top/crates/scroll" "$room/crates/scroll" || return
     for name in $names; do
         echo "mod $name;" >>"$room/crates/scroll/src/lib.rt"
     done
