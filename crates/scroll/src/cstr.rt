@@ -141,7 +141,7 @@ impl CString {
         ensures text { result.now ≡ c_string_text self.now ++ 0 ∷ [] }
         ensures one_zero { IsCString result.now }
     {
-        &self.bytes
+        self.as_c_str().to_bytes_with_nul()
     }
 }
 

@@ -61,7 +61,7 @@ impl<'a> Loads<'a> {
         ensures first { IfSome result (λ b. (8 ≤ length self.old.bytes) × (b ≡ take 8 self.old.bytes)) }
         ensures short { IfNone result (length self.old.bytes < 8) }
     {
-        self.made += 1;
+        self.count();
         self.src.first_chunk::<8>().copied()
     }
 
@@ -72,7 +72,16 @@ impl<'a> Loads<'a> {
         ensures counted { self.new ≡ record self.old { made = self.old.made + 1 } }
         ensures value { result ≡ slice_get self.old.bytes i }
     {
-        self.made += 1;
+        self.count();
         self.src.get(i).copied()
+    }
+
+    // One more load was made.
+    #[inline]
+    fn count(&mut self)
+        requires { self.old.made < 2 ^ 63 }
+        ensures { self.new ≡ record self.old { made = self.old.made + 1 } }
+    {
+        self.made += 1;
     }
 }

@@ -2,7 +2,7 @@
 ghost use Rattle.std.specs.Prelude.{◌≡◌, ◌≤◌, ◌<◌, IfOk, IfErr, vec_len};
 ghost use Rattle.std.specs.Io.KnownBytes.{Consumes, IsAtEnd};
 ghost use Rattle.scroll_run.specs.Input.{IsTold};
-ghost use Rattle.scroll_run.specs.declared.input.ReadError.TheVariants.{Io, NoMemory};
+ghost use Rattle.scroll_run.specs.declared.input.ReadError.TheVariants.{NoMemory};
 
 use std::alloc::{AllocError, Global};
 use std::io;
@@ -24,14 +24,6 @@ pub enum ReadError {
     NoMemory,
     /// What the reader answered, or that it was asked too often.
     Io(io::Error),
-}
-
-impl From<io::Error> for ReadError {
-    ghost from_gives = { λ error e. e ≡ Io error };
-
-    fn from(error: io::Error) -> ReadError {
-        ReadError::Io(error)
-    }
 }
 
 impl From<AllocError> for ReadError {

@@ -24,7 +24,7 @@ impl<Ctx> MeasureWith<Ctx> for Vec<u8> {
     ghost measure = { λ _ bytes. length bytes.items };
 
     fn measure_with(&self, _ctx: &Ctx) -> usize {
-        self.len()
+        self.as_slice().len()
     }
 }
 
@@ -32,7 +32,7 @@ impl<'t, Ctx> MeasureWith<Ctx> for &'t str {
     ghost measure = { λ _ text. length text.now };
 
     fn measure_with(&self, _ctx: &Ctx) -> usize {
-        self.len()
+        self.as_bytes().len()
     }
 }
 
@@ -40,6 +40,6 @@ impl<Ctx> MeasureWith<Ctx> for String {
     ghost measure = { λ _ text. length (string_bytes text) };
 
     fn measure_with(&self, _ctx: &Ctx) -> usize {
-        self.len()
+        self.as_str().len()
     }
 }
