@@ -1,5 +1,4 @@
 use Rattle.std.proofs.Common.{◌≡◌, ℕ, zero, suc, ◌+◌, ◌-◌, ◌*◌, ◌%◌, ◌^◌, ◌<◌, ◌≤◌, ◌⊎◌, inl, inr, true, false, nat_lt, List, length, take, get_or, bit_and, bit_or, refl, sym, ap, ◌∙◌, arith, add-one, add-suc, pow-suc}
-use Rattle.std.proofs.Common.{ℤ, pos, ◌-ℤ◌, if◌then◌else◌}
 use Rattle.std.proofs.Math.Nat.{mod-eq_of_lt, pow-le-pow_right, mul-le-mul, mul-le-mul_right, mul_assoc, mul_comm}
 use Rattle.std.proofs.lemmas.Nat.{pow-add, mul-add-lt, and_mask}
 use Rattle.std.proofs.lemmas.Bool.{cases_lt}
@@ -10,7 +9,7 @@ use Rattle.std.proofs.Common.{Some, None}
 use Rattle.std.proofs.lemmas.Option.{slice_get-get_or, get_or_from_slice_get}
 use Rattle.std.proofs.lemmas.List.{get_or-take, length-take-le}
 use Rattle.std.specs.List.{slice_get}
-use Rattle.scroll.specs.Leb128.{group, signed_of, groups_value, end_of, unsigned_of, count_of, ReadsGroups}
+use Rattle.scroll.specs.Leb128.{group, groups_value, end_of, unsigned_of, count_of, ReadsGroups}
 
 -- ---- powers and sums
 pub pow_128 : (i : ℕ) → 2 ^ (7 * i) ≡ 128 ^ i
@@ -143,10 +142,3 @@ byte_there s i b t e =
 
 pub not_there : (s : List ℕ) (i : ℕ) → false ≡ nat_lt i (length s) → length s ≤ i
 not_there s i t = grind (arith, nat_tests)
-
--- the sign that the byte at the end gives
-pub last_signs : (s : List ℕ) (g n b : ℕ) (z : ℤ) → ReadsGroups s g n → get_or s (end_of s) 0 ≡ b → z ≡ (if nat_lt b 64 then pos g else pos g -ℤ pos (128 ^ n)) → z ≡ signed_of s
-last_signs s g n b z r at e =
-    let last = end_below s r.complete.0 in
-    let low : group s (end_of s) ≡ b = omega (arith, at, last) in
-    e ∙ rw (low, r.value, r.size) refl

@@ -134,7 +134,7 @@ required-back d s text n r =
     ∙ ap (λ b. take (first_place d s) s ++ b ∷ []) byte ∙ ap (λ t. t ++ d ∷ []) (sym r.front)
 
 -- the first delimiter behind bytes that are none
-place-behind : (d : ℕ) (t rest : List ℕ) → All (λ b. b ≢ d) t → first_place d (t ++ d ∷ rest) ≡ length t
+pub place-behind : (d : ℕ) (t rest : List ℕ) → All (λ b. b ≢ d) t → first_place d (t ++ d ∷ rest) ≡ length t
 place-behind d [] rest h = grind arith
 place-behind d (b ∷ bs) rest h =
     let hb = All-head (λ x. x ≢ d) b bs h in
