@@ -1,8 +1,8 @@
-use Rattle.std.proofs.Common.{◌≡◌, ◌+◌, ◌*◌, ◌%◌, ◌^◌, bit_or, to_z, length, inr, ap, ◌∙◌, refl, arith, rules, below_more, FitsSigned}
+use Rattle.std.proofs.Common.{◌≡◌, ◌+◌, ◌*◌, ◌%◌, ◌^◌, bit_or, to_z, length, ap, ◌∙◌, refl, arith, rules, below_more, FitsSigned}
 use Rattle.std.specs.Int.{w64}
 use Rattle.std.proofs.lemmas.Int.{to_z-of_z}
 use Rattle.scroll.specs.Leb128.{groups_value}
-use Rattle.scroll.proofs.LebLemmas.{late_end, no_end, groups_lt, group_fits, or_group, gives_at, byte_there, not_there}
+use Rattle.scroll.proofs.LebLemmas.{late_end, no_end, groups_lt, or_group, gives_at, byte_there, not_there}
 use Rattle.scroll.proofs.LoadLemmas.{groups_read_signed, tenth_reads_signed, tenth_is_cut, tenth_refused_signed}
 use Rattle.scroll.proofs.leb128.plain.plain_sleb.Goals as goal
 
@@ -18,8 +18,7 @@ two_complement-requires-clause-low c =
     let s = c.args.src.now in
     let look = c.in-Some.ensures.lookup in
     let there = byte_there s c.loop-i.i _ look.0 look.1 in
-    let fits = group_fits s c.loop-i.i (omega arith) (inr (λ nine. omega arith)) in
-    let groups = gives_at s c.loop-i.i c.loop-i.groups c.from.result _ (2 ^ 64) there.0 (omega arith) c.loop-i.invariant.open_so_far there.2 c.if-byte-lt128.true fits c.loop-i.invariant.value c.from.ensures in
+    let groups = gives_at s c.loop-i.i c.loop-i.groups c.from.result _ there.0 (omega arith) c.loop-i.invariant.open_so_far there.2 c.if-byte-lt128.true c.loop-i.invariant.value c.from.ensures in
     rw (groups.value, groups.size) (groups_lt s _)
 
 pub returns-then-byte-lt128-clause-read : goal.returns-then-byte-lt128-clause-read
@@ -27,8 +26,7 @@ returns-then-byte-lt128-clause-read c =
     let s = c.args.src.now in
     let look = c.in-Some.ensures.lookup in
     let there = byte_there s c.loop-i.i _ look.0 look.1 in
-    let fits = group_fits s c.loop-i.i (omega arith) (inr (λ nine. omega arith)) in
-    let groups = gives_at s c.loop-i.i c.loop-i.groups c.from.result _ (2 ^ 64) there.0 (omega arith) c.loop-i.invariant.open_so_far there.2 c.if-byte-lt128.true fits c.loop-i.invariant.value c.from.ensures in
+    let groups = gives_at s c.loop-i.i c.loop-i.groups c.from.result _ there.0 (omega arith) c.loop-i.invariant.open_so_far there.2 c.if-byte-lt128.true c.loop-i.invariant.value c.from.ensures in
     let fits_signed : FitsSigned w64 c.two_complement.result = search rules in
     let back = to_z-of_z w64 c.two_complement.result fits_signed in
     rw back (groups_read_signed s _ (c.loop-i.i + 1) c.two_complement.result groups fits_signed c.two_complement.ensures)
@@ -38,11 +36,10 @@ loop-i-preserved c =
     let s = c.args.src.now in
     let look = c.in-Some.ensures.lookup in
     let there = byte_there s c.loop-i.i _ look.0 look.1 in
-    let fits = group_fits s c.loop-i.i (omega arith) (inr (λ nine. omega arith)) in
     record {
       within = omega (arith, there.0);
       open_so_far = below_more _ _ c.loop-i.invariant.open_so_far (omega (arith, there.2));
-      value = or_group s c.loop-i.i c.loop-i.groups c.from.result (2 ^ 64) fits c.loop-i.invariant.value (rw there.2 c.from.ensures);
+      value = or_group s c.loop-i.i c.loop-i.groups c.from.result (omega arith) c.loop-i.invariant.value (rw there.2 c.from.ensures);
     }
 
 pub returns-in-Some-get-clause-read : goal.returns-in-Some-get-clause-read

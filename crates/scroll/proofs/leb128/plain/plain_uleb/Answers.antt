@@ -1,6 +1,6 @@
-use Rattle.std.proofs.Common.{◌≡◌, ◌+◌, ◌^◌, length, inr, refl, arith, below_more}
+use Rattle.std.proofs.Common.{◌≡◌, ◌+◌, length, refl, arith, below_more}
 use Rattle.scroll.specs.Leb128.{groups_value}
-use Rattle.scroll.proofs.LebLemmas.{late_end, no_end, group_fits, or_group, gives_at, byte_there, not_there}
+use Rattle.scroll.proofs.LebLemmas.{late_end, no_end, or_group, gives_at, byte_there, not_there}
 use Rattle.scroll.proofs.LoadLemmas.{groups_read, tenth_reads, tenth_is_cut, tenth_refused}
 use Rattle.scroll.proofs.leb128.plain.plain_uleb.Goals as goal
 
@@ -16,8 +16,7 @@ returns-then-byte-lt128-clause-read c =
     let s = c.args.src.now in
     let look = c.in-Some.ensures.lookup in
     let there = byte_there s c.loop-i.i _ look.0 look.1 in
-    let fits = group_fits s c.loop-i.i (omega arith) (inr (λ nine. omega arith)) in
-    let groups = gives_at s c.loop-i.i c.loop-i.groups c.from.result _ (2 ^ 64) there.0 (omega arith) c.loop-i.invariant.open_so_far there.2 c.if-byte-lt128.true fits c.loop-i.invariant.value c.from.ensures in
+    let groups = gives_at s c.loop-i.i c.loop-i.groups c.from.result _ there.0 (omega arith) c.loop-i.invariant.open_so_far there.2 c.if-byte-lt128.true c.loop-i.invariant.value c.from.ensures in
     groups_read s _ (c.loop-i.i + 1) (omega arith) groups
 
 pub loop-i-preserved : goal.loop-i-preserved
@@ -25,11 +24,10 @@ loop-i-preserved c =
     let s = c.args.src.now in
     let look = c.in-Some.ensures.lookup in
     let there = byte_there s c.loop-i.i _ look.0 look.1 in
-    let fits = group_fits s c.loop-i.i (omega arith) (inr (λ nine. omega arith)) in
     record {
       within = omega (arith, there.0);
       open_so_far = below_more _ _ c.loop-i.invariant.open_so_far (omega (arith, there.2));
-      value = or_group s c.loop-i.i c.loop-i.groups c.from.result (2 ^ 64) fits c.loop-i.invariant.value (rw there.2 c.from.ensures);
+      value = or_group s c.loop-i.i c.loop-i.groups c.from.result (omega arith) c.loop-i.invariant.value (rw there.2 c.from.ensures);
     }
 
 pub returns-in-Some-get-clause-read : goal.returns-in-Some-get-clause-read
