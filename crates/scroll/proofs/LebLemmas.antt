@@ -137,5 +137,12 @@ byte_there s i b t e =
     let at = slice_get-get_or s i b inside ∙ ap Some (sym e) in
     (inside, at, get_or_from_slice_get s i b 0 at)
 
+-- what is known at the tenth byte, as a look-up gives it, where none of the nine before it ends the text
+pub tenth_there : (s : List ℕ) (i g b : ℕ) → true ≡ nat_lt 9 (length s) → b ≡ get_or s 9 b → i ≡ 9 → ((k : ℕ) → k < i → 128 ≤ get_or s k 0) → g ≡ groups_value s i
+    → (9 ≤ end_of s) × (slice_get s 9 ≡ Some b) × (g ≡ groups_value s 9)
+tenth_there s i g b t e nine more value =
+    let there = byte_there s 9 b t e in
+    (late_end s 9 (omega (arith, there.0)) (rw nine at more), there.1, rw nine at value)
+
 pub not_there : (s : List ℕ) (i : ℕ) → false ≡ nat_lt i (length s) → length s ≤ i
 not_there s i t = grind (arith, nat_tests)
