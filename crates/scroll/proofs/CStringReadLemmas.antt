@@ -2,7 +2,7 @@
 use Rattle.std.proofs.Common.{◌≡◌, ◌≢◌, ℕ, ◌+◌, ◌≤◌, ◌<◌, ◌++◌, List, [], ◌∷◌, length, take, drop, arith, refl, sym, ◌∙◌, ap, codes, length-append, append_assoc, inl, inr, length-take, get_or, ◌==◌, not, true, false, true≢false, subst}
 use Rattle.std.proofs.lemmas.Bool.{cases_lt}
 use Rattle.std.proofs.lemmas.List.{take_at, take_more, get_or-take, length-take-le}
-use Rattle.std.proofs.lemmas.List.Elements.{All-head, All-tail, All-from_get_or}
+use Rattle.std.proofs.lemmas.List.Elements.{All-from_get_or}
 use Rattle.std.proofs.lemmas.List.Sums.{prefix_len_passes, prefix_len_stops}
 use Rattle.std.specs.List.{All}
 use Rattle.scroll.proofs.FrontLemmas.{begins-length, begins-split}
@@ -12,6 +12,7 @@ use Rattle.scroll.proofs.TextReadLemmas.{first_place-fronts, same-bad_input}
 use Rattle.scroll.specs.Bytes.{WritesFront}
 use Rattle.scroll.specs.CStrings.{ReadsCString, RefusesCString}
 use Rattle.scroll.specs.Laws.{IsLocal, IsWithin, AllowsOne}
+use Rattle.scroll.specs.RoundTrips.{place-behind}
 use Rattle.scroll.specs.TextLaws.{first_place-le}
 use Rattle.scroll.specs.Texts.{first_place}
 use Rattle.scroll.specs.declared.error.Error.TheVariants.{BadInput}
@@ -42,21 +43,13 @@ one-c_string s =
           (λ d r. same-bad_input d 0 (codes "The input doesn't contain a null byte") r.error)
     ]
 
--- the first zero behind bytes that are none
-zero_behind : (t rest : List ℕ) → All (λ b. b ≢ 0) t → first_place 0 (t ++ 0 ∷ rest) ≡ length t
-zero_behind [] rest h = refl
-zero_behind (b ∷ bs) rest h =
-    let hb = All-head (λ x. x ≢ 0) b bs h in
-    let ih = zero_behind bs rest (All-tail (λ x. x ≢ 0) b bs h) in
-    grind (arith, ih, hb)
-
 pub begins-c_string : (s t : List ℕ) → All (λ b. b ≢ 0) t → take (length (t ++ 0 ∷ [])) s ≡ t ++ 0 ∷ [] → ReadsCString s t (length t + 1)
 begins-c_string s t h e =
     let long = begins-length s (t ++ 0 ∷ []) e in
     let whole = length-append t (0 ∷ []) in
     let split : s ≡ t ++ 0 ∷ drop (length (t ++ 0 ∷ [])) s =
     begins-split s (t ++ 0 ∷ []) e ∙ append_assoc t (0 ∷ []) (drop (length (t ++ 0 ∷ [])) s) in
-    let place : first_place 0 s ≡ length t = ap (first_place 0) split ∙ zero_behind t (drop (length (t ++ 0 ∷ [])) s) h in
+    let place : first_place 0 s ≡ length t = ap (first_place 0) split ∙ place-behind 0 t (drop (length (t ++ 0 ∷ [])) s) h in
     let text : take (length t) s ≡ t = ap (take (length t)) split ∙ take_at t (0 ∷ drop (length (t ++ 0 ∷ [])) s) (length t) refl in
     record {
       found = omega (arith, long, whole, place);

@@ -1,5 +1,4 @@
-use Rattle.std.proofs.Common.{◌≡◌, ℕ, zero, suc, ◌+◌, ◌-◌, ◌*◌, ◌%◌, ◌^◌, ◌<◌, ◌≤◌, ◌⊎◌, inl, inr, true, false, nat_lt, List, length, take, get_or, bit_and, bit_or, refl, sym, ap, ◌∙◌, arith, add-one, add-suc, pow-suc}
-use Rattle.std.proofs.Common.{ℤ, pos, ◌-ℤ◌, if◌then◌else◌}
+use Rattle.std.proofs.Common.{◌≡◌, ℕ, zero, suc, ◌+◌, ◌-◌, ◌*◌, ◌%◌, ◌^◌, ◌<◌, ◌≤◌, inl, inr, true, false, nat_lt, List, length, take, get_or, bit_and, bit_or, refl, sym, ap, ◌∙◌, arith, add-one, add-suc, pow-suc}
 use Rattle.std.proofs.Math.Nat.{mod-eq_of_lt, pow-le-pow_right, mul-le-mul, mul-le-mul_right, mul_assoc, mul_comm}
 use Rattle.std.proofs.lemmas.Nat.{pow-add, mul-add-lt, and_mask}
 use Rattle.std.proofs.lemmas.Bool.{cases_lt}
@@ -10,7 +9,7 @@ use Rattle.std.proofs.Common.{Some, None}
 use Rattle.std.proofs.lemmas.Option.{slice_get-get_or, get_or_from_slice_get}
 use Rattle.std.proofs.lemmas.List.{get_or-take, length-take-le}
 use Rattle.std.specs.List.{slice_get}
-use Rattle.scroll.specs.Leb128.{group, signed_of, groups_value, end_of, unsigned_of, count_of, ReadsGroups}
+use Rattle.scroll.specs.Leb128.{group, groups_value, end_of, unsigned_of, count_of, ReadsGroups}
 
 -- ---- powers and sums
 pub pow_128 : (i : ℕ) → 2 ^ (7 * i) ≡ 128 ^ i
@@ -46,22 +45,19 @@ pub open_before : (s : List ℕ) (k : ℕ) → k < end_of s → 128 ≤ get_or s
 open_before s k h = let f = fails_before_first (λ b. nat_lt b 128) s k 0 h in grind (arith, nat_tests)
 
 -- ---- one more group
-pub group_fits : (s : List ℕ) (i : ℕ) → i < 10 → ((i ≡ 9) × (get_or s i 0 ≤ 1)) ⊎ (i ≡ 9 → ⊥) → group s i * 128 ^ i < 2 ^ 64
-group_fits s i h w = elim w [
-  | inl t ↦ let one = rw t.0 at t.1 in rw t.0 (omega arith)
-  | inr ne ↦
-      let low : group s i ≤ 127 = omega arith in
-      let eight : i ≤ 8 = omega arith in
-      let power : 128 ^ i ≤ 128 ^ 8 = pow-le-pow_right {n = 128} (omega arith) eight in
-      omega (arith, mul-le-mul low power)
-]
+group_fits : (s : List ℕ) (i : ℕ) → i < 9 → group s i * 128 ^ i < 2 ^ 64
+group_fits s i early =
+    let low : group s i ≤ 127 = omega arith in
+    let eight : i ≤ 8 = omega arith in
+    let power : 128 ^ i ≤ 128 ^ 8 = pow-le-pow_right {n = 128} (omega arith) eight in
+    omega (arith, mul-le-mul low power)
 
-pub or_group : (s : List ℕ) (i v r m : ℕ) → group s i * 128 ^ i < m → v ≡ groups_value s i → r ≡ bit_and (get_or s i 0) 127
-    → bit_or v (r * 2 ^ (7 * i) % m) ≡ groups_value s (i + 1)
-or_group s i v r m fits value_is r_is =
+pub or_group : (s : List ℕ) (i v r : ℕ) → i < 9 → v ≡ groups_value s i → r ≡ bit_and (get_or s i 0) 127
+    → bit_or v (r * 2 ^ (7 * i) % 2 ^ 64) ≡ groups_value s (i + 1)
+or_group s i v r early value_is r_is =
     let e : r ≡ group s i = r_is ∙ and_mask (get_or s i 0) 7 in
     let small : v < 2 ^ (7 * i) = rw (pow_128 i, value_is) (groups_lt s i) in
-    let whole : r * 2 ^ (7 * i) < m = rw (pow_128 i, e) fits in
+    let whole : r * 2 ^ (7 * i) < 2 ^ 64 = rw (pow_128 i, e) (group_fits s i early) in
     ap (bit_or v) (mod-eq_of_lt whole) ∙ or_shifted_r r (7 * i) v small ∙ rw (pow_128 i, e, value_is, groups_more s i) (omega arith)
 
 -- where the first i bytes do not end the text, it ends at i or later
@@ -107,11 +103,11 @@ sign_is_top s g n within g_is n_is =
     ])
 
 -- the byte that ends the text, in the words of the code
-pub gives_at : (s : List ℕ) (i v r b m : ℕ) → i < length s → i < 10 → ((k : ℕ) → k < i → 128 ≤ get_or s k 0) → get_or s i 0 ≡ b → b < 128
-    → group s i * 128 ^ i < m → v ≡ groups_value s i → r ≡ bit_and b 127 → ReadsGroups s (bit_or v (r * 2 ^ (7 * i) % m)) (i + 1)
-gives_at s i v r b m within ten more byte last fits value_is r_is =
+pub gives_at : (s : List ℕ) (i v r b : ℕ) → i < length s → i < 9 → ((k : ℕ) → k < i → 128 ≤ get_or s k 0) → get_or s i 0 ≡ b → b < 128
+    → v ≡ groups_value s i → r ≡ bit_and b 127 → ReadsGroups s (bit_or v (r * 2 ^ (7 * i) % 2 ^ 64)) (i + 1)
+gives_at s i v r b within early more byte last value_is r_is =
     let e = end_at s i within more (omega arith) in
-    let value = or_group s i v r m fits value_is (rw byte r_is) in
+    let value = or_group s i v r early value_is (rw byte r_is) in
     record { complete = (omega arith, omega arith); value = value ∙ ap (λ j. groups_value s (j + 1)) (sym e); size = ap (λ j. j + 1) (sym e) }
 
 pub groups_same : (a b : List ℕ) (n : ℕ) → ((k : ℕ) → k < n → get_or a k 0 ≡ get_or b k 0) → groups_value a n ≡ groups_value b n
@@ -141,12 +137,12 @@ byte_there s i b t e =
     let at = slice_get-get_or s i b inside ∙ ap Some (sym e) in
     (inside, at, get_or_from_slice_get s i b 0 at)
 
+-- what is known at the tenth byte, as a look-up gives it, where none of the nine before it ends the text
+pub tenth_there : (s : List ℕ) (i g b : ℕ) → true ≡ nat_lt 9 (length s) → b ≡ get_or s 9 b → i ≡ 9 → ((k : ℕ) → k < i → 128 ≤ get_or s k 0) → g ≡ groups_value s i
+    → (9 ≤ end_of s) × (slice_get s 9 ≡ Some b) × (g ≡ groups_value s 9)
+tenth_there s i g b t e nine more value =
+    let there = byte_there s 9 b t e in
+    (late_end s 9 (omega (arith, there.0)) (rw nine at more), there.1, rw nine at value)
+
 pub not_there : (s : List ℕ) (i : ℕ) → false ≡ nat_lt i (length s) → length s ≤ i
 not_there s i t = grind (arith, nat_tests)
-
--- the sign that the byte at the end gives
-pub last_signs : (s : List ℕ) (g n b : ℕ) (z : ℤ) → ReadsGroups s g n → get_or s (end_of s) 0 ≡ b → z ≡ (if nat_lt b 64 then pos g else pos g -ℤ pos (128 ^ n)) → z ≡ signed_of s
-last_signs s g n b z r at e =
-    let last = end_below s r.complete.0 in
-    let low : group s (end_of s) ≡ b = omega (arith, at, last) in
-    e ∙ rw (low, r.value, r.size) refl

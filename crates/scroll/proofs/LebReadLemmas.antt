@@ -101,98 +101,75 @@ fits-cases (negsuc n) = elim (cases_lt n (2 ^ 63)) as (λ _. FitsSigned w64 (neg
   | inr large ↦ inr (neg-unfit n large)
 ]
 
-uleb-cut : (s : List ℕ) (d : Error) → IsCut s → RefusesUleb s d → SameError d (TooBig 1 0)
-uleb-cut s (TooBig size len) cut r = ap (λ m. TooBig m len) r.1 ∙ ap (λ m. TooBig 1 m) r.2
-uleb-cut s (BadInput size msg) cut r = absurd (r.0 cut)
-uleb-cut s (BadOffset offset) cut r = absurd r
-uleb-cut s (Custom text) cut r = absurd r
-uleb-cut s (IO fault) cut r = absurd r
-uleb-cut s NoMemory cut r = absurd r
+-- an error by which a source may be refused: it is cut, or its text is whole, and where it is complete its value is unfit
+abbrev Refused : Type 0 → List ℕ → Error → Type 0
+Refused Unfit s d = (IsCut s × SameError d (TooBig 1 0)) ⊎ ((¬ IsCut s) × (IsComplete s → Unfit) × SameError d (failed s))
 
-uleb-bad : (s : List ℕ) (d : Error) → ¬ (IsCut s) → RefusesUleb s d → SameError d (failed s)
-uleb-bad s (TooBig size len) whole r = absurd (whole r.0)
-uleb-bad s (BadInput size msg) whole r = (r.2, r.3)
-uleb-bad s (BadOffset offset) whole r = absurd r
-uleb-bad s (Custom text) whole r = absurd r
-uleb-bad s (IO fault) whole r = absurd r
-uleb-bad s NoMemory whole r = absurd r
+uleb-refused : (s : List ℕ) (d : Error) → RefusesUleb s d → Refused (2 ^ 64 ≤ unsigned_of s) s d
+uleb-refused s (TooBig size len) r = inl (r.0, ap (λ m. TooBig m len) r.1 ∙ ap (λ m. TooBig 1 m) r.2)
+uleb-refused s (BadInput size msg) r = inr (r.0, r.1, (r.2, r.3))
+uleb-refused s (BadOffset offset) r = absurd r
+uleb-refused s (Custom text) r = absurd r
+uleb-refused s (IO fault) r = absurd r
+uleb-refused s NoMemory r = absurd r
 
-uleb-read : (s : List ℕ) (d : Error) → IsComplete s → unsigned_of s < 2 ^ 64 → RefusesUleb s d → ⊥
-uleb-read s (TooBig size len) complete fits r = complete-whole s complete r.0
-uleb-read s (BadInput size msg) complete fits r = too-large (unsigned_of s) fits (r.1 complete)
-uleb-read s (BadOffset offset) complete fits r = r
-uleb-read s (Custom text) complete fits r = r
-uleb-read s (IO fault) complete fits r = r
-uleb-read s NoMemory complete fits r = r
+sleb-refused : (s : List ℕ) (d : Error) → RefusesSleb s d → Refused (¬ FitsSigned w64 (signed_of s)) s d
+sleb-refused s (TooBig size len) r = inl (r.0, ap (λ m. TooBig m len) r.1 ∙ ap (λ m. TooBig 1 m) r.2)
+sleb-refused s (BadInput size msg) r = inr (r.0, r.1, (r.2, r.3))
+sleb-refused s (BadOffset offset) r = absurd r
+sleb-refused s (Custom text) r = absurd r
+sleb-refused s (IO fault) r = absurd r
+sleb-refused s NoMemory r = absurd r
 
-sleb-cut : (s : List ℕ) (d : Error) → IsCut s → RefusesSleb s d → SameError d (TooBig 1 0)
-sleb-cut s (TooBig size len) cut r = ap (λ m. TooBig m len) r.1 ∙ ap (λ m. TooBig 1 m) r.2
-sleb-cut s (BadInput size msg) cut r = absurd (r.0 cut)
-sleb-cut s (BadOffset offset) cut r = absurd r
-sleb-cut s (Custom text) cut r = absurd r
-sleb-cut s (IO fault) cut r = absurd r
-sleb-cut s NoMemory cut r = absurd r
+refused-cut : (Unfit : Type 0) (s : List ℕ) (d : Error) → IsCut s → Refused Unfit s d → SameError d (TooBig 1 0)
+refused-cut Unfit s d cut (inl q) = q.1
+refused-cut Unfit s d cut (inr q) = absurd (q.0 cut)
 
-sleb-bad : (s : List ℕ) (d : Error) → ¬ (IsCut s) → RefusesSleb s d → SameError d (failed s)
-sleb-bad s (TooBig size len) whole r = absurd (whole r.0)
-sleb-bad s (BadInput size msg) whole r = (r.2, r.3)
-sleb-bad s (BadOffset offset) whole r = absurd r
-sleb-bad s (Custom text) whole r = absurd r
-sleb-bad s (IO fault) whole r = absurd r
-sleb-bad s NoMemory whole r = absurd r
+refused-whole : (Unfit : Type 0) (s : List ℕ) (d : Error) → ¬ (IsCut s) → Refused Unfit s d → SameError d (failed s)
+refused-whole Unfit s d whole (inl q) = absurd (whole q.0)
+refused-whole Unfit s d whole (inr q) = q.2
 
-sleb-read : (s : List ℕ) (d : Error) → IsComplete s → FitsSigned w64 (signed_of s) → RefusesSleb s d → ⊥
-sleb-read s (TooBig size len) complete fits r = complete-whole s complete r.0
-sleb-read s (BadInput size msg) complete fits r = r.1 complete fits
-sleb-read s (BadOffset offset) complete fits r = r
-sleb-read s (Custom text) complete fits r = r
-sleb-read s (IO fault) complete fits r = r
-sleb-read s NoMemory complete fits r = r
+not-refused : (Unfit : Type 0) (s : List ℕ) (d : Error) → IsComplete s → ¬ Unfit → Refused Unfit s d → ⊥
+not-refused Unfit s d complete fits (inl q) = complete-whole s complete q.0
+not-refused Unfit s d complete fits (inr q) = fits (q.1 complete)
+
+-- a read that gives one value where the text is complete and the value fits, and else a refusal
+module _ {V : Type 0} (Fits Unfit : Type 0) (reads : V → ℕ → Type 0) (refuses : Error → Type 0) (s : List ℕ) (value : V) where
+  one-leb128 : Fits ⊎ Unfit → (Fits → ¬ Unfit)
+      → (IsComplete s → Fits → reads value (count_of s)) → ((v : V) (m : ℕ) → reads v m → IsComplete s × Fits × (v ≡ value) × (m ≡ count_of s))
+      → (IsCut s → refuses (TooBig 1 0)) → (¬ (IsCut s) → (IsComplete s → Unfit) → refuses (failed s)) → ((d : Error) → refuses d → Refused Unfit s d)
+      → AllowsOne reads refuses
+  one-leb128 fit apart gives given cut whole refused = elim (cases_lt (end_of s) (length s)) as (λ _. AllowsOne reads refuses) [
+    | inr none ↦ elim (cases_lt (length s) 10) as (λ _. AllowsOne reads refuses) [
+      | inl short ↦ one-Err reads refuses (TooBig 1 0) (cut (none, short))
+          (λ v m r. open-incomplete s none (given v m r).0) (λ d r. refused-cut Unfit s d (none, short) (refused d r))
+      | inr long ↦ one-Err reads refuses (failed s)
+          (whole (long-whole s long) (λ complete. absurd (open-incomplete s none complete)))
+          (λ v m r. open-incomplete s none (given v m r).0) (λ d r. refused-whole Unfit s d (long-whole s long) (refused d r))
+    ]
+    | inl found ↦ elim (cases_lt (end_of s) 10) as (λ _. AllowsOne reads refuses) [
+      | inr late ↦ one-Err reads refuses (failed s)
+          (whole (ended-whole s found) (λ complete. absurd (late-incomplete s late complete)))
+          (λ v m r. late-incomplete s late (given v m r).0) (λ d r. refused-whole Unfit s d (ended-whole s found) (refused d r))
+      | inl near ↦ elim fit as (λ _. AllowsOne reads refuses) [
+        | inl fits ↦ one-Ok reads refuses value (count_of s) (gives (found, near) fits)
+            (λ v m r. ((given v m r).2, (given v m r).3)) (λ d r. not-refused Unfit s d (found, near) (apart fits) (refused d r))
+        | inr unfit ↦ one-Err reads refuses (failed s) (whole (ended-whole s found) (λ _. unfit))
+            (λ v m r. apart (given v m r).1 unfit) (λ d r. refused-whole Unfit s d (ended-whole s found) (refused d r))
+      ]
+    ]
+  ]
 
 pub one-uleb : (s : List ℕ) → AllowsOne (ReadsUleb s) (RefusesUleb s)
-one-uleb s = elim (cases_lt (end_of s) (length s)) as (λ _. AllowsOne (ReadsUleb s) (RefusesUleb s)) [
-  | inr none ↦ elim (cases_lt (length s) 10) as (λ _. AllowsOne (ReadsUleb s) (RefusesUleb s)) [
-    | inl short ↦ one-Err (ReadsUleb s) (RefusesUleb s) (TooBig 1 0) ((none, short), refl, refl)
-        (λ v m r. open-incomplete s none r.complete) (λ d r. uleb-cut s d (none, short) r)
-    | inr long ↦ one-Err (ReadsUleb s) (RefusesUleb s) (failed s)
-        (long-whole s long, λ complete. absurd (open-incomplete s none complete), refl, refl)
-        (λ v m r. open-incomplete s none r.complete) (λ d r. uleb-bad s d (long-whole s long) r)
-  ]
-  | inl found ↦ elim (cases_lt (end_of s) 10) as (λ _. AllowsOne (ReadsUleb s) (RefusesUleb s)) [
-    | inr late ↦ one-Err (ReadsUleb s) (RefusesUleb s) (failed s)
-        (ended-whole s found, λ complete. absurd (late-incomplete s late complete), refl, refl)
-        (λ v m r. late-incomplete s late r.complete) (λ d r. uleb-bad s d (ended-whole s found) r)
-    | inl near ↦ elim (cases_lt (unsigned_of s) (2 ^ 64)) as (λ _. AllowsOne (ReadsUleb s) (RefusesUleb s)) [
-      | inl fits ↦ one-Ok (ReadsUleb s) (RefusesUleb s) (unsigned_of s) (count_of s)
-          (record { complete = (found, near); fits = fits; value = refl; size = refl })
-          (λ v m r. (r.value, r.size)) (λ e r. uleb-read s e (found, near) fits r)
-      | inr unfit ↦ one-Err (ReadsUleb s) (RefusesUleb s) (failed s)
-          (ended-whole s found, λ _. unfit, refl, refl)
-          (λ v m r. too-large (unsigned_of s) r.fits unfit) (λ d r. uleb-bad s d (ended-whole s found) r)
-    ]
-  ]
-]
+one-uleb s =
+    let u = unsigned_of s in
+    one-leb128 (u < 2 ^ 64) (2 ^ 64 ≤ u) (ReadsUleb s) (RefusesUleb s) s u (cases_lt u (2 ^ 64)) (too-large u)
+    (λ complete fits. record { complete = complete; fits = fits; value = refl; size = refl }) (λ v m r. (r.complete, r.fits, r.value, r.size))
+    (λ cut. (cut, refl, refl)) (λ whole unfit. (whole, unfit, refl, refl)) (uleb-refused s)
 
 pub one-sleb : (s : List ℕ) → AllowsOne (ReadsSleb s) (RefusesSleb s)
-one-sleb s = elim (cases_lt (end_of s) (length s)) as (λ _. AllowsOne (ReadsSleb s) (RefusesSleb s)) [
-  | inr none ↦ elim (cases_lt (length s) 10) as (λ _. AllowsOne (ReadsSleb s) (RefusesSleb s)) [
-    | inl short ↦ one-Err (ReadsSleb s) (RefusesSleb s) (TooBig 1 0) ((none, short), refl, refl)
-        (λ v m r. open-incomplete s none r.complete) (λ d r. sleb-cut s d (none, short) r)
-    | inr long ↦ one-Err (ReadsSleb s) (RefusesSleb s) (failed s)
-        (long-whole s long, λ complete. absurd (open-incomplete s none complete), refl, refl)
-        (λ v m r. open-incomplete s none r.complete) (λ d r. sleb-bad s d (long-whole s long) r)
-  ]
-  | inl found ↦ elim (cases_lt (end_of s) 10) as (λ _. AllowsOne (ReadsSleb s) (RefusesSleb s)) [
-    | inr late ↦ one-Err (ReadsSleb s) (RefusesSleb s) (failed s)
-        (ended-whole s found, λ complete. absurd (late-incomplete s late complete), refl, refl)
-        (λ v m r. late-incomplete s late r.complete) (λ d r. sleb-bad s d (ended-whole s found) r)
-    | inl near ↦ elim (fits-cases (signed_of s)) as (λ _. AllowsOne (ReadsSleb s) (RefusesSleb s)) [
-      | inl fits ↦ one-Ok (ReadsSleb s) (RefusesSleb s) (signed_of s) (count_of s)
-          (record { complete = (found, near); fits = fits; value = refl; size = refl })
-          (λ v m r. (r.value, r.size)) (λ e r. sleb-read s e (found, near) fits r)
-      | inr unfit ↦ one-Err (ReadsSleb s) (RefusesSleb s) (failed s)
-          (ended-whole s found, λ _. unfit, refl, refl)
-          (λ v m r. unfit r.fits) (λ d r. sleb-bad s d (ended-whole s found) r)
-    ]
-  ]
-]
+one-sleb s =
+    let z = signed_of s in
+    one-leb128 (FitsSigned w64 z) (¬ FitsSigned w64 z) (ReadsSleb s) (RefusesSleb s) s z (fits-cases z) (λ fits unfit. unfit fits)
+    (λ complete fits. record { complete = complete; fits = fits; value = refl; size = refl }) (λ v m r. (r.complete, r.fits, r.value, r.size))
+    (λ cut. (cut, refl, refl)) (λ whole unfit. (whole, unfit, refl, refl)) (sleb-refused s)

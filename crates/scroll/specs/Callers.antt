@@ -1,10 +1,12 @@
 -- Lemmas for callers: what was read at a place and where the cursor then stands, lists of reads, bytes that are written
--- one behind the other, and a number beside its bytes.
-use Rattle.std.proofs.Common.{◌≡◌, ℕ, zero, suc, ◌+◌, ◌-◌, ◌*◌, ◌^◌, ◌<◌, ◌≤◌, ◌++◌, List, [], ◌∷◌, length, take, drop, slice_index, Some, Fits, w8, refl, sym, ap, ◌∙◌, arith, append_assoc}
+-- one behind the other, a number beside its bytes, and an error that `?` hands on.
+use Rattle.std.proofs.Common.{◌≡◌, ℕ, zero, suc, ◌+◌, ◌-◌, ◌*◌, ◌^◌, ◌<◌, ◌≤◌, ◌++◌, List, [], ◌∷◌, length, take, drop, slice_index, Some, Fits, w8, refl, sym, ap, ◌∙◌, arith, append_assoc, Result, IfErr}
 use Rattle.std.proofs.Math.Nat.{mul-le-mul_right, mul-suc, pow-suc}
 use Rattle.std.proofs.lemmas.Grind.{common_steps}
 use Rattle.std.proofs.lemmas.List.{get_or-drop, take-append-drop, drop_at, take_at, drop-drop, length-append, get_or-take, get_or_append_left, length-take-le}
+use Rattle.std.proofs.lemmas.Result.{err_from_is_err_and}
 use Rattle.std.specs.List.{slice_get}
+use Rattle.std.specs.Result.{IsErrAnd}
 use borrow.Rule.Slice.PartMut.{put_mid}
 use Rattle.scroll.specs.Bytes.{sum_below, ReadsFront, WritesFront}
 use Rattle.scroll.specs.Numbers.{number}
@@ -114,3 +116,7 @@ number-take order w n s h = number-front order w (take n s) s (λ i l. get_or-ta
 -- and what stands behind them plays no part
 pub number-append : (order : Endian) (w : ℕ) (s rest : List ℕ) → w ≤ length s → number order w (s ++ rest) ≡ number order w s
 number-append order w s rest h = number-front order w (s ++ rest) s (λ i l. get_or_append_left s rest 0 i (omega (arith, l, h)))
+
+-- an error that `?` hands on: `h` is what the exit's `from_residual.ensures.1` says
+pub handed-on : {T E : Type 0} {e : E} (P : E → Type 0) (r : Result T E) → IsErrAnd r (λ y. y ≡ e) → P e → IfErr r P
+handed-on P r h p = let q = err_from_is_err_and r h in rw (q.1, q.2) p

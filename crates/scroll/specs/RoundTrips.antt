@@ -116,9 +116,13 @@ number-back Big w place s h room =
     ∙ ap (λ k. slice_index t k) twice
     ∙ sym (get_or-take w t i 0 inside))
 
--- bytes that are written back one behind the other: those of one more number
+-- bytes that are written back one behind the other: some more
+pub back-next : (place n : ℕ) (s : List ℕ) {front bytes : List ℕ} → front ≡ take place s → bytes ≡ take n (drop place s) → front ++ bytes ≡ take (place + n) s
+back-next place n s {front} {bytes} before next = ap (λ l. l ++ bytes) before ∙ ap (λ l. take place s ++ l) next ∙ sym (take-add place n s)
+
+-- and those of one more number
 pub back-grow : (order : Endian) (w place : ℕ) (s front : List ℕ) → ((i : ℕ) → Fits w8 (slice_index s i)) → place + w ≤ length s → front ≡ take place s → front ++ number_bytes order w (number order w (drop place s)) ≡ take (place + w) s
-back-grow order w place s front h room is = ap (λ l. l ++ number_bytes order w (number order w (drop place s))) is ∙ ap (λ l. take place s ++ l) (number-back order w place s h room) ∙ sym (take-add place w s)
+back-grow order w place s front h room is = back-next place w s is (number-back order w place s h room)
 
 is-byte : (b d : ℕ) → (b == d) ≡ true → b ≡ d
 is-byte b d e = grind (arith, e)
@@ -134,7 +138,7 @@ required-back d s text n r =
     ∙ ap (λ b. take (first_place d s) s ++ b ∷ []) byte ∙ ap (λ t. t ++ d ∷ []) (sym r.front)
 
 -- the first delimiter behind bytes that are none
-place-behind : (d : ℕ) (t rest : List ℕ) → All (λ b. b ≢ d) t → first_place d (t ++ d ∷ rest) ≡ length t
+pub place-behind : (d : ℕ) (t rest : List ℕ) → All (λ b. b ≢ d) t → first_place d (t ++ d ∷ rest) ≡ length t
 place-behind d [] rest h = grind arith
 place-behind d (b ∷ bs) rest h =
     let hb = All-head (λ x. x ≢ d) b bs h in
@@ -158,7 +162,7 @@ pub ReadsAll-back : {V : Type 0} (reads : List ℕ → V → ℕ → Type 0) (by
 ReadsAll-back reads bytes buffer back from [] to h = append-nil (take from buffer) ∙ ap (λ n. take n buffer) (sym h)
 ReadsAll-back reads bytes buffer back from (v ∷ vs) to h =
     sym (append_assoc (take from buffer) (bytes v) (flat_map bytes vs))
-    ∙ ap (λ l. l ++ flat_map bytes vs) (ap (λ l. take from buffer ++ l) (back from v h.0 h.1) ∙ sym (take-add from h.0 buffer))
+    ∙ ap (λ l. l ++ flat_map bytes vs) (back-next from h.0 buffer refl (back from v h.0 h.1))
     ∙ ReadsAll-back reads bytes buffer back (from + h.0) vs to h.2
 
 -- values that were written one after the other are read again, where each is

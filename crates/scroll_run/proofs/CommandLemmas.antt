@@ -24,36 +24,23 @@ abbrev code : List ℕ → ℕ
 code [] = 0
 code (b ∷ bs) = b + 256 * code bs
 
--- the width of a word
-abbrev width_at : ℕ → Width
-width_at k =
-    if k == code (codes "u8") then width.U8
-    else if k == code (codes "i8") then width.I8
-    else if k == code (codes "u16") then width.U16
-    else if k == code (codes "i16") then width.I16
-    else if k == code (codes "u32") then width.U32
-    else if k == code (codes "i32") then width.I32
-    else if k == code (codes "u64") then width.U64
-    else if k == code (codes "i64") then width.I64
-    else if k == code (codes "u128") then width.U128
-    else width.I128
+-- of these, the one whose word has this number
+abbrev by_code : {X : Type 0} → (X → List ℕ) → List X → X → ℕ → X
+by_code word [] other k = other
+by_code word (x ∷ xs) other k = if k == code (word x) then x else by_code word xs other k
 
--- what a word names
-abbrev name_at : ℕ → Name
-name_at k =
-    if k == code (codes "str") then name.Text
-    else if k == code (codes "bytes") then name.Bytes
-    else if k == code (codes "cstr") then name.CStr
-    else if k == code (codes "cstring") then name.CString
-    else if k == code (codes "uleb") then name.Uleb
-    else if k == code (codes "sleb") then name.Sleb
-    else if k == code (codes "u8x0") then name.U8x0
-    else if k == code (codes "u16x3") then name.U16x3
-    else if k == code (codes "strx2") then name.Textx2
-    else if k == code (codes "bytesx2") then name.Bytesx2
-    else name.Number (width_at k)
+-- where each is found by its own word, no two have one word
+same_word : {X : Type 0} (word : X → List ℕ) (xs : List X) (other : X) → ((x : X) → by_code word xs other (code (word x)) ≡ x) → (m n : X) → word m ≡ word n → m ≡ n
+same_word word xs other found m n e = sym (found m) ∙ ap (λ w. by_code word xs other (code w)) e ∙ found n
 
-named : (n : Name) → name_at (code (name_word n)) ≡ n
+abbrev names : List Name
+names =
+    name.Number width.U8 ∷ name.Number width.I8 ∷ name.Number width.U16 ∷ name.Number width.I16 ∷ name.Number width.U32
+    ∷ name.Number width.I32 ∷ name.Number width.U64 ∷ name.Number width.I64 ∷ name.Number width.U128 ∷ name.Number width.I128
+    ∷ name.Text ∷ name.Bytes ∷ name.CStr ∷ name.CString ∷ name.Uleb ∷ name.Sleb ∷ name.U8x0 ∷ name.U16x3 ∷ name.Textx2
+    ∷ name.Bytesx2 ∷ []
+
+named : (n : Name) → by_code name_word names name.Text (code (name_word n)) ≡ n
 named (name.Number width.U8) = refl
 named (name.Number width.I8) = refl
 named (name.Number width.U16) = refl
@@ -77,17 +64,12 @@ named name.Bytesx2 = refl
 
 -- no two names have one word
 pub same_name : (m n : Name) → name_word m ≡ name_word n → m ≡ n
-same_name m n e = sym (named m) ∙ ap (λ w. name_at (code w)) e ∙ named n
+same_name = same_word name_word names name.Text named
 
--- the verb of a word
-abbrev verb_at : ℕ → Verb
-verb_at k =
-    if k == code (codes "pread") then verb.Pread
-    else if k == code (codes "gread") then verb.Gread
-    else if k == code (codes "pwrite") then verb.Pwrite
-    else verb.Gwrite
+abbrev verbs : List Verb
+verbs = verb.Pread ∷ verb.Gread ∷ verb.Pwrite ∷ verb.Gwrite ∷ []
 
-verbed : (v : Verb) → verb_at (code (verb_word v)) ≡ v
+verbed : (v : Verb) → by_code verb_word verbs verb.Pread (code (verb_word v)) ≡ v
 verbed verb.Pread = refl
 verbed verb.Gread = refl
 verbed verb.Pwrite = refl
@@ -95,7 +77,7 @@ verbed verb.Gwrite = refl
 
 -- no two verbs have one word
 same_verb : (v w : Verb) → verb_word v ≡ verb_word w → v ≡ w
-same_verb v w e = sym (verbed v) ∙ ap (λ t. verb_at (code t)) e ∙ verbed w
+same_verb = same_word verb_word verbs verb.Pread verbed
 
 -- lists with one first word and one rest
 heads : (texts : List (List ℕ)) (a b : List ℕ) (more rest : List (List ℕ)) → texts ≡ a ∷ more → texts ≡ b ∷ rest → b ≡ a

@@ -105,6 +105,7 @@ fn parse_number_words(width: Width, words: &[&[u8]]) -> Option<Written>
     let [order, value] = words else {
         return None;
     };
+    // (the prover does not take `?` on what may hold a number in LEB128)
     match parse_number_put(width, parse_order(order)?, value) {
         Some(put) => Some(Written::Plain(put)),
         None => None,

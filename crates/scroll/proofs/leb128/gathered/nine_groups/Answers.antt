@@ -1,8 +1,8 @@
-use Rattle.std.proofs.Common.{Some, ◌≡◌, ℕ, ◌<◌, ◌≤◌, ◌^◌, inr, length, get_or, sym, ap, ◌∙◌, refl, arith, below_more}
+use Rattle.std.proofs.Common.{Some, ◌≡◌, ℕ, ◌<◌, ◌≤◌, length, get_or, sym, ap, ◌∙◌, refl, arith, below_more}
 use Rattle.std.proofs.lemmas.Option.{get_or_from_slice_get, slice_get_within}
 use Rattle.std.specs.List.{slice_get}
 use Rattle.scroll.specs.Loads.{Loading}
-use Rattle.scroll.proofs.LebLemmas.{group_fits, or_group, end_at, late_end, open_before, none_past}
+use Rattle.scroll.proofs.LebLemmas.{or_group, end_at, late_end, open_before, none_past}
 use Rattle.scroll.proofs.leb128.gathered.nine_groups.Goals as goal
 
 pub returns-then-ninth-lt128-clause-read : goal.returns-then-ninth-lt128-clause-read
@@ -13,7 +13,7 @@ returns-then-ninth-lt128-clause-read c =
     let within = slice_get_within s 8 _ at in
     record {
       within = within;
-      value = or_group s 8 c.args.low c.from.result (2 ^ 64) (group_fits s 8 (omega arith) (inr (λ nine. omega arith))) c.requires.low (rw ninth c.from.ensures);
+      value = or_group s 8 c.args.low c.from.result (omega arith) c.requires.low (rw ninth c.from.ensures);
       last = end_at s 8 within (λ k h. open_before s k (omega (arith, c.requires.eight))) (omega (arith, ninth, c.if-ninth-lt128.true));
     }
 
@@ -27,7 +27,7 @@ returns-in-Some-byte-clause-read c =
     let nine : (k : ℕ) → k < 9 → 128 ≤ get_or s k 0 = below_more (λ k. 128 ≤ get_or s k 0) 8 eight (omega arith) in
     record {
       within = omega (arith, within);
-      value = or_group s 8 c.args.low c.from.result (2 ^ 64) (group_fits s 8 (omega arith) (inr (λ nine. omega arith))) c.requires.low (rw ninth c.from.ensures);
+      value = or_group s 8 c.args.low c.from.result (omega arith) c.requires.low (rw ninth c.from.ensures);
       last = (late_end s 9 (omega (arith, within)) nine, at);
     }
 

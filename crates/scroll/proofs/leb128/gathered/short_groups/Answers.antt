@@ -1,6 +1,6 @@
-use Rattle.std.proofs.Common.{◌≡◌, ◌^◌, length, inr, sym, ap, ◌∙◌, refl, arith, below_more}
+use Rattle.std.proofs.Common.{◌≡◌, length, sym, ap, ◌∙◌, refl, arith, below_more}
 use Rattle.std.proofs.lemmas.Option.{get_or_from_slice_get, slice_get_within}
-use Rattle.scroll.proofs.LebLemmas.{gives_at, group_fits, or_group, no_end, none_past}
+use Rattle.scroll.proofs.LebLemmas.{gives_at, or_group, no_end, none_past}
 use Rattle.scroll.proofs.leb128.gathered.short_groups.Goals as goal
 
 pub unreachable-requires : goal.unreachable-requires
@@ -20,23 +20,21 @@ returns-then-byte-lt128-clause-read c =
     let s = c.loop-i.src.bytes in
     let i = c.loop-i.invariant in
     let byte = get_or_from_slice_get s c.loop-i.i _ 0 (sym c.in-Some.ensures.value) in
-    let fits = group_fits s c.loop-i.i (omega arith) (inr (λ nine. omega arith)) in
     let inside = slice_get_within s c.loop-i.i _ (sym c.in-Some.ensures.value) in
-    rw (← i.same) (gives_at s c.loop-i.i c.loop-i.groups c.from.result _ (2 ^ 64) inside (omega arith) i.open_so_far byte c.if-byte-lt128.true fits i.value c.from.ensures)
+    rw (← i.same) (gives_at s c.loop-i.i c.loop-i.groups c.from.result _ inside (omega arith) i.open_so_far byte c.if-byte-lt128.true i.value c.from.ensures)
 
 pub loop-i-preserved : goal.loop-i-preserved
 loop-i-preserved c =
     let s = c.loop-i.src.bytes in
     let i = c.loop-i.invariant in
     let byte = get_or_from_slice_get s c.loop-i.i _ 0 (sym c.in-Some.ensures.value) in
-    let fits = group_fits s c.loop-i.i (omega arith) (inr (λ nine. omega arith)) in
     let inside = slice_get_within s c.loop-i.i _ (sym c.in-Some.ensures.value) in
     rw c.byte.ensures.counted (record {
       same = i.same;
       counted = omega (arith, i.counted);
       within = omega (arith, inside);
       open_so_far = below_more _ _ i.open_so_far (omega arith);
-      value = or_group s c.loop-i.i c.loop-i.groups c.from.result (2 ^ 64) fits i.value (rw byte c.from.ensures);
+      value = or_group s c.loop-i.i c.loop-i.groups c.from.result (omega arith) i.value (rw byte c.from.ensures);
     })
 
 pub returns-clause-refused : goal.returns-clause-refused

@@ -1,6 +1,5 @@
-use Rattle.std.proofs.Common.{◌≡◌, ◌+◌, ◌^◌, length, inr, refl, arith, below_more}
-use Rattle.scroll.specs.Leb128.{groups_value}
-use Rattle.scroll.proofs.LebLemmas.{late_end, no_end, group_fits, or_group, gives_at, byte_there, not_there}
+use Rattle.std.proofs.Common.{◌≡◌, ◌+◌, length, refl, arith, below_more}
+use Rattle.scroll.proofs.LebLemmas.{late_end, no_end, or_group, gives_at, byte_there, not_there, tenth_there}
 use Rattle.scroll.proofs.LoadLemmas.{groups_read, tenth_reads, tenth_is_cut, tenth_refused}
 use Rattle.scroll.proofs.leb128.plain.plain_uleb.Goals as goal
 
@@ -16,8 +15,7 @@ returns-then-byte-lt128-clause-read c =
     let s = c.args.src.now in
     let look = c.in-Some.ensures.lookup in
     let there = byte_there s c.loop-i.i _ look.0 look.1 in
-    let fits = group_fits s c.loop-i.i (omega arith) (inr (λ nine. omega arith)) in
-    let groups = gives_at s c.loop-i.i c.loop-i.groups c.from.result _ (2 ^ 64) there.0 (omega arith) c.loop-i.invariant.open_so_far there.2 c.if-byte-lt128.true fits c.loop-i.invariant.value c.from.ensures in
+    let groups = gives_at s c.loop-i.i c.loop-i.groups c.from.result _ there.0 (omega arith) c.loop-i.invariant.open_so_far there.2 c.if-byte-lt128.true c.loop-i.invariant.value c.from.ensures in
     groups_read s _ (c.loop-i.i + 1) (omega arith) groups
 
 pub loop-i-preserved : goal.loop-i-preserved
@@ -25,32 +23,25 @@ loop-i-preserved c =
     let s = c.args.src.now in
     let look = c.in-Some.ensures.lookup in
     let there = byte_there s c.loop-i.i _ look.0 look.1 in
-    let fits = group_fits s c.loop-i.i (omega arith) (inr (λ nine. omega arith)) in
     record {
       within = omega (arith, there.0);
       open_so_far = below_more _ _ c.loop-i.invariant.open_so_far (omega (arith, there.2));
-      value = or_group s c.loop-i.i c.loop-i.groups c.from.result (2 ^ 64) fits c.loop-i.invariant.value (rw there.2 c.from.ensures);
+      value = or_group s c.loop-i.i c.loop-i.groups c.from.result (omega arith) c.loop-i.invariant.value (rw there.2 c.from.ensures);
     }
 
 pub returns-in-Some-get-clause-read : goal.returns-in-Some-get-clause-read
 returns-in-Some-get-clause-read c =
     let s = c.args.src.now in
     let look = c.in-Some-get.ensures.lookup in
-    let there = byte_there s 9 _ look.0 look.1 in
-    let nine : c.loop-i.i ≡ 9 = omega arith in
-    let late = late_end s 9 (omega (arith, there.0)) (rw nine at c.loop-i.invariant.open_so_far) in
-    let value : c.loop-i.groups ≡ groups_value s 9 = rw nine at c.loop-i.invariant.value in
-    rw c.from-in-Some-get.ensures (tenth_reads s c.loop-i.groups _ late there.1 value c.if-tenth-le1.true)
+    let tenth = tenth_there s c.loop-i.i c.loop-i.groups _ look.0 look.1 (omega arith) c.loop-i.invariant.open_so_far c.loop-i.invariant.value in
+    rw c.from-in-Some-get.ensures (tenth_reads s c.loop-i.groups _ tenth.0 tenth.1 tenth.2 c.if-tenth-le1.true)
 
 pub returns-in-Some-2-clause-refused : goal.returns-in-Some-2-clause-refused
 returns-in-Some-2-clause-refused c =
     let s = c.args.src.now in
     let look = c.in-Some-get.ensures.lookup in
-    let there = byte_there s 9 _ look.0 look.1 in
-    let nine : c.loop-i.i ≡ 9 = omega arith in
-    let late = late_end s 9 (omega (arith, there.0)) (rw nine at c.loop-i.invariant.open_so_far) in
-    let value : c.loop-i.groups ≡ groups_value s 9 = rw nine at c.loop-i.invariant.value in
-    (tenth_is_cut s _ there.1, tenth_refused s c.loop-i.groups _ late there.1 value c.if-tenth-le1.false, refl, refl)
+    let tenth = tenth_there s c.loop-i.i c.loop-i.groups _ look.0 look.1 (omega arith) c.loop-i.invariant.open_so_far c.loop-i.invariant.value in
+    (tenth_is_cut s _ tenth.1, tenth_refused s c.loop-i.groups _ tenth.0 tenth.1 tenth.2 c.if-tenth-le1.false, refl, refl)
 
 pub returns-in-None-clause-refused : goal.returns-in-None-clause-refused
 returns-in-None-clause-refused c =
