@@ -120,6 +120,7 @@ impl<'d, Ctx: Copy, E: From<Error>> Pwrite<Ctx, E> for &'d mut [u8] {
 
     ghost past_end = { λ offset e. E.from_gives (BadOffset offset) e };
 
+    #[inline(always)]
     fn pwrite<N: TryIntoCtx<Ctx, Error = E> + Drop>(
         &mut self,
         n: N,
@@ -131,6 +132,7 @@ impl<'d, Ctx: Copy, E: From<Error>> Pwrite<Ctx, E> for &'d mut [u8] {
         slice::pwrite(self, n, offset)
     }
 
+    #[inline(always)]
     fn pwrite_with<N: TryIntoCtx<Ctx, Error = E> + Drop>(
         &mut self,
         n: N,
@@ -140,6 +142,7 @@ impl<'d, Ctx: Copy, E: From<Error>> Pwrite<Ctx, E> for &'d mut [u8] {
         slice::pwrite_with(self, n, offset, ctx)
     }
 
+    #[inline(always)]
     fn gwrite<N: TryIntoCtx<Ctx, Error = E> + Drop>(
         &mut self,
         n: N,
@@ -151,6 +154,7 @@ impl<'d, Ctx: Copy, E: From<Error>> Pwrite<Ctx, E> for &'d mut [u8] {
         slice::gwrite(self, n, offset)
     }
 
+    #[inline(always)]
     fn gwrite_with<N: TryIntoCtx<Ctx, Error = E> + Drop>(
         &mut self,
         n: N,
