@@ -164,7 +164,7 @@ run_lane() {
 }
 
 # How long each edit took: the time from its check to the next one, for shares in which rt made one check for each edit
-# and then one of the crate without an edit. The first edit of a share stands for the check from nothing too.
+# and then one of the crate without an edit. The first edit of a share stands for a check from nothing too, where it is one.
 list_times() {
     for names in "$room"/*.names; do
         said=${names%.names}
