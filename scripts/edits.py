@@ -1,7 +1,7 @@
 #!/usr/bin/env python3
 """Tries the edits of the crates: bugs in code, each of which the prover must refuse in the function in which it stands.
 
-    python3 scripts/edits.py [--workers N] [--self-test] [CRATE..]
+    python3 scripts/edits.py [--self-test] [CRATE..]
 
 CRATE names the crates whose edits are tried: all, where none is named. scripts/edit_files.py says what an edit is.
 
@@ -14,10 +14,10 @@ own, in a copy of the crate with what the tree's own checks kept. An edit
 - is tried by itself where its function is proved, or where the check can't read it. Then it passes where another function
   is refused by a proper note, and the edit's line `breaks:` names that function; else it fails.
 
-`--self-test` tries four planted bugs that must fail, in a batch and by themselves, and two that stand in one function.
+A check has two jobs. As many checks run side by side as there are pairs of processors, or fewer, so that each has 6 GB of
+memory. The variable WORKERS sets another number of jobs. `--self-test` tries the script itself (scripts/edits_test.py).
 
-As many checks run side by side as there are pairs of processors, or fewer, so that each has 5 GB of memory: the variable
-WORKERS or `--workers` sets another number. The last line is `N passed, M failed`. The exit status is 0 where M is 0 and N is not.
+The last line is `N passed, M failed`. The exit status is 0 where M is 0 and N is not.
 """
 
 import argparse
@@ -25,6 +25,7 @@ import os
 import re
 import resource
 import shutil
+import signal
 import subprocess
 import sys
 import tempfile
@@ -42,7 +43,7 @@ JOBS = 2
 
 MESSAGE = re.compile(r"(note: )?(?:\./)?((?:src|specs|proofs)/\S+?):(\d+):\d+: (.*)")
 VERDICT = re.compile(r"fn (\S+): (.*)")
-OPEN = re.compile(r"it is not proved that|found no proof|\berror\b")
+OPEN = re.compile(r"error\b|it is not proved that|`\w+` found no proof")
 # A proof names what is gone. (The words may stand in a line below the message's first.)
 GONE = re.compile(r"has no field|is not in scope|has no `|was not admitted|which was rejected, was not checked")
 WAITS = re.compile(r"which (is|are) not proved|depends on")
@@ -155,8 +156,8 @@ class Judge:
             elif own:
                 self.failed[edit.name] = f"refused only because a proof names what it took away: {show(own[0])}"
                 continue
-            elif is_alone:
-                self.judge_alone(edit, said)
+            elif is_alone or said.is_proved:
+                self.judge_unrefused(edit, said)
                 continue
             else:
                 names = [text for path, text in said.verdicts for it in places[edit.name] if is_verdict_of(path, it)]
@@ -173,14 +174,14 @@ class Judge:
 
     def own(self, functions: Set[Function], said: Said) -> List[Message]:
         named = [it for it in functions if it.name]
-        return [message for message in said.messages if OPEN.search(message.text) and any(is_of(message, it) for it in named)]
+        return [message for message in said.messages if OPEN.match(message.text) and any(is_of(message, it) for it in named)]
 
-    def judge_alone(self, edit: Edit, said: Said) -> None:
+    def judge_unrefused(self, edit: Edit, said: Said) -> None:
         """Judges an edit whose function is not refused, by what the check says of the others."""
         if said.is_proved:
             self.failed[edit.name] = "not refused: the crate is proved with it"
             return
-        others = [it for it in said.messages if OPEN.search(it.text) and not GONE.search(it.text)]
+        others = [it for it in said.messages if OPEN.match(it.text) and not GONE.search(it.text)]
         names = {self.name_at(it) for it in others} - {""}
         self.accept(edit, names, f"by a caller: {show(others[0]) if others else said.end}")
 
@@ -202,10 +203,23 @@ class Gate:
     room: Path
     base: Path
     count: int = 0
+    running: "Set[subprocess.Popen[str]]" = field(default_factory=set)
 
-    def run_rt(self, folder: Path, *words: str) -> "subprocess.CompletedProcess[str]":
+    def run_rt(self, folder: Path, *words: str) -> Tuple[int, str]:
+        """Runs `rt` in a folder, and returns its status and what it says."""
         how = {"stdin": subprocess.DEVNULL, "stdout": subprocess.PIPE, "stderr": subprocess.STDOUT}
-        return subprocess.run(["rt", *words], cwd=folder, text=True, errors="replace", check=False, **how)
+        with subprocess.Popen(["rt", *words], cwd=folder, text=True, errors="replace", **how) as ran:
+            self.running.add(ran)
+            said, _ = ran.communicate()
+            self.running.discard(ran)
+        return ran.returncode, said
+
+    def end(self, *_: object) -> None:
+        """Ends the checks that run, and the script. (`rt` ends what it started.)"""
+        for ran in list(self.running):
+            ran.terminate()
+        shutil.rmtree(self.room, ignore_errors=True)
+        os._exit(1)
 
     def copy(self, crate: str, to: Path) -> None:
         """Copies a crate with what its checks kept, and the libraries of the repository as they were built."""
@@ -227,10 +241,10 @@ class Gate:
             crate = tree / "crates" / judge.crate.name
             for file, text in texts.items():
                 (crate / file).write_text(text, encoding="utf-8")
-            ran = self.run_rt(crate, "check", "--jobs", str(JOBS))
+            _, said = self.run_rt(crate, "check", "--jobs", str(JOBS))
         finally:
             shutil.rmtree(tree, ignore_errors=True)
-        return places, parse(ran.stdout), time.time() - start
+        return places, parse(said), time.time() - start
 
 
 def read_edits(crate: Path, failures: List[str]) -> List[Edit]:
@@ -279,23 +293,27 @@ def try_all(gate: Gate, judges: Dict[str, Judge], edits: List[Edit], workers: in
                 submit(more)
 
 
-def prepare(crates: List[Path], room: Path) -> Optional[Gate]:
+def prepare(crates: List[Path], room: Path, workers: int) -> Optional[Gate]:
     """Copies the tree with what its checks kept, and checks there that each crate is proved without an edit."""
     gate = Gate(room, room / "base")
+    for it in (signal.SIGINT, signal.SIGTERM, signal.SIGHUP):
+        signal.signal(it, gate.end)
     shutil.copytree(TOP, gate.base, ignore=shutil.ignore_patterns(".git", *FOLDERS))
     for crate in crates:
-        ran = gate.run_rt(gate.base / "crates" / crate.name, "check", "--jobs", str(os.cpu_count() or 1))
-        if ran.returncode:
-            print("\n".join(ran.stdout.splitlines()[-20:]))
+        status, said = gate.run_rt(gate.base / "crates" / crate.name, "check", "--jobs", str(JOBS * workers))
+        if status:
+            print("\n".join(said.splitlines()[-20:]))
             print(f"FAILED {crate.name}: it is not proved without an edit")
             return None
     return gate
 
 
 def count_workers() -> int:
+    """How many checks run side by side."""
     memory = re.search(r"MemAvailable:\s+(\d+)", Path("/proc/meminfo").read_text())
-    by_memory = int(memory[1]) // (5 << 20) if memory else 1
-    return max(1, int(os.environ.get("WORKERS", 0)) or min(len(os.sched_getaffinity(0)) // 2, by_memory))
+    by_memory = int(memory[1]) // (3 << 20) if memory else 1
+    jobs = int(os.environ.get("WORKERS", 0)) or min(len(os.sched_getaffinity(0)), by_memory)
+    return max(1, jobs // JOBS)
 
 
 def processor_seconds() -> float:
@@ -305,25 +323,25 @@ def processor_seconds() -> float:
 
 def main() -> int:
     words = argparse.ArgumentParser(description="Tries the edits of the crates.")
-    words.add_argument("--workers", type=int, default=count_workers())
-    words.add_argument("--self-test", action="store_true")
+    words.add_argument("--self-test", action="store_true", help="tries the judge itself")
     words.add_argument("crates", nargs="*", metavar="CRATE")
     given = words.parse_args()
     if given.self_test:
         from edits_test import self_test
 
-        return self_test(given.workers)
+        return self_test(count_workers())
     crates = [TOP / "crates" / it for it in given.crates] or sorted(it.parent for it in TOP.glob("crates/*/must-fail"))
+    workers = count_workers()
     start = time.time()
     failures: List[str] = []
     edits = [edit for crate in crates for edit in read_edits(crate, failures)]
     judges = {crate.name: Judge(crate, Texts(crate)) for crate in crates}
     with tempfile.TemporaryDirectory(prefix="edits-") as room:
-        gate = prepare(crates, Path(room))
+        gate = prepare(crates, Path(room), workers)
         if gate:
             print(f"edits: the copy and the crates without an edit took {time.time() - start:.0f} s", flush=True)
-            try_all(gate, judges, edits, given.workers)
-    return report(edits, judges, failures, start, given.workers, gate.count if gate else 0)
+            try_all(gate, judges, edits, workers)
+    return report(edits, judges, failures, start, workers, gate.count if gate else 0)
 
 
 def report(edits: List[Edit], judges: Dict[str, Judge], failures: List[str], start: float, workers: int, checks: int) -> int:
