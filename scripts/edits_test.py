@@ -7,12 +7,15 @@ from pathlib import Path
 from typing import Dict, List
 
 from edit_files import Edit, Texts, edit_paths, read_edit
-from edits import TOP, Gate, Judge, processor_seconds, try_all
+from edit_judge import Judge
+from edits import TOP, Gate, processor_seconds, try_all
 
 # What must come of each edit: a word of the reason why it fails, or nothing where it is refused.
 WANTED = {
     "half_is_a_third": "",
     "half_is_a_quarter": "",
+    "constant_is_101": "",
+    "constant_is_102": "doesn't name",
     "means_the_same": "not refused",
     "means_the_same_above_a_bug": "not refused",
     "does_not_compile": "can't read it",
