@@ -3,7 +3,8 @@ ghost use Rattle.std.specs.Prelude.{◌≡◌, ℕ, ◌+◌, ◌*◌, ◌<◌, �
 ghost use Rattle.std.specs.Mem.{FitsInMemory};
 ghost use Rattle.scroll.specs.Fits.{OptionFits, SlotsFit, ItemsFit};
 ghost use Rattle.scroll.specs.Arrays.{ReadsArray, RefusesArray, WritesArray, LeavesArray};
-ghost use Rattle.scroll.specs.ArrayLaws.{ReadsArray-bounded, WritesArray-bounded, WritesArray-keeps};
+ghost use Rattle.scroll.specs.lemmas.Sizes.{ReadsArray-bounded, WritesArray-bounded};
+ghost use Rattle.scroll.specs.lemmas.Frames.{WritesArray-keeps};
 ghost use Rattle.scroll.specs.Writes.{WritesAt, LeavesAt};
 ghost use Rattle.scroll.specs.declared.error.Error.TheVariants.{BadOffset};
 

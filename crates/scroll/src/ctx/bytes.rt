@@ -3,7 +3,7 @@ ghost use Rattle.std.specs.Prelude.{◌≡◌, length};
 ghost use Rattle.std.proofs.Common.{rules};
 ghost use Rattle.scroll.specs.Bytes.{WritesFront, LeavesShort};
 ghost use Rattle.scroll.specs.Texts.{ReadsSlice, RefusesSlice};
-ghost use Rattle.scroll.specs.TextLaws.{WritesFront-keeps};
+ghost use Rattle.scroll.specs.lemmas.Frames.{WritesFront-keeps};
 
 use super::numbers::check_room;
 use crate::ctx::{TryFromCtx, TryIntoCtx};

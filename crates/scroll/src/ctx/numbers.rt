@@ -3,7 +3,7 @@ ghost use Rattle.std.specs.Prelude.{◌≡◌, ◌≤◌, ◌<◌, ◌++◌, ℕ
 ghost use Rattle.std.proofs.Common.{rules};
 ghost use Rattle.scroll.specs.Bytes.{ReadsFront, RefusesShort, LeavesShort};
 ghost use Rattle.scroll.specs.Numbers.{number_bytes, WritesNumber};
-ghost use Rattle.scroll.specs.NumberLaws.{number_bytes-keeps, WritesNumber-keeps};
+ghost use Rattle.scroll.specs.lemmas.Frames.{number_bytes-keeps, WritesNumber-keeps};
 ghost use Rattle.scroll.specs.declared.endian.Endian.{Endian};
 ghost use Rattle.scroll.specs.declared.error.Error.TheVariants.{TooBig};
 

@@ -2,7 +2,7 @@
 ghost use Rattle.std.specs.Prelude.{◌≡◌, ◌≤◌, ◌<◌, length, codes, Some, ◌⊎◌};
 ghost use Rattle.std.proofs.Common.{rules};
 ghost use Rattle.scroll.specs.Errors.{line_of};
-ghost use Rattle.scroll.specs.NumberLaws.{WritesNumber-keeps};
+ghost use Rattle.scroll.specs.lemmas.Frames.{WritesNumber-keeps};
 ghost use Rattle.scroll.specs.Numbers.{ReadsNumber, WritesNumber};
 ghost use Rattle.scroll.specs.declared.error.Error.TheVariants.{NoMemory};
 

@@ -1,5 +1,5 @@
 use Rattle.std.proofs.Common.{◌≡◌, ◌==◌, ◌*◌, ◌/◌, ◌<◌, ◌≤◌, length, get_or, [], sym, ap, ◌∙◌, arith}
-use Rattle.scroll.proofs.SearchLemmas.{Nowhere, wide_block_stands, rest_stands, found_at, seen_more, found_in_rest}
+use Rattle.scroll.proofs.lemmas.search.SearchLemmas.{Nowhere, wide_block_stands, rest_stands, found_at, seen_more, found_in_rest}
 use Rattle.scroll.proofs.search.first_place.Goals as goal
 
 pub returns-in-Some : goal.returns-in-Some

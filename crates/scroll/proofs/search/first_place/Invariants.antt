@@ -1,5 +1,5 @@
 use Rattle.std.proofs.Common.{◌==◌, ◌*◌}
-use Rattle.scroll.proofs.SearchLemmas.{Nowhere}
+use Rattle.scroll.proofs.lemmas.search.SearchLemmas.{Nowhere}
 use Rattle.scroll.proofs.search.first_place.Given as goal
 
 abbrev pub invariant-loop-k : goal.invariant-loop-k

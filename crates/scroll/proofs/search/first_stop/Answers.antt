@@ -1,6 +1,6 @@
 use Rattle.std.proofs.Common.{◌≡◌, ◌*◌, ◌/◌, ◌<◌, ◌≤◌, length, get_or, [], sym, ap, ◌∙◌, arith}
 use Rattle.scroll.specs.Search.{is_stop}
-use Rattle.scroll.proofs.SearchLemmas.{Nowhere, wide_block_stands, rest_stands, found_at, seen_more, found_in_rest}
+use Rattle.scroll.proofs.lemmas.search.SearchLemmas.{Nowhere, wide_block_stands, rest_stands, found_at, seen_more, found_in_rest}
 use Rattle.scroll.proofs.search.first_stop.Goals as goal
 
 pub returns-in-Some-clause-place : goal.returns-in-Some-clause-place

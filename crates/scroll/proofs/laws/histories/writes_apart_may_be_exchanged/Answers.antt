@@ -1,6 +1,6 @@
 use Rattle.std.proofs.Common.{length, refl, sym, ap, ◌∙◌, subst}
-use Rattle.scroll.proofs.SeenLemmas.{length-seen, seen-append}
-use Rattle.scroll.proofs.StandLemmas.{seen-exchange}
+use Rattle.scroll.proofs.lemmas.history.SeenLemmas.{length-seen, seen-append}
+use Rattle.scroll.proofs.lemmas.history.StandLemmas.{seen-exchange}
 use Rattle.scroll.specs.History.{seen}
 use Rattle.scroll.specs.Leaves.{pieces, WritesLeaves, AnswersLeaves}
 use Rattle.scroll.proofs.laws.histories.writes_apart_may_be_exchanged.Goals as goal

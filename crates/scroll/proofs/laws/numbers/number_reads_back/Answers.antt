@@ -1,9 +1,9 @@
 use Rattle.std.proofs.Common.{ℕ, pos, nat_abs, ◌+ℤ◌, ◌-ℤ◌, ◌*◌, ◌^◌, length, drop, sym, ap, ◌∙◌, refl, arith, length-append}
 use Rattle.std.specs.Prelude.{int_lt, nat_lt, if◌then◌else◌}
 use Rattle.scroll.specs.Numbers.{number, number_bytes, signed_number, signed_bytes}
-use Rattle.scroll.specs.NumberLaws.{length-number_bytes, length-signed_bytes, number_bytes-keeps, signed_bytes-keeps}
-use Rattle.scroll.proofs.NumberLemmas.{complement-back}
-use Rattle.scroll.specs.RoundTrips.{number-begins}
+use Rattle.scroll.specs.lemmas.Frames.{length-number_bytes, length-signed_bytes, number_bytes-keeps, signed_bytes-keeps}
+use Rattle.scroll.proofs.lemmas.numbers.NumberLemmas.{complement-back}
+use Rattle.scroll.proofs.lemmas.callers.RoundTrips.{number-begins}
 use Rattle.scroll.proofs.laws.numbers.number_reads_back.Goals as goal
 
 pub returns-clause-unsigned : goal.returns-clause-unsigned

@@ -1,5 +1,5 @@
 use Rattle.std.proofs.Common.{rules}
-use Rattle.scroll.proofs.VectorLemmas.{mask_none, mask_some, mask_inside, place_mask}
+use Rattle.scroll.proofs.lemmas.search.VectorLemmas.{mask_none, mask_some, mask_inside, place_mask}
 use Rattle.std.proofs.Common.{◌==◌}
 use Rattle.scroll.proofs.search.vectors.place_in_vector.Goals as goal
 

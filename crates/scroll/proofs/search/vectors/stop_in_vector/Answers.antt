@@ -1,5 +1,5 @@
 use Rattle.std.proofs.Common.{rules}
-use Rattle.scroll.proofs.VectorLemmas.{mask_none, mask_some, mask_inside, stop_mask}
+use Rattle.scroll.proofs.lemmas.search.VectorLemmas.{mask_none, mask_some, mask_inside, stop_mask}
 use Rattle.scroll.specs.Search.{is_stop}
 use Rattle.scroll.proofs.search.vectors.stop_in_vector.Goals as goal
 

@@ -1,5 +1,5 @@
 use Rattle.std.proofs.Common.{◌≡◌, ◌==◌, ◌*◌, ◌/◌, ◌<◌, ◌≤◌, length, get_or, [], sym, ap, ◌∙◌, arith}
-use Rattle.scroll.proofs.SearchLemmas.{Nowhere, block_stands, rest_stands, found_at, seen_more, found_nowhere}
+use Rattle.scroll.proofs.lemmas.search.SearchLemmas.{Nowhere, block_stands, rest_stands, found_at, seen_more, found_nowhere}
 use Rattle.scroll.proofs.search.words.first_place_by_words.Goals as goal
 
 pub returns-in-Some-clause-place : goal.returns-in-Some-clause-place

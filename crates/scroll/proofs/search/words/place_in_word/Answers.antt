@@ -1,5 +1,5 @@
 use Rattle.std.proofs.Common.{rules}
-use Rattle.scroll.proofs.FlagLemmas.{is_bytes, place_none, place_some}
+use Rattle.scroll.proofs.lemmas.search.FlagLemmas.{is_bytes, place_none, place_some}
 use Rattle.scroll.proofs.search.words.place_in_word.Goals as goal
 
 pub returns-then-flags-eq0-clause-place : goal.returns-then-flags-eq0-clause-place

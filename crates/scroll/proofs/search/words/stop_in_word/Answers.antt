@@ -1,5 +1,5 @@
 use Rattle.std.proofs.Common.{rules}
-use Rattle.scroll.proofs.FlagLemmas.{is_bytes, stop_none, stop_some}
+use Rattle.scroll.proofs.lemmas.search.FlagLemmas.{is_bytes, stop_none, stop_some}
 use Rattle.scroll.proofs.search.words.stop_in_word.Goals as goal
 
 pub returns-then-stops-eq0-clause-place : goal.returns-then-stops-eq0-clause-place

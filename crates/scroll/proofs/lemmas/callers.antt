@@ -1,0 +1,4 @@
+pub mod Cursors
+pub mod RoundTrips
+pub mod SpanLemmas
+pub mod OneAnswer

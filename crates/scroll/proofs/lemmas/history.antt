@@ -1,0 +1,5 @@
+pub mod LeafLemmas
+pub mod PutLeaves
+pub mod RunLemmas
+pub mod SeenLemmas
+pub mod StandLemmas
