@@ -6,8 +6,8 @@ ghost use Rattle.scroll_run.specs.Words.{words_of};
 ghost use Rattle.scroll_run.specs.declared.commands.Verb.{Verb};
 
 use crate::kinds::parse_kind;
-use crate::words::{parse_usize, split};
 use crate::puts::{OwnedPut, parse_put};
+use crate::words::{parse_usize, split};
 use scroll::runner::{Command, Kind, Place};
 use std::alloc::{AllocError, Global};
 

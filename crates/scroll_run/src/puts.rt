@@ -82,7 +82,11 @@ pub fn parse_put(alloc: Global, words: &[&[u8]]) -> Result<Option<OwnedPut>, All
 }
 
 // What is written under a name, as the words behind it spell it.
-fn parse_put_rest(alloc: Global, name: Name, words: &[&[u8]]) -> Result<Option<OwnedPut>, AllocError>
+fn parse_put_rest(
+    alloc: Global,
+    name: Name,
+    words: &[&[u8]],
+) -> Result<Option<OwnedPut>, AllocError>
     ensures { let texts = map (λ word. word.now) words.now in IfOk result (FindsPut (SpellPutRest name texts)) }
 {
     match name {
