@@ -7,6 +7,7 @@ mod format;
 mod named;
 mod overview;
 mod own_error;
+mod own_type;
 mod points;
 mod readme_data;
 mod readme_name;
