@@ -19,7 +19,7 @@ use std::alloc::Global;
 use std::result;
 
 // Answers a read. A cursor that it uses moves by the size of what was read, once the answer's value stands.
-pub fn read(
+pub(crate) fn read(
     alloc: Global,
     buffer: &[u8],
     cursor: &mut usize,
