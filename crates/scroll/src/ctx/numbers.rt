@@ -1,4 +1,4 @@
-// Whole numbers. A type says its width, its value and its bytes, and the implementations of all traits stand on that.
+// Numbers. A type says its width, its value and its bytes, and the implementations of all traits stand on that.
 ghost use Rattle.std.specs.Prelude.{◌≡◌, ◌≤◌, ◌++◌, ℕ, List, length, take, drop};
 ghost use Rattle.std.proofs.Common.{rules};
 ghost use Rattle.scroll.specs.Bytes.{ReadsFront, RefusesShort, LeavesShort};
@@ -10,10 +10,11 @@ use crate::ctx::{FromCtx, IntoCtx, SizeWith, TryFromCtx, TryIntoCtx};
 use crate::endian::Endian;
 use crate::error::{Error, Result, check_room};
 
+mod floats;
 mod signed;
 mod unsigned;
 
-/// What is written as the bytes of a whole number: the number, or a reference to it.
+/// What is written as the bytes of a number: the number, or a reference to it.
 pub trait Written: Copy {
     // How many bytes it has.
     ghost width: { ℕ };
@@ -31,7 +32,7 @@ pub trait Written: Copy {
         ensures { dst.new ≡ number_bytes order width (code self) ++ drop width dst.old };
 }
 
-/// A whole number of a fixed width.
+/// A number of a fixed width: a whole number, or a float, which is written as the whole number of its bits.
 pub trait Number: Written {
     // The number at the front of a source.
     ghost value: { Endian → List ℕ → Self };
