@@ -112,11 +112,13 @@ build_programs() {
     sed "s|@SCROLL@|$crate|" "$here/Cargo.toml.in" >"$side/Cargo.toml" || exit 1
     cd "$side" || exit 1
     features=$(echo $sets | tr ' ' ',')
+    export LOOPS="$loops/out" RUSTFLAGS='-C target-cpu=x86-64-v2' CARGO_TARGET_DIR="$side/target"
     for shift in 0 16 32 48; do
-        LOOPS=$loops/out SHIFT=$shift RUSTFLAGS='-C target-cpu=x86-64-v2' CARGO_TARGET_DIR=$side/target \
-            quietly cargo build --release --features "$features"
+        export SHIFT="$shift"
+        quietly cargo build --release --features "$features"
         cp target/release/side_by_side "side_$shift" || exit 1
     done
+    ! cmp -s side_0 side_16 || fail 'the code is not shifted'
 }
 
 # An object file with debugging information, for the set `files`.

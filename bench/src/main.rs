@@ -35,10 +35,16 @@ mod writes;
 
 // All code comes after these bytes, so it is shifted by them.
 std::arch::global_asm!(
-    ".pushsection .text",
+    ".pushsection .text.code_shift,\"ax\",@progbits",
+    ".globl code_shift",
+    "code_shift:",
     concat!(".skip ", env!("SHIFT"), ", 0x90"),
     ".popsection"
 );
+
+unsafe extern "C" {
+    fn code_shift();
+}
 
 // The loops over the library ask for no memory.
 #[unsafe(no_mangle)]
@@ -57,6 +63,8 @@ extern "C" fn rattle_realloc() {
 }
 
 fn main() {
+    // (a linker leaves out what nothing names)
+    std::hint::black_box(code_shift as *const ());
     let mut bench = timing::Bench::from_env();
     #[cfg(feature = "numbers")]
     numbers::all(&mut bench);
