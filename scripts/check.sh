@@ -27,6 +27,7 @@
 set -u
 
 top=$(CDPATH='' cd -- "$(dirname -- "$0")/.." && pwd) || exit 1
+# shellcheck source=scripts/lib.sh
 . "$top/scripts/lib.sh"
 
 groups=" ${*:-stands} "
@@ -124,18 +125,19 @@ run_stands() {
         run_step $step
     done
     cp -R "$room/tree" "$room/tests" || stop "the files could not be copied"
+    # (the tests take about as long as all the others together, which are not always as many jobs)
     all=$(count_workers)
-    half=$((all / 2))
-    export WORKERS=$((half > 0 ? half : 1))
+    export WORKERS=$((all > 1 ? all - 1 : 1))
     start_beside tests tests sh scripts/prove.sh scroll tests
     tests=$!
+    WORKERS=$((all > 1 ? all / 2 : 1))
     for step in 'prove.sh scroll_run' 'prove.sh scroll_run tests' sessions.sh cuts.sh clients.sh misuse.sh; do
         # shellcheck disable=SC2086 # words
         run_step sh scripts/$step
     done
     wait "$tests"
     count_beside tests sh scripts/prove.sh scroll tests
-    unset WORKERS
+    WORKERS=$all
     cp "$room/tests/crates/scroll/out/scroll_tests" "$room/tree/crates/scroll/out/" 2>/dev/null
     run_step sh scripts/faults.sh
 }

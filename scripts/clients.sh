@@ -14,6 +14,7 @@
 set -u
 
 top=$(CDPATH='' cd -- "$(dirname -- "$0")/.." && pwd) || exit 1
+# shellcheck source=scripts/lib.sh
 . "$top/scripts/lib.sh"
 
 room=$(mktemp -d) || exit 1
@@ -34,7 +35,7 @@ list_clients() {
 make_workspace() {
     mkdir -p "$tree/crates" || return
     { cp "$top/HANDLES" "$tree/" && grep '^scroll:' "$top/crates.txt"; } >"$tree/crates.txt" || return
-    tar -C "$top/crates" --exclude=scroll/must-fail --exclude=scroll/out/incremental -cf - scroll | tar -C "$tree/crates" -xf - || return
+    tar -C "$top/crates" --exclude=scroll/must-fail --exclude=scroll/bugs --exclude=scroll/out/incremental -cf - scroll | tar -C "$tree/crates" -xf - || return
     echo "$1: scroll" >>"$tree/crates.txt"
     cd "$top/clients/$1" || return
     find . -type f ! -name '*.md' >"$tree.files"

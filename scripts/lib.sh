@@ -1,3 +1,4 @@
+# shellcheck shell=sh
 # What the scripts of this folder share. They read it by `. "$top/scripts/lib.sh"`, with the top of the repository in `top`.
 
 # Ends a script that can't go on, with its counts.

@@ -12,6 +12,7 @@
 set -u
 
 top=$(CDPATH='' cd -- "$(dirname -- "$0")/.." && pwd) || exit 1
+# shellcheck source=scripts/lib.sh
 . "$top/scripts/lib.sh"
 texts=$top/scripts/misuse
 

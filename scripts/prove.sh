@@ -13,6 +13,7 @@
 set -u
 
 top=$(CDPATH='' cd -- "$(dirname -- "$0")/.." && pwd) || exit 1
+# shellcheck source=scripts/lib.sh
 . "$top/scripts/lib.sh"
 
 room=$(mktemp -d) || exit 1
@@ -21,7 +22,7 @@ trap 'exit 1' HUP INT TERM
 
 name=${1:-}
 crate=$top/crates/$name
-[ -n "$name" ] && [ -d "$crate" ] || stop "there is no crate '$name'"
+[ -f "$crate/src/lib.rt" ] || [ -f "$crate/src/main.rt" ] || stop "there is no crate '$name'"
 jobs=$(count_workers)
 passed=0
 failed=0
