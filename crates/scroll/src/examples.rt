@@ -2,6 +2,7 @@
 mod bar;
 mod chunk;
 mod custom_error;
+mod either_order;
 mod external_error;
 mod format;
 mod named;

@@ -11,7 +11,8 @@ mod required;
 pub use self::c_strings::{c_string_has_one_zero, c_string_has_one_zero as law_9};
 pub use self::histories::{
     array_has_leaves, what_was_written_stands, what_was_written_stands as law_3,
-    writes_apart_may_be_exchanged, writes_apart_may_be_exchanged as law_6,
+    write_is_of_its_leaves, writes_apart_may_be_exchanged, writes_apart_may_be_exchanged as law_6,
+    writes_have_leaves,
 };
 pub use self::leb128::{
     leb128_reads_have_one_to_ten_bytes, leb128_reads_have_one_to_ten_bytes as law_8,
