@@ -21,6 +21,5 @@ pub mod Spans
 pub mod Loads
 pub mod Runs
 pub mod Laws
-
 -- No definitions: lemmas that the implementations cite in the laws of their traits, which may cite specs/ alone.
 pub mod lemmas

@@ -1,5 +1,6 @@
 //! Laws of the definitions that the contracts cite. Each function here changes nothing: its contract is the law, and its
-//! proof is the law's. Each is named by what it says, and has the law's number as a second name.
+//! proof is the law's. All have an empty body but [`size_is_that_of_reads_and_writes`], which returns the size of which its
+//! law speaks. Each is named by what it says, and has the law's number as a second name.
 
 mod c_strings;
 mod histories;

@@ -15,7 +15,6 @@ use Rattle.scroll.specs.Reads.{ReadsAt, ReadsBetween, ReadsAll}
 use Rattle.scroll.specs.Writes.{WritesAt}
 use Rattle.scroll.specs.declared.endian.Endian.{Endian}
 use Rattle.scroll.specs.declared.endian.Endian.TheVariants.{Little, Big}
-
 -- how many bytes a number has
 pub use Rattle.scroll.specs.lemmas.Frames.{length-number_bytes, length-signed_bytes}
 

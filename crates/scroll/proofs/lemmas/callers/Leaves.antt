@@ -9,12 +9,12 @@ use Rattle.scroll.proofs.lemmas.arrays.ArrayLeaves.{leaves-of-array}
 use Rattle.scroll.proofs.lemmas.history.LeafLemmas.{pieces-fits, pieces-misfit, pieces-past, left_over-fits, left_over-misfit, left_over-drop, refusal-inside, refusal-past, seen-rest, front-piece}
 use Rattle.scroll.proofs.lemmas.history.SeenLemmas.{length-seen, seen-append, seen-nil}
 use Rattle.scroll.proofs.lemmas.history.StandLemmas.{seen-exchange, pieces-behind}
-use Rattle.scroll.specs.Arrays.{WritesArray, LeavesArray, Nested}
+use Rattle.scroll.specs.Arrays.{WritesArray, LeavesArray}
 use Rattle.scroll.specs.Bytes.{WritesFront, LeavesShort}
 use Rattle.scroll.specs.Errors.{IsBadOffset}
 use Rattle.scroll.specs.History.{seen}
 use Rattle.scroll.specs.Laws.{Apart, WritesNested, LeavesNested, leaves_nested}
-use Rattle.scroll.specs.Leaves.{pieces, refusal, AnswersLeaves, WritesLeaves, HasLeaves}
+use Rattle.scroll.specs.Leaves.{pieces, AnswersLeaves, WritesLeaves, HasLeaves}
 use Rattle.scroll.specs.Leb128.{Counted}
 use Rattle.scroll.specs.LebWrites.{uleb_text, sleb_text, WritesUleb, WritesSleb}
 use Rattle.scroll.specs.Numbers.{number_bytes, signed_bytes, WritesNumber, WritesSigned}

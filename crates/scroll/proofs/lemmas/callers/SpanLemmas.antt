@@ -14,7 +14,6 @@ use Rattle.scroll.specs.Spans.{Stands, Puts, PutsFront}
 use Rattle.scroll.specs.Spelling.{BeginsWith, BeginsWithSigned, spelling, spelled_byte, unsigned_form}
 use Rattle.scroll.specs.Writes.{WritesAt, RefusesWriteAt}
 use Rattle.scroll.specs.declared.error.Error.{Error}
-use Rattle.scroll.specs.declared.error.Error.TheVariants.{TooBig}
 
 -- nothing stands yet
 pub stands-none : {buffer : List ℕ} {from : ℕ} → from ≤ length buffer → Stands [] buffer from from
