@@ -1,5 +1,4 @@
 pub mod LeafLemmas
-pub mod PutLeaves
 pub mod RunLemmas
 pub mod SeenLemmas
 pub mod StandLemmas

@@ -1,5 +1,4 @@
 pub mod BlockLemmas
-pub mod LebLeaves
 pub mod LebLemmas
 pub mod LebReadLemmas
 pub mod LebWriteLemmas

@@ -122,8 +122,8 @@ module _ {V : Type 0} (leaves : V → List (List ℕ)) (writes : V → List ℕ 
       (one-laid v old o w.0 w.1 w.2) (all-laid vs w.0 (o + w.1) new end w.3)
 
   -- arrays have the leaves of their elements
-  pub array-leaves : HasLeaves (flat_map leaves) (WritesArray writes) (LeavesArray writes refuses)
-  array-leaves = record {
+  pub leaves-of-array : HasLeaves (flat_map leaves) (WritesArray writes) (LeavesArray writes refuses)
+  leaves-of-array = record {
     written = λ vs old new n w.
         let all = all-laid vs old 0 new n w in
         record {
@@ -141,10 +141,3 @@ module _ {V : Type 0} (leaves : V → List (List ℕ)) (writes : V → List ℕ 
               ∙ ap (left_over (length old) 0) split ∙ cut.error;
         };
   }
-
--- a refusal that is told under a condition which holds
-pub leaves-where : {V : Type 0} (leaves : V → List (List ℕ)) (writes : V → List ℕ → List ℕ → ℕ → Type 0) (refuses : V → List ℕ → List ℕ → Error → Type 0) (P : Type 0) → P → HasLeaves leaves writes refuses → HasLeaves leaves writes (λ v old new e. P → refuses v old new e)
-leaves-where leaves writes refuses P p has = record {
-  written = has.written;
-  refused = λ v old new e h. has.refused v old new e (h p);
-}

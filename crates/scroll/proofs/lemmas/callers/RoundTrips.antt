@@ -1,19 +1,22 @@
 -- Lemmas for callers: what was read is written back, and what was written is read again.
-use Rattle.std.proofs.Common.{◌≡◌, ◌≢◌, ℕ, zero, suc, ◌+◌, ◌-◌, ◌*◌, ◌/◌, ◌%◌, ◌^◌, ◌<◌, ◌≤◌, ◌++◌, ◌==◌, true, List, [], ◌∷◌, length, take, drop, get_or, slice_index, Fits, w8, refl, sym, ap, subst, ◌∙◌, inl, inr, arith, IsUtf8, append_assoc, length-append, length-take, length-drop, get_or-take}
+use Rattle.std.proofs.Common.{◌≡◌, ◌≢◌, ℕ, ℤ, pos, neg_ℤ, nat_abs, ◌+ℤ◌, ◌-ℤ◌, ◌*ℤ◌, ◌≤ℤ◌, ◌<ℤ◌, zero, suc, ◌+◌, ◌-◌, ◌*◌, ◌/◌, ◌%◌, ◌^◌, ◌<◌, ◌≤◌, ◌++◌, ◌==◌, true, List, [], ◌∷◌, length, take, drop, get_or, slice_index, Fits, w8, refl, sym, ap, subst, ◌∙◌, inl, inr, arith, IsUtf8, append_assoc, length-append, length-take, length-drop, get_or-take}
 use Rattle.std.proofs.Math.Nat.{add_comm, add-mul, add_assoc, add-mul-div_right, add-mul-mod_self_right, div-add-mod', mod-eq_of_lt, mod-lt, mul-add-mod_self_right, mul-le-mul_right, mul_assoc, mul_comm, one-le-pow, pow-suc}
 use Rattle.std.proofs.Math.Seq.{take-add}
 use Rattle.std.proofs.lemmas.Bool.{cases_lt}
-use Rattle.std.proofs.lemmas.Grind.{flat_map-append, same_number_lists}
-use Rattle.std.proofs.lemmas.List.{append-nil, drop-drop, drop_at, take_at, take_more, get_or_append_left, length-take-le}
-use Rattle.std.proofs.lemmas.List.Elements.{All-head, All-tail}
+use Rattle.std.proofs.lemmas.Grind.{common_steps, flat_map-append, same_number_lists}
+use Rattle.std.proofs.lemmas.Int.{ints}
+use Rattle.std.proofs.lemmas.List.{append-nil, drop-drop, drop_at, take_at, take_all, take_more, get_or_append_left, length-take-le}
+use Rattle.std.proofs.lemmas.List.Elements.{All-get_or, All-head, All-tail}
 use Rattle.std.proofs.lemmas.List.FromFn.{get_or-map-range_with_len}
 use Rattle.std.proofs.lemmas.List.Sums.{passes_at_first}
 use Rattle.std.proofs.lemmas.Nat.{div-mul-add, pow-add}
 use Rattle.std.specs.List.{All, flat_map}
+use Rattle.std.specs.Prelude.{int_lt, nat_lt, if◌then◌else◌}
 use Rattle.scroll.specs.Bytes.{sum_below}
-use Rattle.scroll.proofs.lemmas.callers.Cursors.{Begins, grow, byte-bound, digits-bound, number-front}
+use Rattle.scroll.proofs.lemmas.callers.Cursors.{Begins, grow, byte-bound, digits-bound, number-bound, number-front}
 use Rattle.scroll.specs.lemmas.Frames.{length-number_bytes}
-use Rattle.scroll.specs.Numbers.{number, number_bytes}
+use Rattle.scroll.specs.Numbers.{number, number_bytes, signed_number, signed_bytes}
+use Rattle.scroll.proofs.lemmas.numbers.NumberLemmas.{complement-back}
 use Rattle.scroll.specs.Reads.{ReadsAt, ReadsAll}
 use Rattle.scroll.proofs.lemmas.numbers.SumLemmas.{sum_below-same, sum_below-backwards}
 use Rattle.scroll.specs.Texts.{first_place, ReadsText}
@@ -202,3 +205,39 @@ grown-at {to} {place} n bytes {first} {now} h room is =
       ap (take place) whole ∙ take_at (take place first) (bytes ++ drop n (drop place first)) place len,
       ap (drop place) whole ∙ drop_at (take place first) (bytes ++ drop n (drop place first)) place len,
     )
+
+-- the number that stands for a signed one is that of its bytes
+complement-again : (m n : ℕ) → n < m → (x : ℤ) → x ≡ (if nat_lt (2 * n) m then pos n else pos n -ℤ pos m) → (if int_lt x (pos 0) then nat_abs (pos m +ℤ x) else nat_abs x) ≡ n
+complement-again m n h x is = grind (arith, ints)
+
+-- the same of a signed number: its bytes are those that stand there
+pub signed-back : (order : Endian) (w place : ℕ) (s : List ℕ) → ((i : ℕ) → Fits w8 (slice_index s i)) → place + w ≤ length s → signed_bytes order w (signed_number order w (drop place s)) ≡ take w (drop place s)
+signed-back order w place s h room =
+    ap (number_bytes order w) (complement-again (256 ^ w) (number order w (drop place s)) (number-bound order w place s h) (signed_number order w (drop place s)) refl)
+    ∙ number-back order w place s h room
+
+-- and those of one more, behind bytes that are written back
+pub signed-grow : (order : Endian) (w place : ℕ) (s front : List ℕ) → ((i : ℕ) → Fits w8 (slice_index s i)) → place + w ≤ length s → front ≡ take place s → front ++ signed_bytes order w (signed_number order w (drop place s)) ≡ take (place + w) s
+signed-grow order w place s front h room is = back-next place w s is (signed-back order w place s h room)
+
+-- a list that begins with the bytes of a signed number begins with that number
+pub signed-begins : (order : Endian) (w : ℕ) (x : ℤ) (rest : List ℕ) → neg_ℤ (pos (256 ^ w)) ≤ℤ (pos 2 *ℤ x) → (pos 2 *ℤ x) <ℤ pos (256 ^ w) → signed_number order w (signed_bytes order w x ++ rest) ≡ x
+signed-begins order w x rest low high =
+    let back = complement-back (256 ^ w) x low high (if int_lt x (pos 0) then nat_abs (pos (256 ^ w) +ℤ x) else nat_abs x) refl in
+    ap (λ (n : ℕ). if nat_lt (2 * n) (256 ^ w) then pos n else pos n -ℤ pos (256 ^ w))
+    (number-begins order w (if int_lt x (pos 0) then nat_abs (pos (256 ^ w) +ℤ x) else nat_abs x) rest back.0)
+    ∙ back.1
+
+-- each element of a list of bytes fits a byte, and so does what is read past its end
+byte-fits : (s : List ℕ) → All (λ b. b < 256) s → (i : ℕ) → Fits w8 (slice_index s i)
+byte-fits s h i = elim (cases_lt i (length s)) as (λ _. Fits w8 (slice_index s i)) [
+  | inl l ↦ let b = All-get_or (λ x. x < 256) s i 0 l h in record { fits = omega (arith, b) }
+  | inr l ↦ let none : slice_index s i ≡ 0 = grind (arith, common_steps) in rw none (record { fits = omega arith })
+]
+
+-- bytes that read as a number are that number's, and no others do
+pub number-only : (order : Endian) (w : ℕ) (s : List ℕ) → All (λ b. b < 256) s → length s ≡ w → s ≡ number_bytes order w (number order w s)
+number-only order w s h len = sym (number-back order w 0 s (byte-fits s h) (omega (arith, len)) ∙ take_all w s (omega (arith, len)))
+
+pub signed-only : (order : Endian) (w : ℕ) (s : List ℕ) → All (λ b. b < 256) s → length s ≡ w → s ≡ signed_bytes order w (signed_number order w s)
+signed-only order w s h len = sym (signed-back order w 0 s (byte-fits s h) (omega (arith, len)) ∙ take_all w s (omega (arith, len)))

@@ -1,16 +1,12 @@
--- A write at any place of a buffer is a write of the value's leaves there.
-use Rattle.std.proofs.Common.{◌≡◌, ℕ, ◌+◌, ◌-◌, ◌≤◌, ◌<◌, ◌++◌, List, [], ◌∷◌, length, take, drop, get_or, arith, refl, sym, ◌∙◌, ap, inl, inr, Some, None, unwrap_or, slice_get, Result, Ok, Err, length-drop, length-append}
+-- The pieces that leaves leave at a place of a buffer, and in its rest.
+use Rattle.std.proofs.Common.{◌≡◌, ℕ, ◌+◌, ◌-◌, ◌≤◌, ◌<◌, ◌++◌, List, [], ◌∷◌, length, take, drop, get_or, arith, refl, sym, ◌∙◌, ap, inl, inr, Some, None, unwrap_or, slice_get, length-drop, length-append}
 use Rattle.std.proofs.lemmas.Bool.{cases_lt}
 use Rattle.std.proofs.lemmas.Grind.{same_number_lists}
 use Rattle.std.proofs.lemmas.List.{get_or-take, get_or-drop, get_or_append_left, get_or-append_right}
 use Rattle.std.proofs.lemmas.Option.{slice_get-get_or, slice_get_past}
-use Rattle.scroll.proofs.lemmas.history.SeenLemmas.{length-seen, get_or-seen, seen-nil}
-use Rattle.scroll.specs.Bytes.{WritesFront, LeavesShort}
+use Rattle.scroll.proofs.lemmas.history.SeenLemmas.{length-seen, get_or-seen}
 use Rattle.scroll.specs.History.{byte_of, last_byte, seen}
-use Rattle.scroll.specs.Leaves.{pieces, left_over, refusal, WritesLeaves, HasLeaves}
-use Rattle.scroll.specs.Errors.{IsBadOffset}
-use Rattle.scroll.specs.Writes.{AnswersWrite}
-use Rattle.scroll.specs.declared.error.Error.{Error}
+use Rattle.scroll.specs.Leaves.{pieces, left_over, refusal}
 use Rattle.scroll.specs.declared.error.Error.TheVariants.{TooBig, BadOffset}
 
 -- a leaf that fits, and one that doesn't
@@ -69,10 +65,10 @@ left_over-rest n o p (l ∷ ls) h = elim (cases_lt n (o + p + length l)) as (λ 
 pub refusal-inside : (n o : ℕ) (ls : List (List ℕ)) → o ≤ n → refusal n o ls ≡ left_over n o ls
 refusal-inside n o ls h = grind arith
 
-refusal-past : (n o : ℕ) (ls : List (List ℕ)) → n < o → refusal n o ls ≡ Some (BadOffset o)
+pub refusal-past : (n o : ℕ) (ls : List (List ℕ)) → n < o → refusal n o ls ≡ Some (BadOffset o)
 refusal-past n o ls h = grind arith
 
-pieces-past : (n o : ℕ) (ls : List (List ℕ)) → n < o → pieces n o ls ≡ []
+pub pieces-past : (n o : ℕ) (ls : List (List ℕ)) → n < o → pieces n o ls ≡ []
 pieces-past n o [] h = refl
 pieces-past n o (l ∷ ls) h = pieces-misfit n o l ls (omega (arith, h))
 
@@ -107,29 +103,6 @@ left_over-drop old o ls h =
     ap (λ m. left_over (length old) m ls) (omega arith) ∙ left_over-rest (length old) o 0 ls h
     ∙ ap (λ m. left_over m 0 ls) (sym (length-drop o old)) ∙ sym (refusal-inside (length (drop o old)) 0 ls (omega arith))
 
--- a write at any place of a target is a write of the value's leaves there
-pub at-leaves : {V : Type 0} (leaves : V → List (List ℕ)) (writes : V → List ℕ → List ℕ → ℕ → Type 0) (refuses : V → List ℕ → List ℕ → Error → Type 0) → HasLeaves leaves writes refuses → (x : V) (old : List ℕ) (o : ℕ) (new : List ℕ) (r : Result ℕ Error) → AnswersWrite (writes x) (refuses x) IsBadOffset old o new r → WritesLeaves old o (leaves x) new r
-at-leaves leaves writes refuses has x old o new (Ok n) w =
-    let part = has.written x (drop o old) (drop o new) n w.after in
-    record {
-      after = seen-rest o old new (leaves x) w.inside w.len w.before part.after;
-      answer = (
-        refusal-inside (length old) o (leaves x) w.inside ∙ left_over-drop old o (leaves x) w.inside ∙ part.answer.0,
-        part.answer.1,
-      );
-    }
-at-leaves leaves writes refuses has x old o new (Err e) (inl w) =
-    record {
-      after = w.same ∙ sym (seen-nil old) ∙ ap (seen old) (sym (pieces-past (length old) o (leaves x) w.past));
-      answer = refusal-past (length old) o (leaves x) w.past ∙ ap Some (sym w.error);
-    }
-at-leaves leaves writes refuses has x old o new (Err e) (inr w) =
-    let part = has.refused x (drop o old) (drop o new) e w.after in
-    record {
-      after = seen-rest o old new (leaves x) w.inside w.len w.before part.after;
-      answer = refusal-inside (length old) o (leaves x) w.inside ∙ left_over-drop old o (leaves x) w.inside ∙ part.answer;
-    }
-
 -- a byte after one piece at the front
 byte-front : (t old : List ℕ) (k : ℕ) → get_or (t ++ drop (length t) old) k 0 ≡ unwrap_or (byte_of (0, t) k) (get_or old k 0)
 byte-front t old k =
@@ -147,7 +120,7 @@ byte-front t old k =
     ]
 
 -- one piece at the front
-front-piece : (t old : List ℕ) → length t ≤ length old → t ++ drop (length t) old ≡ seen old ((0, t) ∷ [])
+pub front-piece : (t old : List ℕ) → length t ≤ length old → t ++ drop (length t) old ≡ seen old ((0, t) ∷ [])
 front-piece t old room =
     let left = length-drop (length t) old in
     let whole = length-append t (drop (length t) old) in
@@ -155,33 +128,3 @@ front-piece t old room =
     same_number_lists (t ++ drop (length t) old) (seen old ((0, t) ∷ [])) (omega (arith, left, whole, same)) (λ k l.
     let inside : k < length old = omega (arith, l, left, whole, room) in
     byte-front t old k ∙ sym (get_or-seen old ((0, t) ∷ []) k inside))
-
--- bytes that are written whole or not at all are one leaf
-pub front-leaf-by : {V : Type 0} (w : V → ℕ) (bytes : V → List ℕ) → ((x : V) → length (bytes x) ≡ w x) → HasLeaves (λ x. bytes x ∷ []) (λ x. WritesFront (w x) (bytes x)) (λ x. LeavesShort (w x))
-front-leaf-by w bytes len = record {
-  written = λ x old new n h.
-      let t = bytes x in
-      let inside : 0 + length (bytes x) ≤ length old = omega (arith, len x, h.room) in
-      record {
-        after = h.after ∙ ap (λ m. bytes x ++ drop m old) (sym (len x)) ∙ front-piece (bytes x) old (omega (arith, inside))
-            ∙ ap (seen old) (sym (pieces-fits (length old) 0 (bytes x) [] inside));
-        answer = (
-          refusal-inside (length old) 0 (bytes x ∷ []) (omega arith) ∙ left_over-fits (length old) 0 (bytes x) [] inside,
-          h.size ∙ sym (len x) ∙ omega arith,
-        );
-      };
-  refused = λ x old new e h.
-      let outside : length old < 0 + length (bytes x) = omega (arith, len x, h.short) in
-      let all : length old - 0 ≡ length old = omega arith in
-      record {
-        after = h.same ∙ sym (seen-nil old) ∙ ap (seen old) (sym (pieces-misfit (length old) 0 (bytes x) [] outside));
-        answer = refusal-inside (length old) 0 (bytes x ∷ []) (omega arith)
-            ∙ left_over-misfit (length old) 0 (bytes x) [] outside
-            ∙ ap (λ m. Some (TooBig (length (bytes x)) m)) all
-            ∙ ap (λ m. Some (TooBig m (length old))) (len x) ∙ ap Some (sym h.error);
-      };
-}
-
--- the same where each value has as many bytes
-pub front-leaf : {V : Type 0} (w : ℕ) (bytes : V → List ℕ) → ((x : V) → length (bytes x) ≡ w) → HasLeaves (λ x. bytes x ∷ []) (λ x. WritesFront w (bytes x)) (λ _. LeavesShort w)
-front-leaf w = front-leaf-by (λ _. w)

@@ -4,7 +4,8 @@ use Rattle.std.proofs.lemmas.Bool.{cases_lt}
 use Rattle.std.proofs.lemmas.Grind.{same_number_lists, common_steps}
 use Rattle.std.proofs.lemmas.List.{get_or-take, get_or-drop}
 use Rattle.std.proofs.lemmas.Option.{slice_get-get_or, slice_get_past}
-use Rattle.std.specs.List.{Any}
+use Rattle.std.proofs.lemmas.List.Sums.{sum_by-cons}
+use Rattle.std.specs.List.{Any, sum_by}
 use Rattle.std.specs.Option.{option_or}
 use Rattle.scroll.proofs.lemmas.history.LeafLemmas.{pieces-fits, pieces-misfit}
 use Rattle.scroll.proofs.lemmas.history.SeenLemmas.{option_or-none, length-seen, get_or-seen, last_byte-append}
@@ -154,6 +155,26 @@ covers-from n o (l ∷ ls) i a = elim (cases_lt n (o + length l)) as (λ _. o �
     | inr b ↦ let rest = covers-from n (o + length l) ls i b in omega (arith, rest)
   ]
 ]
+
+-- nor, where each is whole, one behind the last
+covers-below : (n o : ℕ) (ls : List (List ℕ)) (i : ℕ) → Any (λ p. Covers p i) (pieces n o ls) → i < o + sum_by length ls
+covers-below n o [] i a = absurd (omega (arith, a.2))
+covers-below n o (l ∷ ls) i a =
+    let total = sum_by-cons length l ls in
+    elim (cases_lt n (o + length l)) as (λ _. i < o + sum_by length (l ∷ ls)) [
+      | inl k ↦ absurd (no-cover i (subst (Any (λ p. Covers p i)) (pieces-misfit n o l ls k) a))
+      | inr k ↦ elim (Any-cases (λ p. Covers p i) (o, l) (pieces n (o + length l) ls) (subst (Any (λ p. Covers p i)) (pieces-fits n o l ls k) a)) as (λ _. i < o + sum_by length (l ∷ ls)) [
+        | inl c ↦ omega (arith, c.1, total)
+        | inr b ↦ let rest = covers-below n (o + length l) ls i b in omega (arith, rest, total)
+      ]
+    ]
+
+-- pieces of leaves that end where others begin, or before
+pub pieces-behind : (n o p : ℕ) (ls ks : List (List ℕ)) → o + sum_by length ls ≤ p → Apart (pieces n o ls) (pieces n p ks)
+pieces-behind n o p ls ks h i a b =
+    let below = covers-below n o ls i a in
+    let from = covers-from n p ks i b in
+    absurd (omega (arith, below, from, h))
 
 not-nil : (before after : List Piece) (p : Piece) → [] ≡ before ++ p ∷ after → ⊥
 not-nil [] after p e = cc e
