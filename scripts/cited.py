@@ -18,7 +18,7 @@ TOP = Path(__file__).resolve().parents[1]
 
 # Names of Rust, of its crates and of processors, and words of docs/SESSIONS.md that stand for others.
 FOREIGN = set("""
-I Self::Units array::try_from_fn cause collect f64 memchr scroll_derive x86-64-v2
+I Self::Units array::try_from_fn cause collect core::mem core::result f64 memchr scroll_derive x86-64-v2
 HEX HH ORD SESSION law_7
 """.split())
 
@@ -42,7 +42,7 @@ def words_of_sources() -> Set[str]:
             continue
         words.update(part for name in parts for part in (name, name.split(".")[0]))
         name = path.name[: -len(".txt")] if path.name.endswith(".txt") else path.name
-        if path.is_file() and name.endswith((".rt", ".antt", ".sh", ".py", ".c", ".in", ".out")) or name == "crates.txt":
+        if path.is_file() and name.endswith((".rt", ".rs", ".antt", ".sh", ".py", ".c", ".in", ".out")) or name == "crates.txt":
             text = path.read_text(encoding="utf-8", errors="replace")
             comment = {".rt": r"//.*", ".antt": r"(?m)(?:^|\s)--.*|//.*"}.get(Path(name).suffix)
             text = re.sub(comment, "", text) if comment else text

@@ -8,7 +8,7 @@
 # copied as built: so it is not proved again for the clients. As many clients as there are workers (scripts/lib.sh) are tried
 # side by side.
 #
-# A client passes where it stands in the layout of `rt fmt`, names no proof of the library, and `rt check`,
+# A client passes where it stands in the layout of `rt fmt`, names no proof of the library but its lemmas for callers, and `rt check`,
 # `rt check --test` and `rt test` end well, with one test at least. It is printed with its counts: functions, tests, lines
 # that are not empty, and seconds. The last line is `N passed, M failed`. The exit status is 0 where M is 0 and N is not.
 set -u
@@ -81,8 +81,8 @@ try_client() {
     : >"$said"
     make_workspace "$name" || { fail 'its files could not be copied'; return; }
     is_laid_out "$crate" >"$said" || { fail 'rt fmt lays its files out in another way'; return; }
-    if grep -rn 'Rattle\.scroll\.proofs' "$crate" >"$said"; then
-        fail 'it names a proof of the library'
+    if grep -rn 'Rattle\.scroll\.proofs' "$crate" | grep -v 'Rattle\.scroll\.proofs\.lemmas\.callers\.' >"$said"; then
+        fail 'it names a proof of the library that is not for callers'
         return
     fi
     run check || { fail 'it is not proved'; return; }

@@ -12,6 +12,7 @@ mod numbers;
 mod str_ctx;
 mod text;
 
+pub use arrays::array_fits;
 pub use str_ctx::{NULL, RET, SPACE, StrCtx, TAB};
 
 /// A type that can be read from bytes in a context.

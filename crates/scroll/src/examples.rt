@@ -1,12 +1,16 @@
 // Callers of the crate, as its documents show them.
 mod bar;
+mod borrowed_array;
 mod chunk;
 mod custom_error;
+mod either_order;
 mod external_error;
 mod format;
+mod generic_arrays;
 mod named;
 mod overview;
 mod own_error;
+mod own_type;
 mod points;
 mod readme_data;
 mod readme_name;

@@ -3,9 +3,10 @@ ghost use Rattle.std.specs.Prelude.{◌≡◌, ℕ, ◌+◌, ◌*◌, ◌<◌, �
 ghost use Rattle.std.specs.Mem.{FitsInMemory};
 ghost use Rattle.scroll.specs.Fits.{OptionFits, SlotsFit, ItemsFit};
 ghost use Rattle.scroll.specs.Arrays.{ReadsArray, RefusesArray, WritesArray, LeavesArray};
-ghost use Rattle.scroll.specs.ArrayLaws.{ReadsArray-bounded, WritesArray-bounded, WritesArray-keeps};
+ghost use Rattle.scroll.specs.lemmas.Sizes.{ReadsArray-bounded, WritesArray-bounded};
+ghost use Rattle.scroll.specs.lemmas.Frames.{WritesArray-keeps};
 ghost use Rattle.scroll.specs.Writes.{WritesAt, LeavesAt};
-ghost use Rattle.scroll.specs.declared.error.Error.TheVariants.{BadOffset};
+ghost use Rattle.scroll.specs.Errors.{PastEnd};
 
 use crate::ctx::{SizeWith, TryFromCtx, TryIntoCtx};
 use crate::error::{Error, Result};
@@ -24,6 +25,18 @@ fn fits<X>() -> bool
         None => small,
         Some(_x) => unreachable!(),
     }
+}
+
+/// Whether an array of `N` values of type `T` fits in memory, together with what holds its elements while it is read and
+/// while it is written. It does wherever there is such an array, and the compiler knows it.
+///
+/// A caller that is generic over `T` or `N` may test it, or ask it of its own caller by `requires`: what an array refuses
+/// is said under this condition. At a type that is known the prover has it.
+pub fn array_fits<T, const N: usize>() -> bool
+    ensures read { IsTrue result → SlotsFit T.row N.row }
+    ensures written { IsTrue result → ItemsFit T.row N.row }
+{
+    fits::<Option<ArrayVec<Option<T>, N>>>() && fits::<Option<array::IntoIter<T, N>>>()
 }
 
 // The element at `index`, in whose place `None` is left.
@@ -67,6 +80,20 @@ fn write_next<Ctx: Copy, T: TryIntoCtx<Ctx, Error = Error> + Drop>(
     value.try_into_ctx(&mut dst[offset..], ctx)
 }
 
+/// Elements one after the other from the start of the source. An element that would start past the end is refused by
+/// `E::from(Error::BadOffset(offset))`, where the offset counts from the array's own start; any other refusal is that of
+/// the first element that is refused.
+///
+/// An array of values that borrow is taken out of a call's result by a function that is handed to `map`: neither `?` nor a
+/// `match` on such a result is covered by the borrow checker's part of a proof today.
+///
+/// ```rust
+/// fn take_apart<'a>(names: [&'a str; 2]) -> (&'a str, &'a str) {
+///     (names[0], names[1])
+/// }
+///
+/// let (first, second) = file.pread_with(0, StrCtx::Delimiter(NULL)).map(take_apart)?;
+/// ```
 impl<
     'a,
     Ctx: Copy,
@@ -78,7 +105,7 @@ impl<
 
     ghost reads = { λ ctx. ReadsArray (T.reads ctx) N };
 
-    ghost refuses = { λ ctx source e. SlotsFit T.row N.row → RefusesArray (T.reads ctx) (T.refuses ctx) (λ offset e. E.from_gives (BadOffset offset) e) N source e };
+    ghost refuses = { λ ctx source e. SlotsFit T.row N.row → RefusesArray (T.reads ctx) (T.refuses ctx) (PastEnd E.from_gives) N source e };
 
     ghost reads_bounded = { λ ctx. ReadsArray-bounded (T.reads ctx) (T.reads_bounded ctx) N };
 

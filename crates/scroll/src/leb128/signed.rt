@@ -10,7 +10,7 @@ ghost use Rattle.scroll.specs.LebRefusals.{RefusesSleb};
 ghost use Rattle.scroll.specs.Spelling.{HasSignedSpelling};
 ghost use Rattle.scroll.specs.Bytes.{LeavesShort};
 ghost use Rattle.scroll.specs.LebWrites.{IsLeast, WritesSleb};
-ghost use Rattle.scroll.specs.LebWriteLaws.{WritesSleb-keeps};
+ghost use Rattle.scroll.specs.lemmas.Frames.{WritesSleb-keeps};
 
 use super::sleb_loads;
 use super::write::{put_sleb, shortest_count, turned};

@@ -9,7 +9,7 @@ ghost use Rattle.scroll.specs.LebRefusals.{RefusesUleb};
 ghost use Rattle.scroll.specs.Spelling.{HasSpelling};
 ghost use Rattle.scroll.specs.Bytes.{LeavesShort};
 ghost use Rattle.scroll.specs.LebWrites.{IsLeast, WritesUleb};
-ghost use Rattle.scroll.specs.LebWriteLaws.{WritesUleb-keeps};
+ghost use Rattle.scroll.specs.lemmas.Frames.{WritesUleb-keeps};
 
 use super::uleb_loads;
 use super::write::{put_uleb, shortest_count};

@@ -1,7 +1,7 @@
 // Readers and writers that are slow, end early, fail or are interrupted, and a type whose size is more than it needs.
 ghost use Rattle.std.specs.Prelude.{◌≡◌, ◌++◌, drop};
 ghost use Rattle.scroll.specs.Numbers.{number, number_bytes};
-ghost use Rattle.scroll.specs.NumberLaws.{number_bytes-keeps};
+ghost use Rattle.scroll.specs.lemmas.Frames.{number_bytes-keeps};
 
 use crate::ctx::{FromCtx, IntoCtx, SizeWith};
 use crate::{BE, Endian, IOread, IOwrite, LE};

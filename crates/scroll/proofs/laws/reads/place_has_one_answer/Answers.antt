@@ -1,13 +1,13 @@
 use Rattle.std.proofs.Common.{take}
-use Rattle.scroll.proofs.CStringReadLemmas.{one-c_string}
-use Rattle.scroll.proofs.LebReadLemmas.{one-uleb, one-sleb}
-use Rattle.scroll.proofs.TextReadLemmas.{one-text}
+use Rattle.scroll.proofs.lemmas.texts.CStringReadLemmas.{one-c_string}
+use Rattle.scroll.proofs.lemmas.leb128.LebReadLemmas.{one-uleb, one-sleb}
+use Rattle.scroll.proofs.lemmas.texts.TextReadLemmas.{one-text}
 use Rattle.scroll.specs.Bytes.{RefusesShort}
 use Rattle.scroll.specs.CStrings.{ReadsCString, RefusesCString}
 use Rattle.scroll.specs.Leb128.{ReadsUleb, ReadsSleb, ReadsCountedUleb, ReadsCountedSleb}
 use Rattle.scroll.specs.LebRefusals.{RefusesUleb, RefusesSleb}
 use Rattle.scroll.specs.Numbers.{number, signed_number, ReadsNumber, ReadsSigned}
-use Rattle.scroll.specs.OneAnswer.{one-at, one-front, one-nested, one-sized}
+use Rattle.scroll.proofs.lemmas.callers.OneAnswer.{one-at, one-front, one-nested, one-sized}
 use Rattle.scroll.specs.Texts.{ReadsText, RefusesText, ReadsSlice, RefusesSlice}
 use Rattle.scroll.proofs.laws.reads.place_has_one_answer.Goals as goal
 

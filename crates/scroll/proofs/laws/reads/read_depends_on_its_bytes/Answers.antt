@@ -1,7 +1,7 @@
-use Rattle.scroll.proofs.CStringReadLemmas.{local-c_string}
-use Rattle.scroll.proofs.LebReadLemmas.{local-uleb, local-sleb}
-use Rattle.scroll.proofs.TextReadLemmas.{local-slice, local-text}
-use Rattle.scroll.proofs.LocalLemmas.{local-number, local-signed}
+use Rattle.scroll.proofs.lemmas.texts.CStringReadLemmas.{local-c_string}
+use Rattle.scroll.proofs.lemmas.leb128.LebReadLemmas.{local-uleb, local-sleb}
+use Rattle.scroll.proofs.lemmas.texts.TextReadLemmas.{local-slice, local-text}
+use Rattle.scroll.proofs.lemmas.numbers.LocalLemmas.{local-number, local-signed}
 use Rattle.scroll.proofs.laws.reads.read_depends_on_its_bytes.Goals as goal
 
 pub returns-clause-number : goal.returns-clause-number

@@ -3,7 +3,7 @@ use Rattle.std.proofs.lemmas.List.{drop-set-lt}
 use Rattle.std.proofs.lemmas.List.Edits.{fill_by_more}
 use Rattle.scroll.specs.Spelling.{spelled_byte}
 use Rattle.scroll.specs.LebWrites.{ten_groups}
-use Rattle.scroll.proofs.LebWriteLemmas.{text_written}
+use Rattle.scroll.proofs.lemmas.leb128.LebWriteLemmas.{text_written}
 use Rattle.scroll.proofs.leb128.write.put_bytes.Goals as goal
 
 pub loop-i-preserved : goal.loop-i-preserved

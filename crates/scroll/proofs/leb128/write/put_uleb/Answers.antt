@@ -1,6 +1,6 @@
 use Rattle.std.proofs.Common.{ap, ◌∙◌, ◌++◌, drop}
 use Rattle.scroll.specs.Spelling.{spelling}
-use Rattle.scroll.proofs.SignedWriteLemmas.{unsigned_groups_form}
+use Rattle.scroll.proofs.lemmas.leb128.SignedWriteLemmas.{unsigned_groups_form}
 use Rattle.scroll.proofs.leb128.write.put_uleb.Goals as goal
 
 pub returns : goal.returns

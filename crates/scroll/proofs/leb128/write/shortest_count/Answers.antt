@@ -1,5 +1,5 @@
 use Rattle.std.proofs.Common.{refl, arith}
-use Rattle.scroll.proofs.LebWriteLemmas.{place_found, shortest_found}
+use Rattle.scroll.proofs.lemmas.leb128.LebWriteLemmas.{place_found, shortest_found}
 use Rattle.scroll.proofs.leb128.write.shortest_count.Goals as goal
 
 pub overflow_sub-place : goal.overflow_sub-place

@@ -1,7 +1,7 @@
 use Rattle.std.proofs.Common.{rules, FitsSigned}
 use Rattle.std.specs.Int.{w64}
 use Rattle.std.proofs.lemmas.Int.{to_z-of_z}
-use Rattle.scroll.proofs.SignedWriteLemmas.{signed_written_reads, signed_read_is_written}
+use Rattle.scroll.proofs.lemmas.leb128.SignedWriteLemmas.{signed_written_reads, signed_read_is_written}
 use Rattle.scroll.proofs.leb128.signed.Sleb128TryIntoCtxUnit.try_into_ctx.Goals as goal
 
 pub returns-clause-reads : goal.returns-clause-reads

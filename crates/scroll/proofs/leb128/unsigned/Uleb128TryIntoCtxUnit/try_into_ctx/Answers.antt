@@ -1,4 +1,4 @@
-use Rattle.scroll.proofs.LebWriteLemmas.{written_reads, read_is_written}
+use Rattle.scroll.proofs.lemmas.leb128.LebWriteLemmas.{written_reads, read_is_written}
 use Rattle.scroll.proofs.leb128.unsigned.Uleb128TryIntoCtxUnit.try_into_ctx.Goals as goal
 
 pub returns-clause-reads : goal.returns-clause-reads

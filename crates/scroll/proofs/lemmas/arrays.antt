@@ -1,0 +1,5 @@
+pub mod ArrayLeaves
+pub mod ArrayLemmas
+pub mod ArrayViews
+pub mod BulkLemmas
+pub mod SlotLemmas

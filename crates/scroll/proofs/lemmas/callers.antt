@@ -1,0 +1,5 @@
+pub mod Cursors
+pub mod Leaves
+pub mod RoundTrips
+pub mod SpanLemmas
+pub mod OneAnswer

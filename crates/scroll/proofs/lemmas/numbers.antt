@@ -1,0 +1,5 @@
+pub mod FrontLemmas
+pub mod LocalLemmas
+pub mod NumberLemmas
+pub mod ReverseLemmas
+pub mod SumLemmas

@@ -1,0 +1,4 @@
+pub mod CStringLemmas
+pub mod CStringReadLemmas
+pub mod TextLemmas
+pub mod TextReadLemmas
