@@ -18,6 +18,7 @@
 #
 # The exit status is 0 where all was built and both sides agree on every sum and every byte that they write.
 set -u
+export PYTHONDONTWRITEBYTECODE=1
 
 top=$(CDPATH='' cd -- "$(dirname -- "$0")/.." && pwd) || exit 1
 here=$top/bench
