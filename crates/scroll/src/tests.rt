@@ -15,5 +15,6 @@ mod run_kinds;
 mod runs;
 mod search;
 mod slices;
+mod stream_sizes;
 mod streams;
 mod texts;
