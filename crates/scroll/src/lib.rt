@@ -17,7 +17,7 @@
 //!
 //! [`Pread`] and [`Pwrite`] test for room, and refuse by an error where there is none. [`Cread`] and [`Cwrite`] have no
 //! refusals: the caller makes sure of room, and the prover checks it. What can be read and written are the types that
-//! implement the traits of [`ctx`]: the ten whole numbers, texts, byte slices, C strings, numbers in LEB128, arrays, and
+//! implement the traits of [`ctx`]: the ten whole numbers, `f32` and `f64`, texts, byte slices, C strings, numbers in LEB128, arrays, and
 //! types of one's own. [`runner`] answers lists of such reads and writes, and [`laws`] has laws of the definitions that all
 //! contracts cite.
 #![tactic(auto)]

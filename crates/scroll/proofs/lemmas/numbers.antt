@@ -1,3 +1,4 @@
+pub mod FloatLemmas
 pub mod FrontLemmas
 pub mod LocalLemmas
 pub mod NumberLemmas
