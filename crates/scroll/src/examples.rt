@@ -14,6 +14,7 @@ mod own_type;
 mod points;
 mod readme_data;
 mod readme_name;
+mod signed_fields;
 mod sized_fields;
 mod stream;
 mod stream_fields;
