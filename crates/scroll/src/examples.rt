@@ -10,6 +10,7 @@ mod generic_arrays;
 mod named;
 mod overview;
 mod own_error;
+mod own_type;
 mod points;
 mod readme_data;
 mod readme_name;

@@ -43,7 +43,7 @@ mod source;
 mod tests;
 
 pub use crate::endian::{BE, Endian, LE, NATIVE, NETWORK};
-pub use crate::error::{Error, Result};
+pub use crate::error::{Error, Result, check_room};
 pub use crate::greater::{Cread, Cwrite};
 pub use crate::leb128::{
     Sleb128, Uleb128, plain_sleb, plain_uleb, sleb_block, sleb_loads, uleb_block, uleb_loads,

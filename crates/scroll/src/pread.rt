@@ -1,7 +1,7 @@
 // Reads at a place, and with a cursor.
 ghost use Rattle.std.specs.Prelude.{◌≡◌, ℕ, List, IfOk, IfErr, OnOk, OnErr};
 ghost use Rattle.scroll.specs.Reads.{ReadsSome, ReadsBetween, ReadsAll, RefusesAt, StopsAt, ByDefault};
-ghost use Rattle.scroll.specs.declared.error.Error.TheVariants.{BadOffset};
+ghost use Rattle.scroll.specs.Errors.{PastEnd};
 
 use crate::error::Error;
 use crate::source::{ReadFrom, Source};
@@ -119,7 +119,7 @@ pub trait Pread<'a, Ctx: Copy, E>: Source {
 }
 
 impl<'a, Ctx: Copy, E: From<Error>> Pread<'a, Ctx, E> for &'a [u8] {
-    ghost past_end = { λ offset e. E.from_gives (BadOffset offset) e };
+    ghost past_end = { PastEnd E.from_gives };
 
     #[inline(always)]
     fn pread<N: ReadFrom<Self, Ctx, Error = E>>(self, offset: usize) -> Result<N, E>

@@ -2,7 +2,7 @@
 ghost use Rattle.std.specs.Prelude.{◌≡◌, ℕ, ◌+◌, List, length, IfOk, IfErr, OnErr};
 ghost use Rattle.scroll.specs.Reads.{ByDefault};
 ghost use Rattle.scroll.specs.Writes.{WritesAt, RefusesWriteAt};
-ghost use Rattle.scroll.specs.declared.error.Error.TheVariants.{BadOffset};
+ghost use Rattle.scroll.specs.Errors.{PastEnd};
 
 use crate::ctx::TryIntoCtx;
 use crate::error::Error;
@@ -118,7 +118,7 @@ impl<'d, Ctx: Copy, E: From<Error>> Pwrite<Ctx, E> for &'d mut [u8] {
 
     ghost same_target = { λ old new. new.ghost_name ≡ old.ghost_name };
 
-    ghost past_end = { λ offset e. E.from_gives (BadOffset offset) e };
+    ghost past_end = { PastEnd E.from_gives };
 
     #[inline(always)]
     fn pwrite<N: TryIntoCtx<Ctx, Error = E> + Drop>(

@@ -9,7 +9,6 @@ mod laws;
 mod leb128;
 mod leb128_writes;
 mod numbers;
-mod own_type;
 mod printed;
 mod required;
 mod run_kinds;

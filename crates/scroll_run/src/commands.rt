@@ -6,8 +6,8 @@ ghost use Rattle.scroll_run.specs.Words.{words_of};
 ghost use Rattle.scroll_run.specs.declared.commands.Verb.{Verb};
 
 use crate::kinds::parse_kind;
+use crate::puts::{OwnedPut, parse_put};
 use crate::words::{parse_usize, split};
-use crate::written::{Written, parse_written};
 use scroll::runner::{Command, Kind, Place};
 use std::alloc::{AllocError, Global};
 
@@ -17,7 +17,7 @@ pub enum CommandLine {
     /// A read of a kind at a place.
     Read(Place, Kind),
     /// A write at a place.
-    Write(Place, Written),
+    Write(Place, OwnedPut),
 }
 
 // What a command does.
@@ -133,7 +133,7 @@ fn parse_write(
 ) -> Result<Option<CommandLine>, AllocError>
     ensures { let texts = map (λ word. word.now) words.now in IfOk result (FindsCommand (SpellsWrite place texts)) }
 {
-    match parse_written(alloc, words)? {
+    match parse_put(alloc, words)? {
         Some(written) => Ok(Some(CommandLine::Write(place, written))),
         None => Ok(None),
     }

@@ -4,7 +4,7 @@ ghost use Rattle.std.specs.List.{slice_split};
 ghost use Rattle.std.specs.Str.Parse.{IsNumeral, digits_value};
 ghost use Rattle.scroll.specs.declared.endian.Endian.{Endian};
 ghost use Rattle.scroll.specs.declared.runner.Width.{Width};
-ghost use Rattle.scroll_run.specs.Words.{SpellsByte, SpellsBytes, SpellsSigned, name_word, order_word, width_word};
+ghost use Rattle.scroll_run.specs.Words.{NamesNoOther, SpellsByte, SpellsBytes, SpellsSigned, name_word, order_word, width_word};
 ghost use Rattle.scroll_run.specs.declared.words.Name.{Name};
 
 use hex::{FromHex, FromHexError};
@@ -111,70 +111,25 @@ pub fn parse_byte(word: &[u8]) -> Option<u8>
 pub fn parse_name(word: &[u8]) -> Option<Name>
     ensures { MatchOption result ((name : Name) → ¬ (word.now ≡ name_word name)) (λ name. word.now ≡ name_word name) }
 {
-    let number = parse_number_name(word);
-    let texts = number.or(parse_text_name(word));
-    let slices = texts.or(parse_slice_name(word));
-    let c_strings = slices.or(parse_c_string_name(word));
-    let leb128 = c_strings.or(parse_leb128_name(word));
-    leb128.or(parse_array_name(word))
+    match parse_other_name(word) {
+        Some(name) => Some(name),
+        None => Some(Name::Number(parse_width(word)?)),
+    }
 }
 
-// A number of a type, where a word names one.
-fn parse_number_name(word: &[u8]) -> Option<Name>
-    ensures { MatchOption result ((width : Width) → ¬ (word.now ≡ width_word width)) (λ name. word.now ≡ name_word name) }
-{
-    Some(Name::Number(parse_width(word)?))
-}
-
-// A text or two, where a word names them.
-fn parse_text_name(word: &[u8]) -> Option<Name>
-    ensures { MatchOption result ((word.now ≢ codes "str") × (word.now ≢ codes "strx2")) (λ name. word.now ≡ name_word name) }
+// What a word names, where that is not one number.
+fn parse_other_name(word: &[u8]) -> Option<Name>
+    ensures { MatchOption result (NamesNoOther word.now) (λ name. word.now ≡ name_word name) }
 {
     match word {
         b"str" => Some(Name::Text),
         b"strx2" => Some(Name::Textx2),
-        _ => None,
-    }
-}
-
-// A slice or two, where a word names them.
-fn parse_slice_name(word: &[u8]) -> Option<Name>
-    ensures { MatchOption result ((word.now ≢ codes "bytes") × (word.now ≢ codes "bytesx2")) (λ name. word.now ≡ name_word name) }
-{
-    match word {
         b"bytes" => Some(Name::Bytes),
         b"bytesx2" => Some(Name::Bytesx2),
-        _ => None,
-    }
-}
-
-// A C string, where a word names one.
-fn parse_c_string_name(word: &[u8]) -> Option<Name>
-    ensures { MatchOption result ((word.now ≢ codes "cstr") × (word.now ≢ codes "cstring")) (λ name. word.now ≡ name_word name) }
-{
-    match word {
         b"cstr" => Some(Name::CStr),
         b"cstring" => Some(Name::CString),
-        _ => None,
-    }
-}
-
-// A number in LEB128, where a word names one.
-fn parse_leb128_name(word: &[u8]) -> Option<Name>
-    ensures { MatchOption result ((word.now ≢ codes "uleb") × (word.now ≢ codes "sleb")) (λ name. word.now ≡ name_word name) }
-{
-    match word {
         b"uleb" => Some(Name::Uleb),
         b"sleb" => Some(Name::Sleb),
-        _ => None,
-    }
-}
-
-// An array of numbers, where a word names one.
-fn parse_array_name(word: &[u8]) -> Option<Name>
-    ensures { MatchOption result ((word.now ≢ codes "u8x0") × (word.now ≢ codes "u16x3")) (λ name. word.now ≡ name_word name) }
-{
-    match word {
         b"u8x0" => Some(Name::U8x0),
         b"u16x3" => Some(Name::U16x3),
         _ => None,

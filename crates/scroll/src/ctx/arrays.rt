@@ -6,7 +6,7 @@ ghost use Rattle.scroll.specs.Arrays.{ReadsArray, RefusesArray, WritesArray, Lea
 ghost use Rattle.scroll.specs.lemmas.Sizes.{ReadsArray-bounded, WritesArray-bounded};
 ghost use Rattle.scroll.specs.lemmas.Frames.{WritesArray-keeps};
 ghost use Rattle.scroll.specs.Writes.{WritesAt, LeavesAt};
-ghost use Rattle.scroll.specs.declared.error.Error.TheVariants.{BadOffset};
+ghost use Rattle.scroll.specs.Errors.{PastEnd};
 
 use crate::ctx::{SizeWith, TryFromCtx, TryIntoCtx};
 use crate::error::{Error, Result};
@@ -105,7 +105,7 @@ impl<
 
     ghost reads = { λ ctx. ReadsArray (T.reads ctx) N };
 
-    ghost refuses = { λ ctx source e. SlotsFit T.row N.row → RefusesArray (T.reads ctx) (T.refuses ctx) (λ offset e. E.from_gives (BadOffset offset) e) N source e };
+    ghost refuses = { λ ctx source e. SlotsFit T.row N.row → RefusesArray (T.reads ctx) (T.refuses ctx) (PastEnd E.from_gives) N source e };
 
     ghost reads_bounded = { λ ctx. ReadsArray-bounded (T.reads ctx) (T.reads_bounded ctx) N };
 

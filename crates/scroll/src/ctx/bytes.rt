@@ -5,9 +5,8 @@ ghost use Rattle.scroll.specs.Bytes.{WritesFront, LeavesShort};
 ghost use Rattle.scroll.specs.Texts.{ReadsSlice, RefusesSlice};
 ghost use Rattle.scroll.specs.lemmas.Frames.{WritesFront-keeps};
 
-use super::numbers::check_room;
 use crate::ctx::{TryFromCtx, TryIntoCtx};
-use crate::error::{Error, Result};
+use crate::error::{Error, Result, check_room};
 
 /// The first bytes of the source, as many as the context says. Nothing is copied: the slice borrows the source.
 ///

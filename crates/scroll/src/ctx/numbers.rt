@@ -1,20 +1,20 @@
-// Whole numbers. A type says its width, its value and its bytes, and the implementations of all traits stand on that.
-ghost use Rattle.std.specs.Prelude.{◌≡◌, ◌≤◌, ◌<◌, ◌++◌, ℕ, List, length, take, drop, OnOk, IfErr};
+// Numbers. A type says its width, its value and its bytes, and the implementations of all traits stand on that.
+ghost use Rattle.std.specs.Prelude.{◌≡◌, ◌≤◌, ◌++◌, ℕ, List, length, take, drop};
 ghost use Rattle.std.proofs.Common.{rules};
 ghost use Rattle.scroll.specs.Bytes.{ReadsFront, RefusesShort, LeavesShort};
 ghost use Rattle.scroll.specs.Numbers.{number_bytes, WritesNumber};
 ghost use Rattle.scroll.specs.lemmas.Frames.{number_bytes-keeps, WritesNumber-keeps};
 ghost use Rattle.scroll.specs.declared.endian.Endian.{Endian};
-ghost use Rattle.scroll.specs.declared.error.Error.TheVariants.{TooBig};
 
 use crate::ctx::{FromCtx, IntoCtx, SizeWith, TryFromCtx, TryIntoCtx};
 use crate::endian::Endian;
-use crate::error::{Error, Result};
+use crate::error::{Error, Result, check_room};
 
+mod floats;
 mod signed;
 mod unsigned;
 
-/// What is written as the bytes of a whole number: the number, or a reference to it.
+/// What is written as the bytes of a number: the number, or a reference to it.
 pub trait Written: Copy {
     // How many bytes it has.
     ghost width: { ℕ };
@@ -32,7 +32,7 @@ pub trait Written: Copy {
         ensures { dst.new ≡ number_bytes order width (code self) ++ drop width dst.old };
 }
 
-/// A whole number of a fixed width.
+/// A number of a fixed width: a whole number, or a float, which is written as the whole number of its bits.
 pub trait Number: Written {
     // The number at the front of a source.
     ghost value: { Endian → List ℕ → Self };
@@ -126,18 +126,6 @@ impl<N: Number> SizeWith<()> for N {
     fn size_with(_ctx: &()) -> usize {
         N::width()
     }
-}
-
-// Tells whether `len` bytes are enough for a value of `width` bytes.
-#[inline]
-pub(super) fn check_room(width: usize, len: usize) -> Result<()>
-    ensures enough { OnOk result (width ≤ len) }
-    ensures short { IfErr result (λ e. (len < width) × (e ≡ TooBig width len)) }
-{
-    if len < width {
-        return Err(Error::TooBig { size: width, len });
-    }
-    Ok(())
 }
 
 // The bytes at the front of a source.

@@ -7,9 +7,8 @@ ghost use Rattle.scroll.specs.Texts.{first_place, text_len, wanted_len, HasDelim
 ghost use Rattle.scroll.specs.lemmas.Sizes.{ReadsText-bounded};
 ghost use Rattle.scroll.specs.lemmas.Frames.{WritesFront-keeps};
 
-use super::numbers::check_room;
 use crate::ctx::{StrCtx, TryFromCtx, TryIntoCtx};
-use crate::error::{Error, Result};
+use crate::error::{Error, Result, check_room};
 use crate::search::{first_place, text_before};
 
 /// A text, by where it ends. Nothing is copied: the text borrows the source.

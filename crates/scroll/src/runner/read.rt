@@ -4,9 +4,9 @@ ghost use Rattle.std.specs.String.{string_bytes};
 ghost use Rattle.scroll.specs.Runs.{Reads, Refuses, ReadsHere, RefusesHere, ReadStep, UnlessNoMemory, ReadsWide, is_signed, bytes_in};
 ghost use Rattle.scroll.specs.Arrays.{ReadsArray, RefusesArray};
 ghost use Rattle.scroll.specs.Bytes.{RefusesShort};
-ghost use Rattle.scroll.specs.Errors.{IsBadOffset};
+ghost use Rattle.scroll.specs.Errors.{IsBadOffset, PastEnd};
 ghost use Rattle.scroll.specs.Texts.{ReadsText, RefusesText};
-ghost use Rattle.scroll.specs.declared.error.Error.TheVariants.{BadOffset, NoMemory};
+ghost use Rattle.scroll.specs.declared.error.Error.TheVariants.{NoMemory};
 
 use super::{Answer, Kind, Place, Value, Width};
 use crate::cstr::{CStr, CString};
@@ -19,7 +19,7 @@ use std::alloc::Global;
 use std::result;
 
 // Answers a read. A cursor that it uses moves by the size of what was read, once the answer's value stands.
-pub fn read(
+pub(crate) fn read(
     alloc: Global,
     buffer: &[u8],
     cursor: &mut usize,
@@ -158,7 +158,7 @@ fn read_at<'b, Ctx: Copy, E: From<Error>, N: ReadFrom<&'b [u8], Ctx, Error = E>>
     ctx: Ctx,
 ) -> result::Result<N, E>
     ensures read { IfOk result (λ x. ReadsHere (N.reads ctx) buffer.now cursor.old place x cursor.new) }
-    ensures refused { IfErr result (λ e. RefusesHere (N.refuses ctx) (λ o e. E.from_gives (BadOffset o) e) buffer.now cursor.old place e cursor.new) }
+    ensures refused { IfErr result (λ e. RefusesHere (N.refuses ctx) (PastEnd E.from_gives) buffer.now cursor.old place e cursor.new) }
 {
     match place {
         Place::At(offset) => buffer.pread_with(offset, ctx),

@@ -12,7 +12,7 @@ use crate::error::{Error, Result};
 use crate::slice;
 
 // Answers a write, and moves a cursor that it uses by the size of what was written.
-pub fn write(buffer: &mut [u8], cursor: &mut usize, place: Place, put: &Put<'_>) -> Answer
+pub(crate) fn write(buffer: &mut [u8], cursor: &mut usize, place: Place, put: &Put<'_>) -> Answer
     ensures answer { WriteStep buffer.old cursor.old place (leaves_of put.now) result cursor.new }
     ensures after { buffer.new ≡ seen buffer.old (pieces (length buffer.old) (place_of place cursor.old) (leaves_of put.now)) }
 {

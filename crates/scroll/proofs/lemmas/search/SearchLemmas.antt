@@ -1,6 +1,6 @@
 -- A search block by block: what was seen, and where the first place is.
 use Rattle.std.proofs.Common.{◌≡◌, ℕ, zero, suc, ◌+◌, ◌-◌, ◌*◌, ◌<◌, ◌≤◌, inl, inr, Bool, true, false, nat_lt, List, [], length, take, drop, get_or, Some, None, position, unwrap_or, refl, sym, ap, ◌∙◌, arith, length-drop, length-take, get_or-drop, get_or-take}
-use Rattle.std.proofs.Math.Nat.{add-mul}
+use Rattle.std.proofs.Math.Nat.{add-mul, mul-le-mul_right}
 use Rattle.std.proofs.lemmas.List.{drop-drop}
 use Rattle.std.proofs.lemmas.List.Sums.{position_or_len_is, fails_before_first, passes_at_first}
 use Rattle.std.proofs.lemmas.Bool.{cases_lt, lt-ltb, le-ltb}
@@ -15,36 +15,27 @@ block_at n (suc m) xs (suc k) h =
     block_at n m (drop n xs) k (omega arith) ∙ ap (take n) (drop-drop (k * n) n xs) ∙ ap (λ j. take n (drop j xs)) (sym e)
 
 -- t is the window of s that begins at place n
-pub record Stands (s : List ℕ) (n : ℕ) (t : List ℕ) : Type 0 where
+pub record IsWindow (s : List ℕ) (n : ℕ) (t : List ℕ) : Type 0 where
   pub within : n + length t ≤ length s
   pub same : (j : ℕ) → j < length t → get_or t j 0 ≡ get_or s (n + j) 0
 
-pub block_stands : (s : List ℕ) (m k : ℕ) (t : List ℕ) → m * 8 ≤ length s → k < m → t ≡ get_or (first_chunks 8 m s) k [] → Stands s (k * 8) t × (length t ≡ 8)
-block_stands s m k t room h e =
-    let is : t ≡ take 8 (drop (k * 8) s) = e ∙ block_at 8 m s k h in
-    let left = length-drop (k * 8) s in
-    let len : length t ≡ 8 = ap length is ∙ omega (arith, left, length-take 8 (drop (k * 8) s)) in (
+-- a block of the first m blocks of w bytes
+pub block_is_window : (w : ℕ) (s : List ℕ) (m k : ℕ) (t : List ℕ) → m * w ≤ length s → k < m → t ≡ get_or (first_chunks w m s) k [] → IsWindow s (k * w) t × (length t ≡ w)
+block_is_window w s m k t room h e =
+    let is : t ≡ take w (drop (k * w) s) = e ∙ block_at w m s k h in
+    let end : k * w + w ≤ m * w = let more = mul-le-mul_right w (let o : k + 1 ≤ m = omega (arith, h) in o) in omega (arith, more, add-mul k 1 w) in
+    let left = length-drop (k * w) s in
+    let len : length t ≡ w = ap length is ∙ omega (arith, left, room, end, length-take w (drop (k * w) s)) in (
       record {
-        within = omega (arith, len);
-        same = λ j l. ap (λ x. get_or x j 0) is ∙ get_or-take 8 (drop (k * 8) s) j 0 (omega (arith, len)) ∙ get_or-drop (k * 8) s j 0;
+        within = omega (arith, len, room, end);
+        same = λ j l. ap (λ x. get_or x j 0) is ∙ get_or-take w (drop (k * w) s) j 0 (omega (arith, l, len)) ∙ get_or-drop (k * w) s j 0;
       },
       len,
     )
 
-pub wide_block_stands : (s : List ℕ) (m k : ℕ) (t : List ℕ) → m * 32 ≤ length s → k < m → t ≡ get_or (first_chunks 32 m s) k [] → Stands s (k * 32) t × (length t ≡ 32)
-wide_block_stands s m k t room h e =
-    let is : t ≡ take 32 (drop (k * 32) s) = e ∙ block_at 32 m s k h in
-    let left = length-drop (k * 32) s in
-    let len : length t ≡ 32 = ap length is ∙ omega (arith, left, length-take 32 (drop (k * 32) s)) in (
-      record {
-        within = omega (arith, len);
-        same = λ j l. ap (λ x. get_or x j 0) is ∙ get_or-take 32 (drop (k * 32) s) j 0 (omega (arith, len)) ∙ get_or-drop (k * 32) s j 0;
-      },
-      len,
-    )
-
-pub rest_stands : (s : List ℕ) (n : ℕ) (t : List ℕ) → n ≤ length s → t ≡ drop n s → Stands s n t × (n + length t ≡ length s)
-rest_stands s n t h e =
+-- and what is left after them
+pub rest_is_window : (s : List ℕ) (n : ℕ) (t : List ℕ) → n ≤ length s → t ≡ drop n s → IsWindow s n t × (n + length t ≡ length s)
+rest_is_window s n t h e =
     let len : length t ≡ length s - n = ap length e ∙ length-drop n s in (
       record {
         within = omega (arith, len);
@@ -76,7 +67,7 @@ none_cases p t e = elim (cases_lt (position_or_len p t) (length t)) [
   | inr past ↦ past
 ]
 
-pub seen_more : (p : ℕ → Bool) (s : List ℕ) (n : ℕ) (t : List ℕ) → Stands s n t → Nowhere p s n → position p t ≡ None → Nowhere p s (n + length t)
+pub seen_more : (p : ℕ → Bool) (s : List ℕ) (n : ℕ) (t : List ℕ) → IsWindow s n t → Nowhere p s n → position p t ≡ None → Nowhere p s (n + length t)
 seen_more p s n t at seen e i h = elim (cases_lt i n) [
   | inl before ↦ seen i before
   | inr behind ↦
@@ -88,7 +79,7 @@ seen_more p s n t at seen e i h = elim (cases_lt i n) [
       ap p (sym equal) ∙ fails
 ]
 
-pub found_at : (p : ℕ → Bool) (s : List ℕ) (n : ℕ) (t : List ℕ) (i : ℕ) → Stands s n t → Nowhere p s n → position p t ≡ Some i → (n + i ≡ position_or_len p s) × (n + i < length s)
+pub found_at : (p : ℕ → Bool) (s : List ℕ) (n : ℕ) (t : List ℕ) (i : ℕ) → IsWindow s n t → Nowhere p s n → position p t ≡ Some i → (n + i ≡ position_or_len p s) × (n + i < length s)
 found_at p s n t i at seen e =
     let found = position_cases p t i e in
     let inside : i < length t = omega (arith, found.0, found.1) in
@@ -107,7 +98,7 @@ found_at p s n t i at seen e =
 pub found_nowhere : (p : ℕ → Bool) (s : List ℕ) → Nowhere p s (length s) → length s ≡ position_or_len p s
 found_nowhere p s seen = sym (position_or_len_is p s (length s) 0 (omega arith) seen (λ h. absurd (omega arith)))
 
-pub found_in_rest : (p : ℕ → Bool) (s : List ℕ) (n : ℕ) (t : List ℕ) (r : ℕ) → Stands s n t × (n + length t ≡ length s) → Nowhere p s n → r ≡ position_or_len p t → r ≤ length t → n + r ≡ position_or_len p s
+pub found_in_rest : (p : ℕ → Bool) (s : List ℕ) (n : ℕ) (t : List ℕ) (r : ℕ) → IsWindow s n t × (n + length t ≡ length s) → Nowhere p s n → r ≡ position_or_len p t → r ≤ length t → n + r ≡ position_or_len p s
 found_in_rest p s n t r at seen e h =
     let same = at.0.same in
     let before : Nowhere p s (n + r) = λ k l. elim (cases_lt k n) [

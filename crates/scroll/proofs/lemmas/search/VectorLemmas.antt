@@ -1,7 +1,7 @@
 -- Masks of a vector's lanes.
 use Rattle.std.proofs.Common.{◌≡◌, ℕ, ◌+◌, ◌*◌, ◌%◌, ◌^◌, ◌<◌, ◌≤◌, inl, inr, Bool, true, false, cond, eqb, leb, nat_le, ◌==◌, ◌||◌, List, [], ◌∷◌, map, length, replicate, bit_or, Some, None, position, refl, sym, ap, ◌∙◌, arith, w8}
 use Rattle.std.proofs.lemmas.Nat.{or_block}
-use Rattle.std.proofs.lemmas.Simd.{bitmask_splat, leading_from_mask_l, trailing_mask_l, tops_compared, mask_l-mod}
+use Rattle.std.proofs.lemmas.Simd.{bitmask_splat, leading_from_mask_l, trailing_mask_l, tops_compared, mask_l-mod, zip2_splat_left}
 use Rattle.std.proofs.lemmas.Bool.{cases_lt, cases_Bool}
 use Rattle.std.proofs.lemmas.List.{length-map}
 use Rattle.std.specs.Int.Count.{count_trailing_zeros}
@@ -54,16 +54,12 @@ mask_some p bs w l e h = let f = mask_place p bs w (omega arith) e h in position
 pub mask_inside : (p : ℕ → Bool) (bs : List ℕ) (w : ℕ) → length bs ≡ 32 → w ≡ mask_l (map p bs) → (w ≡ 0 → ⊥) → count_trailing_zeros 64 w < 32
 mask_inside p bs w l e h = let f = mask_place p bs w (omega arith) e h in omega (arith, f.0, f.1)
 
-splat_zip2 : {Z : Type 0} (f : ℕ → ℕ → Z) (x : ℕ) (ys : List ℕ) → zip2 f (replicate (length ys) x) ys ≡ map (f x) ys
-splat_zip2 f x [] = refl
-splat_zip2 f x (y ∷ ys) = ap (λ rest. f x y ∷ rest) (splat_zip2 f x ys)
-
 pub place_mask : (d : ℕ) (bs : List ℕ) → length bs ≡ 32 → mask_l (map (top 7) (zip2 (λ a b. cond (eqb a b) 255 0) bs (replicate 32 d))) % 2 ^ 64 ≡ mask_l (map (λ b. b == d) bs)
 place_mask d bs l = bitmask_splat w8 eqb bs 32 d l (omega arith)
 
 wide_mask : (bs : List ℕ) → length bs ≡ 32 → mask_l (map (top 7) (zip2 (λ a b. cond (leb a b) 255 0) (replicate 32 128) bs)) % 2 ^ 64 ≡ mask_l (map (nat_le 128) bs)
 wide_mask bs l =
-    ap (λ ms. mask_l ms % 2 ^ 64) (tops_compared w8 leb (replicate 32 128) bs ∙ ap (λ m. zip2 leb (replicate m 128) bs) (sym l) ∙ splat_zip2 leb 128 bs)
+    ap (λ ms. mask_l ms % 2 ^ 64) (tops_compared w8 leb (replicate 32 128) bs ∙ zip2_splat_left leb 128 32 bs l)
     ∙ mask_l-mod (map (nat_le 128) bs) 64 (omega (arith, length-map bs (nat_le 128)))
 
 pub stop_mask : (d : ℕ) (bs : List ℕ) → length bs ≡ 32
