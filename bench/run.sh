@@ -18,6 +18,7 @@
 #
 # The exit status is 0 where all was built and both sides agree on every sum and every byte that they write.
 set -u
+export PYTHONDONTWRITEBYTECODE=1
 
 top=$(CDPATH='' cd -- "$(dirname -- "$0")/.." && pwd) || exit 1
 here=$top/bench
@@ -50,7 +51,7 @@ if [ $# -gt 0 ]; then
 else
     sets=
     for set in $all; do
-        [ "$set" = floats ] && ! has_floats || sets="$sets $set"
+        [ "$set" = floats ] && ! has_floats || sets="${sets:+$sets }$set"
     done
 fi
 
@@ -111,7 +112,7 @@ build_programs() {
     fi
     sed "s|@SCROLL@|$crate|" "$here/Cargo.toml.in" >"$side/Cargo.toml" || exit 1
     cd "$side" || exit 1
-    features=$(echo $sets | tr ' ' ',')
+    features=$(echo "$sets" | tr ' ' ',')
     export LOOPS="$loops/out" RUSTFLAGS='-C target-cpu=x86-64-v2' CARGO_TARGET_DIR="$side/target"
     for shift in 0 16 32 48; do
         export SHIFT="$shift"
@@ -127,6 +128,7 @@ make_sample() {
     cp "$here/sample.c" "$here/sample.h" "$room/" || exit 1
     flags='-g -gdwarf-5 -O2 -ffunction-sections -c sample.c -o sample.o'
     # (gcc writes views between the lists of locations, where it is not told otherwise)
+    # shellcheck disable=SC2086 # words
     cc -gno-variable-location-views $flags 2>"$room/said" || quietly cc $flags
 }
 

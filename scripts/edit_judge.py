@@ -88,12 +88,13 @@ class Judge:
     tries: Dict[str, int] = field(default_factory=dict)
 
     def batches(self, edits: List[Edit]) -> List[List[Edit]]:
-        """Parts edits into batches, in each of which they stand in functions of different names or files."""
-        layers: List[Tuple[List[Edit], Set[Tuple[str, str]]]] = []
+        """Parts edits into batches, in each of which a message can be of one edit alone."""
+        layers: List[Tuple[List[Edit], Set[Tuple[str, ...]]]] = []
         alone = []
         for edit in sorted(edits, key=lambda it: (it.pairs[0].file, it.name)):
-            keys = {(it.file, it.name) for it in self.texts.functions(edit)}
-            if self.tries.get(edit.name, 0) > 1 or any(not name for _, name in keys):
+            functions = self.texts.functions(edit)
+            keys = {self.key(it) for it in functions}
+            if self.tries.get(edit.name, 0) > 1 or any(not it.name for it in functions):
                 alone.append([edit])
                 continue
             layer = next((it for it in layers if not it[1] & keys), None)
@@ -107,6 +108,11 @@ class Judge:
             count = -(-len(layer_edits) // MOST)
             parted += [layer_edits[len(layer_edits) * i // count : len(layer_edits) * (i + 1) // count] for i in range(count)]
         return parted + alone
+
+    def key(self, function: Function) -> Tuple[str, ...]:
+        """What the functions of a batch differ in: the name, in a file with answers for a function of that name, or the line."""
+        answers = (self.crate / "proofs" / module_of(function.file)).glob(f"**/{function.name}/*.antt")
+        return (function.file, function.name, "" if any(answers) else str(function.first))
 
     def judge(self, batch: List[Edit], places: Dict[str, Set[Function]], said: Said) -> List[Edit]:
         """Judges the edits of a batch, and returns those that are to be tried again."""

@@ -1,9 +1,10 @@
 #!/usr/bin/env python3
 """Tries the edits of the crates: bugs in code, each of which the prover must refuse in the function in which it stands.
 
-    python3 scripts/edits.py [--self-test] [CRATE..]
+    python3 scripts/edits.py [--self-test] [CRATE|CRATE/EDIT..]
 
-CRATE names the crates whose edits are tried: all, where none is named. scripts/edit_files.py says what an edit is.
+All edits are tried, or those of the crates that are named and those that are named themselves. scripts/edit_files.py says
+what an edit is.
 
 A check of a crate says of each function whether it is proved. So one check tries a batch of edits, each in a function of its
 own, in a copy of the crate with what the tree's own checks kept. An edit
@@ -51,9 +52,12 @@ class Gate:
     base: Path
     count: int = 0
     running: "Set[subprocess.Popen[str]]" = field(default_factory=set)
+    is_ended: bool = False
 
     def run_rt(self, folder: Path, *words: str) -> Tuple[int, str]:
         """Runs `rt` in a folder, and returns its status and what it says."""
+        if self.is_ended:
+            raise InterruptedError
         how = {"stdin": subprocess.DEVNULL, "stdout": subprocess.PIPE, "stderr": subprocess.STDOUT}
         with subprocess.Popen(["rt", *words], cwd=folder, text=True, errors="replace", **how) as ran:
             self.running.add(ran)
@@ -63,9 +67,11 @@ class Gate:
 
     def end(self, *_: object) -> None:
         """Ends the checks that run, and the script. (`rt` ends what it started.)"""
+        self.is_ended = True
         for ran in list(self.running):
             ran.terminate()
-        shutil.rmtree(self.room, ignore_errors=True)
+        # (the threads that copy files end with this process)
+        subprocess.Popen(["sh", "-c", 'sleep 1; exec rm -rf "$0"', str(self.room)])
         os._exit(1)
 
     def copy(self, crate: str, to: Path) -> None:
@@ -171,17 +177,18 @@ def processor_seconds() -> float:
 def main() -> int:
     words = argparse.ArgumentParser(description="Tries the edits of the crates.")
     words.add_argument("--self-test", action="store_true", help="tries the judge itself")
-    words.add_argument("crates", nargs="*", metavar="CRATE")
+    words.add_argument("names", nargs="*", metavar="CRATE|CRATE/EDIT")
     given = words.parse_args()
     if given.self_test:
         from edits_test import self_test
 
         return self_test(count_workers())
-    crates = [TOP / "crates" / it for it in given.crates] or sorted(it.parent for it in TOP.glob("crates/*/must-fail"))
+    names = given.names or sorted(it.parent.name for it in TOP.glob("crates/*/must-fail"))
+    crates = [TOP / "crates" / it for it in sorted({it.partition("/")[0] for it in names})]
     workers = count_workers()
     start = time.time()
     failures: List[str] = []
-    edits = [edit for crate in crates for edit in read_edits(crate, failures)]
+    edits = [it for crate in crates for it in read_edits(crate, failures) if {it.crate, f"{it.crate}/{it.name}"} & {*names}]
     judges = {crate.name: Judge(crate, Texts(crate)) for crate in crates}
     with tempfile.TemporaryDirectory(prefix="edits-") as room:
         gate = prepare(crates, Path(room), workers)

@@ -31,7 +31,6 @@ pub fn bytes(len: usize) -> Vec<u8> {
 }
 
 /// What letters a text has.
-#[allow(dead_code)]
 #[derive(Clone, Copy, PartialEq)]
 pub enum Letters {
     /// Those of ASCII alone.
@@ -67,7 +66,6 @@ pub fn push_text(out: &mut Vec<u8>, len: usize, letters: Letters, random: &mut R
 }
 
 /// The unsigned number's shortest text.
-#[allow(dead_code)]
 pub fn push_uleb(out: &mut Vec<u8>, mut number: u64) {
     while number >= 0x80 {
         out.push(number as u8 | 0x80);
@@ -77,7 +75,6 @@ pub fn push_uleb(out: &mut Vec<u8>, mut number: u64) {
 }
 
 /// The signed number's shortest text.
-#[allow(dead_code)]
 pub fn push_sleb(out: &mut Vec<u8>, mut number: i64) {
     while !(-64..64).contains(&number) {
         out.push(number as u8 | 0x80);
@@ -87,7 +84,6 @@ pub fn push_sleb(out: &mut Vec<u8>, mut number: i64) {
 }
 
 /// How long the texts of numbers in LEB128 are.
-#[allow(dead_code)]
 #[derive(Clone, Copy)]
 pub enum Lengths {
     /// All of this length.
@@ -100,7 +96,6 @@ pub enum Lengths {
     Real,
 }
 
-#[allow(dead_code)]
 pub const LENGTHS: [(&str, Lengths); 13] = [
     ("1 byte", Lengths::All(1)),
     ("2 bytes", Lengths::All(2)),
@@ -117,7 +112,6 @@ pub const LENGTHS: [(&str, Lengths); 13] = [
     ("real mix", Lengths::Real),
 ];
 
-#[allow(dead_code)]
 impl Lengths {
     fn pick(self, random: &mut Random) -> u32 {
         match self {

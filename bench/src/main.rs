@@ -3,7 +3,10 @@
 //!
 //! Where the forms of a row disagree on what they return or write, it says so, and the exit status is 1.
 
+// (a set alone uses a part of these)
+#[allow(dead_code)]
 mod inputs;
+#[allow(dead_code)]
 mod timing;
 
 #[cfg(feature = "c_strings")]

@@ -45,7 +45,7 @@ pub struct Bench {
 }
 
 // A row takes at most this long, however many rounds are wanted.
-const MOST: Duration = Duration::from_millis(1500);
+const MOST: Duration = Duration::from_millis(800);
 
 impl Bench {
     /// As many rounds as the variable ROUNDS says, or 200.

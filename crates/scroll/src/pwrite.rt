@@ -40,8 +40,10 @@ pub trait Pwrite<Ctx: Copy, E> {
     ) -> Result<usize, E>
     where
         Ctx: Default,
-        ensures wrote { IfOk result (λ size. ByDefault Ctx.is_default (λ ctx. WritesAt (N.writes ctx n) (target self.old) offset (target self.new) size)) }
-        ensures refused { IfErr result (λ e. ByDefault Ctx.is_default (λ ctx. RefusesWriteAt (N.refuses ctx n) past_end (target self.old) offset (target self.new) e)) }
+        ensures wrote { IfOk result (λ size. ByDefault Ctx.is_default (λ ctx.
+            WritesAt (N.writes ctx n) (target self.old) offset (target self.new) size)) }
+        ensures refused { IfErr result (λ e. ByDefault Ctx.is_default (λ ctx. RefusesWriteAt
+            (N.refuses ctx n) past_end (target self.old) offset (target self.new) e)) }
         ensures len { length (target self.new) ≡ length (target self.old) }
         ensures same { same_target self.old self.new };
 
@@ -59,8 +61,10 @@ pub trait Pwrite<Ctx: Copy, E> {
         offset: usize,
         ctx: Ctx,
     ) -> Result<usize, E>
-        ensures wrote { IfOk result (WritesAt (N.writes ctx n) (target self.old) offset (target self.new)) }
-        ensures refused { IfErr result (RefusesWriteAt (N.refuses ctx n) past_end (target self.old) offset (target self.new)) }
+        ensures wrote { IfOk result (WritesAt (N.writes ctx n) (target self.old) offset
+            (target self.new)) }
+        ensures refused { IfErr result
+            (RefusesWriteAt (N.refuses ctx n) past_end (target self.old) offset (target self.new)) }
         ensures len { length (target self.new) ≡ length (target self.old) }
         ensures same { same_target self.old self.new };
 
@@ -81,8 +85,10 @@ pub trait Pwrite<Ctx: Copy, E> {
     ) -> Result<usize, E>
     where
         Ctx: Default,
-        ensures wrote { IfOk result (λ size. ByDefault Ctx.is_default (λ ctx. WritesAt (N.writes ctx n) (target self.old) offset.old (target self.new) size)) }
-        ensures refused { IfErr result (λ e. ByDefault Ctx.is_default (λ ctx. RefusesWriteAt (N.refuses ctx n) past_end (target self.old) offset.old (target self.new) e)) }
+        ensures wrote { IfOk result (λ size. ByDefault Ctx.is_default (λ ctx.
+            WritesAt (N.writes ctx n) (target self.old) offset.old (target self.new) size)) }
+        ensures refused { IfErr result (λ e. ByDefault Ctx.is_default (λ ctx. RefusesWriteAt
+            (N.refuses ctx n) past_end (target self.old) offset.old (target self.new) e)) }
         ensures moves { IfOk result (λ size. offset.new ≡ offset.old + size) }
         ensures stays { OnErr result (offset.new ≡ offset.old) }
         ensures len { length (target self.new) ≡ length (target self.old) }
@@ -105,8 +111,10 @@ pub trait Pwrite<Ctx: Copy, E> {
         offset: &mut usize,
         ctx: Ctx,
     ) -> Result<usize, E>
-        ensures wrote { IfOk result (WritesAt (N.writes ctx n) (target self.old) offset.old (target self.new)) }
-        ensures refused { IfErr result (RefusesWriteAt (N.refuses ctx n) past_end (target self.old) offset.old (target self.new)) }
+        ensures wrote { IfOk result (WritesAt (N.writes ctx n) (target self.old) offset.old
+            (target self.new)) }
+        ensures refused { IfErr result (RefusesWriteAt (N.refuses ctx n) past_end
+            (target self.old) offset.old (target self.new)) }
         ensures moves { IfOk result (λ size. offset.new ≡ offset.old + size) }
         ensures stays { OnErr result (offset.new ≡ offset.old) }
         ensures len { length (target self.new) ≡ length (target self.old) }

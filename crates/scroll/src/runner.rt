@@ -176,7 +176,8 @@ pub fn run(
 ) -> Result<()>
     ensures ran { OnOk result (IsRun buffer.old buffer.new cursor.old cursor.new commands.now answers.old.items answers.new.items) }
     ensures only_memory { IfErr result (λ e. e ≡ NoMemory) }
-    ensures front { OnErr result (IsFrontRun buffer.old buffer.new cursor.old cursor.new commands.now answers.old.items answers.new.items) }
+    ensures front { OnErr result
+        (IsFrontRun buffer.old buffer.new cursor.old cursor.new commands.now answers.old.items answers.new.items) }
 {
     for command in commands {
         if answers.reserve(1).is_err() {
@@ -195,7 +196,8 @@ fn step(
     cursor: &mut usize,
     command: &Command<'_>,
 ) -> Result<Answer>
-    ensures answered { IfOk result (λ answer. IsStep buffer.old buffer.new cursor.old command.now answer cursor.new) }
+    ensures answered { IfOk result (λ answer.
+        IsStep buffer.old buffer.new cursor.old command.now answer cursor.new) }
     ensures only_memory { IfErr result (λ e. e ≡ NoMemory) }
     ensures same { OnErr result (buffer.new ≡ buffer.old) }
     ensures stays { OnErr result (cursor.new ≡ cursor.old) }

@@ -70,7 +70,8 @@ fn copied(put: &Put<'static>) -> Put<'static>
 
 /// What is written, as words spell it.
 pub fn parse_put(alloc: Global, words: &[&[u8]]) -> Result<Option<OwnedPut>, AllocError>
-    ensures { let texts = map (λ word. word.now) words.now in IfOk result (FindsPut (SpellsPut texts)) }
+    ensures { let texts = map (λ word. word.now) words.now in
+        IfOk result (FindsPut (SpellsPut texts)) }
 {
     let Some((word, rest)) = words.split_first() else {
         return Ok(None);
@@ -87,7 +88,8 @@ fn parse_put_rest(
     name: Name,
     words: &[&[u8]],
 ) -> Result<Option<OwnedPut>, AllocError>
-    ensures { let texts = map (λ word. word.now) words.now in IfOk result (FindsPut (SpellPutRest name texts)) }
+    ensures { let texts = map (λ word. word.now) words.now in
+        IfOk result (FindsPut (SpellPutRest name texts)) }
 {
     match name {
         Name::Number(width) => Ok(parse_number_words(width, words)),
@@ -104,7 +106,8 @@ fn parse_put_rest(
 
 // A number of a type: a byte order and a value.
 fn parse_number_words(width: Width, words: &[&[u8]]) -> Option<OwnedPut>
-    ensures { let texts = map (λ word. word.now) words.now in FindsPut (SpellOrderedNumber width texts) result }
+    ensures { let texts = map (λ word. word.now) words.now in
+        FindsPut (SpellOrderedNumber width texts) result }
 {
     let [order, value] = words else {
         return None;
@@ -118,7 +121,8 @@ fn parse_number_words(width: Width, words: &[&[u8]]) -> Option<OwnedPut>
 
 // The number of a width that a word spells.
 fn parse_number_put(width: Width, order: Endian, word: &[u8]) -> Option<Put<'static>>
-    ensures { MatchOption result ((put : Put) → ¬ (SpellsValue width order word.now put)) (SpellsValue width order word.now) }
+    ensures { MatchOption result ((put : Put)
+        → ¬ (SpellsValue width order word.now put)) (SpellsValue width order word.now) }
 {
     match width {
         Width::U8 => Some(Put::U8(u8::try_from(parse_number(word)?).ok()?, order)),
@@ -136,7 +140,9 @@ fn parse_number_put(width: Width, order: Endian, word: &[u8]) -> Option<Put<'sta
 
 // The bytes that the one word spells.
 fn parse_last_bytes(alloc: Global, words: &[&[u8]]) -> Result<Option<Vec<u8>>, AllocError>
-    ensures { let texts = map (λ word. word.now) words.now in IfOk result (λ found. MatchOption found ((bytes : List ℕ) → ¬ (SpellLastBytes texts bytes)) (λ bytes. SpellLastBytes texts bytes.items)) }
+    ensures { let texts = map (λ word. word.now) words.now in
+        IfOk result (λ found. MatchOption found ((bytes : List ℕ)
+        → ¬ (SpellLastBytes texts bytes)) (λ bytes. SpellLastBytes texts bytes.items)) }
 {
     match words {
         [word] => parse_bytes(alloc, word),
@@ -146,7 +152,8 @@ fn parse_last_bytes(alloc: Global, words: &[&[u8]]) -> Result<Option<Vec<u8>>, A
 
 // A text.
 fn parse_text(alloc: Global, words: &[&[u8]]) -> Result<Option<OwnedPut>, AllocError>
-    ensures { let texts = map (λ word. word.now) words.now in IfOk result (FindsPut (SpellPutRest name.Text texts)) }
+    ensures { let texts = map (λ word. word.now) words.now in
+        IfOk result (FindsPut (SpellPutRest name.Text texts)) }
 {
     let Some(bytes) = parse_last_bytes(alloc, words)? else {
         return Ok(None);
@@ -159,7 +166,8 @@ fn parse_text(alloc: Global, words: &[&[u8]]) -> Result<Option<OwnedPut>, AllocE
 
 // A slice of bytes.
 fn parse_slice(alloc: Global, words: &[&[u8]]) -> Result<Option<OwnedPut>, AllocError>
-    ensures { let texts = map (λ word. word.now) words.now in IfOk result (FindsPut (SpellPutRest name.Bytes texts)) }
+    ensures { let texts = map (λ word. word.now) words.now in
+        IfOk result (FindsPut (SpellPutRest name.Bytes texts)) }
 {
     match parse_last_bytes(alloc, words)? {
         Some(bytes) => Ok(Some(OwnedPut::Bytes(bytes))),
@@ -169,7 +177,8 @@ fn parse_slice(alloc: Global, words: &[&[u8]]) -> Result<Option<OwnedPut>, Alloc
 
 // A C string, by its text.
 fn parse_c_string(alloc: Global, words: &[&[u8]]) -> Result<Option<OwnedPut>, AllocError>
-    ensures { let texts = map (λ word. word.now) words.now in IfOk result (FindsPut (SpellPutRest name.CStr texts)) }
+    ensures { let texts = map (λ word. word.now) words.now in
+        IfOk result (FindsPut (SpellPutRest name.CStr texts)) }
 {
     let Some(text) = parse_last_bytes(alloc, words)? else {
         return Ok(None);
@@ -183,7 +192,8 @@ fn parse_c_string(alloc: Global, words: &[&[u8]]) -> Result<Option<OwnedPut>, Al
 
 // A number in LEB128, with its shortest text.
 fn parse_uleb(words: &[&[u8]]) -> Option<OwnedPut>
-    ensures { let texts = map (λ word. word.now) words.now in FindsPut (SpellPutRest name.Uleb texts) result }
+    ensures { let texts = map (λ word. word.now) words.now in
+        FindsPut (SpellPutRest name.Uleb texts) result }
 {
     let value = parse_last_u64(words)?;
     Some(OwnedPut::Plain(Put::Uleb(Uleb128::shortest(value))))
@@ -191,7 +201,8 @@ fn parse_uleb(words: &[&[u8]]) -> Option<OwnedPut>
 
 // A signed number in LEB128, with its shortest text.
 fn parse_sleb(words: &[&[u8]]) -> Option<OwnedPut>
-    ensures { let texts = map (λ word. word.now) words.now in FindsPut (SpellPutRest name.Sleb texts) result }
+    ensures { let texts = map (λ word. word.now) words.now in
+        FindsPut (SpellPutRest name.Sleb texts) result }
 {
     let value = parse_last_i64(words)?;
     Some(OwnedPut::Plain(Put::Sleb(Sleb128::shortest(value))))
@@ -199,7 +210,8 @@ fn parse_sleb(words: &[&[u8]]) -> Option<OwnedPut>
 
 // The number of 64 bits that the one word spells.
 fn parse_last_u64(words: &[&[u8]]) -> Option<u64>
-    ensures { let texts = map (λ word. word.now) words.now in MatchOption result ((x : ℕ) → ¬ (SpellLastNumber texts x)) (SpellLastNumber texts) }
+    ensures { let texts = map (λ word. word.now) words.now in
+        MatchOption result ((x : ℕ) → ¬ (SpellLastNumber texts x)) (SpellLastNumber texts) }
 {
     match words {
         [word] => parse_u64(word),
@@ -209,14 +221,16 @@ fn parse_last_u64(words: &[&[u8]]) -> Option<u64>
 
 // The number of 64 bits that a word spells.
 fn parse_u64(word: &[u8]) -> Option<u64>
-    ensures { MatchOption result ((x : ℕ) → ¬ (SpellsNumber (2 ^ 64) word.now x)) (SpellsNumber (2 ^ 64) word.now) }
+    ensures { MatchOption result ((x : ℕ)
+        → ¬ (SpellsNumber (2 ^ 64) word.now x)) (SpellsNumber (2 ^ 64) word.now) }
 {
     u64::try_from(parse_number(word)?).ok()
 }
 
 // The signed number of 64 bits that the one word spells.
 fn parse_last_i64(words: &[&[u8]]) -> Option<i64>
-    ensures { let texts = map (λ word. word.now) words.now in MatchOption result ((x : ℤ) → ¬ (SpellLastSigned texts x)) (SpellLastSigned texts) }
+    ensures { let texts = map (λ word. word.now) words.now in
+        MatchOption result ((x : ℤ) → ¬ (SpellLastSigned texts x)) (SpellLastSigned texts) }
 {
     match words {
         [word] => parse_i64(word),
@@ -226,7 +240,8 @@ fn parse_last_i64(words: &[&[u8]]) -> Option<i64>
 
 // The signed number of 64 bits that a word spells.
 fn parse_i64(word: &[u8]) -> Option<i64>
-    ensures { MatchOption result ((x : ℤ) → ¬ (SpellsSigned (2 ^ 63) word.now x)) (SpellsSigned (2 ^ 63) word.now) }
+    ensures { MatchOption result ((x : ℤ)
+        → ¬ (SpellsSigned (2 ^ 63) word.now x)) (SpellsSigned (2 ^ 63) word.now) }
 {
     i64::try_from(parse_signed(word)?).ok()
 }
@@ -247,14 +262,16 @@ fn parse_three(words: &[&[u8]]) -> Option<OwnedPut>
 
 // The number of 16 bits that a word spells.
 fn parse_u16(word: &[u8]) -> Option<u16>
-    ensures { MatchOption result ((x : ℕ) → ¬ (SpellsNumber (2 ^ 16) word.now x)) (SpellsNumber (2 ^ 16) word.now) }
+    ensures { MatchOption result ((x : ℕ)
+        → ¬ (SpellsNumber (2 ^ 16) word.now x)) (SpellsNumber (2 ^ 16) word.now) }
 {
     u16::try_from(parse_number(word)?).ok()
 }
 
 // Two slices of bytes.
 fn parse_two(alloc: Global, words: &[&[u8]]) -> Result<Option<OwnedPut>, AllocError>
-    ensures { let texts = map (λ word. word.now) words.now in IfOk result (FindsPut (SpellPutRest name.Bytesx2 texts)) }
+    ensures { let texts = map (λ word. word.now) words.now in
+        IfOk result (FindsPut (SpellPutRest name.Bytesx2 texts)) }
 {
     let Some((word, rest)) = words.split_first() else {
         return Ok(None);

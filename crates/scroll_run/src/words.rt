@@ -42,7 +42,8 @@ pub enum Name {
 
 /// The parts of a text before, between and after its separators.
 pub fn split(alloc: Global, text: &[u8], separator: u8) -> Result<Vec<&[u8]>, AllocError>
-    ensures { IfOk result (λ parts. map (λ part. part.now) parts.items ≡ slice_split (λ b. b == separator) text.now) }
+    ensures { IfOk result (λ parts.
+        map (λ part. part.now) parts.items ≡ slice_split (λ b. b == separator) text.now) }
 {
     let mut parts = Vec::new(alloc);
     for part in text.split(|byte| *byte == separator) {
@@ -53,7 +54,8 @@ pub fn split(alloc: Global, text: &[u8], separator: u8) -> Result<Vec<&[u8]>, Al
 
 /// The number that a word of digits spells, where it is below 2^128.
 pub fn parse_number(word: &[u8]) -> Option<u128>
-    ensures { SomeIff result (IsNumeral 10 word.now × (digits_value 10 word.now < 2 ^ 128)) (digits_value 10 word.now) }
+    ensures { SomeIff result (IsNumeral 10 word.now
+        × (digits_value 10 word.now < 2 ^ 128)) (digits_value 10 word.now) }
 {
     // (std takes a plus before the digits, too)
     if *word.first()? == b'+' {
@@ -67,7 +69,8 @@ pub fn parse_number(word: &[u8]) -> Option<u128>
 
 /// The number that digits, with or without a minus before them, spell, where it is in the range of `i128`.
 pub fn parse_signed(word: &[u8]) -> Option<i128>
-    ensures { MatchOption result ((x : ℤ) → ¬ (SpellsSigned (2 ^ 127) word.now x)) (SpellsSigned (2 ^ 127) word.now) }
+    ensures { MatchOption result ((x : ℤ)
+        → ¬ (SpellsSigned (2 ^ 127) word.now x)) (SpellsSigned (2 ^ 127) word.now) }
 {
     match word.strip_prefix(b"-") {
         Some(digits) => 0_i128.checked_sub_unsigned(parse_number(digits)?),
@@ -77,14 +80,16 @@ pub fn parse_signed(word: &[u8]) -> Option<i128>
 
 /// The number that a word of digits spells, where it is below 2^64.
 pub fn parse_usize(word: &[u8]) -> Option<usize>
-    ensures { SomeIff result (IsNumeral 10 word.now × (digits_value 10 word.now < 2 ^ 64)) (digits_value 10 word.now) }
+    ensures { SomeIff result (IsNumeral 10 word.now
+        × (digits_value 10 word.now < 2 ^ 64)) (digits_value 10 word.now) }
 {
     usize::try_from(parse_number(word)?).ok()
 }
 
 /// The bytes that a word spells: none by `-`, or each by two hexadecimal digits of either case.
 pub fn parse_bytes(alloc: Global, word: &[u8]) -> Result<Option<Vec<u8>>, AllocError>
-    ensures { IfOk result (λ found. MatchOption found ((bytes : List ℕ) → ¬ (SpellsBytes word.now bytes)) (λ bytes. SpellsBytes word.now bytes.items)) }
+    ensures { IfOk result (λ found. MatchOption found ((bytes : List ℕ)
+        → ¬ (SpellsBytes word.now bytes)) (λ bytes. SpellsBytes word.now bytes.items)) }
 {
     if word == b"-".as_slice() {
         return Ok(Some(Vec::new(alloc)));
@@ -109,7 +114,8 @@ pub fn parse_byte(word: &[u8]) -> Option<u8>
 
 /// What a word names.
 pub fn parse_name(word: &[u8]) -> Option<Name>
-    ensures { MatchOption result ((name : Name) → ¬ (word.now ≡ name_word name)) (λ name. word.now ≡ name_word name) }
+    ensures { MatchOption result ((name : Name) → ¬ (word.now ≡ name_word name)) (λ name.
+        word.now ≡ name_word name) }
 {
     match parse_other_name(word) {
         Some(name) => Some(name),
@@ -138,7 +144,8 @@ fn parse_other_name(word: &[u8]) -> Option<Name>
 
 /// The type of a number that a word names.
 pub fn parse_width(word: &[u8]) -> Option<Width>
-    ensures { MatchOption result ((width : Width) → ¬ (word.now ≡ width_word width)) (λ width. word.now ≡ width_word width) }
+    ensures { MatchOption result ((width : Width) → ¬ (word.now ≡ width_word width)) (λ width.
+        word.now ≡ width_word width) }
 {
     match word {
         b"u8" => Some(Width::U8),
@@ -157,7 +164,8 @@ pub fn parse_width(word: &[u8]) -> Option<Width>
 
 /// The byte order that a word names.
 pub fn parse_order(word: &[u8]) -> Option<Endian>
-    ensures { MatchOption result ((order : Endian) → ¬ (word.now ≡ order_word order)) (λ order. word.now ≡ order_word order) }
+    ensures { MatchOption result ((order : Endian) → ¬ (word.now ≡ order_word order)) (λ order.
+        word.now ≡ order_word order) }
 {
     match word {
         b"le" => Some(Endian::Little),

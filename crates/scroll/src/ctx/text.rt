@@ -43,11 +43,15 @@ impl<'a> TryFromCtx<'a, StrCtx> for &'a str {
 #[tactic(auto, using(crate::proofs::lemmas::texts::TextLemmas::first_places))]
 fn text_in(from: &[u8], ctx: StrCtx) -> Result<Option<&str>>
     ensures room { IfOk result (λ _. wanted_len ctx ≤ length from.now) }
-    ensures text { IfOk result (λ found. IfSome found (λ text. text.now ≡ take (text_len ctx from.now) from.now)) }
-    ensures len { IfOk result (λ found. IfSome found (λ text. length text.now ≡ text_len ctx from.now)) }
-    ensures none { IfOk result (λ found. IfNone found (¬ (IsUtf8 (take (text_len ctx from.now) from.now)))) }
+    ensures text { IfOk result (λ found. IfSome found
+        (λ text. text.now ≡ take (text_len ctx from.now) from.now)) }
+    ensures len { IfOk result (λ found. IfSome found
+        (λ text. length text.now ≡ text_len ctx from.now)) }
+    ensures none { IfOk result (λ found. IfNone found
+        (¬ (IsUtf8 (take (text_len ctx from.now) from.now)))) }
     ensures there { OnOk result (HasDelimiter ctx from.now) }
-    ensures refused { IfErr result (λ e. RefusesShort (wanted_len ctx) from.now e ⊎ RefusesMissing ctx from.now e) }
+    ensures refused { IfErr result (λ e. RefusesShort (wanted_len ctx) from.now e
+        ⊎ RefusesMissing ctx from.now e) }
 {
     match ctx {
         StrCtx::Delimiter(delimiter) => Ok(text_before(delimiter, from)),
@@ -67,11 +71,15 @@ fn text_in(from: &[u8], ctx: StrCtx) -> Result<Option<&str>>
 #[inline(always)]
 fn required_text(delimiter: u8, from: &[u8]) -> Result<Option<&str>>
     ensures there { OnOk result (first_place delimiter from.now < length from.now) }
-    ensures text { IfOk result (λ found. IfSome found (λ text. text.now ≡ take (first_place delimiter from.now) from.now)) }
-    ensures len { IfOk result (λ found. IfSome found (λ text. length text.now ≡ first_place delimiter from.now)) }
-    ensures none { IfOk result (λ found. IfNone found (¬ (IsUtf8 (take (first_place delimiter from.now) from.now)))) }
+    ensures text { IfOk result (λ found. IfSome found
+        (λ text. text.now ≡ take (first_place delimiter from.now) from.now)) }
+    ensures len { IfOk result (λ found. IfSome found
+        (λ text. length text.now ≡ first_place delimiter from.now)) }
+    ensures none { IfOk result (λ found. IfNone found
+        (¬ (IsUtf8 (take (first_place delimiter from.now) from.now)))) }
     ensures missing { OnErr result (¬ (first_place delimiter from.now < length from.now)) }
-    ensures refused { IfErr result (λ e. IsBadInput e (length from.now) (codes "missing delimiter")) }
+    ensures refused { IfErr result (λ e.
+        IsBadInput e (length from.now) (codes "missing delimiter")) }
 {
     let size = from.len();
     let found = text_before(delimiter, from);

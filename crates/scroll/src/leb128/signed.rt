@@ -173,14 +173,6 @@ impl TryIntoCtx<()> for Sleb128 {
         ensures begins { OnOk result ((source : List ℕ) → All (λ b. b < 256) source → ReadsSleb source self.value self.count
             → take self.count source ≡ take self.count dst.new) }
     {
-        let len = dst.len();
-        if len < self.count {
-            return Err(Error::TooBig {
-                size: self.count,
-                len,
-            });
-        }
-        put_sleb(dst, self.value, self.count);
-        Ok(self.count)
+        put_sleb(dst, self.value, self.count)
     }
 }

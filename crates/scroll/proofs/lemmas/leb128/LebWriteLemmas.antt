@@ -6,7 +6,9 @@ use Rattle.std.proofs.lemmas.Nat.{pow-add, div-mul-add, div_below, and_mask, lea
 use Rattle.std.proofs.Math.Seq.{take-append_seam}
 use Rattle.std.proofs.lemmas.Bool.{cases_lt}
 use Rattle.std.proofs.lemmas.Bool.Decides.{nat_tests}
-use Rattle.std.proofs.lemmas.List.{length-take-le, get_or-take, take-append-drop}
+use Rattle.std.proofs.Math.ListN.{set}
+use Rattle.std.proofs.lemmas.Grind.{get_or-set_at}
+use Rattle.std.proofs.lemmas.List.{length-take-le, get_or-take, take-append-drop, drop-set-lt, length-set, get_or-set_other}
 use Rattle.std.proofs.lemmas.List.FromFn.{fill_by_all}
 use Rattle.std.specs.Int.Bits.{or_shifted_r}
 use Rattle.std.specs.Int.Count.{count_leading_zeros}
@@ -83,6 +85,40 @@ pub text_written : (u n : ℕ) (old new : List ℕ) → n ≤ length new → ((k
 text_written u n old new room bytes rest =
     let front : take n new ≡ spelling u n = fill_by_all (spelled_byte u n) (take n new) n 0 (length-take-le n new room) (λ k h. get_or-take n new k 0 h ∙ bytes k h) in
     sym (take-append-drop n new) ∙ rw (front, rest) refl
+
+-- the byte in front of the last is the same whatever the length
+pub open_same : (x m n i : ℕ) → i + 1 < m → i + 1 < n → spelled_byte (x % 128 ^ m) m i ≡ spelled_byte (x % 128 ^ n) n i
+open_same x m n i p q =
+    let s : nat_lt (i + 1) m ≡ true = grind (arith, nat_tests) in
+    let t : nat_lt (i + 1) n ≡ true = grind (arith, nat_tests) in
+    rw (s, t) (ap (λ d. 128 + d) (digit_mod x m i (omega arith) ∙ sym (digit_mod x n i (omega arith))))
+
+-- a target of a text of two or three bytes, whose second byte may be put twice
+pub short_written : (u n a b l : ℕ) (old : List ℕ) → 2 ≤ n → n ≤ 3 → n ≤ length old → a ≡ spelled_byte u n 0 → (n ≡ 3 → b ≡ spelled_byte u n 1)
+    → l ≡ spelled_byte u n (n - 1) → set (set (set old 0 a) 1 b) (n - 1) l ≡ spelling u n ++ drop n old
+short_written u n a b l old some few room first second last =
+    let one = set old 0 a in
+    let two = set one 1 b in
+    let new = set two (n - 1) l in
+    let size_one : length one ≡ length old = length-set old 0 a in
+    let size_two : length two ≡ length old = length-set one 1 b ∙ size_one in
+    let size : length new ≡ length old = length-set two (n - 1) l ∙ size_two in
+    let byte = λ (k : ℕ) (h : k < n). elim (cases_lt k (n - 1)) as (λ _. get_or new k 0 ≡ spelled_byte u n k) [
+      | inl early ↦ get_or-set_other two (n - 1) k l 0 (λ (e : k ≡ n - 1). omega (arith, e, early)) ∙ elim (cases_lt k 1) as (λ _. get_or two k 0 ≡ spelled_byte u n k) [
+        | inl front ↦
+            let here : k ≡ 0 = omega arith in
+            get_or-set_other one 1 k b 0 (λ (e : k ≡ 1). omega (arith, e, here)) ∙ get_or-set_at old 0 k a 0 here (omega (arith, room, some)) ∙ first ∙ ap (spelled_byte u n) (sym here)
+        | inr middle ↦
+            let here : k ≡ 1 = omega (arith, middle, early, few) in
+            get_or-set_at one 1 k b 0 here (omega (arith, size_one, room, some)) ∙ second (omega (arith, middle, early, few)) ∙ ap (spelled_byte u n) (sym here)
+      ]
+      | inr late ↦
+          let here : k ≡ n - 1 = omega (arith, late, h) in
+          get_or-set_at two (n - 1) k l 0 here (omega (arith, size_two, room, some)) ∙ last ∙ ap (spelled_byte u n) (sym here)
+    ] in
+    let rest : drop n new ≡ drop n old =
+    drop-set-lt n two (n - 1) l (omega arith) ∙ drop-set-lt n one 1 b (omega arith) ∙ drop-set-lt n old 0 a (omega arith) in
+    text_written u n old new (omega (arith, size, room)) byte rest
 
 -- and it begins with the text
 pub text_front : (u n : ℕ) (t rest : List ℕ) → t ≡ spelling u n ++ rest → take n t ≡ spelling u n
