@@ -11,8 +11,10 @@ mod measure;
 mod numbers;
 mod str_ctx;
 mod text;
+mod zeros;
 
 pub use str_ctx::{NULL, RET, SPACE, StrCtx, TAB};
+pub use zeros::{Zeros, padding};
 
 /// A type that can be read from bytes in a context.
 ///

@@ -5,6 +5,7 @@ mod custom_error;
 mod external_error;
 mod format;
 mod named;
+mod object_id;
 mod overview;
 mod own_error;
 mod points;

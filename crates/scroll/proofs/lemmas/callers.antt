@@ -1,4 +1,6 @@
+pub mod ByteArrays
 pub mod Cursors
+pub mod OneAnswer
+pub mod Records
 pub mod RoundTrips
 pub mod SpanLemmas
-pub mod OneAnswer
