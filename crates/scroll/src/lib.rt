@@ -33,6 +33,7 @@ pub mod laws;
 mod leb128;
 mod lesser;
 mod loads;
+mod located;
 mod pread;
 mod pwrite;
 pub mod runner;
@@ -50,6 +51,7 @@ pub use crate::leb128::{
 };
 pub use crate::lesser::{IOread, IOwrite};
 pub use crate::loads::Loads;
+pub use crate::located::{At, LocateError};
 pub use crate::pread::Pread;
 pub use crate::pwrite::Pwrite;
 pub use crate::source::{ReadFrom, Source};
