@@ -1,18 +1,17 @@
 -- Lemmas for callers: arrays of bytes as lists, and C strings.
-use Rattle.std.proofs.Common.{◌≡◌, ℕ, zero, suc, ◌+◌, ◌*◌, ◌/◌, ◌%◌, ◌^◌, ◌<◌, ◌≤◌, ◌++◌, List, [], ◌∷◌, length, take, drop, slice_index, get_or, Fits, w8, refl, sym, ap, subst, ◌∙◌, arith, append_assoc, length-append, length-drop, length-take}
-use Rattle.std.proofs.Math.Nat.{mul-suc, mod-eq_of_lt}
-use Rattle.std.proofs.lemmas.Grind.{common_steps, same_number_lists}
-use Rattle.std.proofs.lemmas.List.{append-nil, drop-drop, length-take-le, get_or-drop, get_or-take, same_lists}
-use Rattle.std.specs.List.{All, flat_map, slice_index_or}
+use Rattle.std.proofs.Common.{◌≡◌, ℕ, zero, suc, ◌+◌, ◌*◌, ◌/◌, ◌%◌, ◌<◌, ◌≤◌, ◌++◌, List, [], ◌∷◌, length, take, drop, slice_index, Fits, w8, refl, sym, ap, subst, ◌∙◌, arith, append_assoc, length-drop}
+use Rattle.std.proofs.Math.Nat.{mul-suc}
+use Rattle.std.proofs.lemmas.Grind.{same_number_lists}
+use Rattle.std.proofs.lemmas.List.{append-nil, length-take-le, get_or-take}
+use Rattle.std.specs.List.{flat_map}
 use Rattle.scroll.specs.Arrays.{ReadsArray, MakesArray, LeavesAll, FillsArray}
 use Rattle.scroll.specs.CStrings.{ReadsCString}
-use Rattle.scroll.specs.Numbers.{number, number_bytes, ReadsNumber, WritesNumber}
+use Rattle.scroll.specs.Numbers.{number, number_bytes, ReadsNumber}
 use Rattle.scroll.specs.Reads.{ReadsAll}
 use Rattle.scroll.specs.Texts.{first_place}
-use Rattle.scroll.specs.Writes.{WritesAt}
 use Rattle.scroll.specs.declared.endian.Endian.{Endian}
 use Rattle.scroll.specs.declared.endian.Endian.TheVariants.{Little, Big}
-use Rattle.scroll.proofs.lemmas.callers.Cursors.{Begins, begin, grow, byte-at, ReadsAll-at, length-number_bytes}
+use Rattle.scroll.proofs.lemmas.callers.Cursors.{Begins, begin, grow, byte-at, length-number_bytes}
 
 drop-one : (s : List ℕ) (n : ℕ) → n < length s → drop n s ≡ slice_index s n ∷ drop (suc n) s
 drop-one [] n h = absurd (omega (arith, h))

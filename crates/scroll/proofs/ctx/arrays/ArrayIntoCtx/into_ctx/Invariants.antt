@@ -1,4 +1,4 @@
-use Rattle.std.proofs.Common.{◌≡◌, ◌*◌, length, take}
+use Rattle.std.proofs.Common.{◌≡◌, length, take}
 use Rattle.scroll.specs.Arrays.{LeavesAll}
 use Rattle.scroll.proofs.ctx.arrays.ArrayIntoCtx.into_ctx.Given as goal
 
