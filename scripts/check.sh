@@ -14,6 +14,7 @@
 #     cuts.sh       sessions with their buffers cut, likewise
 #     faults.sh     the sessions and the tests where memory is refused and streams fail, by what was proved
 #     clients.sh    the clients of the library, each proved and tested as a crate of its own
+#     depending.sh  a repository that depends on the library, made by README's lines
 #     misuse.sh     what must not compile
 #     cited.py      the names that the documents cite are in the sources
 #     edit_table.py the tables of the edits say what the edits say
@@ -131,7 +132,7 @@ run_stands() {
     start_beside tests tests sh scripts/prove.sh scroll tests
     tests=$!
     WORKERS=$((all > 1 ? all / 2 : 1))
-    for step in 'prove.sh scroll_run' 'prove.sh scroll_run tests' sessions.sh cuts.sh clients.sh misuse.sh; do
+    for step in 'prove.sh scroll_run' 'prove.sh scroll_run tests' sessions.sh cuts.sh clients.sh depending.sh misuse.sh; do
         # shellcheck disable=SC2086 # words
         run_step sh scripts/$step
     done

@@ -47,6 +47,13 @@ run_rt() {
     (cd "$crate" && exec rt "$@" </dev/null)
 }
 
+# Proves the code, and wants no word in the last line for what HANDLES doesn't allow, for C functions of its own, or for a
+# contract that says nothing: these are the words that rt ci refuses.
+prove() {
+    run_rt check --jobs "$jobs" && ! grep '^logic=proved' "$room/said" |
+        grep -E ' (main|foreign|hides|partial|bugs|may-abort|may-wait|may-serve)='
+}
+
 run_program() {
     (cd "$crate" && rt run <stdin >"$room/stdout") && cmp "$room/stdout" "$crate/stdout"
 }
@@ -60,7 +67,7 @@ if [ "${2:-}" = tests ]; then
     count 'its tests pass' run_tests
 else
     count 'it is laid out by rt fmt' is_laid_out "$crate"
-    count 'it is proved' run_rt check --jobs "$jobs"
+    count 'it is proved' prove
     if [ -f "$crate/src/main.rt" ]; then
         count 'its stored run prints what it must' run_program
     else

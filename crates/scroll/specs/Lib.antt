@@ -1,5 +1,6 @@
 -- The definitions that the contracts cite, in an order to read them in.
 pub mod Bytes
+pub mod Exact
 pub mod Numbers
 pub mod Floats
 pub mod Errors
@@ -9,6 +10,7 @@ pub mod CStrings
 pub mod CStringTexts
 pub mod Reads
 pub mod Writes
+pub mod Zeros
 pub mod Fits
 pub mod Arrays
 pub mod History

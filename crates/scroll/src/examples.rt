@@ -8,6 +8,7 @@ mod external_error;
 mod format;
 mod generic_arrays;
 mod named;
+mod object_id;
 mod overview;
 mod own_error;
 mod own_type;

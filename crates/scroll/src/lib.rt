@@ -17,7 +17,7 @@
 //!
 //! [`Pread`] and [`Pwrite`] test for room, and refuse by an error where there is none. [`Cread`] and [`Cwrite`] have no
 //! refusals: the caller makes sure of room, and the prover checks it. What can be read and written are the types that
-//! implement the traits of [`ctx`]: the ten whole numbers, texts, byte slices, C strings, numbers in LEB128, arrays, and
+//! implement the traits of [`ctx`]: the ten whole numbers, `f32` and `f64`, texts, byte slices, C strings, numbers in LEB128, arrays, and
 //! types of one's own. [`runner`] answers lists of such reads and writes, and [`laws`] has laws of the definitions that all
 //! contracts cite.
 #![tactic(auto)]
@@ -33,6 +33,7 @@ pub mod laws;
 mod leb128;
 mod lesser;
 mod loads;
+mod located;
 mod pread;
 mod pwrite;
 pub mod runner;
@@ -50,6 +51,7 @@ pub use crate::leb128::{
 };
 pub use crate::lesser::{IOread, IOwrite};
 pub use crate::loads::Loads;
+pub use crate::located::{At, LocateError};
 pub use crate::pread::Pread;
 pub use crate::pwrite::Pwrite;
 pub use crate::source::{ReadFrom, Source};

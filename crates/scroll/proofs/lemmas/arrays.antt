@@ -2,4 +2,5 @@ pub mod ArrayLeaves
 pub mod ArrayLemmas
 pub mod ArrayViews
 pub mod BulkLemmas
+pub mod CallLemmas
 pub mod SlotLemmas

@@ -1,4 +1,6 @@
+pub mod FloatLemmas
 pub mod FrontLemmas
+pub mod HalfLemmas
 pub mod LocalLemmas
 pub mod NumberLemmas
 pub mod ReverseLemmas

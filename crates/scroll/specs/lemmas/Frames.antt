@@ -1,14 +1,17 @@
 -- What a write leaves unchanged: the bytes after those that were written.
 -- The implementations cite these lemmas in the laws that their traits ask for. They are proved, and promise nothing.
-use Rattle.std.proofs.Common.{◌≡◌, ℕ, ℤ, ◌+◌, ◌-◌, ◌/◌, ◌%◌, ◌^◌, ◌≤◌, ◌++◌, List, [], ◌∷◌, length, drop, refl, sym, ap, ◌∙◌, arith}
+use Rattle.std.proofs.Common.{◌≡◌, ℕ, ℤ, max, ◌+◌, ◌*◌, ◌-◌, ◌/◌, ◌%◌, ◌^◌, ◌≤◌, ◌++◌, List, [], ◌∷◌, length, take, drop, length-take, refl, sym, ap, ◌∙◌, arith}
+use Rattle.std.proofs.Math.Nat.{mul-suc}
 use Rattle.std.proofs.lemmas.Grind.{common_steps}
-use Rattle.std.proofs.lemmas.List.{drop-drop}
+use Rattle.std.proofs.lemmas.List.{drop-drop, length-replicate}
 use Rattle.std.proofs.lemmas.List.FromFn.{length-map-range_with_len}
-use Rattle.scroll.specs.Arrays.{WritesAll, WritesArray}
+use Rattle.scroll.specs.Arrays.{WritesAll, WritesArray, LeavesAll, FillsArray}
 use Rattle.scroll.specs.Bytes.{WritesFront}
+use Rattle.scroll.specs.Exact.{LeavesExactly, WritesExactly}
 use Rattle.scroll.specs.Leb128.{Counted}
 use Rattle.scroll.specs.LebWrites.{WritesUleb, WritesSleb}
 use Rattle.scroll.specs.Numbers.{number_bytes, signed_bytes, WritesNumber}
+use Rattle.scroll.specs.Zeros.{zeros}
 use Rattle.scroll.specs.Spelling.{spelled_byte, spelling, unsigned_form}
 use Rattle.scroll.specs.declared.endian.Endian.{Endian}
 use Rattle.scroll.specs.declared.endian.Endian.TheVariants.{Little, Big}
@@ -68,3 +71,36 @@ WritesUleb-keeps x old new n h = spelling-keeps x.value x.count old new n h
 
 pub WritesSleb-keeps : (x : Counted ℤ) (old new : List ℕ) (n : ℕ) → WritesSleb x old new n → drop n new ≡ drop n old
 WritesSleb-keeps x old new n h = spelling-keeps (unsigned_form x.value x.count) x.count old new n h
+
+-- values that are put one after another leave what stands after the last
+LeavesAll-keeps : {V : Type 0} (width need : ℕ) (leaves : V → List ℕ → List ℕ → Type 0) → ((x : V) (old new : List ℕ) → leaves x old new → drop need new ≡ drop need old) → (end : ℕ) (old : List ℕ) (from : ℕ) (vs : List V) (new : List ℕ) → from + max width need * length vs ≤ end → LeavesAll width leaves old from vs new → drop end new ≡ drop end old
+LeavesAll-keeps width need leaves keeps end old from [] new le h = ap (drop end) h
+LeavesAll-keeps width need leaves keeps end old from (v ∷ vs) new le h =
+    let more : max width need * length (v ∷ vs) ≡ max width need + max width need * length vs = mul-suc (max width need) (length vs) ∙ omega arith in
+    let first = keeps v (drop from old) (drop from h.0) h.1.after in
+    let here : drop (from + need) h.0 ≡ drop (from + need) old = sym (drop-drop need from h.0) ∙ first ∙ drop-drop need from old in
+    LeavesAll-keeps width need leaves keeps end h.0 (from + width) vs new (omega (arith, le, more)) h.2
+    ∙ drop-same (from + need) end h.0 old (omega (arith, le, more)) here
+
+pub FillsArray-keeps : {V : Type 0} (width need : ℕ) (leaves : V → List ℕ → List ℕ → Type 0) → ((x : V) (old new : List ℕ) → leaves x old new → drop need new ≡ drop need old) → (count : ℕ) (vs : List V) (old new : List ℕ) → FillsArray width leaves count vs old new → drop (max width need * count) new ≡ drop (max width need * count) old
+FillsArray-keeps width need leaves keeps count vs old new h =
+    LeavesAll-keeps width need leaves keeps (max width need * count) old 0 vs new (rw h.len (omega arith)) h.each
+
+-- the first n bytes of a slice, or all where it has fewer
+pub slice-keeps : (n : ℕ) (slice old new : List ℕ) → new ≡ take n slice ++ drop (length (take n slice)) old → drop n new ≡ drop n old
+slice-keeps n slice old new is =
+    drop-same (length (take n slice)) n new old (omega (arith, length-take n slice)) (drop-front (length (take n slice)) (take n slice) old new refl is)
+
+-- zeros
+pub zeros-keeps : (n : ℕ) (old new : List ℕ) → new ≡ zeros n ++ drop n old → drop n new ≡ drop n old
+zeros-keeps n old new is = drop-front n (zeros n) old new (length-replicate n 0) is
+
+pub WritesZeros-keeps : (n : ℕ) (old new : List ℕ) (size : ℕ) → WritesFront n (zeros n) old new size → drop size new ≡ drop size old
+WritesZeros-keeps n old new size h = rw h.size (zeros-keeps n old new h.after)
+
+-- values with an array among their fields
+pub LeavesExactly-keeps : {w : ℕ} {bytes old new : List ℕ} → LeavesExactly w bytes old new → drop w new ≡ drop w old
+LeavesExactly-keeps {w} {bytes} {old} {new} h = drop-front w bytes old new h.len h.after
+
+pub WritesExactly-keeps : {w : ℕ} {bytes old new : List ℕ} {n : ℕ} → WritesExactly w bytes old new n → drop n new ≡ drop n old
+WritesExactly-keeps {w} {bytes} {old} {new} h = rw h.size (drop-front w bytes old new h.len h.after)

@@ -1,6 +1,7 @@
 // Numbers. A type says its width, its value and its bytes, and the implementations of all traits stand on that.
 ghost use Rattle.std.specs.Prelude.{◌≡◌, ◌≤◌, ◌++◌, ℕ, List, length, take, drop};
 ghost use Rattle.std.proofs.Common.{rules};
+ghost use Rattle.std.specs.Int.{w64, to_le_bytes};
 ghost use Rattle.scroll.specs.Bytes.{ReadsFront, RefusesShort, LeavesShort};
 ghost use Rattle.scroll.specs.Numbers.{number_bytes, WritesNumber};
 ghost use Rattle.scroll.specs.lemmas.Frames.{number_bytes-keeps, WritesNumber-keeps};
@@ -144,4 +145,30 @@ fn put_front<const WIDTH: usize>(dst: &mut [u8], bytes: [u8; WIDTH])
     ensures { dst.new ≡ bytes.entry ++ drop WIDTH dst.old }
 {
     dst[..WIDTH].copy_from_slice(&bytes);
+}
+
+// Puts the bytes of a number of sixteen to the front of a target, by two halves. All sixteen at once are gathered byte by
+// byte, which takes ten times as long.
+#[inline]
+fn put_sixteen(dst: &mut [u8], number: u128, order: Endian)
+    requires { 16 ≤ length dst.old }
+    ensures { dst.new ≡ number_bytes order 16 number ++ drop 16 dst.old }
+{
+    let low = (number % 0x1_0000_0000_0000_0000) as u64;
+    let high = (number / 0x1_0000_0000_0000_0000) as u64;
+    match order {
+        Endian::Little => put_halves(dst, low, high),
+        Endian::Big => put_halves(dst, high.swap_bytes(), low.swap_bytes()),
+    }
+}
+
+// Puts the bytes of two numbers to the front of a target, each from its lowest on.
+#[inline]
+fn put_halves(dst: &mut [u8], first: u64, second: u64)
+    requires { 16 ≤ length dst.old }
+    ensures { dst.new ≡ (to_le_bytes w64 first ++ to_le_bytes w64 second) ++ drop 16 dst.old }
+{
+    let (front, rest) = dst.split_at_mut(8);
+    put_front(front, first.to_le_bytes());
+    put_front(rest, second.to_le_bytes());
 }

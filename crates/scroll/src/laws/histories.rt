@@ -1,10 +1,12 @@
 // Laws of what was written.
 ghost use Rattle.std.specs.Prelude.{◌≡◌, ◌≢◌, ◌≤◌, IsUtf8, ◌^◌, ◌<◌, ◌+◌, ◌++◌, ℕ, ℤ, pos, neg_ℤ, ◌≤ℤ◌, ◌<ℤ◌, ◌*ℤ◌, [], ◌∷◌, List, length, take, drop, Result, IfOk, IfErr};
+ghost use Rattle.std.specs.Float.{Format};
 ghost use Rattle.std.specs.List.{All, flat_map};
 ghost use Rattle.scroll.specs.Arrays.{WritesArray, LeavesArray};
 ghost use Rattle.scroll.specs.Bytes.{WritesFront, LeavesShort};
 ghost use Rattle.scroll.specs.CStrings.{ReadsCString};
 ghost use Rattle.scroll.specs.Errors.{IsBadOffset};
+ghost use Rattle.scroll.specs.Floats.{float_width, float_bytes, WritesFloat};
 ghost use Rattle.scroll.specs.History.{Piece, seen};
 ghost use Rattle.scroll.specs.Laws.{Apart, IsHistory, WrittenLast, WritesNested, LeavesNested, leaves_nested};
 ghost use Rattle.scroll.specs.Leaves.{pieces, WritesLeaves, HasLeaves};
@@ -64,6 +66,7 @@ pub fn writes_apart_may_be_exchanged()
 pub fn writes_have_leaves()
     ensures number { (w : ℕ) (order : Endian) → HasLeaves (λ x. number_bytes order w x ∷ []) (WritesNumber w order) (λ _. LeavesShort w) }
     ensures signed { (w : ℕ) (order : Endian) → HasLeaves (λ x. signed_bytes order w x ∷ []) (WritesSigned w order) (λ _. LeavesShort w) }
+    ensures float { (f : Format) (order : Endian) → HasLeaves (λ x. float_bytes f order x ∷ []) (WritesFloat f order) (λ _. LeavesShort (float_width f)) }
     ensures bytes { HasLeaves (λ t. t ∷ []) (λ t. WritesFront (length t) t) (λ t. LeavesShort (length t)) }
     ensures c_string { HasLeaves (λ t. (t ++ 0 ∷ []) ∷ []) (λ t. WritesFront (length (t ++ 0 ∷ [])) (t ++ 0 ∷ [])) (λ t. LeavesShort (length (t ++ 0 ∷ []))) }
     ensures uleb { HasLeaves (λ x. uleb_text x ∷ []) WritesUleb (λ x. LeavesShort x.count) }
@@ -72,6 +75,8 @@ pub fn writes_have_leaves()
         → HasLeaves (leaves_nested (λ x. number_bytes order w x ∷ []) counts) (WritesNested (WritesNumber w order) counts) (LeavesNested (WritesNumber w order) (λ _. LeavesShort w) counts) }
     ensures signed_numbers { (w : ℕ) (order : Endian) (counts : List ℕ)
         → HasLeaves (leaves_nested (λ x. signed_bytes order w x ∷ []) counts) (WritesNested (WritesSigned w order) counts) (LeavesNested (WritesSigned w order) (λ _. LeavesShort w) counts) }
+    ensures floats { (f : Format) (order : Endian) (counts : List ℕ)
+        → HasLeaves (leaves_nested (λ x. float_bytes f order x ∷ []) counts) (WritesNested (WritesFloat f order) counts) (LeavesNested (WritesFloat f order) (λ _. LeavesShort (float_width f)) counts) }
     ensures texts { (counts : List ℕ)
         → HasLeaves (leaves_nested (λ t. t ∷ []) counts) (WritesNested (λ t. WritesFront (length t) t) counts) (LeavesNested (λ t. WritesFront (length t) t) (λ t. LeavesShort (length t)) counts) }
     ensures c_strings { (counts : List ℕ)

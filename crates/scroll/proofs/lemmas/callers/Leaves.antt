@@ -3,8 +3,10 @@
 use Rattle.std.proofs.Common.{◌≡◌, ℕ, ℤ, ◌+◌, ◌-◌, ◌≤◌, ◌<◌, ◌++◌, List, [], ◌∷◌, length, drop, map, arith, refl, sym, ◌∙◌, ap, subst, inl, inr, Some, Result, Ok, Err, IfOk, IfErr, FitsSigned, to_z, of_z}
 use Rattle.std.proofs.lemmas.Int.{to_z-of_z}
 use Rattle.std.specs.Borrow.{Bor}
+use Rattle.std.specs.Float.{Format}
 use Rattle.std.specs.Int.{Width}
 use Rattle.std.specs.List.{sum_by, flat_map}
+use Rattle.std.specs.Prelude.{to_bits}
 use Rattle.scroll.proofs.lemmas.arrays.ArrayLeaves.{leaves-of-array}
 use Rattle.scroll.proofs.lemmas.history.LeafLemmas.{pieces-fits, pieces-misfit, pieces-past, left_over-fits, left_over-misfit, left_over-drop, refusal-inside, refusal-past, seen-rest, front-piece}
 use Rattle.scroll.proofs.lemmas.history.SeenLemmas.{length-seen, seen-append, seen-nil}
@@ -12,6 +14,7 @@ use Rattle.scroll.proofs.lemmas.history.StandLemmas.{seen-exchange, pieces-behin
 use Rattle.scroll.specs.Arrays.{WritesArray, LeavesArray}
 use Rattle.scroll.specs.Bytes.{WritesFront, LeavesShort}
 use Rattle.scroll.specs.Errors.{IsBadOffset}
+use Rattle.scroll.specs.Floats.{float_width, float_bytes, WritesFloat}
 use Rattle.scroll.specs.History.{seen}
 use Rattle.scroll.specs.Laws.{Apart, WritesNested, LeavesNested, leaves_nested}
 use Rattle.scroll.specs.Leaves.{pieces, AnswersLeaves, WritesLeaves, HasLeaves}
@@ -66,6 +69,10 @@ number-leaves w order = front-leaf w (number_bytes order w) (length-number_bytes
 
 pub signed-leaves : (w : ℕ) (order : Endian) → HasLeaves (λ x. signed_bytes order w x ∷ []) (WritesSigned w order) (λ _. LeavesShort w)
 signed-leaves w order = front-leaf w (signed_bytes order w) (length-signed_bytes order w)
+
+-- a float, by its bits
+pub float-leaves : (f : Format) (order : Endian) → HasLeaves (λ x. float_bytes f order x ∷ []) (WritesFloat f order) (λ _. LeavesShort (float_width f))
+float-leaves f order = front-leaf (float_width f) (float_bytes f order) (λ x. length-number_bytes order (float_width f) (to_bits f x))
 
 -- a number in LEB128
 pub uleb-leaves : HasLeaves (λ (x : Counted ℕ). uleb_text x ∷ []) WritesUleb (λ x. LeavesShort x.count)

@@ -15,7 +15,7 @@ pub take-same : (m n : ℕ) (s t : List ℕ) → m ≤ n → take n t ≡ take n
 take-same m n s t h e = sym (take-take m n t h) ∙ ap (take m) e ∙ take-take m n s h
 
 -- lists with the same first w bytes have the same number there
-number-same : (w : ℕ) (order : Endian) (s t : List ℕ) → take w t ≡ take w s → number order w t ≡ number order w s
+pub number-same : (w : ℕ) (order : Endian) (s t : List ℕ) → take w t ≡ take w s → number order w t ≡ number order w s
 number-same w order s t front =
     number-front order w t s (λ i l. sym (get_or-take w t i 0 l) ∙ ap (λ x. get_or x i 0) front ∙ get_or-take w s i 0 l)
 

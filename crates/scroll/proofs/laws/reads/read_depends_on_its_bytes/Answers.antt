@@ -1,4 +1,5 @@
 use Rattle.scroll.proofs.lemmas.texts.CStringReadLemmas.{local-c_string}
+use Rattle.scroll.proofs.lemmas.numbers.FloatLemmas.{local-float}
 use Rattle.scroll.proofs.lemmas.leb128.LebReadLemmas.{local-uleb, local-sleb}
 use Rattle.scroll.proofs.lemmas.texts.TextReadLemmas.{local-slice, local-text}
 use Rattle.scroll.proofs.lemmas.numbers.LocalLemmas.{local-number, local-signed}
@@ -9,6 +10,9 @@ returns-clause-number c = local-number
 
 pub returns-clause-signed : goal.returns-clause-signed
 returns-clause-signed c = local-signed
+
+pub returns-clause-float : goal.returns-clause-float
+returns-clause-float c = local-float
 
 pub returns-clause-slice : goal.returns-clause-slice
 returns-clause-slice c = local-slice
