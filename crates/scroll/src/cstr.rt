@@ -37,7 +37,8 @@ impl<'a> CStr<'a> {
     #[inline(always)]
     pub fn from_bytes_until_nul(bytes: &'a [u8]) -> Option<CStr<'a>>
         ensures found { OnSome result (first_place 0 bytes.now < length bytes.now) }
-        ensures text { IfSome result (λ s. c_str_text s ≡ take (first_place 0 bytes.now) bytes.now) }
+        ensures text { IfSome result (λ s.
+            c_str_text s ≡ take (first_place 0 bytes.now) bytes.now) }
         ensures none { IfNone result (first_place 0 bytes.now ≡ length bytes.now) }
     {
         let place = first_place(0, bytes);

@@ -40,7 +40,8 @@ pub fn padding(offset: usize, multiple: usize) -> usize
 
 // The place of the first byte that isn't zero.
 fn first_nonzero(bytes: &[u8]) -> Option<usize>
-    ensures found { IfSome result (λ place. (place < length bytes.now) × (slice_index bytes.now place ≢ 0) × ((i : ℕ) → i < place → slice_index bytes.now i ≡ 0)) }
+    ensures found { IfSome result (λ place. (place < length bytes.now)
+        × (slice_index bytes.now place ≢ 0) × ((i : ℕ) → i < place → slice_index bytes.now i ≡ 0)) }
     ensures none { IfNone result ((i : ℕ) → i < length bytes.now → slice_index bytes.now i ≡ 0) }
 {
     for place in 0..bytes.len() {

@@ -24,10 +24,14 @@ pub fn float_reads_back()
 
 /// The sizes of `f32` and `f64`, by [`SizeWith`], are the sizes of each read and of each write of such a float.
 pub fn sizes_of_floats_are_those_of_reads_and_writes(order: &Endian) -> (usize, usize)
-    ensures reads_f32 { (s : List ℕ) (x : Float) (n : ℕ) → ReadsFloat binary32 order.now s x n → n ≡ result.0 }
-    ensures reads_f64 { (s : List ℕ) (x : Float) (n : ℕ) → ReadsFloat binary64 order.now s x n → n ≡ result.1 }
-    ensures writes_f32 { (x : Float) (old new : List ℕ) (n : ℕ) → WritesFloat binary32 order.now x old new n → n ≡ result.0 }
-    ensures writes_f64 { (x : Float) (old new : List ℕ) (n : ℕ) → WritesFloat binary64 order.now x old new n → n ≡ result.1 }
+    ensures reads_f32 { (s : List ℕ) (x : Float) (n : ℕ) → ReadsFloat binary32 order.now s x n
+        → n ≡ result.0 }
+    ensures reads_f64 { (s : List ℕ) (x : Float) (n : ℕ) → ReadsFloat binary64 order.now s x n
+        → n ≡ result.1 }
+    ensures writes_f32 { (x : Float) (old new : List ℕ) (n : ℕ)
+        → WritesFloat binary32 order.now x old new n → n ≡ result.0 }
+    ensures writes_f64 { (x : Float) (old new : List ℕ) (n : ℕ)
+        → WritesFloat binary64 order.now x old new n → n ≡ result.1 }
 {
     (f32::size_with(order), f64::size_with(order))
 }

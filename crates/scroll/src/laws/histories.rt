@@ -64,11 +64,16 @@ pub fn writes_apart_may_be_exchanged()
 /// as they are, a C string and a number in LEB128 are one leaf. Arrays of them, nested to any depth, have the leaves of the
 /// innermost elements, in order: `counts` has the lengths, from the outermost on.
 pub fn writes_have_leaves()
-    ensures number { (w : ℕ) (order : Endian) → HasLeaves (λ x. number_bytes order w x ∷ []) (WritesNumber w order) (λ _. LeavesShort w) }
-    ensures signed { (w : ℕ) (order : Endian) → HasLeaves (λ x. signed_bytes order w x ∷ []) (WritesSigned w order) (λ _. LeavesShort w) }
-    ensures float { (f : Format) (order : Endian) → HasLeaves (λ x. float_bytes f order x ∷ []) (WritesFloat f order) (λ _. LeavesShort (float_width f)) }
-    ensures bytes { HasLeaves (λ t. t ∷ []) (λ t. WritesFront (length t) t) (λ t. LeavesShort (length t)) }
-    ensures c_string { HasLeaves (λ t. (t ++ 0 ∷ []) ∷ []) (λ t. WritesFront (length (t ++ 0 ∷ [])) (t ++ 0 ∷ [])) (λ t. LeavesShort (length (t ++ 0 ∷ []))) }
+    ensures number { (w : ℕ) (order : Endian)
+        → HasLeaves (λ x. number_bytes order w x ∷ []) (WritesNumber w order) (λ _. LeavesShort w) }
+    ensures signed { (w : ℕ) (order : Endian)
+        → HasLeaves (λ x. signed_bytes order w x ∷ []) (WritesSigned w order) (λ _. LeavesShort w) }
+    ensures float { (f : Format) (order : Endian) → HasLeaves (λ x.
+        float_bytes f order x ∷ []) (WritesFloat f order) (λ _. LeavesShort (float_width f)) }
+    ensures bytes { HasLeaves (λ t. t ∷ []) (λ t. WritesFront (length t) t) (λ t.
+        LeavesShort (length t)) }
+    ensures c_string { HasLeaves (λ t. (t ++ 0 ∷ []) ∷ []) (λ t. WritesFront (length (t ++ 0 ∷ []))
+        (t ++ 0 ∷ [])) (λ t. LeavesShort (length (t ++ 0 ∷ []))) }
     ensures uleb { HasLeaves (λ x. uleb_text x ∷ []) WritesUleb (λ x. LeavesShort x.count) }
     ensures sleb { HasLeaves (λ x. sleb_text x ∷ []) WritesSleb (λ x. LeavesShort x.count) }
     ensures numbers { (w : ℕ) (order : Endian) (counts : List ℕ)

@@ -37,10 +37,14 @@ pub fn number_reads_back()
 
 /// The size of a number type, by [`SizeWith`], is the size of each read and of each write of such a number.
 pub fn size_is_that_of_reads_and_writes(width: Width, order: &Endian) -> usize
-    ensures reads { (s : List ℕ) (x n : ℕ) → ReadsNumber (bytes_in width) order.now s x n → n ≡ result }
-    ensures reads_signed { (s : List ℕ) (x : ℤ) (n : ℕ) → ReadsSigned (bytes_in width) order.now s x n → n ≡ result }
-    ensures writes { (x : ℕ) (old new : List ℕ) (n : ℕ) → WritesNumber (bytes_in width) order.now x old new n → n ≡ result }
-    ensures writes_signed { (x : ℤ) (old new : List ℕ) (n : ℕ) → WritesSigned (bytes_in width) order.now x old new n → n ≡ result }
+    ensures reads { (s : List ℕ) (x n : ℕ) → ReadsNumber (bytes_in width) order.now s x n
+        → n ≡ result }
+    ensures reads_signed { (s : List ℕ) (x : ℤ) (n : ℕ)
+        → ReadsSigned (bytes_in width) order.now s x n → n ≡ result }
+    ensures writes { (x : ℕ) (old new : List ℕ) (n : ℕ)
+        → WritesNumber (bytes_in width) order.now x old new n → n ≡ result }
+    ensures writes_signed { (x : ℤ) (old new : List ℕ) (n : ℕ)
+        → WritesSigned (bytes_in width) order.now x old new n → n ≡ result }
 {
     match width {
         Width::U8 => u8::size_with(order),

@@ -33,7 +33,8 @@ pub fn read_depends_on_its_bytes()
 
 /// The same of an array, where it holds of its elements.
 pub fn array_depends_on_its_bytes<'a, Ctx: Copy, T: TryFromCtx<'a, Ctx>>()
-    ensures { (ctx : Ctx) (count : ℕ) → IsLocal (T.reads ctx) → IsLocal (ReadsArray (T.reads ctx) count) }
+    ensures { (ctx : Ctx) (count : ℕ) → IsLocal (T.reads ctx)
+        → IsLocal (ReadsArray (T.reads ctx) count) }
 {}
 
 /// The size of a read is at most the length of its source, and for a text whose delimiter is absent it may be one more.
@@ -52,17 +53,22 @@ pub fn read_size_is_bounded()
 /// The size of an array that was read is at most one more than the length of its source, and at most that length where
 /// this holds of its elements.
 pub fn array_size_is_bounded<'a, Ctx: Copy, T: TryFromCtx<'a, Ctx>>()
-    ensures bounded { (ctx : Ctx) (count : ℕ) → IsBounded (T.reads ctx) → IsBounded (ReadsArray (T.reads ctx) count) }
-    ensures within { (ctx : Ctx) (count : ℕ) → IsWithin (T.reads ctx) → IsWithin (ReadsArray (T.reads ctx) count) }
+    ensures bounded { (ctx : Ctx) (count : ℕ) → IsBounded (T.reads ctx)
+        → IsBounded (ReadsArray (T.reads ctx) count) }
+    ensures within { (ctx : Ctx) (count : ℕ) → IsWithin (T.reads ctx)
+        → IsWithin (ReadsArray (T.reads ctx) count) }
 {}
 
 /// Exactly one answer is allowed at each place of each buffer, so a read at an offset answers what a read with a cursor
 /// there answers. So it is of arrays of each length, of arrays of such arrays, and so on: `counts` has the lengths, from the
 /// outermost on.
 pub fn place_has_one_answer()
-    ensures number { (w : ℕ) (order : Endian) → AllowsOneAtEach (ReadsNumber w order) (RefusesShort w) }
-    ensures signed { (w : ℕ) (order : Endian) → AllowsOneAtEach (ReadsSigned w order) (RefusesShort w) }
-    ensures float { (f : Format) (order : Endian) → AllowsOneAtEach (ReadsFloat f order) (RefusesShort (float_width f)) }
+    ensures number { (w : ℕ) (order : Endian)
+        → AllowsOneAtEach (ReadsNumber w order) (RefusesShort w) }
+    ensures signed { (w : ℕ) (order : Endian)
+        → AllowsOneAtEach (ReadsSigned w order) (RefusesShort w) }
+    ensures float { (f : Format) (order : Endian)
+        → AllowsOneAtEach (ReadsFloat f order) (RefusesShort (float_width f)) }
     ensures slice { (n : ℕ) → AllowsOneAtEach (ReadsSlice n) (RefusesSlice n) }
     ensures text { (ctx : StrCtx) → AllowsOneAtEach (ReadsText ctx) (RefusesText ctx) }
     ensures c_string { AllowsOneAtEach ReadsCString RefusesCString }

@@ -27,7 +27,7 @@ pub fn sleb_block(b: [u8; 8]) -> Option<(i64, usize)>
 
 // All eight groups of eight bytes, as one number.
 #[inline(always)]
-pub fn block_groups(b: [u8; 8]) -> u64
+pub(crate) fn block_groups(b: [u8; 8]) -> u64
     ensures { result ≡ groups_value b 8 }
 {
     gathered(u64::from_le_bytes(b))
@@ -36,7 +36,8 @@ pub fn block_groups(b: [u8; 8]) -> u64
 // The groups up to the end of the encoding, as one number, and how many there are.
 #[inline(always)]
 fn groups_in(word: u64) -> Option<(u64, usize)>
-    ensures { MatchOption result (8 ≤ end_of (to_le_bytes w64 word)) (λ read. EndsInBlock (to_le_bytes w64 word) read.0 read.1) }
+    ensures { MatchOption result (8 ≤ end_of (to_le_bytes w64 word)) (λ read.
+        EndsInBlock (to_le_bytes w64 word) read.0 read.1) }
 {
     // Most encodings have one byte or two: a branch that is guessed takes less time than a count that is waited for.
     if word & 0x80 == 0 {
@@ -51,7 +52,8 @@ fn groups_in(word: u64) -> Option<(u64, usize)>
 // The signed number that these groups are, and how many there are.
 #[inline(always)]
 fn signed_in(word: u64) -> Option<(i64, usize)>
-    ensures { MatchOption result (8 ≤ end_of (to_le_bytes w64 word)) (λ read. EndsInSignedBlock (to_le_bytes w64 word) read.0 read.1) }
+    ensures { MatchOption result (8 ≤ end_of (to_le_bytes w64 word)) (λ read.
+        EndsInSignedBlock (to_le_bytes w64 word) read.0 read.1) }
 {
     // A shift by a constant is one step, and one by a count is three.
     if word & 0x80 == 0 {
@@ -67,7 +69,8 @@ fn signed_in(word: u64) -> Option<(i64, usize)>
 // The groups up to the end, whose place is counted.
 #[inline(always)]
 fn counted_groups(word: u64) -> Option<(u64, usize)>
-    ensures { MatchOption result (8 ≤ end_of (to_le_bytes w64 word)) (λ read. EndsInBlock (to_le_bytes w64 word) read.0 read.1) }
+    ensures { MatchOption result (8 ≤ end_of (to_le_bytes w64 word)) (λ read.
+        EndsInBlock (to_le_bytes w64 word) read.0 read.1) }
 {
     let filled = word | GROUPS;
     if filled == u64::MAX {
@@ -94,11 +97,12 @@ fn gathered(word: u64) -> u64
 // Sign-extends the number that `count` groups are. The sign bit of the last group is turned over, and then taken away: where
 // it was set, that is the power of 128 less. One shift by a count, and no branch.
 #[inline(always)]
-pub fn sign_extend(groups: u64, count: usize) -> i64
+pub(crate) fn sign_extend(groups: u64, count: usize) -> i64
     requires some { 1 ≤ count }
     requires few { count ≤ 9 }
     requires low { groups < 128 ^ count }
-    ensures { result ≡ (if nat_lt groups (64 * 128 ^ (count - 1)) then pos groups else pos groups -ℤ pos (128 ^ count)) }
+    ensures { result ≡ (if nat_lt groups
+        (64 * 128 ^ (count - 1)) then pos groups else pos groups -ℤ pos (128 ^ count)) }
 {
     let sign = 0x40u64 << (7 * (count - 1));
     (groups ^ sign).wrapping_sub(sign).cast_signed()

@@ -8,7 +8,7 @@ use crate::error::{Error, Result};
 
 // The least count of groups that hold `value`.
 #[inline(always)]
-pub fn shortest_count(value: u64) -> usize
+pub(crate) fn shortest_count(value: u64) -> usize
     ensures { IsLeast (HoldsGroups value) result }
 {
     // Most numbers have one byte, and a write tests for one byte first: the two tests become one jump.
@@ -32,7 +32,7 @@ fn count_by_place(value: u64) -> usize
 // A number without its sign: its digits, turned round where it is below zero. The number takes as many groups as twice
 // that.
 #[inline(always)]
-pub fn turned(value: i64) -> u64
+pub(crate) fn turned(value: i64) -> u64
     ensures { result ≡ turned_round value }
 {
     if value < 0 {
@@ -44,7 +44,7 @@ pub fn turned(value: i64) -> u64
 
 // Writes the encoding of `value` in `count` bytes to the front of a target, and returns `count`. A shorter target is refused.
 #[inline(always)]
-pub fn put_uleb(dst: &mut [u8], value: u64, count: usize) -> Result<usize>
+pub(crate) fn put_uleb(dst: &mut [u8], value: u64, count: usize) -> Result<usize>
     requires spelled { HasSpelling value count }
     ensures wrote { IfOk result (WritesFront count (spelling value count) dst.old dst.new) }
     ensures refused { IfErr result (LeavesShort count dst.old dst.new) }
@@ -54,9 +54,10 @@ pub fn put_uleb(dst: &mut [u8], value: u64, count: usize) -> Result<usize>
 
 // The same of a signed `value`.
 #[inline(always)]
-pub fn put_sleb(dst: &mut [u8], value: i64, count: usize) -> Result<usize>
+pub(crate) fn put_sleb(dst: &mut [u8], value: i64, count: usize) -> Result<usize>
     requires spelled { HasSignedSpelling value count }
-    ensures wrote { IfOk result (WritesFront count (spelling (unsigned_form value count) count) dst.old dst.new) }
+    ensures wrote { IfOk result (WritesFront count
+        (spelling (unsigned_form value count) count) dst.old dst.new) }
     ensures refused { IfErr result (LeavesShort count dst.old dst.new) }
 {
     // Above the highest digit each bit is the sign.
@@ -71,7 +72,8 @@ fn put_groups(dst: &mut [u8], low: u64, tenth: u8, count: usize) -> Result<usize
     requires group { tenth < 128 }
     requires some { 1 ≤ count }
     requires few { count ≤ 10 }
-    ensures wrote { IfOk result (WritesFront count (spelling (ten_groups low tenth % 128 ^ count) count) dst.old dst.new) }
+    ensures wrote { IfOk result (WritesFront count
+        (spelling (ten_groups low tenth % 128 ^ count) count) dst.old dst.new) }
     ensures refused { IfErr result (LeavesShort count dst.old dst.new) }
 {
     // Before the test for room, so that the jump by which a count of one was found leads here.
