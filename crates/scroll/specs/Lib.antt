@@ -1,6 +1,7 @@
 pub mod Bytes
 pub mod Numbers
 pub mod NumberLaws
+pub mod PairLaws
 pub mod SumLemmas
 pub mod Errors
 pub mod Texts
