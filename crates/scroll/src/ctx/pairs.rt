@@ -1,16 +1,18 @@
 // Pairs of what is written as a fixed number of bytes, so that the fields of a struct are written in one call, which says
 // what bytes they are: `((self.tag, self.channels), self.rate)` for three fields.
 ghost use Rattle.std.specs.Prelude.{◌≡◌, ◌≤◌, ◌<◌, ◌+◌, ◌^◌, ◌++◌, ℕ, List, length, take, drop};
-ghost use Rattle.scroll.specs.Numbers.{number_bytes};
-ghost use Rattle.scroll.specs.NumberLaws.{length-number_bytes};
 ghost use Rattle.scroll.specs.PairLaws.{length-both, both-keep};
 ghost use Rattle.scroll.specs.declared.endian.Endian.{Endian};
 
 use crate::ctx::IntoCtx;
-use crate::ctx::numbers::Written;
 use crate::endian::Endian;
 
+mod numbers;
+
 /// What is written as a fixed number of bytes: a number, or a pair of such, the second behind the first.
+///
+/// Each number type has an implementation of its own. With one for every `N: Written` beside that for pairs the compiler
+/// would try both at each pair in a pair, and gives up at thirteen.
 pub trait Fields: Copy {
     // How many bytes it has.
     ghost width: { ℕ };
@@ -30,22 +32,6 @@ pub trait Fields: Copy {
 
     // There are as many bytes as the width says.
     ghost bytes_len: { (order : Endian) (x : Self) → length (bytes order x) ≡ width };
-}
-
-impl<N: Written> Fields for N {
-    ghost width = { N.width };
-
-    ghost bytes = { λ order x. number_bytes order N.width (N.code x) };
-
-    ghost bytes_len = { λ order x. length-number_bytes order N.width (N.code x) };
-
-    fn width() -> usize {
-        <N as Written>::width()
-    }
-
-    fn write_fields(self, dst: &mut [u8], order: Endian) {
-        self.write_front(dst, order)
-    }
 }
 
 impl<A: Fields, B: Fields> Fields for (A, B) {

@@ -1,5 +1,4 @@
 -- The second of a pair stands behind the first.
-use Rattle.std.proofs.Common.{◌≡◌, ◌+◌, ◌++◌, List, length, take, drop, ℕ}
 use Rattle.scroll.specs.Callers.{Begins, grow}
 use Rattle.scroll.proofs.ctx.pairs.Tuple2Fields.write_fields.Goals as goal
 
