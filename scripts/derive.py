@@ -11,7 +11,7 @@ from structs import NUMBERS, Array, BadInput, Field, Number, Source, Struct, Typ
 
 TRAITS = ["FromCtx", "TryFromCtx", "IntoCtx", "TryIntoCtx", "SizeWith"]
 
-# A struct of more numbers than these is refused: no more were tried.
+# A struct of more numbers than these is refused.
 MOST_NUMBERS = 64
 
 # The longest line of a clause before its parts stand on lines of their own.

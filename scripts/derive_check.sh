@@ -40,8 +40,6 @@ clients/derived/src/shapes.rt.txt Data5
 clients/derived/src/shapes.rt.txt Data6
 clients/derived/src/shapes.rt.txt Pair
 clients/derived/src/shapes.rt.txt Data7
-clients/derived/src/wide.rt.txt Times
-clients/derived/src/wide.rt.txt Wide
 clients/object_files/src/header.rt.txt RawHeader FromCtx
 clients/object_files/src/sections.rt.txt Section FromCtx TryFromCtx
 clients/packets/src/headers.rt.txt UdpHeader
