@@ -37,7 +37,7 @@ function look(part,    at) {
     place += at + length(part) - 1
 }
 
-!code && /^From `(src|clients)\// {
+!code && /^From `(src|proofs|clients)\// {
     split($0, words, "`")
     file = words[2]
 }

@@ -1,24 +1,45 @@
 #!/bin/sh
-# Runs every check of the repository over copies of its files, and shows what each says:
+# Runs the checks of the repository over copies of its files, and shows what each says.
 #
-#     rt ci                  every proof from nothing, the tests, and the program's stored run
-#     scripts/calling.sh     the code of CALLING.md is in the files that were proved
-#     scripts/sessions.sh    the stored sessions, by the program that rt ci proved and built
-#     scripts/cuts.sh        sessions with their buffers cut, likewise
-#     scripts/faults.sh      the sessions and the tests where memory is refused and streams fail, by what rt ci built
-#     scripts/clients.sh     the clients of the library, each proved and tested as a crate of its own
-#     scripts/misuse.sh      what must not compile
-#     scripts/edits.sh       the must-fail edits, in lanes side by side; rt ci has none to try in its copy
+#     sh scripts/check.sh             what stands: the proofs from nothing, the tests, the sessions, the clients
+#     sh scripts/check.sh edits       the bugs that the prover must refuse
+#     sh scripts/check.sh verdict     the toolchain's own verdict, rt ci, over the files without the edits
+#     sh scripts/check.sh all         what stands, and the edits
 #
-# The last three run in a second copy, beside the others and at a lower priority: the longest check of rt ci, that of the
-# library's tests, is one process, and leaves the other processors to them.
+# Several of these words may be given; .ci/run gives `all verdict`. The steps are:
+#
+#     prove.sh        each crate is proved from nothing and built, its tests are proved and run, and its stored run
+#     calling.sh      the code of CALLING.md is in the files that were proved
+#     derive_check.sh what derive.sh prints is in the files that were proved
+#     sessions.sh     the stored sessions, by the program that was proved
+#     cuts.sh         sessions with their buffers cut, likewise
+#     faults.sh       the sessions and the tests where memory is refused and streams fail, by what was proved
+#     clients.sh      the clients of the library, each proved and tested as a crate of its own
+#     depending.sh    a repository that depends on the library, made by README's lines
+#     misuse.sh       what must not compile
+#     cited.py        the names that the documents cite are in the sources
+#     edit_table.py   the tables of the edits say what the edits say
+#     edits.py        the edits, many in one check
+#
+# The tests of the library take longest to prove, so they stand in a second copy, beside the others; rt ci runs in a third.
 #
 # Each step is named at the end with its counts and its time. The last line is `N passed, M failed`, the sums of the
-# counts, with `, K skipped` behind it where something was left out. A step that ends without its counts, or that fails
+# counts, with `, K skipped` after it where something was left out. A step that ends without its counts, or that fails
 # without counting a failure, is one failure more. The exit status is 0 where M is 0.
 set -u
 
 top=$(CDPATH='' cd -- "$(dirname -- "$0")/.." && pwd) || exit 1
+# shellcheck source=scripts/lib.sh
+. "$top/scripts/lib.sh"
+
+groups=" ${*:-stands} "
+case $groups in *' all '*) groups=" stands edits $groups" ;; esac
+for group in $groups; do
+    case $group in
+        all | stands | edits | verdict) ;;
+        *) stop "'$group' is none of edits, verdict and all" ;;
+    esac
+done
 
 room=$(mktemp -d) || exit 1
 beside=
@@ -31,16 +52,9 @@ failed=0
 skipped=0
 steps=0
 
-# Copies the files, without what earlier runs kept.
-copy_tree() {
-    mkdir "$1" && cd "$top" || return
-    set -- "$1" --exclude=./.git
-    for crate in crates/*; do
-        set -- "$@" "--exclude=./$crate/out"
-    done
-    to=$1
-    shift
-    tar -cf - "$@" . | tar -C "$to" -xf -
+wants() {
+    case $groups in *" $1 "*) return 0 ;; esac
+    return 1
 }
 
 # Runs a command in a copy, and prints what it says. Its status and its seconds go into the file $1.ended.
@@ -48,12 +62,12 @@ run_in() {
     files=$1
     tree=$2
     shift 2
-    start=$(date +%s)
+    begun=$(date +%s)
     (cd "$tree" && exec "$@") 2>&1 &
     job=$!
     trap 'kill $job 2>/dev/null; wait $job; exit 1' HUP INT TERM
     wait "$job"
-    echo "$? $(($(date +%s) - start))" >"$files.ended"
+    echo "$? $(($(date +%s) - begun))" >"$files.ended"
 }
 
 # Counts a step, by the last line of the file $1.said and by the file $1.ended.
@@ -81,7 +95,7 @@ count_step() {
     echo "check: $*: $line, $seconds s" >>"$room/steps"
 }
 
-# Runs a step in the copy of rt ci, shows what it says as it comes, and counts it.
+# Runs a step in the first copy, shows what it says as it comes, and counts it.
 run_step() {
     steps=$((steps + 1))
     echo "== $*"
@@ -89,53 +103,65 @@ run_step() {
     count_step "$room/step$steps" "$@"
 }
 
-gigabytes() {
-    awk '/^MemAvailable:/ { print int($2 / 1048576) }' /proc/meminfo
+# Starts a step in the copy $2 beside the others, under the name $1.
+start_beside() {
+    name=$1
+    tree=$room/$2
+    shift 2
+    run_in "$room/$name" "$tree" "$@" >"$room/$name.said" &
+    beside="$beside $!"
 }
 
-# The smaller of two numbers, or 1 where that is not above 0.
-fewest() {
-    number=$(($1 < $2 ? $1 : $2))
-    echo $((number > 0 ? number : 1))
+# Shows and counts the step that was started beside the others under the name $1, once it has ended.
+count_beside() {
+    name=$1
+    shift
+    echo "== $*, beside the others"
+    cat "$room/$name.said"
+    count_step "$room/$name" "$@"
 }
 
-# The steps of the second copy, in as many lanes as leave a processor and 12 GB of memory to rt ci, with 3 GB for each.
-run_beside() {
-    LANES=${LANES:-$(fewest $(($(nproc) - 1)) $((($(gigabytes) - 12) / 3)))}
-    export LANES
-    for step in clients misuse edits; do
-        run_in "$room/$step" "$room/beside" nice sh "scripts/$step.sh" >"$room/$step.said"
+run_stands() {
+    for step in 'sh scripts/calling.sh' 'sh scripts/derive_check.sh' 'python3 scripts/cited.py' 'python3 scripts/edit_table.py' 'sh scripts/prove.sh scroll'; do
+        # shellcheck disable=SC2086 # words
+        run_step $step
     done
+    cp -R "$room/tree" "$room/tests" || stop "the files could not be copied"
+    # (the tests take about as long as all the others together, which are not always as many jobs)
+    all=$(count_workers)
+    export WORKERS=$((all > 1 ? all - 1 : 1))
+    start_beside tests tests sh scripts/prove.sh scroll tests
+    tests=$!
+    WORKERS=$((all > 1 ? all / 2 : 1))
+    for step in 'prove.sh scroll_run' 'prove.sh scroll_run tests' sessions.sh cuts.sh clients.sh depending.sh misuse.sh; do
+        # shellcheck disable=SC2086 # words
+        run_step sh scripts/$step
+    done
+    wait "$tests"
+    count_beside tests sh scripts/prove.sh scroll tests
+    WORKERS=$all
+    cp "$room/tests/crates/scroll/out/scroll_tests" "$room/tree/crates/scroll/out/" 2>/dev/null
+    run_step sh scripts/faults.sh
 }
 
-if ! (copy_tree "$room/tree" && copy_tree "$room/beside" && rm -f "$room"/tree/crates/*/must-fail/*.edit); then
-    echo "check: the files could not be copied"
-    echo "0 passed, 1 failed"
-    exit 1
+begun_all=$(date +%s)
+copy_tree "$top" "$room/tree" || stop "the files could not be copied"
+if wants verdict; then
+    copy_tree "$top" "$room/verdict" || stop "the files could not be copied"
+    rm -f "$room"/verdict/crates/*/must-fail/*.edit
+    start_beside verdict verdict nice rt ci
+    verdict=$!
 fi
-
-start=$(date +%s)
-# (rt ci by itself takes each check for larger than it is, and tries one after the other what there is memory for)
-RT_JOBS=${RT_JOBS:-$(fewest "$(nproc)" $(($(gigabytes) / 7)))}
-export RT_JOBS
-run_beside &
-beside=$!
-program=crates/scroll_run/out/scroll_run
-run_step rt ci
-run_step sh scripts/calling.sh
-run_step sh scripts/sessions.sh "$program"
-run_step sh scripts/cuts.sh "$program"
-run_step sh scripts/faults.sh
-wait "$beside"
+if wants stands; then run_stands; fi
+if wants edits; then run_step python3 scripts/edits.py; fi
+if wants verdict; then
+    wait "$verdict"
+    count_beside verdict rt ci
+fi
 beside=
-for step in clients misuse edits; do
-    echo "== sh scripts/$step.sh, beside the others"
-    cat "$room/$step.said"
-    count_step "$room/$step" sh "scripts/$step.sh"
-done
 
 cat "$room/steps"
-echo "check: all in $(($(date +%s) - start)) s"
+echo "check: all in $(($(date +%s) - begun_all)) s"
 if [ "$skipped" -eq 0 ]; then
     echo "$passed passed, $failed failed"
 else

@@ -5,15 +5,17 @@
 #
 # NAME names a folder of clients/: all that have a file src/lib.rt.txt, where none is named. A client's files are copied
 # without their `.txt`. The library is proved and built in the tree itself, by `rt lib` over what its out/ keeps, and
-# copied as built: so it is not proved again for the clients, nor for scripts/edits.sh after this. As many clients as there
-# are processors, or fewer, so that each has 3 GB of memory, are tried side by side; the variable LANES sets another number.
+# copied as built: so it is not proved again for the clients. As many clients as there are workers (scripts/lib.sh) are tried
+# side by side.
 #
-# A client passes where it stands in the layout of `rt fmt`, names no proof of the library, and `rt check`,
+# A client passes where it stands in the layout of `rt fmt`, names no proof of the library but its lemmas for callers, and `rt check`,
 # `rt check --test` and `rt test` end well, with one test at least. It is printed with its counts: functions, tests, lines
 # that are not empty, and seconds. The last line is `N passed, M failed`. The exit status is 0 where M is 0 and N is not.
 set -u
 
 top=$(CDPATH='' cd -- "$(dirname -- "$0")/.." && pwd) || exit 1
+# shellcheck source=scripts/lib.sh
+. "$top/scripts/lib.sh"
 
 room=$(mktemp -d) || exit 1
 running=
@@ -28,21 +30,12 @@ list_clients() {
     done
 }
 
-# How many clients are tried side by side.
-count_lanes() {
-    processors=$(nproc)
-    gigabytes=$(awk '/^MemAvailable:/ { print int($2 / 1048576) }' /proc/meminfo)
-    by_memory=$((gigabytes / 3))
-    lanes=$((processors < by_memory ? processors : by_memory))
-    echo "${LANES:-$((lanes > 0 ? lanes : 1))}"
-}
-
 # A workspace with the library, as it was built, and with the client. A file of the client that is no part of a crate is
 # said to be, and fails it.
 make_workspace() {
     mkdir -p "$tree/crates" || return
     { cp "$top/HANDLES" "$tree/" && grep '^scroll:' "$top/crates.txt"; } >"$tree/crates.txt" || return
-    tar -C "$top/crates" --exclude=scroll/must-fail --exclude=scroll/out/incremental -cf - scroll | tar -C "$tree/crates" -xf - || return
+    tar -C "$top/crates" --exclude=scroll/must-fail --exclude=scroll/bugs --exclude=scroll/out/incremental -cf - scroll | tar -C "$tree/crates" -xf - || return
     echo "$1: scroll" >>"$tree/crates.txt"
     cd "$top/clients/$1" || return
     find . -type f ! -name '*.md' >"$tree.files"
@@ -55,11 +48,6 @@ make_workspace() {
         esac
     done <"$tree.files" >"$said"
     [ ! -s "$said" ]
-}
-
-# Whether `rt fmt` leaves the client's files as they are.
-is_laid_out() {
-    cp -R "$crate" "$tree.before" && run fmt && diff -r "$tree.before" "$crate" >"$said"
 }
 
 run() {
@@ -92,9 +80,9 @@ try_client() {
     start=$(date +%s)
     : >"$said"
     make_workspace "$name" || { fail 'its files could not be copied'; return; }
-    is_laid_out || { fail 'rt fmt lays its files out in another way'; return; }
-    if grep -rn 'Rattle\.scroll\.proofs' "$crate" >"$said"; then
-        fail 'it names a proof of the library'
+    is_laid_out "$crate" >"$said" || { fail 'rt fmt lays its files out in another way'; return; }
+    if grep -rn 'Rattle\.scroll\.proofs' "$crate" | grep -v 'Rattle\.scroll\.proofs\.lemmas\.callers\.' >"$said"; then
+        fail 'it names a proof of the library that is not for callers'
         return
     fi
     run check || { fail 'it is not proved'; return; }
@@ -115,10 +103,8 @@ try_client() {
 
 start=$(date +%s)
 if ! (cd "$top/crates/scroll" && rt lib) >"$room/said" 2>&1; then
-    echo 'clients: the library could not be proved and built'
     tail -n 20 "$room/said" | cut -c 1-200
-    echo "0 passed, 1 failed"
-    exit 1
+    stop 'the library could not be proved and built'
 fi
 echo "clients: the library took $(($(date +%s) - start)) s"
 
@@ -126,13 +112,13 @@ echo "clients: the library took $(($(date +%s) - start)) s"
     # shellcheck disable=SC2046 # words
     set -- $(list_clients)
 }
-lanes=$(count_lanes)
+workers=$(count_workers)
 busy=0
 for client in "$@"; do
     try_client "$client" >"$room/$client.out" 2>&1 &
     running="$running $!"
     busy=$((busy + 1))
-    if [ "$busy" -ge "$lanes" ]; then
+    if [ "$busy" -ge "$workers" ]; then
         wait
         running=
         busy=0

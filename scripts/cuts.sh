@@ -3,8 +3,8 @@
 #
 #     sh scripts/cuts.sh [PROGRAM]
 #
-# A session examples/sessions/NAME.in is run so where examples/cuts/NAME.out is there. That file has what each cut is
-# answered, one after the other, each below a line `cut to N`. Each run must end with status 0 and print a line for each
+# A session sessions/SUBJECT/NAME.in is run so where NAME.cuts is there. That file has what each cut is answered, one
+# after the other, each below a line `cut to N`. Each run must end with status 0 and print a line for each
 # command and then two more, and all of them together must be that file, byte for byte.
 #
 # PROGRAM is a path, or a name that the shell finds. Without it the program is crates/scroll_run/out/scroll_run, as
@@ -60,7 +60,7 @@ read_session() {
 }
 
 try_cuts() {
-    session=$top/examples/sessions/$name.in
+    session=$top/sessions/$name.in
     if [ ! -f "$session" ] || ! read_session; then
         fail 'there is no session with a buffer to cut'
         return
@@ -78,9 +78,10 @@ try_cuts() {
     fi
 }
 
-for answers in "$top"/examples/cuts/*.out; do
+for answers in "$top"/sessions/*/*.cuts; do
     [ -f "$answers" ] || continue
-    name=$(basename "$answers" .out)
+    name=${answers#"$top"/sessions/}
+    name=${name%.cuts}
     try_cuts
 done
 

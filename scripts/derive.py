@@ -25,11 +25,11 @@ RESERVED = {
 
 # Where the names of the ghost members come from, in the order of the `use` lines.
 GHOST_IMPORTS: list[tuple[str, list[str]]] = [
-    ("Rattle.std.specs.Prelude", ["◌≡◌", "◌++◌", "[]", "◌∷◌", "take", "drop", "slice_index", "slice_index_or", "pos"]),
-    ("Rattle.std.specs.Prelude", ["to_bits", "from_bits"]),
+    ("Rattle.std.specs.Prelude", ["◌≡◌", "◌++◌", "[]", "◌∷◌", "take", "drop", "slice_index", "slice_index_or", "pos", "from_bits"]),
     ("Rattle.std.specs.Float", ["binary32", "binary64"]),
     ("Rattle.std.proofs.Common", ["rules"]),
     ("Rattle.scroll.specs.Bytes", ["ReadsFront", "RefusesShort", "WritesFront", "LeavesShort"]),
+    ("Rattle.scroll.specs.Floats", ["float", "float_bytes"]),
     ("Rattle.scroll.specs.Numbers", ["number", "number_bytes", "signed_number", "signed_bytes"]),
 ]
 
@@ -196,15 +196,8 @@ def from_ctx(source: Source, struct: Struct) -> str:
     ])
 
 
-def room_test(slice: str, size: int) -> list[str]:
-    return [
-        f"        if {slice}.len() < {size} {{",
-        "            return Err(Error::TooBig {",
-        f"                size: {size},",
-        f"                len: {slice}.len(),",
-        "            });",
-        "        }",
-    ]
+def room_test(slice: str, size: int) -> str:
+    return f"        check_room({size}, {slice}.len())?;"
 
 
 def signature(name: str, parameters: list[str], result: str) -> list[str]:
@@ -228,7 +221,7 @@ def try_from_ctx(source: Source, struct: Struct) -> str:
         "    ghost reads_bounded = { λ order source x n h. Prim.search rules };",
         "",
         *signature("try_from_ctx", ["from: &'a [u8]", "ctx: Endian"], source.result_of(f"({name}, usize)")),
-        *room_test("from", size),
+        room_test("from", size),
         f"        Ok(({name}::from_ctx(from, ctx), {size}))",
         "    }",
         "}",
@@ -282,7 +275,7 @@ def try_into_ctx(source: Source, struct: Struct) -> str:
         "    ghost writes_keeps = { λ order x old new n h. Prim.search rules };",
         "",
         f"    fn try_into_ctx(self, dst: &mut [u8], ctx: Endian) -> {source.result_of('usize')} {{",
-        *room_test("dst", size),
+        room_test("dst", size),
         "        self.into_ctx(dst, ctx);",
         f"        Ok({size})",
         "    }",
@@ -329,6 +322,7 @@ def use_lines(blocks: list[str], traits: list[str], crate: str) -> str:
     ours = ["Cread"] if "cread_with" in words else []
     ours += [name for name in ("Endian", "Error") if name in words]
     ours += ["Result"] if re.search(r"-> Result<(?!.*, Error>)", text) else []
+    ours += ["check_room"] if "check_room" in words else []
     lines += ["", f"use {crate}::ctx::{braced(sorted(needed))};", f"use {crate}::{braced(ours)};"]
     return "\n".join(lines)
 

@@ -40,10 +40,9 @@ clients/derived/src/shapes.rt.txt Data5
 clients/derived/src/shapes.rt.txt Data6
 clients/derived/src/shapes.rt.txt Pair
 clients/derived/src/shapes.rt.txt Data7
+clients/derived/src/shapes.rt.txt Data8
 clients/object_files/src/header.rt.txt RawHeader FromCtx
 clients/object_files/src/sections.rt.txt Section FromCtx TryFromCtx
-clients/packets/src/headers.rt.txt UdpHeader
-clients/packets/src/headers.rt.txt DnsHeader
 END
 
 # Whether a call is refused with one line that ends in these words.
@@ -75,7 +74,7 @@ struct Vector { a: Vec<u8> }
 struct Generic<T> { a: T }
 struct Named { a: [u8; LEN] }
 struct Sized { a: usize }
-struct Float { a: f32 }
+struct Letter { a: char }
 struct Flag(bool, u8);
 struct Many { a: [u8; 65] }
 struct None { a: [u8; 0] }
@@ -104,7 +103,7 @@ bad.rt|Vector|bad.rt:13: the field a is of a type whose size depends on its byte
 bad.rt|Generic|bad.rt:14: the struct Generic has parameters
 bad.rt|Named|bad.rt:15: the length LEN of the field a is no literal, and no constant of this file that is one
 bad.rt|Sized|bad.rt:16: the field a is of the type usize, which is no number of a fixed width, no array and no struct of this file
-bad.rt|Float|bad.rt:17: the field a is of a floating-point type, f32, which the library doesn't have yet
+bad.rt|Letter|bad.rt:17: the field a is of the type char, which is no number of a fixed width, no array and no struct of this file
 bad.rt|Flag|bad.rt:18: the field 0 is of the type bool, which is no number of a fixed width, no array and no struct of this file
 bad.rt|Many|bad.rt:19: the struct Many has 65 numbers, and at most 64 can be done
 bad.rt|None|bad.rt:20: the struct None has no numbers

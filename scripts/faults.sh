@@ -23,7 +23,7 @@
 set -u
 
 top=$(CDPATH='' cd -- "$(dirname -- "$0")/.." && pwd) || exit 1
-sessions=$top/examples/sessions
+sessions=$top/sessions
 program=$top/crates/scroll_run/out/scroll_run
 
 # How many of the first calls fail in turn where a read and a write move one byte.
@@ -96,8 +96,17 @@ want() {
     fi
 }
 
+# The exit status of the session where nothing goes wrong.
+usual_status() {
+    if [ -f "$sessions/$name.status" ]; then
+        cat "$sessions/$name.status"
+    else
+        echo 0
+    fi
+}
+
 want_as_ever() {
-    want "$1" "$(cat "$sessions/$name.status")" "$sessions/$name.out"
+    want "$1" "$(usual_status)" "$sessions/$name.out"
 }
 
 # Wants status 4 and a front of the output.
@@ -247,7 +256,7 @@ list_libraries() {
 # One line for each session, the longest first, and for each test: `session` or the name of the crate, and the name.
 list_all() {
     # shellcheck disable=SC2012 # the names are words
-    ls -S "$sessions" | sed -n 's/^\(.*\)\.in$/session \1/p'
+    (cd "$sessions" && ls -S -- */*.in) | sed -n 's/^\(.*\)\.in$/session \1/p'
     [ -n "$library" ] || return
     for kind in $(list_libraries); do
         tests=$top/crates/$kind/out/${kind}_tests

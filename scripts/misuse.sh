@@ -12,17 +12,18 @@
 set -u
 
 top=$(CDPATH='' cd -- "$(dirname -- "$0")/.." && pwd) || exit 1
+# shellcheck source=scripts/lib.sh
+. "$top/scripts/lib.sh"
 texts=$top/scripts/misuse
 
 room=$(mktemp -d) || exit 1
 trap 'rm -rf "$room"' EXIT
 trap 'exit 1' HUP INT TERM
 
-stop() {
-    echo "misuse: $1"
-    sed 's/^/    /' "$room/said" | grep -v ': proved$' | tail -n 20 | cut -c 1-200
-    echo "0 passed, 1 failed"
-    exit 1
+# Ends the script, and shows the end of what the last check said.
+stop_check() {
+    grep -v ': proved$' "$room/said" | tail -n 20 | cut -c 1-200 | sed 's/^/    /'
+    stop "$1"
 }
 
 # Copies the library, with what its checks kept and with the modules behind its own.
@@ -65,15 +66,15 @@ done
 : >"$room/said"
 
 if ! copy_library || ! put_modules '/\/\/ misuse: /d'; then
-    stop 'the library could not be copied'
+    stop_check 'the library could not be copied'
 fi
 # shellcheck disable=SC2086 # words
-check $paths || stop 'without the misuse the modules are not proved'
+check $paths || stop_check 'without the misuse the modules are not proved'
 functions=$(sed -n 's/^only=\([0-9]*\) proved=\1$/\1/p' "$room/said")
-[ "${functions:-0}" -gt 0 ] || stop 'without the misuse the modules are not proved'
+[ "${functions:-0}" -gt 0 ] || stop_check 'without the misuse the modules are not proved'
 
-put_modules '' || stop 'the library could not be copied'
-check --only '' && stop 'with the misuse the modules are not refused'
+put_modules '' || stop_check 'the library could not be copied'
+check --only '' && stop_check 'with the misuse the modules are not refused'
 
 passed=0
 failed=0

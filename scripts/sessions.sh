@@ -1,18 +1,25 @@
 #!/bin/sh
-# Replays the stored sessions. Each examples/sessions/NAME.in is the standard input of one run of the program, whose
-# standard output must be NAME.out, byte for byte, and whose exit status must be the number in NAME.status.
+# Replays the stored sessions. Each sessions/SUBJECT/NAME.in is the standard input of one run of the program, whose
+# standard output must be NAME.out, byte for byte, and whose exit status must be the number in NAME.status, or 0 where
+# there is no such file.
 #
 #     sh scripts/sessions.sh [PROGRAM]
+#     sh scripts/sessions.sh --index
 #
 # PROGRAM is a path, or a name that the shell finds. Without it the program is crates/scroll_run/out/scroll_run, as
 # `rt run` or `rt ci` left it; where it is missing, or older than a file that it is made of, `rt run` first proves and
-# builds it.
+# builds it. With `--index` nothing is replayed: the index, sessions/README.md, is written from the names.
 #
-# The last line is `N passed, M failed`. The exit status is 0 where M is 0 and N is not.
+# Each session is one check, and so is the index. A file that belongs to no session is a failure. The last line is
+# `N passed, M failed`. The exit status is 0 where M is 0 and a session was replayed.
 set -u
 
+# (the same order of names everywhere)
+LC_ALL=C
+export LC_ALL
+
 top=$(CDPATH='' cd -- "$(dirname -- "$0")/.." && pwd) || exit 1
-sessions=$top/examples/sessions
+sessions=$top/sessions
 
 # Ends where there is nothing to replay, or nothing to replay it with.
 stop() {
@@ -35,6 +42,23 @@ make_program() {
     printf 'buffer -\ncursor 0\n' | (cd "$top/crates/scroll_run" && rt run) >&2
 }
 
+# The index: a line for each session, by subject.
+write_index() {
+    cat <<'END'
+# Stored sessions
+
+`sh scripts/sessions.sh --index` writes this page from the names of the files. [docs/SESSIONS.md](../docs/SESSIONS.md) says what a session is, and which files each has.
+END
+    (cd "$sessions" && printf '%s\n' */*.in) | awk -F / '
+        $1 != subject { subject = $1; printf "\n## %s\n\n", subject }
+        { words = $2; sub(/\.in$/, "", words); gsub(/_/, " ", words); printf "- [%s](%s)\n", words, $0 }'
+}
+
+if [ "${1-}" = --index ]; then
+    write_index >"$sessions/README.md"
+    exit
+fi
+
 if [ $# -gt 0 ]; then
     program=$1
 else
@@ -54,42 +78,76 @@ fail() {
     echo "FAILED $name: $1"
 }
 
-# The first lines in which the output differs, with long ones cut.
+# The first lines in which what is there differs from what is wanted, with long ones cut.
 show_difference() {
-    diff "$sessions/$name.out" "$room/out" >"$room/difference"
+    diff "$1" "$2" >"$room/difference"
     sed -n 's/^< /    wanted:  /p' "$room/difference" | head -n 3 | cut -c 1-160
-    sed -n 's/^> /    written: /p' "$room/difference" | head -n 3 | cut -c 1-160
+    sed -n 's/^> /    there:   /p' "$room/difference" | head -n 3 | cut -c 1-160
 }
 
 # Runs the program on one session.
 replay() {
-    if [ ! -f "$sessions/$name.out" ] || [ ! -f "$sessions/$name.status" ]; then
-        fail "its .out or its .status is missing"
+    if [ ! -f "$sessions/$name.out" ]; then
+        fail "its .out is missing"
         return
     fi
-    wanted=$(cat "$sessions/$name.status")
+    wanted=0
+    [ ! -f "$sessions/$name.status" ] || wanted=$(cat "$sessions/$name.status")
     "$program" <"$sessions/$name.in" >"$room/out" 2>"$room/err"
     status=$?
     if [ "$status" != "$wanted" ]; then
         fail "the exit status is $status, and $wanted is wanted"
-        show_difference
+        show_difference "$sessions/$name.out" "$room/out"
         head -n 4 "$room/err" | cut -c 1-160 | sed 's/^/    standard error: /'
     elif ! cmp -s "$sessions/$name.out" "$room/out"; then
         fail "the output differs"
-        show_difference
+        show_difference "$sessions/$name.out" "$room/out"
     else
         passed=$((passed + 1))
     fi
 }
 
+# Says which files belong to no session. A status of 0 goes without its file.
+check_files() {
+    for file in "$sessions"/*/*; do
+        name=${file#"$sessions"/}
+        case $name in
+            *.in) ;;
+            *.out | *.cuts) [ -f "${file%.*}.in" ] || fail 'there is no such session' ;;
+            *.status)
+                [ -f "${file%.*}.in" ] || fail 'there is no such session'
+                [ "$(cat "$file")" != 0 ] || fail 'a status of 0 has no file'
+                ;;
+            *) fail 'no file of a session has such a name' ;;
+        esac
+    done
+}
+
+# Compares the index with the one that the names give.
+check_index() {
+    name=README.md
+    write_index >"$room/index"
+    if cmp -s "$room/index" "$sessions/README.md"; then
+        passed=$((passed + 1))
+    else
+        fail 'the index is another: sh scripts/sessions.sh --index writes it'
+        show_difference "$room/index" "$sessions/README.md"
+    fi
+}
+
 passed=0
 failed=0
-for input in "$sessions"/*.in; do
+replayed=0
+for input in "$sessions"/*/*.in; do
     [ -f "$input" ] || continue
-    name=$(basename "$input" .in)
+    name=${input#"$sessions"/}
+    name=${name%.in}
     replay
+    replayed=$((replayed + 1))
 done
+check_files
+check_index
 
-echo "sessions: $((passed + failed)) sessions were replayed"
+echo "sessions: $replayed sessions were replayed"
 echo "$passed passed, $failed failed"
-[ "$failed" -eq 0 ] && [ "$passed" -gt 0 ]
+[ "$failed" -eq 0 ] && [ "$replayed" -gt 0 ]

@@ -34,21 +34,14 @@ def signed(width: int) -> Number:
 
 def floating(width: int) -> Number:
     binary = f"binary{8 * width}"
-    value = f"from_bits {binary} (number order {{width}} {{source}})"
-    written = f"number_bytes order {{width}} (to_bits {binary} {{value}})"
-    return Number(width, value, written, f"(from_bits {binary} 0)")
+    return Number(width, f"float {binary} order {{source}}", f"float_bytes {binary} order {{value}}", f"(from_bits {binary} 0)")
 
 
 NUMBERS: dict[str, Number] = {
     **{f"u{8 * width}": unsigned(width) for width in (1, 2, 4, 8, 16)},
     **{f"i{8 * width}": signed(width) for width in (1, 2, 4, 8, 16)},
+    **{f"f{8 * width}": floating(width) for width in (4, 8)},
 }
-
-# The floating-point types, and whether the library has them.
-FLOATS: dict[str, Number] = {f"f{8 * width}": floating(width) for width in (4, 8)}
-FLOATS_ARE_READY = False
-if FLOATS_ARE_READY:
-    NUMBERS |= FLOATS
 
 
 class BadInput(Exception):
@@ -217,8 +210,6 @@ def kind_of(text: str) -> str:
         return f"a text, {text}"
     if name in ("Uleb128", "Sleb128", "Vec", "Option"):
         return f"of a type whose size depends on its bytes, {text}"
-    if name in FLOATS:
-        return f"of a floating-point type, {text}, which the library doesn't have yet"
     if "<" in text:
         return f"of a generic type, {text}"
     return f"of the type {text}, which is no number of a fixed width, no array and no struct of this file"

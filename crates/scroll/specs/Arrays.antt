@@ -1,5 +1,5 @@
 -- Arrays: elements that are read, or written, one after the other from the start of a source or a target.
-use Rattle.std.specs.Prelude.{◌≡◌, ◌<◌, ℕ, ◌+◌, ◌++◌, List, [], ◌∷◌, length}
+use Rattle.std.specs.Prelude.{◌≡◌, ◌<◌, ℕ, ◌+◌, ◌*◌, ◌++◌, List, [], ◌∷◌, length, take, drop, slice_index_or}
 use Rattle.scroll.specs.Reads.{ReadsAll, RefusesAt}
 use Rattle.scroll.specs.Writes.{WritesAt, LeavesAt}
 
@@ -52,3 +52,24 @@ pub record LeavesArray {V E : Type 0} (writes : V → List ℕ → List ℕ → 
   pub split : vs ≡ front ++ value ∷ back
   pub written : WritesAll writes old 0 front mid stop
   pub refused : LeavesAt (refuses value) mid stop new e
+
+-- as many values as are counted, each made of the bytes that begin `width` bytes after those of the value before it
+pub record MakesArray {V : Type 0} (width : ℕ) (makes : List ℕ → V → Type 0) (count : ℕ) (source : List ℕ) (vs : List V) : Type 0 where
+  pub len : length vs ≡ count
+  pub each : (i : ℕ) (d : V) → i < count → makes (drop (width * i) source) (slice_index_or vs i d)
+
+-- a value put at a place of a target that has room for it: the bytes before the place are unchanged
+pub record LeavesValue (leaves : List ℕ → List ℕ → Type 0) (old : List ℕ) (place : ℕ) (new : List ℕ) : Type 0 where
+  pub before : take place new ≡ take place old
+  pub after : leaves (drop place old) (drop place new)
+
+-- values put one after another, each `width` bytes after the one before it, from a place on
+abbrev pub LeavesAll : {V : Type 0} → ℕ → (V → List ℕ → List ℕ → Type 0) → List ℕ → ℕ → List V → List ℕ → Type 0
+LeavesAll width leaves old from [] new = new ≡ old
+LeavesAll width leaves old from (v ∷ vs) new =
+    (mid : List ℕ) × LeavesValue (leaves v) old from mid × LeavesAll width leaves mid (from + width) vs new
+
+-- the values of an array, as many as are counted, put one after another from the front on
+pub record FillsArray {V : Type 0} (width : ℕ) (leaves : V → List ℕ → List ℕ → Type 0) (count : ℕ) (vs : List V) (old new : List ℕ) : Type 0 where
+  pub len : length vs ≡ count
+  pub each : LeavesAll width leaves old 0 vs new

@@ -18,6 +18,10 @@ line_of NoMemory = Some (codes "out of memory")
 abbrev pub IsBadOffset : ℕ → Error → Type 0
 IsBadOffset place e = e ≡ BadOffset place
 
+-- the error for a place past the end, as another error type takes it up by its `From`
+abbrev pub PastEnd : {E : Type 0} → (Error → E → Type 0) → ℕ → E → Type 0
+PastEnd from_gives place e = from_gives (BadOffset place) e
+
 -- a `BadInput` of this size and with this message. A message is compared by its bytes, since it is borrowed and has an address.
 abbrev pub IsBadInput : Error → ℕ → List ℕ → Type 0
 IsBadInput (BadInput size msg) n text = (size ≡ n) × (msg.now ≡ text)

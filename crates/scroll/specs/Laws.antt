@@ -1,6 +1,7 @@
 -- Words of the laws.
 use Rattle.std.specs.Prelude.{◌≡◌, ◌≤◌, ◌<◌, ◌+◌, ℕ, ◌++◌, List, [], ◌∷◌, length, take, Result, Ok, Err, MatchResult}
-use Rattle.std.specs.List.{Any}
+use Rattle.std.specs.List.{Any, flat_map}
+use Rattle.scroll.specs.Arrays.{Nested, WritesArray, LeavesArray}
 use Rattle.scroll.specs.History.{Piece}
 use Rattle.scroll.specs.Reads.{ReadsAt, RefusesAt}
 use Rattle.scroll.specs.Errors.{IsBadOffset}
@@ -31,6 +32,20 @@ pub record WrittenLast (history : List Piece) (p : Piece) : Type 0 where
   pub after : List Piece
   pub split : history ≡ before ++ p ∷ after
   pub apart : Apart (p ∷ []) after
+
+-- an array of arrays, written, refused, and its leaves: those of the innermost elements, in order. The lengths are those of
+-- `Nested`; with no length, one element.
+abbrev pub WritesNested : {V : Type 0} → (V → List ℕ → List ℕ → ℕ → Type 0) → (counts : List ℕ) → Nested V counts → List ℕ → List ℕ → ℕ → Type 0
+WritesNested writes [] = writes
+WritesNested writes (count ∷ counts) = WritesArray (WritesNested writes counts)
+
+abbrev pub LeavesNested : {V E : Type 0} → (V → List ℕ → List ℕ → ℕ → Type 0) → (V → List ℕ → List ℕ → E → Type 0) → (counts : List ℕ) → Nested V counts → List ℕ → List ℕ → E → Type 0
+LeavesNested writes refuses [] = refuses
+LeavesNested writes refuses (count ∷ counts) = LeavesArray (WritesNested writes counts) (LeavesNested writes refuses counts)
+
+abbrev pub leaves_nested : {V : Type 0} → (V → List (List ℕ)) → (counts : List ℕ) → Nested V counts → List (List ℕ)
+leaves_nested leaves [] = leaves
+leaves_nested leaves (count ∷ counts) = flat_map (leaves_nested leaves counts)
 
 -- a read that fits its source is the same on every source that is as long and begins with the same bytes
 abbrev pub IsLocal : {V : Type 0} → (List ℕ → V → ℕ → Type 0) → Type 0

@@ -1,22 +1,18 @@
+-- The definitions that the contracts cite, in an order to read them in.
 pub mod Bytes
+pub mod Exact
 pub mod Numbers
-pub mod NumberLaws
-pub mod PairLaws
-pub mod SumLemmas
+pub mod Floats
 pub mod Errors
 pub mod Texts
-pub mod TextLaws
 pub mod Search
 pub mod CStrings
-pub mod CStringLaws
 pub mod CStringTexts
 pub mod Reads
 pub mod Writes
+pub mod Zeros
 pub mod Fits
 pub mod Arrays
-pub mod ArrayLaws
-pub mod Callers
-pub mod RoundTrips
 pub mod History
 pub mod Leaves
 pub mod Streams
@@ -24,9 +20,9 @@ pub mod Leb128
 pub mod LebRefusals
 pub mod Spelling
 pub mod LebWrites
-pub mod LebWriteLaws
 pub mod Spans
 pub mod Loads
 pub mod Runs
 pub mod Laws
-pub mod OneAnswer
+-- No definitions: lemmas that the implementations cite in the laws of their traits, which may cite specs/ alone.
+pub mod lemmas

@@ -19,6 +19,8 @@ use crate::search::first_place;
 use std::alloc::{AllocError, Global};
 use std::result;
 
+mod of_std;
+
 /// A borrowed C string.
 #[derive(Clone, Copy, Debug)]
 pub struct CStr<'a> {

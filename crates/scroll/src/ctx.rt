@@ -10,10 +10,14 @@ mod c_strings;
 mod measure;
 mod numbers;
 mod pairs;
+mod std_c_strings;
 mod str_ctx;
 mod text;
+mod zeros;
 
+pub use arrays::array_fits;
 pub use str_ctx::{NULL, RET, SPACE, StrCtx, TAB};
+pub use zeros::{Zeros, padding};
 
 /// A type that can be read from bytes in a context.
 ///

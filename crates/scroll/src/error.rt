@@ -1,6 +1,6 @@
 // What is refused.
-ghost use Rattle.std.specs.Prelude.{◌≡◌};
-ghost use Rattle.scroll.specs.declared.error.Error.TheVariants.{IO};
+ghost use Rattle.std.specs.Prelude.{◌≡◌, ◌≤◌, ◌<◌, OnOk, IfErr};
+ghost use Rattle.scroll.specs.declared.error.Error.TheVariants.{IO, TooBig};
 
 use std::{fmt, io, result};
 
@@ -25,6 +25,27 @@ pub enum Error {
 
 /// What a call answers that refuses by [`Error`].
 pub type Result<T> = result::Result<T, Error>;
+
+/// Returns whether `len` bytes are enough for a value of `size` bytes: fewer are [`Error::TooBig`] with these two numbers.
+///
+/// A reader or a writer that tests once that there is room can then use [`Cread`](crate::Cread) and
+/// [`Cwrite`](crate::Cwrite), whose calls return no error.
+///
+/// ```rust
+/// check_room(8, file.len())?;
+/// let tag: u16 = file.cread_with(0, LE);
+/// assert!(rt; matches!(&check_room(8, 7), Err(Error::TooBig { size: 8, len: 7 })));
+/// ```
+#[inline]
+pub fn check_room(size: usize, len: usize) -> Result<()>
+    ensures enough { OnOk result (size ≤ len) }
+    ensures short { IfErr result (λ e. (len < size) × (e ≡ TooBig size len)) }
+{
+    if len < size {
+        return Err(Error::TooBig { size, len });
+    }
+    Ok(())
+}
 
 impl fmt::Display for Error {
     ghost use Rattle.scroll.specs.Errors.{line_of};

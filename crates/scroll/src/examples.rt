@@ -1,15 +1,21 @@
 // Callers of the crate, as its documents show them.
 mod bar;
+mod borrowed_array;
 mod chunk;
 mod custom_error;
+mod either_order;
 mod external_error;
 mod format;
+mod generic_arrays;
 mod named;
+mod object_id;
 mod overview;
 mod own_error;
+mod own_type;
 mod points;
 mod readme_data;
 mod readme_name;
+mod signed_fields;
 mod sized_fields;
 mod stream;
 mod stream_fields;

@@ -22,8 +22,10 @@ pub trait Cread<Ctx: Copy>: Source {
     fn cread<N: FromCtx<Ctx>>(self, offset: usize) -> N
     where
         Ctx: Default,
-        requires { (ctx : Ctx) → Ctx.is_default ctx → offset + N.need ctx ≤ length (Self.bytes self) }
-        ensures { ByDefault Ctx.is_default (λ ctx. N.makes ctx (drop offset (Self.bytes self)) result) };
+        requires { (ctx : Ctx) → Ctx.is_default ctx
+            → offset + N.need ctx ≤ length (Self.bytes self) }
+        ensures { ByDefault Ctx.is_default (λ ctx.
+            N.makes ctx (drop offset (Self.bytes self)) result) };
 
     /// Reads a value at `offset` in the context `ctx`.
     ///
@@ -76,9 +78,11 @@ pub trait Cwrite<Ctx: Copy> {
     fn cwrite<N: IntoCtx<Ctx>>(&mut self, n: N, offset: usize)
     where
         Ctx: Default,
-        requires { (ctx : Ctx) → Ctx.is_default ctx → offset + N.need ctx ≤ length (target self.old) }
+        requires { (ctx : Ctx) → Ctx.is_default ctx
+            → offset + N.need ctx ≤ length (target self.old) }
         ensures before { take offset (target self.new) ≡ take offset (target self.old) }
-        ensures after { ByDefault Ctx.is_default (λ ctx. N.leaves ctx n (drop offset (target self.old)) (drop offset (target self.new))) }
+        ensures after { ByDefault Ctx.is_default (λ ctx.
+            N.leaves ctx n (drop offset (target self.old)) (drop offset (target self.new))) }
         ensures len { length (target self.new) ≡ length (target self.old) }
         ensures same { same_target self.old self.new };
 
@@ -93,7 +97,8 @@ pub trait Cwrite<Ctx: Copy> {
     fn cwrite_with<N: IntoCtx<Ctx>>(&mut self, n: N, offset: usize, ctx: Ctx)
         requires { offset + N.need ctx ≤ length (target self.old) }
         ensures before { take offset (target self.new) ≡ take offset (target self.old) }
-        ensures after { N.leaves ctx n (drop offset (target self.old)) (drop offset (target self.new)) }
+        ensures after { N.leaves ctx n (drop offset (target self.old))
+            (drop offset (target self.new)) }
         ensures len { length (target self.new) ≡ length (target self.old) }
         ensures same { same_target self.old self.new };
 }

@@ -1,7 +1,10 @@
 //! Laws of the definitions that the contracts cite. Each function here changes nothing: its contract is the law, and its
-//! proof is the law's. Each is named by what it says, and has the law's number as a second name.
+//! proof is the law's. All have an empty body but [`size_is_that_of_reads_and_writes`], which returns the size of which its
+//! law speaks. Each is named by what it says, and has the law's number as a second name.
 
 mod c_strings;
+mod constants;
+mod floats;
 mod histories;
 mod leb128;
 mod numbers;
@@ -9,9 +12,14 @@ mod reads;
 mod required;
 
 pub use self::c_strings::{c_string_has_one_zero, c_string_has_one_zero as law_9};
+pub use self::constants::constants_have_their_values;
+pub use self::floats::{
+    float_has_one_leaf, float_reads_back, sizes_of_floats_are_those_of_reads_and_writes,
+};
 pub use self::histories::{
     array_has_leaves, what_was_written_stands, what_was_written_stands as law_3,
-    writes_apart_may_be_exchanged, writes_apart_may_be_exchanged as law_6,
+    write_is_of_its_leaves, writes_apart_may_be_exchanged, writes_apart_may_be_exchanged as law_6,
+    writes_have_leaves,
 };
 pub use self::leb128::{
     leb128_reads_have_one_to_ten_bytes, leb128_reads_have_one_to_ten_bytes as law_8,

@@ -27,7 +27,9 @@ pub trait IOread<Ctx: Copy>: Read {
         Ctx: Default,
         requires need { (ctx : Ctx) → Ctx.is_default ctx → N.need ctx ≤ N.size ctx }
         requires size { (ctx : Ctx) → Ctx.is_default ctx → N.size ctx ≤ 256 }
-        ensures took { IfOk result (λ x. ByDefault Ctx.is_default (λ ctx. TakesValue (Self.remaining self.old) (Self.remaining self.new) (N.size ctx) (λ bytes. N.makes ctx bytes x))) }
+        ensures took { IfOk result (λ x.
+            ByDefault Ctx.is_default (λ ctx. TakesValue (Self.remaining self.old)
+            (Self.remaining self.new) (N.size ctx) (λ bytes. N.makes ctx bytes x))) }
     {
         self.ioread_with(Ctx::default())
     }
@@ -47,7 +49,8 @@ pub trait IOread<Ctx: Copy>: Read {
         Self: Sized,
         requires need { N.need ctx ≤ N.size ctx }
         requires size { N.size ctx ≤ 256 }
-        ensures took { IfOk result (λ x. TakesValue (Self.remaining self.old) (Self.remaining self.new) (N.size ctx) (λ bytes. N.makes ctx bytes x)) }
+        ensures took { IfOk result (λ x. TakesValue (Self.remaining self.old)
+            (Self.remaining self.new) (N.size ctx) (λ bytes. N.makes ctx bytes x)) }
     {
         let mut scratch = [0u8; 256];
         let size = N::size_with(&ctx);
@@ -80,7 +83,9 @@ pub trait IOwrite<Ctx: Copy>: Write {
         Ctx: Default,
         requires need { (ctx : Ctx) → Ctx.is_default ctx → N.need ctx ≤ N.size ctx }
         requires size { (ctx : Ctx) → Ctx.is_default ctx → N.size ctx ≤ 256 }
-        ensures appended { OnOk result (ByDefault Ctx.is_default (λ ctx. AppendsValue (Self.contents self.old) (Self.contents self.new) (N.size ctx) (N.leaves ctx n (replicate (N.size ctx) 0)))) }
+        ensures appended { OnOk result (ByDefault Ctx.is_default (λ ctx.
+            AppendsValue (Self.contents self.old) (Self.contents self.new) (N.size ctx)
+            (N.leaves ctx n (replicate (N.size ctx) 0)))) }
     {
         self.iowrite_with(n, Ctx::default())
     }
@@ -103,7 +108,8 @@ pub trait IOwrite<Ctx: Copy>: Write {
         Self: Sized,
         requires need { N.need ctx ≤ N.size ctx }
         requires size { N.size ctx ≤ 256 }
-        ensures appended { OnOk result (AppendsValue (Self.contents self.old) (Self.contents self.new) (N.size ctx) (N.leaves ctx n (replicate (N.size ctx) 0))) }
+        ensures appended { OnOk result (AppendsValue (Self.contents self.old)
+            (Self.contents self.new) (N.size ctx) (N.leaves ctx n (replicate (N.size ctx) 0))) }
     {
         let mut scratch = [0u8; 256];
         let size = N::size_with(&ctx);

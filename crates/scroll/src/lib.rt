@@ -17,7 +17,7 @@
 //!
 //! [`Pread`] and [`Pwrite`] test for room, and refuse by an error where there is none. [`Cread`] and [`Cwrite`] have no
 //! refusals: the caller makes sure of room, and the prover checks it. What can be read and written are the types that
-//! implement the traits of [`ctx`]: the ten whole numbers, texts, byte slices, C strings, numbers in LEB128, arrays, and
+//! implement the traits of [`ctx`]: the ten whole numbers, `f32` and `f64`, texts, byte slices, C strings, numbers in LEB128, arrays, and
 //! types of one's own. [`runner`] answers lists of such reads and writes, and [`laws`] has laws of the definitions that all
 //! contracts cite.
 #![tactic(auto)]
@@ -33,6 +33,7 @@ pub mod laws;
 mod leb128;
 mod lesser;
 mod loads;
+mod located;
 mod pread;
 mod pwrite;
 pub mod runner;
@@ -43,13 +44,14 @@ mod source;
 mod tests;
 
 pub use crate::endian::{BE, Endian, LE, NATIVE, NETWORK};
-pub use crate::error::{Error, Result};
+pub use crate::error::{Error, Result, check_room};
 pub use crate::greater::{Cread, Cwrite};
 pub use crate::leb128::{
     Sleb128, Uleb128, plain_sleb, plain_uleb, sleb_block, sleb_loads, uleb_block, uleb_loads,
 };
 pub use crate::lesser::{IOread, IOwrite};
 pub use crate::loads::Loads;
+pub use crate::located::{At, LocateError};
 pub use crate::pread::Pread;
 pub use crate::pwrite::Pwrite;
 pub use crate::source::{ReadFrom, Source};

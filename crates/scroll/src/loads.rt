@@ -58,7 +58,8 @@ impl<'a> Loads<'a> {
     pub fn word(&mut self) -> Option<[u8; 8]>
         requires { self.old.made < 2 ^ 63 }
         ensures counted { self.new ≡ record self.old { made = self.old.made + 1 } }
-        ensures first { IfSome result (λ b. (8 ≤ length self.old.bytes) × (b ≡ take 8 self.old.bytes)) }
+        ensures first { IfSome result (λ b. (8 ≤ length self.old.bytes)
+            × (b ≡ take 8 self.old.bytes)) }
         ensures short { IfNone result (length self.old.bytes < 8) }
     {
         self.count();

@@ -1,7 +1,7 @@
 // Reads at a place, and with a cursor.
 ghost use Rattle.std.specs.Prelude.{◌≡◌, ℕ, List, IfOk, IfErr, OnOk, OnErr};
 ghost use Rattle.scroll.specs.Reads.{ReadsSome, ReadsBetween, ReadsAll, RefusesAt, StopsAt, ByDefault};
-ghost use Rattle.scroll.specs.declared.error.Error.TheVariants.{BadOffset};
+ghost use Rattle.scroll.specs.Errors.{PastEnd};
 
 use crate::error::Error;
 use crate::source::{ReadFrom, Source};
@@ -25,8 +25,10 @@ pub trait Pread<'a, Ctx: Copy, E>: Source {
     fn pread<N: ReadFrom<Self, Ctx, Error = E>>(self, offset: usize) -> Result<N, E>
     where
         Ctx: Default,
-        ensures read { IfOk result (λ x. ByDefault Ctx.is_default (λ ctx. ReadsSome (N.reads ctx) (Self.bytes self) offset x)) }
-        ensures refused { IfErr result (λ e. ByDefault Ctx.is_default (λ ctx. RefusesAt (N.refuses ctx) past_end (Self.bytes self) offset e)) };
+        ensures read { IfOk result (λ x.
+            ByDefault Ctx.is_default (λ ctx. ReadsSome (N.reads ctx) (Self.bytes self) offset x)) }
+        ensures refused { IfErr result (λ e. ByDefault Ctx.is_default (λ ctx.
+            RefusesAt (N.refuses ctx) past_end (Self.bytes self) offset e)) };
 
     /// Reads a value at `offset` in the context `ctx`.
     ///
@@ -37,7 +39,8 @@ pub trait Pread<'a, Ctx: Copy, E>: Source {
     /// ```
     fn pread_with<N: ReadFrom<Self, Ctx, Error = E>>(self, offset: usize, ctx: Ctx) -> Result<N, E>
         ensures read { IfOk result (ReadsSome (N.reads ctx) (Self.bytes self) offset) }
-        ensures refused { IfErr result (RefusesAt (N.refuses ctx) past_end (Self.bytes self) offset) };
+        ensures refused { IfErr result
+            (RefusesAt (N.refuses ctx) past_end (Self.bytes self) offset) };
 
     /// Reads a value at `offset` in the default context, and moves `offset` by its size. On an error `offset` stays.
     ///
@@ -51,8 +54,10 @@ pub trait Pread<'a, Ctx: Copy, E>: Source {
     fn gread<N: ReadFrom<Self, Ctx, Error = E>>(self, offset: &mut usize) -> Result<N, E>
     where
         Ctx: Default,
-        ensures read { IfOk result (λ x. ByDefault Ctx.is_default (λ ctx. ReadsBetween (N.reads ctx) (Self.bytes self) offset.old offset.new x)) }
-        ensures refused { IfErr result (λ e. ByDefault Ctx.is_default (λ ctx. RefusesAt (N.refuses ctx) past_end (Self.bytes self) offset.old e)) }
+        ensures read { IfOk result (λ x. ByDefault Ctx.is_default (λ ctx.
+            ReadsBetween (N.reads ctx) (Self.bytes self) offset.old offset.new x)) }
+        ensures refused { IfErr result (λ e. ByDefault Ctx.is_default (λ ctx.
+            RefusesAt (N.refuses ctx) past_end (Self.bytes self) offset.old e)) }
         ensures stays { OnErr result (offset.new ≡ offset.old) };
 
     /// Reads a value at `offset` in the context `ctx`, and moves `offset` by its size. On an error `offset` stays.
@@ -69,8 +74,10 @@ pub trait Pread<'a, Ctx: Copy, E>: Source {
         offset: &mut usize,
         ctx: Ctx,
     ) -> Result<N, E>
-        ensures read { IfOk result (ReadsBetween (N.reads ctx) (Self.bytes self) offset.old offset.new) }
-        ensures refused { IfErr result (RefusesAt (N.refuses ctx) past_end (Self.bytes self) offset.old) }
+        ensures read { IfOk result (ReadsBetween (N.reads ctx)
+            (Self.bytes self) offset.old offset.new) }
+        ensures refused { IfErr result
+            (RefusesAt (N.refuses ctx) past_end (Self.bytes self) offset.old) }
         ensures stays { OnErr result (offset.new ≡ offset.old) };
 
     /// Reads as many values as `inout` has elements, one after the other from `offset`, in the default context, and moves
@@ -91,8 +98,11 @@ pub trait Pread<'a, Ctx: Copy, E>: Source {
     ) -> Result<(), E>
     where
         Ctx: Default,
-        ensures read { OnOk result (ByDefault Ctx.is_default (λ ctx. ReadsAll (N.reads ctx) (Self.bytes self) offset.old inout.new offset.new)) }
-        ensures stopped { IfErr result (λ e. ByDefault Ctx.is_default (λ ctx. StopsAt (N.reads ctx) (N.refuses ctx) past_end (Self.bytes self) offset.old offset.new inout.old inout.new e)) };
+        ensures read { OnOk result (ByDefault Ctx.is_default (λ ctx.
+            ReadsAll (N.reads ctx) (Self.bytes self) offset.old inout.new offset.new)) }
+        ensures stopped { IfErr result (λ e.
+            ByDefault Ctx.is_default (λ ctx. StopsAt (N.reads ctx) (N.refuses ctx) past_end
+            (Self.bytes self) offset.old offset.new inout.old inout.new e)) };
 
     /// Reads as many values as `inout` has elements, one after the other from `offset`, in the context `ctx`, and moves
     /// `offset` behind the last.
@@ -114,12 +124,14 @@ pub trait Pread<'a, Ctx: Copy, E>: Source {
         inout: &mut [N],
         ctx: Ctx,
     ) -> Result<(), E>
-        ensures read { OnOk result (ReadsAll (N.reads ctx) (Self.bytes self) offset.old inout.new offset.new) }
-        ensures stopped { IfErr result (StopsAt (N.reads ctx) (N.refuses ctx) past_end (Self.bytes self) offset.old offset.new inout.old inout.new) };
+        ensures read { OnOk result (ReadsAll (N.reads ctx)
+            (Self.bytes self) offset.old inout.new offset.new) }
+        ensures stopped { IfErr result (StopsAt (N.reads ctx) (N.refuses ctx) past_end
+            (Self.bytes self) offset.old offset.new inout.old inout.new) };
 }
 
 impl<'a, Ctx: Copy, E: From<Error>> Pread<'a, Ctx, E> for &'a [u8] {
-    ghost past_end = { λ offset e. E.from_gives (BadOffset offset) e };
+    ghost past_end = { PastEnd E.from_gives };
 
     #[inline(always)]
     fn pread<N: ReadFrom<Self, Ctx, Error = E>>(self, offset: usize) -> Result<N, E>

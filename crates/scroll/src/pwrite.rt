@@ -2,7 +2,7 @@
 ghost use Rattle.std.specs.Prelude.{◌≡◌, ℕ, ◌+◌, List, length, IfOk, IfErr, OnErr};
 ghost use Rattle.scroll.specs.Reads.{ByDefault};
 ghost use Rattle.scroll.specs.Writes.{WritesAt, RefusesWriteAt};
-ghost use Rattle.scroll.specs.declared.error.Error.TheVariants.{BadOffset};
+ghost use Rattle.scroll.specs.Errors.{PastEnd};
 
 use crate::ctx::TryIntoCtx;
 use crate::error::Error;
@@ -40,8 +40,10 @@ pub trait Pwrite<Ctx: Copy, E> {
     ) -> Result<usize, E>
     where
         Ctx: Default,
-        ensures wrote { IfOk result (λ size. ByDefault Ctx.is_default (λ ctx. WritesAt (N.writes ctx n) (target self.old) offset (target self.new) size)) }
-        ensures refused { IfErr result (λ e. ByDefault Ctx.is_default (λ ctx. RefusesWriteAt (N.refuses ctx n) past_end (target self.old) offset (target self.new) e)) }
+        ensures wrote { IfOk result (λ size. ByDefault Ctx.is_default (λ ctx.
+            WritesAt (N.writes ctx n) (target self.old) offset (target self.new) size)) }
+        ensures refused { IfErr result (λ e. ByDefault Ctx.is_default (λ ctx. RefusesWriteAt
+            (N.refuses ctx n) past_end (target self.old) offset (target self.new) e)) }
         ensures len { length (target self.new) ≡ length (target self.old) }
         ensures same { same_target self.old self.new };
 
@@ -59,8 +61,10 @@ pub trait Pwrite<Ctx: Copy, E> {
         offset: usize,
         ctx: Ctx,
     ) -> Result<usize, E>
-        ensures wrote { IfOk result (WritesAt (N.writes ctx n) (target self.old) offset (target self.new)) }
-        ensures refused { IfErr result (RefusesWriteAt (N.refuses ctx n) past_end (target self.old) offset (target self.new)) }
+        ensures wrote { IfOk result (WritesAt (N.writes ctx n) (target self.old) offset
+            (target self.new)) }
+        ensures refused { IfErr result
+            (RefusesWriteAt (N.refuses ctx n) past_end (target self.old) offset (target self.new)) }
         ensures len { length (target self.new) ≡ length (target self.old) }
         ensures same { same_target self.old self.new };
 
@@ -81,8 +85,10 @@ pub trait Pwrite<Ctx: Copy, E> {
     ) -> Result<usize, E>
     where
         Ctx: Default,
-        ensures wrote { IfOk result (λ size. ByDefault Ctx.is_default (λ ctx. WritesAt (N.writes ctx n) (target self.old) offset.old (target self.new) size)) }
-        ensures refused { IfErr result (λ e. ByDefault Ctx.is_default (λ ctx. RefusesWriteAt (N.refuses ctx n) past_end (target self.old) offset.old (target self.new) e)) }
+        ensures wrote { IfOk result (λ size. ByDefault Ctx.is_default (λ ctx.
+            WritesAt (N.writes ctx n) (target self.old) offset.old (target self.new) size)) }
+        ensures refused { IfErr result (λ e. ByDefault Ctx.is_default (λ ctx. RefusesWriteAt
+            (N.refuses ctx n) past_end (target self.old) offset.old (target self.new) e)) }
         ensures moves { IfOk result (λ size. offset.new ≡ offset.old + size) }
         ensures stays { OnErr result (offset.new ≡ offset.old) }
         ensures len { length (target self.new) ≡ length (target self.old) }
@@ -105,8 +111,10 @@ pub trait Pwrite<Ctx: Copy, E> {
         offset: &mut usize,
         ctx: Ctx,
     ) -> Result<usize, E>
-        ensures wrote { IfOk result (WritesAt (N.writes ctx n) (target self.old) offset.old (target self.new)) }
-        ensures refused { IfErr result (RefusesWriteAt (N.refuses ctx n) past_end (target self.old) offset.old (target self.new)) }
+        ensures wrote { IfOk result (WritesAt (N.writes ctx n) (target self.old) offset.old
+            (target self.new)) }
+        ensures refused { IfErr result (RefusesWriteAt (N.refuses ctx n) past_end
+            (target self.old) offset.old (target self.new)) }
         ensures moves { IfOk result (λ size. offset.new ≡ offset.old + size) }
         ensures stays { OnErr result (offset.new ≡ offset.old) }
         ensures len { length (target self.new) ≡ length (target self.old) }
@@ -118,7 +126,7 @@ impl<'d, Ctx: Copy, E: From<Error>> Pwrite<Ctx, E> for &'d mut [u8] {
 
     ghost same_target = { λ old new. new.ghost_name ≡ old.ghost_name };
 
-    ghost past_end = { λ offset e. E.from_gives (BadOffset offset) e };
+    ghost past_end = { PastEnd E.from_gives };
 
     #[inline(always)]
     fn pwrite<N: TryIntoCtx<Ctx, Error = E> + Drop>(

@@ -28,15 +28,25 @@ pub enum Place {
 /// The type of a number.
 #[derive(Clone, Copy, Debug)]
 pub enum Width {
+    /// An unsigned number of 8 bits.
     U8,
+    /// A signed number of 8 bits.
     I8,
+    /// An unsigned number of 16 bits.
     U16,
+    /// A signed number of 16 bits.
     I16,
+    /// An unsigned number of 32 bits.
     U32,
+    /// A signed number of 32 bits.
     I32,
+    /// An unsigned number of 64 bits.
     U64,
+    /// A signed number of 64 bits.
     I64,
+    /// An unsigned number of 128 bits.
     U128,
+    /// A signed number of 128 bits.
     I128,
 }
 
@@ -68,24 +78,39 @@ pub enum Kind {
 /// What a command writes.
 #[derive(Clone, Copy, Debug)]
 pub enum Put<'c> {
+    /// An unsigned number of 8 bits, in a byte order.
     U8(u8, Endian),
+    /// A signed number of 8 bits, in a byte order.
     I8(i8, Endian),
+    /// An unsigned number of 16 bits, in a byte order.
     U16(u16, Endian),
+    /// A signed number of 16 bits, in a byte order.
     I16(i16, Endian),
+    /// An unsigned number of 32 bits, in a byte order.
     U32(u32, Endian),
+    /// A signed number of 32 bits, in a byte order.
     I32(i32, Endian),
+    /// An unsigned number of 64 bits, in a byte order.
     U64(u64, Endian),
+    /// A signed number of 64 bits, in a byte order.
     I64(i64, Endian),
+    /// An unsigned number of 128 bits, in a byte order.
     U128(u128, Endian),
+    /// A signed number of 128 bits, in a byte order.
     I128(i128, Endian),
+    /// A text, with no delimiter after it.
     Text(&'c str),
+    /// A byte slice.
     Bytes(&'c [u8]),
+    /// A C string, with its zero.
     CStr(CStr<'c>),
-    /// An unsigned number in LEB128, by its text.
+    /// An unsigned number in LEB128, by its encoding.
     Uleb(Uleb128),
-    /// A signed number in LEB128, by its text.
+    /// A signed number in LEB128, by its encoding.
     Sleb(Sleb128),
+    /// An array of three numbers of 16 bits, in a byte order.
     U16x3([u16; 3], Endian),
+    /// An array of two byte slices.
     Bytesx2(&'c [u8], &'c [u8]),
 }
 
@@ -151,7 +176,8 @@ pub fn run(
 ) -> Result<()>
     ensures ran { OnOk result (IsRun buffer.old buffer.new cursor.old cursor.new commands.now answers.old.items answers.new.items) }
     ensures only_memory { IfErr result (λ e. e ≡ NoMemory) }
-    ensures front { OnErr result (IsFrontRun buffer.old buffer.new cursor.old cursor.new commands.now answers.old.items answers.new.items) }
+    ensures front { OnErr result
+        (IsFrontRun buffer.old buffer.new cursor.old cursor.new commands.now answers.old.items answers.new.items) }
 {
     for command in commands {
         if answers.reserve(1).is_err() {
@@ -170,7 +196,8 @@ fn step(
     cursor: &mut usize,
     command: &Command<'_>,
 ) -> Result<Answer>
-    ensures answered { IfOk result (λ answer. IsStep buffer.old buffer.new cursor.old command.now answer cursor.new) }
+    ensures answered { IfOk result (λ answer.
+        IsStep buffer.old buffer.new cursor.old command.now answer cursor.new) }
     ensures only_memory { IfErr result (λ e. e ≡ NoMemory) }
     ensures same { OnErr result (buffer.new ≡ buffer.old) }
     ensures stays { OnErr result (cursor.new ≡ cursor.old) }

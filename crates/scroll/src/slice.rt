@@ -20,7 +20,7 @@
 ghost use Rattle.std.specs.Prelude.{◌≡◌, ◌+◌, ◌≤◌, length, take, drop, IfOk, IfErr, OnErr};
 ghost use Rattle.scroll.specs.Reads.{ByDefault};
 ghost use Rattle.scroll.specs.Writes.{WritesAt, RefusesWriteAt};
-ghost use Rattle.scroll.specs.declared.error.Error.TheVariants.{BadOffset};
+ghost use Rattle.scroll.specs.Errors.{PastEnd};
 
 use crate::ctx::{IntoCtx, TryIntoCtx};
 use crate::error::Error;
@@ -39,8 +39,10 @@ pub fn pwrite<Ctx: Copy + Default, E: From<Error>, N: TryIntoCtx<Ctx, Error = E>
     n: N,
     offset: usize,
 ) -> Result<usize, E>
-    ensures wrote { IfOk result (λ size. ByDefault Ctx.is_default (λ ctx. WritesAt (N.writes ctx n) dst.old offset dst.new size)) }
-    ensures refused { IfErr result (λ e. ByDefault Ctx.is_default (λ ctx. RefusesWriteAt (N.refuses ctx n) (λ place e. E.from_gives (BadOffset place) e) dst.old offset dst.new e)) }
+    ensures wrote { IfOk result (λ size.
+        ByDefault Ctx.is_default (λ ctx. WritesAt (N.writes ctx n) dst.old offset dst.new size)) }
+    ensures refused { IfErr result (λ e. ByDefault Ctx.is_default (λ ctx.
+        RefusesWriteAt (N.refuses ctx n) (PastEnd E.from_gives) dst.old offset dst.new e)) }
 {
     pwrite_with(dst, n, offset, Ctx::default())
 }
@@ -60,7 +62,8 @@ pub fn pwrite_with<Ctx: Copy, E: From<Error>, N: TryIntoCtx<Ctx, Error = E> + Dr
     ctx: Ctx,
 ) -> Result<usize, E>
     ensures wrote { IfOk result (WritesAt (N.writes ctx n) dst.old offset dst.new) }
-    ensures refused { IfErr result (RefusesWriteAt (N.refuses ctx n) (λ place e. E.from_gives (BadOffset place) e) dst.old offset dst.new) }
+    ensures refused { IfErr result
+        (RefusesWriteAt (N.refuses ctx n) (PastEnd E.from_gives) dst.old offset dst.new) }
 {
     if offset > dst.len() {
         return Err(E::from(Error::BadOffset(offset)));
@@ -83,8 +86,10 @@ pub fn gwrite<Ctx: Copy + Default, E: From<Error>, N: TryIntoCtx<Ctx, Error = E>
     n: N,
     offset: &mut usize,
 ) -> Result<usize, E>
-    ensures wrote { IfOk result (λ size. ByDefault Ctx.is_default (λ ctx. WritesAt (N.writes ctx n) dst.old offset.old dst.new size)) }
-    ensures refused { IfErr result (λ e. ByDefault Ctx.is_default (λ ctx. RefusesWriteAt (N.refuses ctx n) (λ place e. E.from_gives (BadOffset place) e) dst.old offset.old dst.new e)) }
+    ensures wrote { IfOk result (λ size. ByDefault Ctx.is_default (λ ctx.
+        WritesAt (N.writes ctx n) dst.old offset.old dst.new size)) }
+    ensures refused { IfErr result (λ e. ByDefault Ctx.is_default (λ ctx.
+        RefusesWriteAt (N.refuses ctx n) (PastEnd E.from_gives) dst.old offset.old dst.new e)) }
     ensures moves { IfOk result (λ size. offset.new ≡ offset.old + size) }
     ensures stays { OnErr result (offset.new ≡ offset.old) }
 {
@@ -109,7 +114,8 @@ pub fn gwrite_with<Ctx: Copy, E: From<Error>, N: TryIntoCtx<Ctx, Error = E> + Dr
     ctx: Ctx,
 ) -> Result<usize, E>
     ensures wrote { IfOk result (WritesAt (N.writes ctx n) dst.old offset.old dst.new) }
-    ensures refused { IfErr result (RefusesWriteAt (N.refuses ctx n) (λ place e. E.from_gives (BadOffset place) e) dst.old offset.old dst.new) }
+    ensures refused { IfErr result
+        (RefusesWriteAt (N.refuses ctx n) (PastEnd E.from_gives) dst.old offset.old dst.new) }
     ensures moves { IfOk result (λ size. offset.new ≡ offset.old + size) }
     ensures stays { OnErr result (offset.new ≡ offset.old) }
 {
@@ -131,7 +137,8 @@ pub fn gwrite_with<Ctx: Copy, E: From<Error>, N: TryIntoCtx<Ctx, Error = E> + Dr
 pub fn cwrite<Ctx: Copy + Default, N: IntoCtx<Ctx>>(dst: &mut [u8], n: N, offset: usize)
     requires { (ctx : Ctx) → Ctx.is_default ctx → offset + N.need ctx ≤ length dst.old }
     ensures before { take offset dst.new ≡ take offset dst.old }
-    ensures after { ByDefault Ctx.is_default (λ ctx. N.leaves ctx n (drop offset dst.old) (drop offset dst.new)) }
+    ensures after { ByDefault Ctx.is_default (λ ctx.
+        N.leaves ctx n (drop offset dst.old) (drop offset dst.new)) }
 {
     cwrite_with(dst, n, offset, Ctx::default())
 }

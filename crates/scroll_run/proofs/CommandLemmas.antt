@@ -1,23 +1,23 @@
 -- Lemmas on what stands behind a first word.
-use Rattle.std.proofs.Common.{◌≡◌, ◌≢◌, ◌<◌, ◌^◌, Bor, map, ◌+◌, ◌*◌, ◌++◌, ℕ, ℤ, List, [], ◌∷◌, length, take, get_or, codes, if◌then◌else◌, ◌==◌, arith, refl, sym, ap, subst, ◌∙◌, Option, Some, None, Result, Ok, Err}
+use Rattle.std.proofs.Common.{◌≡◌, ◌<◌, ◌^◌, Bor, map, ◌+◌, ◌*◌, ◌++◌, ℕ, ℤ, List, [], ◌∷◌, length, take, get_or, if◌then◌else◌, ◌==◌, arith, refl, sym, ap, subst, ◌∙◌, Option, Some, None, Result, Ok, Err}
 use Rattle.std.proofs.lemmas.List.{take_more}
+use Rattle.std.proofs.lemmas.Slice.Zip.{all_zipped_more}
 use Rattle.std.proofs.lemmas.Grind.{common_steps}
-use Rattle.std.specs.Option.{MatchOption, option_or}
+use Rattle.std.specs.Option.{MatchOption}
 use Rattle.std.specs.Result.{IfOk}
 use Rattle.scroll.specs.declared.endian.Endian.{Endian}
 use Rattle.scroll.specs.declared.runner.Command.{Command}
 use Rattle.scroll.specs.declared.runner.Put.{Put}
-use Rattle.scroll.specs.declared.runner.Width.{Width}
 use Rattle.scroll.specs.declared.runner.Width.TheVariants as width
 use Rattle.scroll_run.specs.Commands.{AreCommandsOf, FindsCommand, IsCommandOf, SpellsCommand, SpellsOffset, SpellsRest, verb_word}
-use Rattle.scroll_run.specs.Puts.{FindsPut, SpellBytes, SpellLastSigned, SpellPutRest, SpellThree, SpellTwo, SpellsPut}
-use Rattle.scroll_run.specs.Words.{SpellsBytes, SpellsNumber, SpellsSigned, name_word, order_word, width_word}
+use Rattle.scroll_run.specs.Puts.{FindsPut, SpellLastBytes, SpellLastSigned, SpellPutRest, SpellThree, SpellTwo, SpellsPut}
+use Rattle.scroll_run.specs.Words.{SpellsBytes, SpellsNumber, SpellsSigned, name_word, order_word}
 use Rattle.scroll_run.specs.declared.commands.CommandLine.{CommandLine}
 use Rattle.scroll_run.specs.declared.commands.Verb.{Verb}
 use Rattle.scroll_run.specs.declared.commands.Verb.TheVariants as verb
 use Rattle.scroll_run.specs.declared.words.Name.{Name}
 use Rattle.scroll_run.specs.declared.words.Name.TheVariants as name
-use Rattle.scroll_run.specs.declared.written.Written.{Written}
+use Rattle.scroll_run.specs.declared.puts.OwnedPut.{OwnedPut}
 
 -- a word as one number
 abbrev code : List ℕ → ℕ
@@ -89,7 +89,7 @@ tails texts a b more rest e f = cc
 -- bytes by the one word that spells them
 pub bytes_by_word : {V E : Type 0} (items : V → List ℕ) (texts : List (List ℕ)) (word : List ℕ) (r : Result (Option V) E) → texts ≡ word ∷ []
     → IfOk r (λ found. MatchOption found ((bytes : List ℕ) → ¬ (SpellsBytes word bytes)) (λ v. SpellsBytes word (items v)))
-    → IfOk r (λ found. MatchOption found ((bytes : List ℕ) → ¬ (SpellBytes texts bytes)) (λ v. SpellBytes texts (items v)))
+    → IfOk r (λ found. MatchOption found ((bytes : List ℕ) → ¬ (SpellLastBytes texts bytes)) (λ v. SpellLastBytes texts (items v)))
 bytes_by_word items texts word (Ok (Some v)) e h = (word, e, h)
 bytes_by_word items texts word (Ok None) e h =
     λ bytes s. h bytes (subst (λ w. SpellsBytes w bytes) (heads texts word s.0 [] [] e s.1) s.2)
@@ -104,7 +104,7 @@ signed_by_word texts word None e h =
     λ x s. h x (subst (λ w. SpellsSigned (2 ^ 63) w x) (heads texts word s.0 [] [] e s.1) s.2)
 
 -- what is written by its name
-pub put_by_name : {E : Type 0} (r : Result (Option Written) E) (texts : List (List ℕ)) (n : Name) (rest : List (List ℕ)) → texts ≡ name_word n ∷ rest
+pub put_by_name : {E : Type 0} (r : Result (Option OwnedPut) E) (texts : List (List ℕ)) (n : Name) (rest : List (List ℕ)) → texts ≡ name_word n ∷ rest
     → IfOk r (FindsPut (SpellPutRest n rest)) → IfOk r (FindsPut (SpellsPut texts))
 put_by_name (Ok (Some x)) texts n rest e h = λ p is. (n, rest, e, h p is)
 put_by_name (Ok None) texts n rest e h =
@@ -149,23 +149,17 @@ pub result_by_offset : {E : Type 0} (IsSpelled : ℕ → List (List ℕ) → Com
 result_by_offset IsSpelled (Ok found) texts n rest o h = command_by_offset IsSpelled found texts n rest o h
 result_by_offset IsSpelled (Err e) texts n rest o h = tt
 
-AreCommandsOf-more : (xs : List CommandLine) (cs : List Command) (x : CommandLine) (c : Command) → AreCommandsOf xs cs → IsCommandOf x c → AreCommandsOf (xs ++ x ∷ []) (cs ++ c ∷ [])
-AreCommandsOf-more [] [] x c h s = (s, tt)
-AreCommandsOf-more (y ∷ xs) (d ∷ cs) x c h s = (h.0, AreCommandsOf-more xs cs x c h.1 s)
-AreCommandsOf-more [] (d ∷ cs) x c h s = absurd h
-AreCommandsOf-more (y ∷ xs) [] x c h s = absurd h
-
 -- the line at i has its command too
 pub commands_next : (lines : List CommandLine) (i : ℕ) (cs : List Command) (x : CommandLine) (c : Command) → AreCommandsOf (take i lines) cs → i < length lines → x ≡ get_or lines i x → IsCommandOf x c → AreCommandsOf (take (i + 1) lines) (cs ++ c ∷ [])
 commands_next lines i cs x c h lt e s =
     let more = take_more lines i x lt in
-    rw more (AreCommandsOf-more (take i lines) cs (get_or lines i x) c h (subst (λ y. IsCommandOf y c) e s))
+    rw more (all_zipped_more IsCommandOf (take i lines) cs (get_or lines i x) c h (subst (λ y. IsCommandOf y c) e s))
 
 -- a word spells bytes in one way
 same_bytes : (word a b : List ℕ) → SpellsBytes word a → SpellsBytes word b → a ≡ b
 same_bytes word a b h s = grind (arith, common_steps)
 
-pub one_bytes : (texts : List (List ℕ)) (a b : List ℕ) → SpellBytes texts a → SpellBytes texts b → a ≡ b
+pub one_bytes : (texts : List (List ℕ)) (a b : List ℕ) → SpellLastBytes texts a → SpellLastBytes texts b → a ≡ b
 one_bytes texts a b h s = same_bytes h.0 a b h.2 (subst (λ w. SpellsBytes w b) (heads texts h.0 s.0 [] [] h.1 s.1) s.2)
 
 -- one word, by its place
@@ -200,38 +194,8 @@ pub behind_order : (texts : List (List ℕ)) (a o b c d : List ℕ) → texts �
 behind_order texts a o b c d e h = e ∙ ap (λ w. w ∷ b ∷ c ∷ d ∷ []) h
 
 -- what the first word and the rest spell, where they spell two slices
-pub each_of_two : (texts : List (List ℕ)) (word : List ℕ) (more : List (List ℕ)) → texts ≡ word ∷ more → (x y : List ℕ) → SpellTwo texts x y → SpellsBytes word x × SpellBytes more y
+pub each_of_two : (texts : List (List ℕ)) (word : List ℕ) (more : List (List ℕ)) → texts ≡ word ∷ more → (x y : List ℕ) → SpellTwo texts x y → SpellsBytes word x × SpellLastBytes more y
 each_of_two texts word more e x y s =
     let head = heads texts word s.0 more s.1 e s.2 in
     let tail = tails texts word s.0 more s.1 e s.2 in
-    (subst (λ w. SpellsBytes w x) head s.3, subst (λ ws. SpellBytes ws y) tail s.4)
-
--- what a word names, by what it is found to name
-pub named_by : (word : List ℕ) (a b c d e f : Option Name)
-    → MatchOption a ((w : Width) → ¬ (word ≡ width_word w)) (λ n. word ≡ name_word n)
-    → MatchOption b ((word ≢ codes "str") × (word ≢ codes "strx2")) (λ n. word ≡ name_word n)
-    → MatchOption c ((word ≢ codes "bytes") × (word ≢ codes "bytesx2")) (λ n. word ≡ name_word n)
-    → MatchOption d ((word ≢ codes "cstr") × (word ≢ codes "cstring")) (λ n. word ≡ name_word n)
-    → MatchOption e ((word ≢ codes "uleb") × (word ≢ codes "sleb")) (λ n. word ≡ name_word n)
-    → MatchOption f ((word ≢ codes "u8x0") × (word ≢ codes "u16x3")) (λ n. word ≡ name_word n)
-    → MatchOption (option_or (option_or (option_or (option_or (option_or a b) c) d) e) f) ((n : Name) → ¬ (word ≡ name_word n)) (λ n. word ≡ name_word n)
-named_by word (Some n) b c d e f p q r s t u = p
-named_by word None (Some n) c d e f p q r s t u = q
-named_by word None None (Some n) d e f p q r s t u = r
-named_by word None None None (Some n) e f p q r s t u = s
-named_by word None None None None (Some n) f p q r s t u = t
-named_by word None None None None None (Some n) p q r s t u = u
-named_by word None None None None None None p q r s t u = λ n. none n
-  where
-    none : (n : Name) → ¬ (word ≡ name_word n)
-    none (name.Number w) = p w
-    none name.Text = q.0
-    none name.Textx2 = q.1
-    none name.Bytes = r.0
-    none name.Bytesx2 = r.1
-    none name.CStr = s.0
-    none name.CString = s.1
-    none name.Uleb = t.0
-    none name.Sleb = t.1
-    none name.U8x0 = u.0
-    none name.U16x3 = u.1
+    (subst (λ w. SpellsBytes w x) head s.3, subst (λ ws. SpellLastBytes ws y) tail s.4)

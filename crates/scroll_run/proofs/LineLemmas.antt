@@ -1,19 +1,20 @@
 -- Lemmas on lines that spell a script, and on the first bad line.
-use Rattle.std.proofs.Common.{◌≡◌, ◌<◌, ◌+◌, ◌-◌, ◌++◌, ℕ, zero, suc, List, [], ◌∷◌, length, map, take, get_or, codes, string_bytes, arith, refl, sym, ap, Bor, Option, Some, None, Result, Ok, Err}
+use Rattle.std.proofs.Common.{◌≡◌, ◌<◌, ◌+◌, ◌-◌, ◌++◌, ℕ, zero, suc, List, [], ◌∷◌, length, map, take, get_or, codes, string_bytes, arith, refl, sym, Bor, Option, Some, None, Result, Ok, Err}
 use Rattle.std.proofs.lemmas.Grind.{common_steps}
 use Rattle.std.proofs.lemmas.List.{take_more, get_or-take, length-take-le, get_or-map, length-map}
+use Rattle.std.proofs.lemmas.Slice.Zip.{all_zipped_more, AllZip-long}
 use Rattle.std.specs.Option.{MatchOption}
 use Rattle.std.specs.Result.{IfOk}
 use Rattle.scroll.specs.declared.cstr.CStr.{CStr}
 use Rattle.scroll.specs.declared.runner.Command.{Command}
 use Rattle.scroll_run.specs.Commands.{AreCommandsOf, IsCommandOf, SpellsCommand}
-use Rattle.scroll_run.specs.Lines.{SpellsBuffer, SpellsCursor, SpellCommands, SpellHeld, IsCommand, HasGoodLine, IsFirstBadLine, Stops, StopsCommands}
+use Rattle.scroll_run.specs.Lines.{SpellsBuffer, SpellsCursor, SpellCommands, SpellsHeld, SpellHeld, IsCommand, HasGoodLine, IsFirstBadLine, Stops, StopsCommands}
 use Rattle.scroll_run.specs.Words.{SpellsBytes, words_of}
 use Rattle.scroll_run.specs.declared.commands.CommandLine.{CommandLine}
 use Rattle.scroll.specs.declared.runner.Command.TheVariants as command
 use Rattle.scroll.specs.declared.runner.Put.TheVariants as put
 use Rattle.scroll_run.specs.declared.commands.CommandLine.TheVariants as line
-use Rattle.scroll_run.specs.declared.written.Written.TheVariants as written
+use Rattle.scroll_run.specs.declared.puts.OwnedPut.TheVariants as owned
 use Rattle.scroll_run.specs.declared.lines.Stop.{Stop}
 use Rattle.scroll_run.specs.declared.lines.Stop.TheVariants.{BadLine, NoMemory}
 
@@ -28,17 +29,17 @@ buffer_by_word items line word (Err x) e h = tt
 -- a command that borrows from a line
 lent : (x : CommandLine) → (c : Command) × IsCommandOf x c
 lent (line.Read at what) = (command.Read at what, refl)
-lent (line.Write at (written.Plain p)) = (command.Write at p, (p, refl, refl))
-lent (line.Write at (written.Text s)) =
+lent (line.Write at (owned.Plain p)) = (command.Write at p, (p, refl, refl))
+lent (line.Write at (owned.Text s)) =
     let text : Bor (List ℕ) = record { ref_ptr = (0, 0); now = string_bytes s } in
     (command.Write at (put.Text text), (put.Text text, refl, (text, refl, refl)))
-lent (line.Write at (written.Bytes v)) =
+lent (line.Write at (owned.Bytes v)) =
     let bytes : Bor (List ℕ) = record { ref_ptr = (0, 0); now = v.items } in
     (command.Write at (put.Bytes bytes), (put.Bytes bytes, refl, (bytes, refl, refl)))
-lent (line.Write at (written.CStr s)) =
+lent (line.Write at (owned.CStr s)) =
     let text : CStr = record { bytes = record { ref_ptr = (0, 0); now = s.bytes.items }; one_zero = s.one_zero } in
     (command.Write at (put.CStr text), (put.CStr text, refl, (text, refl, refl)))
-lent (line.Write at (written.Bytesx2 v w)) =
+lent (line.Write at (owned.Bytesx2 v w)) =
     let x : Bor (List ℕ) = record { ref_ptr = (0, 0); now = v.items } in
     let y : Bor (List ℕ) = record { ref_ptr = (0, 0); now = w.items } in
     (command.Write at (put.Bytesx2 x y), (put.Bytesx2 x y, refl, (x, y, refl, refl, refl)))
@@ -51,19 +52,6 @@ SpellHeld-commands [] (x ∷ xs) cs h a = absurd h
 SpellHeld-commands (l ∷ ls) [] cs h a = absurd h
 SpellHeld-commands (l ∷ ls) (x ∷ xs) [] h a = absurd a
 SpellHeld-commands (l ∷ ls) (x ∷ xs) (c ∷ cs) h a = (h.0 c a.0, SpellHeld-commands ls xs cs h.1 a.1)
-
-pub length-SpellHeld : (lines : List (List ℕ)) (xs : List CommandLine) → SpellHeld lines xs → length lines ≡ length xs
-length-SpellHeld [] [] h = cc
-length-SpellHeld (l ∷ ls) (x ∷ xs) h = ap suc (length-SpellHeld ls xs h.1)
-length-SpellHeld [] (x ∷ xs) h = absurd h
-length-SpellHeld (l ∷ ls) [] h = absurd h
-
--- one line more, with what is held of it
-SpellHeld-more : (lines : List (List ℕ)) (xs : List CommandLine) (line : List ℕ) (x : CommandLine) → SpellHeld lines xs → ((c : Command) → IsCommandOf x c → SpellsCommand (words_of line) c) → SpellHeld (lines ++ line ∷ []) (xs ++ x ∷ [])
-SpellHeld-more [] [] line x h s = (s, tt)
-SpellHeld-more (l ∷ ls) (y ∷ xs) line x h s = (h.0, SpellHeld-more ls xs line x h.1 s)
-SpellHeld-more [] (y ∷ xs) line x h s = absurd h
-SpellHeld-more (l ∷ ls) [] line x h s = absurd h
 
 -- each of the lines spells a command
 each_command : (lines : List (List ℕ)) (xs : List CommandLine) → SpellHeld lines xs → (j : ℕ) → j < length lines → IsCommand (get_or lines j [])
@@ -79,7 +67,7 @@ held_next lines d xs i x h lt s =
     let count = length-map lines (λ (l : Bor (List ℕ)). l.now) in
     let more = take_more texts i [] (omega arith) in
     let line = get_or-map (λ (l : Bor (List ℕ)). l.now) lines i d [] lt in
-    rw more (rw line (SpellHeld-more (take i texts) xs (get_or lines i d).now x h s))
+    rw more (rw line (all_zipped_more SpellsHeld (take i texts) xs (get_or lines i d).now x h s))
 
 -- the line at i is the first that spells no command
 pub stops_here : (lines : List (Bor (List ℕ))) (d : Bor (List ℕ)) (xs : List CommandLine) (i k : ℕ) → SpellHeld (take i (map (λ l. l.now) lines)) xs → i < length lines → k ≡ length xs + 3 → ((c : Command) → ¬ (SpellsCommand (words_of (get_or lines i d).now) c)) → StopsCommands (map (λ l. l.now) lines) (BadLine k)
@@ -87,7 +75,7 @@ stops_here lines d xs i k h lt e bad =
     let texts = map (λ (l : Bor (List ℕ)). l.now) lines in
     let count = length-map lines (λ (l : Bor (List ℕ)). l.now) in
     let front = length-take-le i texts (omega arith) in
-    let spelled = length-SpellHeld (take i texts) xs h in
+    let spelled = AllZip-long SpellsHeld (take i texts) xs h in
     let line = get_or-map (λ (l : Bor (List ℕ)). l.now) lines i d [] lt in (
       i,
       omega arith,

@@ -78,7 +78,7 @@ pub record IsTooLong (input text : List ℕ) (status : ℕ) : Type 0 where
   pub status_is : status ≡ 2
 
 -- a line of the input spells nothing, or is missing
-pub record IsBadInput (input text : List ℕ) (status : ℕ) : Type 0 where
+pub record HasBadLine (input text : List ℕ) (status : ℕ) : Type 0 where
   pub short : length input ≤ 65536
   pub line : ℕ
   pub first : IsFirstBadLine (lines_of input) line
@@ -97,7 +97,7 @@ pub record IsAnswered (input text : List ℕ) (status : ℕ) : Type 0 where
 
 -- what an input is answered with, while memory lasts
 abbrev pub AnswersInput : List ℕ → List ℕ → ℕ → Type 0
-AnswersInput input text status = IsTooLong input text status ⊎ (IsBadInput input text status ⊎ IsAnswered input text status)
+AnswersInput input text status = IsTooLong input text status ⊎ (HasBadLine input text status ⊎ IsAnswered input text status)
 
 -- the input that a reader gave: all that it had, or one byte more than an input may have
 pub record IsInput (old new : Option (List ℕ)) (input : List ℕ) : Type 0 where

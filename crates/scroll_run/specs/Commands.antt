@@ -1,5 +1,6 @@
 -- What the lines of commands spell.
-use Rattle.std.specs.Prelude.{◌≡◌, ◌^◌, ⊤, ℕ, List, [], ◌∷◌, codes, Option, None, Some}
+use Rattle.std.specs.Prelude.{◌≡◌, ◌^◌, ℕ, List, ◌∷◌, codes, Option, None, Some}
+use Rattle.std.specs.List.{AllZip}
 use Rattle.scroll.specs.declared.runner.Command.{Command}
 use Rattle.scroll.specs.declared.runner.Command.TheVariants as command
 use Rattle.scroll.specs.declared.runner.Kind.{Kind}
@@ -51,12 +52,9 @@ abbrev pub IsCommandOf : CommandLine → Command → Type 0
 IsCommandOf (line.Read at what) c = c ≡ command.Read at what
 IsCommandOf (line.Write at x) c = (p : Put) × (c ≡ command.Write at p) × IsPutOf x p
 
--- the commands of lines, in order
+-- the commands of lines, one each
 abbrev pub AreCommandsOf : List CommandLine → List Command → Type 0
-AreCommandsOf [] [] = ⊤
-AreCommandsOf (x ∷ xs) (c ∷ cs) = IsCommandOf x c × AreCommandsOf xs cs
-AreCommandsOf [] (c ∷ cs) = ⊥
-AreCommandsOf (x ∷ xs) [] = ⊥
+AreCommandsOf lines commands = AllZip IsCommandOf lines commands
 
 -- what is found where a command is spelled, or not: whatever borrows from it is spelled
 abbrev pub FindsCommand : (Command → Type 0) → Option CommandLine → Type 0

@@ -1,6 +1,6 @@
 -- What the lines of an input spell.
 use Rattle.std.specs.Prelude.{◌≡◌, ◌<◌, ◌+◌, ◌-◌, ◌^◌, ◌++◌, ◌==◌, ⊤, ℕ, zero, suc, List, [], ◌∷◌, length, slice_index, slice_index_or, take, codes, if◌then◌else◌}
-use Rattle.std.specs.List.{slice_split}
+use Rattle.std.specs.List.{slice_split, AllZip}
 use Rattle.scroll.specs.declared.runner.Command.{Command}
 use Rattle.scroll_run.specs.Commands.{IsCommandOf, SpellsCommand}
 use Rattle.scroll_run.specs.Words.{SpellsBytes, SpellsNumber, words_of}
@@ -26,18 +26,15 @@ SpellsCursor line n = (word : List ℕ) × (line ≡ codes "cursor " ++ word) ×
 
 -- lines spell commands, one each
 abbrev pub SpellCommands : List (List ℕ) → List Command → Type 0
-SpellCommands [] [] = ⊤
-SpellCommands (line ∷ lines) (c ∷ cs) = SpellsCommand (words_of line) c × SpellCommands lines cs
-SpellCommands [] (c ∷ cs) = ⊥
-SpellCommands (line ∷ lines) [] = ⊥
+SpellCommands lines commands = AllZip (λ line c. SpellsCommand (words_of line) c) lines commands
 
--- lines spell what is held of them, one each: whatever command borrows from it is spelled
+-- whatever command borrows from what is held of a line is the one that the line spells
+abbrev pub SpellsHeld : List ℕ → CommandLine → Type 0
+SpellsHeld line x = (c : Command) → IsCommandOf x c → SpellsCommand (words_of line) c
+
+-- lines spell what is held of them, one each
 abbrev pub SpellHeld : List (List ℕ) → List CommandLine → Type 0
-SpellHeld [] [] = ⊤
-SpellHeld (line ∷ lines) (x ∷ xs) =
-    ((c : Command) → IsCommandOf x c → SpellsCommand (words_of line) c) × SpellHeld lines xs
-SpellHeld [] (x ∷ xs) = ⊥
-SpellHeld (line ∷ lines) [] = ⊥
+SpellHeld lines held = AllZip SpellsHeld lines held
 
 -- lines spell a script: a buffer, a cursor and commands
 pub record SpellScript (lines : List (List ℕ)) (buffer : List ℕ) (cursor : ℕ) (commands : List Command) : Type 0 where

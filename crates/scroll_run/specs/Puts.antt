@@ -16,8 +16,8 @@ use Rattle.scroll_run.specs.Kinds.{SpellLastNumber}
 use Rattle.scroll_run.specs.Words.{SpellsBytes, SpellsNumber, SpellsSigned, name_word, order_word}
 use Rattle.scroll_run.specs.declared.words.Name.{Name}
 use Rattle.scroll_run.specs.declared.words.Name.TheVariants as name
-use Rattle.scroll_run.specs.declared.written.Written.{Written}
-use Rattle.scroll_run.specs.declared.written.Written.TheVariants as written
+use Rattle.scroll_run.specs.declared.puts.OwnedPut.{OwnedPut}
+use Rattle.scroll_run.specs.declared.puts.OwnedPut.TheVariants as owned
 
 -- a word spells a number in the range of its type, to be written in a byte order
 abbrev pub SpellsValue : Width → Endian → List ℕ → Put → Type 0
@@ -33,21 +33,21 @@ SpellsValue width.U128 order word p = (x : ℕ) × SpellsNumber (2 ^ 128) word x
 SpellsValue width.I128 order word p = (x : ℤ) × SpellsSigned (2 ^ 127) word x × (p ≡ put.I128 x order)
 
 -- words spell a number of a type: a byte order and a value
-abbrev pub SpellNumber : Width → List (List ℕ) → Put → Type 0
-SpellNumber w words p =
+abbrev pub SpellOrderedNumber : Width → List (List ℕ) → Put → Type 0
+SpellOrderedNumber w words p =
     (order : Endian) × (word : List ℕ) × (words ≡ order_word order ∷ word ∷ []) × SpellsValue w order word p
 
 -- words spell bytes
-abbrev pub SpellBytes : List (List ℕ) → List ℕ → Type 0
-SpellBytes words bytes = (word : List ℕ) × (words ≡ word ∷ []) × SpellsBytes word bytes
+abbrev pub SpellLastBytes : List (List ℕ) → List ℕ → Type 0
+SpellLastBytes words bytes = (word : List ℕ) × (words ≡ word ∷ []) × SpellsBytes word bytes
 
 -- words spell a text, by bytes that are UTF-8
 abbrev pub SpellText : List (List ℕ) → List ℕ → Type 0
-SpellText words text = SpellBytes words text × IsUtf8 text
+SpellText words text = SpellLastBytes words text × IsUtf8 text
 
 -- words spell the text of a C string, by bytes without a zero
 abbrev pub SpellCString : List (List ℕ) → List ℕ → Type 0
-SpellCString words text = SpellBytes words text × (first_place 0 text ≡ length text)
+SpellCString words text = SpellLastBytes words text × (first_place 0 text ≡ length text)
 
 -- words spell three numbers of 16 bits: a byte order and the values
 abbrev pub SpellThree : List (List ℕ) → Put → Type 0
@@ -59,7 +59,7 @@ SpellThree words p =
 -- words spell two slices of bytes
 abbrev pub SpellTwo : List (List ℕ) → List ℕ → List ℕ → Type 0
 SpellTwo words x y =
-    (first : List ℕ) × (rest : List (List ℕ)) × (words ≡ first ∷ rest) × SpellsBytes first x × SpellBytes rest y
+    (first : List ℕ) × (rest : List (List ℕ)) × (words ≡ first ∷ rest) × SpellsBytes first x × SpellLastBytes rest y
 
 -- words that are one word, which is a signed number of 64 bits
 abbrev pub SpellLastSigned : List (List ℕ) → ℤ → Type 0
@@ -74,9 +74,9 @@ SpellSleb words x = SpellLastSigned words x.value × IsLeast (HasSignedSpelling 
 
 -- the words behind the word of what is written spell the rest of it
 abbrev pub SpellPutRest : Name → List (List ℕ) → Put → Type 0
-SpellPutRest (name.Number w) words p = SpellNumber w words p
+SpellPutRest (name.Number w) words p = SpellOrderedNumber w words p
 SpellPutRest name.Text words p = (text : Bor (List ℕ)) × SpellText words text.now × (p ≡ put.Text text)
-SpellPutRest name.Bytes words p = (bytes : Bor (List ℕ)) × SpellBytes words bytes.now × (p ≡ put.Bytes bytes)
+SpellPutRest name.Bytes words p = (bytes : Bor (List ℕ)) × SpellLastBytes words bytes.now × (p ≡ put.Bytes bytes)
 SpellPutRest name.CStr words p = (text : CStr) × SpellCString words (c_str_text text) × (p ≡ put.CStr text)
 SpellPutRest name.Uleb words p = (x : Counted ℕ) × SpellUleb words x × (p ≡ put.Uleb x)
 SpellPutRest name.Sleb words p = (x : Counted ℤ) × SpellSleb words x × (p ≡ put.Sleb x)
@@ -91,15 +91,15 @@ abbrev pub SpellsPut : List (List ℕ) → Put → Type 0
 SpellsPut words p = (n : Name) × (rest : List (List ℕ)) × (words ≡ name_word n ∷ rest) × SpellPutRest n rest p
 
 -- what a command writes where it borrows from what a line holds
-abbrev pub IsPutOf : Written → Put → Type 0
-IsPutOf (written.Plain q) p = p ≡ q
-IsPutOf (written.Text s) p = (text : Bor (List ℕ)) × (p ≡ put.Text text) × (text.now ≡ string_bytes s)
-IsPutOf (written.Bytes v) p = (bytes : Bor (List ℕ)) × (p ≡ put.Bytes bytes) × (bytes.now ≡ v.items)
-IsPutOf (written.CStr s) p = (text : CStr) × (p ≡ put.CStr text) × (c_str_text text ≡ c_string_text s)
-IsPutOf (written.Bytesx2 v w) p =
+abbrev pub IsPutOf : OwnedPut → Put → Type 0
+IsPutOf (owned.Plain q) p = p ≡ q
+IsPutOf (owned.Text s) p = (text : Bor (List ℕ)) × (p ≡ put.Text text) × (text.now ≡ string_bytes s)
+IsPutOf (owned.Bytes v) p = (bytes : Bor (List ℕ)) × (p ≡ put.Bytes bytes) × (bytes.now ≡ v.items)
+IsPutOf (owned.CStr s) p = (text : CStr) × (p ≡ put.CStr text) × (c_str_text text ≡ c_string_text s)
+IsPutOf (owned.Bytesx2 v w) p =
     (x y : Bor (List ℕ)) × (p ≡ put.Bytesx2 x y) × (x.now ≡ v.items) × (y.now ≡ w.items)
 
 -- what is found where something is spelled, or not: whatever borrows from it is spelled
-abbrev pub FindsPut : (Put → Type 0) → Option Written → Type 0
+abbrev pub FindsPut : (Put → Type 0) → Option OwnedPut → Type 0
 FindsPut IsSpelled None = (p : Put) → ¬ (IsSpelled p)
 FindsPut IsSpelled (Some x) = (p : Put) → IsPutOf x p → IsSpelled p

@@ -1,5 +1,5 @@
 -- What the words of a line spell.
-use Rattle.std.specs.Prelude.{◌≡◌, ◌<◌, ◌+◌, ◌++◌, ◌⊎◌, ℕ, ℤ, pos, neg_ℤ, List, [], ◌∷◌, length, Ok, codes, ◌==◌}
+use Rattle.std.specs.Prelude.{◌≡◌, ◌≢◌, ◌<◌, ◌+◌, ◌++◌, ◌⊎◌, ℕ, ℤ, pos, neg_ℤ, List, [], ◌∷◌, length, Ok, codes, ◌==◌}
 use Rattle.std.specs.List.{slice_split}
 use Rattle.std.specs.Str.Parse.{IsNumeral, digits_value}
 use Rattle.hex.specs.Hex.{decode_of, decode_sized}
@@ -64,3 +64,9 @@ name_word name.U8x0 = codes "u8x0"
 name_word name.U16x3 = codes "u16x3"
 name_word name.Textx2 = codes "strx2"
 name_word name.Bytesx2 = codes "bytesx2"
+
+-- the word names nothing that is read or written, but perhaps one number
+abbrev pub NamesNoOther : List ℕ → Type 0
+NamesNoOther word =
+    (word ≢ codes "str") × (word ≢ codes "strx2") × (word ≢ codes "bytes") × (word ≢ codes "bytesx2") × (word ≢ codes "cstr")
+    × (word ≢ codes "cstring") × (word ≢ codes "uleb") × (word ≢ codes "sleb") × (word ≢ codes "u8x0") × (word ≢ codes "u16x3")

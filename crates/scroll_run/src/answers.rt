@@ -26,7 +26,8 @@ pub fn print_answers(
 
 // Appends the line of an answer.
 fn print_answer(alloc: Global, text: &mut String, answer: &Answer) -> Result<(), AllocError>
-    ensures { OnOk result ((line : List ℕ) × (string_bytes text.new ≡ string_bytes text.old ++ line) × IsAnswerLine answer.now line) }
+    ensures { OnOk result ((line : List ℕ)
+        × (string_bytes text.new ≡ string_bytes text.old ++ line) × IsAnswerLine answer.now line) }
 {
     match answer {
         Answer::Read(value) => print_value(alloc, text, value),

@@ -6,8 +6,8 @@ ghost use Rattle.scroll_run.specs.Words.{words_of};
 ghost use Rattle.scroll_run.specs.declared.commands.Verb.{Verb};
 
 use crate::kinds::parse_kind;
+use crate::puts::{OwnedPut, parse_put};
 use crate::words::{parse_usize, split};
-use crate::written::{Written, parse_written};
 use scroll::runner::{Command, Kind, Place};
 use std::alloc::{AllocError, Global};
 
@@ -17,7 +17,7 @@ pub enum CommandLine {
     /// A read of a kind at a place.
     Read(Place, Kind),
     /// A write at a place.
-    Write(Place, Written),
+    Write(Place, OwnedPut),
 }
 
 // What a command does.
@@ -68,7 +68,8 @@ pub fn parse_command(alloc: Global, line: &[u8]) -> Result<Option<CommandLine>, 
 
 // The command that words spell.
 fn parse_words(alloc: Global, words: &[&[u8]]) -> Result<Option<CommandLine>, AllocError>
-    ensures { let texts = map (λ word. word.now) words.now in IfOk result (FindsCommand (SpellsCommand texts)) }
+    ensures { let texts = map (λ word. word.now) words.now in
+        IfOk result (FindsCommand (SpellsCommand texts)) }
 {
     let Some((word, rest)) = words.split_first() else {
         return Ok(None);
@@ -81,7 +82,8 @@ fn parse_words(alloc: Global, words: &[&[u8]]) -> Result<Option<CommandLine>, Al
 
 // The command of a verb that the words behind it spell.
 fn parse_rest(alloc: Global, verb: Verb, words: &[&[u8]]) -> Result<Option<CommandLine>, AllocError>
-    ensures { let texts = map (λ word. word.now) words.now in IfOk result (FindsCommand (SpellsRest verb texts)) }
+    ensures { let texts = map (λ word. word.now) words.now in
+        IfOk result (FindsCommand (SpellsRest verb texts)) }
 {
     match verb {
         Verb::Pread => match parse_offset(words) {
@@ -99,7 +101,8 @@ fn parse_rest(alloc: Global, verb: Verb, words: &[&[u8]]) -> Result<Option<Comma
 
 // The verb that a word is.
 fn parse_verb(word: &[u8]) -> Option<Verb>
-    ensures { MatchOption result ((verb : Verb) → ¬ (word.now ≡ verb_word verb)) (λ verb. word.now ≡ verb_word verb) }
+    ensures { MatchOption result ((verb : Verb) → ¬ (word.now ≡ verb_word verb)) (λ verb.
+        word.now ≡ verb_word verb) }
 {
     match word {
         b"pread" => Some(Verb::Pread),
@@ -112,7 +115,10 @@ fn parse_verb(word: &[u8]) -> Option<Verb>
 
 // The offset that the first of the words spells, and the words behind it.
 fn parse_offset<'w, 'a>(words: &'w [&'a [u8]]) -> Option<(usize, &'w [&'a [u8]])>
-    ensures { let texts = map (λ word. word.now) words.now in MatchOption result ((offset : ℕ) (rest : List (List ℕ)) → ¬ (SpellsOffset texts offset rest)) (λ p. SpellsOffset texts p.0 (map (λ word. word.now) p.1.now)) }
+    ensures { let texts = map (λ word. word.now) words.now in
+        MatchOption result ((offset : ℕ) (rest : List (List ℕ))
+        → ¬ (SpellsOffset texts offset rest)) (λ p.
+        SpellsOffset texts p.0 (map (λ word. word.now) p.1.now)) }
 {
     let (word, rest) = words.split_first()?;
     Some((parse_usize(word)?, rest))
@@ -120,7 +126,8 @@ fn parse_offset<'w, 'a>(words: &'w [&'a [u8]]) -> Option<(usize, &'w [&'a [u8]])
 
 // The read at a place that words spell.
 fn parse_read(place: Place, words: &[&[u8]]) -> Option<CommandLine>
-    ensures { let texts = map (λ word. word.now) words.now in FindsCommand (SpellsRead place texts) result }
+    ensures { let texts = map (λ word. word.now) words.now in
+        FindsCommand (SpellsRead place texts) result }
 {
     Some(CommandLine::Read(place, parse_kind(words)?))
 }
@@ -131,9 +138,10 @@ fn parse_write(
     place: Place,
     words: &[&[u8]],
 ) -> Result<Option<CommandLine>, AllocError>
-    ensures { let texts = map (λ word. word.now) words.now in IfOk result (FindsCommand (SpellsWrite place texts)) }
+    ensures { let texts = map (λ word. word.now) words.now in
+        IfOk result (FindsCommand (SpellsWrite place texts)) }
 {
-    match parse_written(alloc, words)? {
+    match parse_put(alloc, words)? {
         Some(written) => Ok(Some(CommandLine::Write(place, written))),
         None => Ok(None),
     }

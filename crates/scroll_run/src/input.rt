@@ -39,7 +39,8 @@ impl From<AllocError> for ReadError {
 /// A call of the reader that was interrupted is made again. After too many calls the error is one of kind `Other`.
 pub fn read_input<R: Read>(alloc: Global, input: &mut R) -> Result<Vec<u8>, ReadError>
     ensures bound { IfOk result (λ bytes. vec_len bytes ≤ 65537) }
-    ensures taken { IfOk result (λ bytes. Consumes (R.remaining input.old) (R.remaining input.new) bytes.items) }
+    ensures taken { IfOk result (λ bytes.
+        Consumes (R.remaining input.old) (R.remaining input.new) bytes.items) }
     ensures whole { IfOk result (λ bytes. vec_len bytes < 65537 → IsAtEnd (R.remaining input.new)) }
     ensures told { IfErr result IsTold }
 {

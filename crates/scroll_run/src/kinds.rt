@@ -26,7 +26,8 @@ enum End {
 
 /// The kind that words spell.
 pub fn parse_kind(words: &[&[u8]]) -> Option<Kind>
-    ensures { let texts = map (λ word. word.now) words.now in MatchOption result ((kind : Kind) → ¬ (SpellsKind texts kind)) (SpellsKind texts) }
+    ensures { let texts = map (λ word. word.now) words.now in
+        MatchOption result ((kind : Kind) → ¬ (SpellsKind texts kind)) (SpellsKind texts) }
 {
     let (word, rest) = words.split_first()?;
     parse_kind_rest(parse_name(word)?, rest)
@@ -34,7 +35,8 @@ pub fn parse_kind(words: &[&[u8]]) -> Option<Kind>
 
 // The kind of a name that the words behind it spell.
 fn parse_kind_rest(name: Name, words: &[&[u8]]) -> Option<Kind>
-    ensures { let texts = map (λ word. word.now) words.now in MatchOption result ((kind : Kind) → ¬ (SpellKindRest name texts kind)) (SpellKindRest name texts) }
+    ensures { let texts = map (λ word. word.now) words.now in MatchOption result ((kind : Kind)
+        → ¬ (SpellKindRest name texts kind)) (SpellKindRest name texts) }
 {
     match name {
         Name::Number(width) => Some(Kind::Number(width, parse_last_order(words)?)),
@@ -53,7 +55,8 @@ fn parse_kind_rest(name: Name, words: &[&[u8]]) -> Option<Kind>
 
 // Where a text ends, as words spell it.
 fn parse_end(words: &[&[u8]]) -> Option<StrCtx>
-    ensures { let texts = map (λ word. word.now) words.now in MatchOption result ((ctx : StrCtx) → ¬ (SpellEnd texts ctx)) (SpellEnd texts) }
+    ensures { let texts = map (λ word. word.now) words.now in
+        MatchOption result ((ctx : StrCtx) → ¬ (SpellEnd texts ctx)) (SpellEnd texts) }
 {
     let (word, rest) = words.split_first()?;
     parse_end_rest(parse_end_word(word)?, rest)
@@ -61,7 +64,8 @@ fn parse_end(words: &[&[u8]]) -> Option<StrCtx>
 
 // Where a text ends, by the words behind the word of an end.
 fn parse_end_rest(end: End, words: &[&[u8]]) -> Option<StrCtx>
-    ensures { let texts = map (λ word. word.now) words.now in MatchOption result ((ctx : StrCtx) → ¬ (SpellEndRest end texts ctx)) (SpellEndRest end texts) }
+    ensures { let texts = map (λ word. word.now) words.now in MatchOption result ((ctx : StrCtx)
+        → ¬ (SpellEndRest end texts ctx)) (SpellEndRest end texts) }
 {
     match end {
         End::Delimiter => Some(StrCtx::Delimiter(parse_last_byte(words)?)),
@@ -76,7 +80,8 @@ fn parse_end_rest(end: End, words: &[&[u8]]) -> Option<StrCtx>
 
 // The end of texts that a word is.
 fn parse_end_word(word: &[u8]) -> Option<End>
-    ensures { MatchOption result ((end : End) → ¬ (word.now ≡ end_word end)) (λ end. word.now ≡ end_word end) }
+    ensures { MatchOption result ((end : End) → ¬ (word.now ≡ end_word end)) (λ end.
+        word.now ≡ end_word end) }
 {
     match word {
         b"delim" => Some(End::Delimiter),
@@ -89,7 +94,8 @@ fn parse_end_word(word: &[u8]) -> Option<End>
 
 // The number that the one word spells.
 fn parse_last_usize(words: &[&[u8]]) -> Option<usize>
-    ensures { let texts = map (λ word. word.now) words.now in MatchOption result ((n : ℕ) → ¬ (SpellLastNumber texts n)) (SpellLastNumber texts) }
+    ensures { let texts = map (λ word. word.now) words.now in
+        MatchOption result ((n : ℕ) → ¬ (SpellLastNumber texts n)) (SpellLastNumber texts) }
 {
     match words {
         [word] => parse_usize(word),
@@ -99,7 +105,8 @@ fn parse_last_usize(words: &[&[u8]]) -> Option<usize>
 
 // The byte that the one word spells.
 fn parse_last_byte(words: &[&[u8]]) -> Option<u8>
-    ensures { let texts = map (λ word. word.now) words.now in MatchOption result ((byte : ℕ) → ¬ (SpellLastByte texts byte)) (SpellLastByte texts) }
+    ensures { let texts = map (λ word. word.now) words.now in
+        MatchOption result ((byte : ℕ) → ¬ (SpellLastByte texts byte)) (SpellLastByte texts) }
 {
     match words {
         [word] => parse_byte(word),
@@ -109,7 +116,8 @@ fn parse_last_byte(words: &[&[u8]]) -> Option<u8>
 
 // The byte order that the one word names.
 fn parse_last_order(words: &[&[u8]]) -> Option<Endian>
-    ensures { let texts = map (λ word. word.now) words.now in MatchOption result ((order : Endian) → ¬ (SpellLastOrder texts order)) (SpellLastOrder texts) }
+    ensures { let texts = map (λ word. word.now) words.now in MatchOption result ((order : Endian)
+        → ¬ (SpellLastOrder texts order)) (SpellLastOrder texts) }
 {
     match words {
         [word] => parse_order(word),
@@ -119,7 +127,8 @@ fn parse_last_order(words: &[&[u8]]) -> Option<Endian>
 
 // The byte and the number that the two words spell.
 fn parse_last_limit(words: &[&[u8]]) -> Option<(u8, usize)>
-    ensures { let texts = map (λ word. word.now) words.now in MatchOption result ((byte n : ℕ) → ¬ (SpellLastLimit texts byte n)) (λ p. SpellLastLimit texts p.0 p.1) }
+    ensures { let texts = map (λ word. word.now) words.now in MatchOption result ((byte n : ℕ)
+        → ¬ (SpellLastLimit texts byte n)) (λ p. SpellLastLimit texts p.0 p.1) }
 {
     match words {
         [byte, limit] => Some((parse_byte(byte)?, parse_usize(limit)?)),

@@ -47,7 +47,10 @@ pub struct Script {
 
 /// What the lines of an input say, each up to its line feed, which the last one need not have.
 pub fn parse_script(alloc: Global, input: &[u8]) -> Result<Script, Stop>
-    ensures { MatchResult result (λ script. (commands : List Command) → AreCommandsOf script.commands.items commands → SpellScript (lines_of input.now) script.buffer.items script.cursor commands) (Stops (lines_of input.now)) }
+    ensures { MatchResult result (λ script. (commands : List Command)
+        → AreCommandsOf script.commands.items commands
+        → SpellScript (lines_of input.now) script.buffer.items script.cursor commands)
+        (Stops (lines_of input.now)) }
 {
     let lines = split(alloc, without_last_feed(input), b'\n')?;
     parse_lines(alloc, &lines)
@@ -65,7 +68,10 @@ fn without_last_feed(input: &[u8]) -> &[u8]
 
 // What lines say.
 fn parse_lines(alloc: Global, lines: &[&[u8]]) -> Result<Script, Stop>
-    ensures { let texts = map (λ line. line.now) lines.now in MatchResult result (λ script. (commands : List Command) → AreCommandsOf script.commands.items commands → SpellScript texts script.buffer.items script.cursor commands) (Stops texts) }
+    ensures { let texts = map (λ line. line.now) lines.now in
+        MatchResult result (λ script. (commands : List Command)
+        → AreCommandsOf script.commands.items commands
+        → SpellScript texts script.buffer.items script.cursor commands) (Stops texts) }
 {
     let Some((first, rest)) = lines.split_first() else {
         return Err(Stop::BadLine(1));
@@ -89,7 +95,8 @@ fn parse_lines(alloc: Global, lines: &[&[u8]]) -> Result<Script, Stop>
 
 // The bytes of a `buffer` line. `None` is for a bad line.
 fn parse_buffer(alloc: Global, line: &[u8]) -> Result<Option<Vec<u8>>, AllocError>
-    ensures { IfOk result (λ found. MatchOption found ((bytes : List ℕ) → ¬ (SpellsBuffer line.now bytes)) (λ bytes. SpellsBuffer line.now bytes.items)) }
+    ensures { IfOk result (λ found. MatchOption found ((bytes : List ℕ)
+        → ¬ (SpellsBuffer line.now bytes)) (λ bytes. SpellsBuffer line.now bytes.items)) }
 {
     match line.strip_prefix(b"buffer ") {
         Some(word) => parse_bytes(alloc, word),
@@ -106,7 +113,8 @@ fn parse_cursor(line: &[u8]) -> Option<usize>
 
 // The commands of lines that begin at the third line.
 fn parse_commands(alloc: Global, lines: &[&[u8]]) -> Result<Vec<CommandLine>, Stop>
-    ensures { let texts = map (λ line. line.now) lines.now in MatchResult result (λ held. SpellHeld texts held.items) (StopsCommands texts) }
+    ensures { let texts = map (λ line. line.now) lines.now in
+        MatchResult result (λ held. SpellHeld texts held.items) (StopsCommands texts) }
 {
     let mut commands = Vec::new(alloc);
     for line in lines {

@@ -10,11 +10,11 @@ mod input;
 mod kinds;
 mod lines;
 mod output;
+mod puts;
 pub mod session;
 #[cfg(test)]
 mod tests;
 mod words;
-mod written;
 
 use std::process::ExitCode;
 

@@ -14,7 +14,8 @@ const MORE_CALLS: usize = 131_072;
 ///
 /// A call of the writer that was interrupted is made again. After too many calls the error is one of kind `Other`.
 pub fn write_output<W: Write>(output: &mut W, bytes: &[u8]) -> io::Result<()>
-    ensures written { OnOk result (Appends (W.contents output.old) (W.contents output.new) bytes.now) }
+    ensures written { OnOk result (Appends (W.contents output.old)
+        (W.contents output.new) bytes.now) }
     ensures front { AppendsFront (W.contents output.old) (W.contents output.new) bytes.now }
     ensures not_interrupted { IfErr result (λ e. error_kind e ≢ ErrorKind.Interrupted) }
 {
@@ -24,7 +25,8 @@ pub fn write_output<W: Write>(output: &mut W, bytes: &[u8]) -> io::Result<()>
 
 // Writes all the bytes.
 fn write_all<W: Write>(output: &mut W, bytes: &[u8]) -> io::Result<()>
-    ensures written { OnOk result (Appends (W.contents output.old) (W.contents output.new) bytes.now) }
+    ensures written { OnOk result (Appends (W.contents output.old)
+        (W.contents output.new) bytes.now) }
     ensures front { AppendsFront (W.contents output.old) (W.contents output.new) bytes.now }
     ensures not_interrupted { IfErr result (λ e. error_kind e ≢ ErrorKind.Interrupted) }
 {

@@ -33,8 +33,11 @@ struct Outcome {
 /// The answer is the session's status. An error is one of the reader or of the writer; then nothing was written, or only the
 /// first bytes of what the input is answered with.
 pub fn session<R: Read, W: Write>(alloc: Global, input: &mut R, output: &mut W) -> io::Result<u8>
-    ensures answered { IfOk result (λ status. (text : List ℕ) × Appends (W.contents output.old) (W.contents output.new) text × AnswersSession (R.remaining input.old) (R.remaining input.new) text status) }
-    ensures broken_off { OnErr result (BreaksOff (R.remaining input.old) (R.remaining input.new) (W.contents output.old) (W.contents output.new)) }
+    ensures answered { IfOk result (λ status. (text : List ℕ)
+        × Appends (W.contents output.old) (W.contents output.new) text
+        × AnswersSession (R.remaining input.old) (R.remaining input.new) text status) }
+    ensures broken_off { OnErr result (BreaksOff (R.remaining input.old) (R.remaining input.new)
+        (W.contents output.old) (W.contents output.new)) }
     ensures fault { IfErr result (λ e. error_kind e ≢ ErrorKind.Interrupted) }
 {
     let outcome = match read_input(alloc, input) {
@@ -56,7 +59,8 @@ pub fn session<R: Read, W: Write>(alloc: Global, input: &mut R, output: &mut W) 
 
 // What an input is answered with.
 fn answer_input(alloc: Global, input: &[u8]) -> Result<Outcome, AllocError>
-    ensures { IfOk result (λ outcome. AnswersInput input.now (string_bytes outcome.text) outcome.status) }
+    ensures { IfOk result (λ outcome.
+        AnswersInput input.now (string_bytes outcome.text) outcome.status) }
 {
     if input.len() >= MOST_READ {
         return Ok(Outcome {

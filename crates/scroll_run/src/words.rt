@@ -4,7 +4,7 @@ ghost use Rattle.std.specs.List.{slice_split};
 ghost use Rattle.std.specs.Str.Parse.{IsNumeral, digits_value};
 ghost use Rattle.scroll.specs.declared.endian.Endian.{Endian};
 ghost use Rattle.scroll.specs.declared.runner.Width.{Width};
-ghost use Rattle.scroll_run.specs.Words.{SpellsByte, SpellsBytes, SpellsSigned, name_word, order_word, width_word};
+ghost use Rattle.scroll_run.specs.Words.{NamesNoOther, SpellsByte, SpellsBytes, SpellsSigned, name_word, order_word, width_word};
 ghost use Rattle.scroll_run.specs.declared.words.Name.{Name};
 
 use hex::{FromHex, FromHexError};
@@ -42,7 +42,8 @@ pub enum Name {
 
 /// The parts of a text before, between and after its separators.
 pub fn split(alloc: Global, text: &[u8], separator: u8) -> Result<Vec<&[u8]>, AllocError>
-    ensures { IfOk result (λ parts. map (λ part. part.now) parts.items ≡ slice_split (λ b. b == separator) text.now) }
+    ensures { IfOk result (λ parts.
+        map (λ part. part.now) parts.items ≡ slice_split (λ b. b == separator) text.now) }
 {
     let mut parts = Vec::new(alloc);
     for part in text.split(|byte| *byte == separator) {
@@ -53,7 +54,8 @@ pub fn split(alloc: Global, text: &[u8], separator: u8) -> Result<Vec<&[u8]>, Al
 
 /// The number that a word of digits spells, where it is below 2^128.
 pub fn parse_number(word: &[u8]) -> Option<u128>
-    ensures { SomeIff result (IsNumeral 10 word.now × (digits_value 10 word.now < 2 ^ 128)) (digits_value 10 word.now) }
+    ensures { SomeIff result (IsNumeral 10 word.now
+        × (digits_value 10 word.now < 2 ^ 128)) (digits_value 10 word.now) }
 {
     // (std takes a plus before the digits, too)
     if *word.first()? == b'+' {
@@ -67,7 +69,8 @@ pub fn parse_number(word: &[u8]) -> Option<u128>
 
 /// The number that digits, with or without a minus before them, spell, where it is in the range of `i128`.
 pub fn parse_signed(word: &[u8]) -> Option<i128>
-    ensures { MatchOption result ((x : ℤ) → ¬ (SpellsSigned (2 ^ 127) word.now x)) (SpellsSigned (2 ^ 127) word.now) }
+    ensures { MatchOption result ((x : ℤ)
+        → ¬ (SpellsSigned (2 ^ 127) word.now x)) (SpellsSigned (2 ^ 127) word.now) }
 {
     match word.strip_prefix(b"-") {
         Some(digits) => 0_i128.checked_sub_unsigned(parse_number(digits)?),
@@ -77,14 +80,16 @@ pub fn parse_signed(word: &[u8]) -> Option<i128>
 
 /// The number that a word of digits spells, where it is below 2^64.
 pub fn parse_usize(word: &[u8]) -> Option<usize>
-    ensures { SomeIff result (IsNumeral 10 word.now × (digits_value 10 word.now < 2 ^ 64)) (digits_value 10 word.now) }
+    ensures { SomeIff result (IsNumeral 10 word.now
+        × (digits_value 10 word.now < 2 ^ 64)) (digits_value 10 word.now) }
 {
     usize::try_from(parse_number(word)?).ok()
 }
 
 /// The bytes that a word spells: none by `-`, or each by two hexadecimal digits of either case.
 pub fn parse_bytes(alloc: Global, word: &[u8]) -> Result<Option<Vec<u8>>, AllocError>
-    ensures { IfOk result (λ found. MatchOption found ((bytes : List ℕ) → ¬ (SpellsBytes word.now bytes)) (λ bytes. SpellsBytes word.now bytes.items)) }
+    ensures { IfOk result (λ found. MatchOption found ((bytes : List ℕ)
+        → ¬ (SpellsBytes word.now bytes)) (λ bytes. SpellsBytes word.now bytes.items)) }
 {
     if word == b"-".as_slice() {
         return Ok(Some(Vec::new(alloc)));
@@ -109,72 +114,28 @@ pub fn parse_byte(word: &[u8]) -> Option<u8>
 
 /// What a word names.
 pub fn parse_name(word: &[u8]) -> Option<Name>
-    ensures { MatchOption result ((name : Name) → ¬ (word.now ≡ name_word name)) (λ name. word.now ≡ name_word name) }
+    ensures { MatchOption result ((name : Name) → ¬ (word.now ≡ name_word name)) (λ name.
+        word.now ≡ name_word name) }
 {
-    let number = parse_number_name(word);
-    let texts = number.or(parse_text_name(word));
-    let slices = texts.or(parse_slice_name(word));
-    let c_strings = slices.or(parse_c_string_name(word));
-    let leb128 = c_strings.or(parse_leb128_name(word));
-    leb128.or(parse_array_name(word))
+    match parse_other_name(word) {
+        Some(name) => Some(name),
+        None => Some(Name::Number(parse_width(word)?)),
+    }
 }
 
-// A number of a type, where a word names one.
-fn parse_number_name(word: &[u8]) -> Option<Name>
-    ensures { MatchOption result ((width : Width) → ¬ (word.now ≡ width_word width)) (λ name. word.now ≡ name_word name) }
-{
-    Some(Name::Number(parse_width(word)?))
-}
-
-// A text or two, where a word names them.
-fn parse_text_name(word: &[u8]) -> Option<Name>
-    ensures { MatchOption result ((word.now ≢ codes "str") × (word.now ≢ codes "strx2")) (λ name. word.now ≡ name_word name) }
+// What a word names, where that is not one number.
+fn parse_other_name(word: &[u8]) -> Option<Name>
+    ensures { MatchOption result (NamesNoOther word.now) (λ name. word.now ≡ name_word name) }
 {
     match word {
         b"str" => Some(Name::Text),
         b"strx2" => Some(Name::Textx2),
-        _ => None,
-    }
-}
-
-// A slice or two, where a word names them.
-fn parse_slice_name(word: &[u8]) -> Option<Name>
-    ensures { MatchOption result ((word.now ≢ codes "bytes") × (word.now ≢ codes "bytesx2")) (λ name. word.now ≡ name_word name) }
-{
-    match word {
         b"bytes" => Some(Name::Bytes),
         b"bytesx2" => Some(Name::Bytesx2),
-        _ => None,
-    }
-}
-
-// A C string, where a word names one.
-fn parse_c_string_name(word: &[u8]) -> Option<Name>
-    ensures { MatchOption result ((word.now ≢ codes "cstr") × (word.now ≢ codes "cstring")) (λ name. word.now ≡ name_word name) }
-{
-    match word {
         b"cstr" => Some(Name::CStr),
         b"cstring" => Some(Name::CString),
-        _ => None,
-    }
-}
-
-// A number in LEB128, where a word names one.
-fn parse_leb128_name(word: &[u8]) -> Option<Name>
-    ensures { MatchOption result ((word.now ≢ codes "uleb") × (word.now ≢ codes "sleb")) (λ name. word.now ≡ name_word name) }
-{
-    match word {
         b"uleb" => Some(Name::Uleb),
         b"sleb" => Some(Name::Sleb),
-        _ => None,
-    }
-}
-
-// An array of numbers, where a word names one.
-fn parse_array_name(word: &[u8]) -> Option<Name>
-    ensures { MatchOption result ((word.now ≢ codes "u8x0") × (word.now ≢ codes "u16x3")) (λ name. word.now ≡ name_word name) }
-{
-    match word {
         b"u8x0" => Some(Name::U8x0),
         b"u16x3" => Some(Name::U16x3),
         _ => None,
@@ -183,7 +144,8 @@ fn parse_array_name(word: &[u8]) -> Option<Name>
 
 /// The type of a number that a word names.
 pub fn parse_width(word: &[u8]) -> Option<Width>
-    ensures { MatchOption result ((width : Width) → ¬ (word.now ≡ width_word width)) (λ width. word.now ≡ width_word width) }
+    ensures { MatchOption result ((width : Width) → ¬ (word.now ≡ width_word width)) (λ width.
+        word.now ≡ width_word width) }
 {
     match word {
         b"u8" => Some(Width::U8),
@@ -202,7 +164,8 @@ pub fn parse_width(word: &[u8]) -> Option<Width>
 
 /// The byte order that a word names.
 pub fn parse_order(word: &[u8]) -> Option<Endian>
-    ensures { MatchOption result ((order : Endian) → ¬ (word.now ≡ order_word order)) (λ order. word.now ≡ order_word order) }
+    ensures { MatchOption result ((order : Endian) → ¬ (word.now ≡ order_word order)) (λ order.
+        word.now ≡ order_word order) }
 {
     match word {
         b"le" => Some(Endian::Little),

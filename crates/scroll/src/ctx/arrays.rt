@@ -1,13 +1,14 @@
 // Arrays of what can be read or written, in the elements' context.
-ghost use Rattle.std.specs.Prelude.{◌≡◌, ℕ, ◌+◌, ◌*◌, ◌<◌, ◌≤◌, List, length, map, Some, None, IfOk, IfErr, IsTrue, slice_index_or, slice_set};
+ghost use Rattle.std.specs.Prelude.{◌≡◌, ℕ, ◌+◌, ◌*◌, ◌<◌, ◌≤◌, List, length, drop, map, max, Some, None, IfOk, IfErr, IsTrue, slice_index_or, slice_set};
 ghost use Rattle.std.specs.Mem.{FitsInMemory};
 ghost use Rattle.scroll.specs.Fits.{OptionFits, SlotsFit, ItemsFit};
-ghost use Rattle.scroll.specs.Arrays.{ReadsArray, RefusesArray, WritesArray, LeavesArray};
-ghost use Rattle.scroll.specs.ArrayLaws.{ReadsArray-bounded, WritesArray-bounded, WritesArray-keeps};
+ghost use Rattle.scroll.specs.Arrays.{ReadsArray, RefusesArray, WritesArray, LeavesArray, MakesArray, LeavesValue, FillsArray};
+ghost use Rattle.scroll.specs.lemmas.Sizes.{ReadsArray-bounded, WritesArray-bounded};
+ghost use Rattle.scroll.specs.lemmas.Frames.{WritesArray-keeps, FillsArray-keeps};
 ghost use Rattle.scroll.specs.Writes.{WritesAt, LeavesAt};
-ghost use Rattle.scroll.specs.declared.error.Error.TheVariants.{BadOffset};
+ghost use Rattle.scroll.specs.Errors.{PastEnd};
 
-use crate::ctx::{SizeWith, TryFromCtx, TryIntoCtx};
+use crate::ctx::{FromCtx, IntoCtx, SizeWith, TryFromCtx, TryIntoCtx};
 use crate::error::{Error, Result};
 use crate::pread::Pread;
 use arrayvec::ArrayVec;
@@ -24,6 +25,18 @@ fn fits<X>() -> bool
         None => small,
         Some(_x) => unreachable!(),
     }
+}
+
+/// Whether an array of `N` values of type `T` fits in memory, together with what holds its elements while it is read and
+/// while it is written. It does wherever there is such an array, and the compiler knows it.
+///
+/// A caller that is generic over `T` or `N` may test it, or ask it of its own caller by `requires`: what an array refuses
+/// is said under this condition. At a type that is known the prover has it.
+pub fn array_fits<T, const N: usize>() -> bool
+    ensures read { IsTrue result → SlotsFit T.row N.row }
+    ensures written { IsTrue result → ItemsFit T.row N.row }
+{
+    fits::<Option<ArrayVec<Option<T>, N>>>() && fits::<Option<array::IntoIter<T, N>>>()
 }
 
 // The element at `index`, in whose place `None` is left.
@@ -67,6 +80,20 @@ fn write_next<Ctx: Copy, T: TryIntoCtx<Ctx, Error = Error> + Drop>(
     value.try_into_ctx(&mut dst[offset..], ctx)
 }
 
+/// Elements one after the other from the start of the source. An element that would start past the end is refused by
+/// `E::from(Error::BadOffset(offset))`, where the offset counts from the array's own start; any other refusal is that of
+/// the first element that is refused.
+///
+/// An array of values that borrow is taken out of a call's result by a function that is handed to `map`: neither `?` nor a
+/// `match` on such a result is covered by the borrow checker's part of a proof today.
+///
+/// ```rust
+/// fn take_apart<'a>(names: [&'a str; 2]) -> (&'a str, &'a str) {
+///     (names[0], names[1])
+/// }
+///
+/// let (first, second) = file.pread_with(0, StrCtx::Delimiter(NULL)).map(take_apart)?;
+/// ```
 impl<
     'a,
     Ctx: Copy,
@@ -78,7 +105,7 @@ impl<
 
     ghost reads = { λ ctx. ReadsArray (T.reads ctx) N };
 
-    ghost refuses = { λ ctx source e. SlotsFit T.row N.row → RefusesArray (T.reads ctx) (T.refuses ctx) (λ offset e. E.from_gives (BadOffset offset) e) N source e };
+    ghost refuses = { λ ctx source e. SlotsFit T.row N.row → RefusesArray (T.reads ctx) (T.refuses ctx) (PastEnd E.from_gives) N source e };
 
     ghost reads_bounded = { λ ctx. ReadsArray-bounded (T.reads ctx) (T.reads_bounded ctx) N };
 
@@ -123,6 +150,68 @@ impl<Ctx: Copy, T: TryIntoCtx<Ctx, Error = Error> + Drop, const N: usize> TryInt
         }
         Ok(offset)
     }
+}
+
+/// The elements one after another, each as many bytes after the one before it as [`SizeWith`] says. An array of numbers needs
+/// as many bytes as its elements have.
+impl<Ctx: Copy, T: FromCtx<Ctx> + SizeWith<Ctx>, const N: usize> FromCtx<Ctx> for [T; N] {
+    ghost need = { λ ctx. max (T.size ctx) (T.need ctx) * N };
+
+    ghost makes = { λ ctx. MakesArray (T.size ctx) (T.makes ctx) N };
+
+    fn from_ctx(this: &[u8], ctx: Ctx) -> [T; N] {
+        array::from_fn(
+            |i| -> T
+                requires { (max (T.size ctx) (T.need ctx) * N ≤ length this.now) × (i < N) }
+                ensures made { T.makes ctx (drop (T.size ctx * i) this.entry.now) result }
+                ensures same { this.exit.now ≡ this.entry.now }
+            { element(this, i, N, ctx) },
+        )
+    }
+}
+
+// The element at an index of so many.
+#[inline(always)]
+fn element<Ctx: Copy, T: FromCtx<Ctx> + SizeWith<Ctx>>(
+    this: &[u8],
+    index: usize,
+    count: usize,
+    ctx: Ctx,
+) -> T
+    requires { (max (T.size ctx) (T.need ctx) * count ≤ length this.now) × (index < count) }
+    ensures { T.makes ctx (drop (T.size ctx * index) this.now) result }
+{
+    T::from_ctx(&this[T::size_with(&ctx) * index..], ctx)
+}
+
+/// The elements one after another, each as many bytes after the one before it as [`SizeWith`] says.
+impl<Ctx: Copy, T: IntoCtx<Ctx> + SizeWith<Ctx> + Copy, const N: usize> IntoCtx<Ctx> for [T; N] {
+    ghost need = { λ ctx. max (T.size ctx) (T.need ctx) * N };
+
+    ghost leaves = { λ ctx. FillsArray (T.size ctx) (T.leaves ctx) N };
+
+    ghost leaves_keeps = { λ ctx. FillsArray-keeps (T.size ctx) (T.need ctx) (T.leaves ctx) (T.leaves_keeps ctx) N };
+
+    fn into_ctx(self, dst: &mut [u8], ctx: Ctx) {
+        for i in 0..N {
+            put_element(self[i], dst, i, N, ctx);
+        }
+    }
+}
+
+// Writes an element to its place.
+#[inline(always)]
+fn put_element<Ctx: Copy, T: IntoCtx<Ctx> + SizeWith<Ctx>>(
+    value: T,
+    dst: &mut [u8],
+    index: usize,
+    count: usize,
+    ctx: Ctx,
+)
+    requires { (max (T.size ctx) (T.need ctx) * count ≤ length dst.old) × (index < count) }
+    ensures { LeavesValue (T.leaves ctx value) dst.old (T.size ctx * index) dst.new }
+{
+    value.into_ctx(&mut dst[T::size_with(&ctx) * index..], ctx)
 }
 
 impl<Ctx, T: SizeWith<Ctx>, const N: usize> SizeWith<Ctx> for [T; N] {

@@ -1,13 +1,12 @@
 // Byte slices.
-ghost use Rattle.std.specs.Prelude.{◌≡◌, length};
+ghost use Rattle.std.specs.Prelude.{◌≡◌, ◌++◌, length, take, drop};
 ghost use Rattle.std.proofs.Common.{rules};
 ghost use Rattle.scroll.specs.Bytes.{WritesFront, LeavesShort};
 ghost use Rattle.scroll.specs.Texts.{ReadsSlice, RefusesSlice};
-ghost use Rattle.scroll.specs.TextLaws.{WritesFront-keeps};
+ghost use Rattle.scroll.specs.lemmas.Frames.{WritesFront-keeps, slice-keeps};
 
-use super::numbers::check_room;
-use crate::ctx::{TryFromCtx, TryIntoCtx};
-use crate::error::{Error, Result};
+use crate::ctx::{IntoCtx, TryFromCtx, TryIntoCtx};
+use crate::error::{Error, Result, check_room};
 
 /// The first bytes of the source, as many as the context says. Nothing is copied: the slice borrows the source.
 ///
@@ -43,5 +42,20 @@ impl<'s> TryIntoCtx<()> for &'s [u8] {
         check_room(self.len(), dst.len())?;
         dst[..self.len()].copy_from_slice(self);
         Ok(self.len())
+    }
+}
+
+/// The first bytes of the slice, as many as the context says, or all of them where it has fewer: so `dst` needs that many, and
+/// a slice of just that length is written whole. The bytes after those that are written are unchanged.
+impl<'s> IntoCtx<usize> for &'s [u8] {
+    ghost need = { λ n. n };
+
+    ghost leaves = { λ n slice old new. new ≡ take n slice.now ++ drop (length (take n slice.now)) old };
+
+    ghost leaves_keeps = { λ n slice. slice-keeps n slice.now };
+
+    fn into_ctx(self, dst: &mut [u8], ctx: usize) {
+        let len = self.len().min(ctx);
+        dst[..len].copy_from_slice(&self[..len]);
     }
 }

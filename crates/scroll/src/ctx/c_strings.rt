@@ -3,9 +3,9 @@ ghost use Rattle.std.specs.Prelude.{◌≡◌, ◌++◌, [], ◌∷◌, length, 
 ghost use Rattle.std.proofs.Common.{rules};
 ghost use Rattle.scroll.specs.Bytes.{WritesFront, LeavesShort};
 ghost use Rattle.scroll.specs.CStrings.{ReadsCString, RefusesCString, RefusesCopy};
-ghost use Rattle.scroll.specs.CStringLaws.{ReadsCString-bounded};
+ghost use Rattle.scroll.specs.lemmas.Sizes.{ReadsCString-bounded};
+ghost use Rattle.scroll.specs.lemmas.Frames.{WritesFront-keeps};
 ghost use Rattle.scroll.specs.CStringTexts.{c_str_text, c_string_text};
-ghost use Rattle.scroll.specs.TextLaws.{WritesFront-keeps};
 
 use crate::cstr::{CStr, CString};
 use crate::ctx::{TryFromCtx, TryIntoCtx};

@@ -1,20 +1,21 @@
-// Whole numbers. A type says its width, its value and its bytes, and the implementations of all traits stand on that.
-ghost use Rattle.std.specs.Prelude.{◌≡◌, ◌≤◌, ◌<◌, ◌++◌, ℕ, List, length, take, drop, OnOk, IfErr};
+// Numbers. A type says its width, its value and its bytes, and the implementations of all traits stand on that.
+ghost use Rattle.std.specs.Prelude.{◌≡◌, ◌≤◌, ◌++◌, ℕ, List, length, take, drop};
 ghost use Rattle.std.proofs.Common.{rules};
+ghost use Rattle.std.specs.Int.{w64, to_le_bytes};
 ghost use Rattle.scroll.specs.Bytes.{ReadsFront, RefusesShort, LeavesShort};
 ghost use Rattle.scroll.specs.Numbers.{number_bytes, WritesNumber};
-ghost use Rattle.scroll.specs.NumberLaws.{number_bytes-keeps, WritesNumber-keeps};
+ghost use Rattle.scroll.specs.lemmas.Frames.{number_bytes-keeps, WritesNumber-keeps};
 ghost use Rattle.scroll.specs.declared.endian.Endian.{Endian};
-ghost use Rattle.scroll.specs.declared.error.Error.TheVariants.{TooBig};
 
 use crate::ctx::{FromCtx, IntoCtx, SizeWith, TryFromCtx, TryIntoCtx};
 use crate::endian::Endian;
-use crate::error::{Error, Result};
+use crate::error::{Error, Result, check_room};
 
+mod floats;
 mod signed;
 mod unsigned;
 
-/// What is written as the bytes of a whole number: the number, or a reference to it.
+/// What is written as the bytes of a number: the number, or a reference to it.
 pub trait Written: Copy {
     // How many bytes it has.
     ghost width: { ℕ };
@@ -32,7 +33,7 @@ pub trait Written: Copy {
         ensures { dst.new ≡ number_bytes order width (code self) ++ drop width dst.old };
 }
 
-/// A whole number of a fixed width.
+/// A number of a fixed width: a whole number, or a float, which is written as the whole number of its bits.
 pub trait Number: Written {
     // The number at the front of a source.
     ghost value: { Endian → List ℕ → Self };
@@ -128,18 +129,6 @@ impl<N: Number> SizeWith<()> for N {
     }
 }
 
-// Tells whether `len` bytes are enough for a value of `width` bytes.
-#[inline]
-pub(super) fn check_room(width: usize, len: usize) -> Result<()>
-    ensures enough { OnOk result (width ≤ len) }
-    ensures short { IfErr result (λ e. (len < width) × (e ≡ TooBig width len)) }
-{
-    if len < width {
-        return Err(Error::TooBig { size: width, len });
-    }
-    Ok(())
-}
-
 // The bytes at the front of a source.
 #[inline]
 fn front<const WIDTH: usize>(from: &[u8]) -> [u8; WIDTH]
@@ -156,4 +145,30 @@ fn put_front<const WIDTH: usize>(dst: &mut [u8], bytes: [u8; WIDTH])
     ensures { dst.new ≡ bytes.entry ++ drop WIDTH dst.old }
 {
     dst[..WIDTH].copy_from_slice(&bytes);
+}
+
+// Puts the bytes of a number of sixteen to the front of a target, by two halves. All sixteen at once are gathered byte by
+// byte, which takes ten times as long.
+#[inline]
+fn put_sixteen(dst: &mut [u8], number: u128, order: Endian)
+    requires { 16 ≤ length dst.old }
+    ensures { dst.new ≡ number_bytes order 16 number ++ drop 16 dst.old }
+{
+    let low = (number % 0x1_0000_0000_0000_0000) as u64;
+    let high = (number / 0x1_0000_0000_0000_0000) as u64;
+    match order {
+        Endian::Little => put_halves(dst, low, high),
+        Endian::Big => put_halves(dst, high.swap_bytes(), low.swap_bytes()),
+    }
+}
+
+// Puts the bytes of two numbers to the front of a target, each from its lowest on.
+#[inline]
+fn put_halves(dst: &mut [u8], first: u64, second: u64)
+    requires { 16 ≤ length dst.old }
+    ensures { dst.new ≡ (to_le_bytes w64 first ++ to_le_bytes w64 second) ++ drop 16 dst.old }
+{
+    let (front, rest) = dst.split_at_mut(8);
+    put_front(front, first.to_le_bytes());
+    put_front(rest, second.to_le_bytes());
 }

@@ -1,7 +1,7 @@
 // Pairs of what is written as a fixed number of bytes, so that the fields of a struct are written in one call, which says
 // what bytes they are: `((self.tag, self.channels), self.rate)` for three fields.
 ghost use Rattle.std.specs.Prelude.{◌≡◌, ◌≤◌, ◌<◌, ◌+◌, ◌^◌, ◌++◌, ℕ, List, length, take, drop};
-ghost use Rattle.scroll.specs.PairLaws.{length-both, both-keep};
+ghost use Rattle.scroll.specs.lemmas.Pairs.{length-both, both-keep};
 ghost use Rattle.scroll.specs.declared.endian.Endian.{Endian};
 
 use crate::ctx::IntoCtx;
@@ -9,7 +9,7 @@ use crate::endian::Endian;
 
 mod numbers;
 
-/// What is written as a fixed number of bytes: a number, or a pair of such, the second behind the first.
+/// What is written as a fixed number of bytes: a number, or a pair of such, the second after the first.
 ///
 /// Each number type has an implementation of its own. With one for every `N: Written` beside that for pairs the compiler
 /// would try both at each pair in a pair, and gives up at thirteen.
@@ -52,7 +52,7 @@ impl<A: Fields, B: Fields> Fields for (A, B) {
     }
 }
 
-// Writes the second of a pair, behind the `offset` bytes of the first.
+// Writes the second of a pair, after the `offset` bytes of the first.
 #[inline(always)]
 fn write_behind<B: Fields>(fields: B, dst: &mut [u8], offset: usize, order: Endian)
     requires { offset + B.width ≤ length dst.old }

@@ -4,11 +4,11 @@ ghost use Rattle.scroll.specs.Errors.{IsBadInput};
 ghost use Rattle.std.proofs.Common.{rules};
 ghost use Rattle.scroll.specs.Bytes.{RefusesShort, WritesFront, LeavesShort};
 ghost use Rattle.scroll.specs.Texts.{first_place, text_len, wanted_len, HasDelimiter, ReadsText, RefusesMissing, RefusesText};
-ghost use Rattle.scroll.specs.TextLaws.{ReadsText-bounded, WritesFront-keeps};
+ghost use Rattle.scroll.specs.lemmas.Sizes.{ReadsText-bounded};
+ghost use Rattle.scroll.specs.lemmas.Frames.{WritesFront-keeps};
 
-use super::numbers::check_room;
 use crate::ctx::{StrCtx, TryFromCtx, TryIntoCtx};
-use crate::error::{Error, Result};
+use crate::error::{Error, Result, check_room};
 use crate::search::{first_place, text_before};
 
 /// A text, by where it ends. Nothing is copied: the text borrows the source.
@@ -40,14 +40,18 @@ impl<'a> TryFromCtx<'a, StrCtx> for &'a str {
 
 // The text, if it is one: nothing where it is no UTF-8. A limit and a length are tested before the search.
 #[inline(always)]
-#[tactic(auto, using(crate::proofs::TextLemmas::first_places))]
+#[tactic(auto, using(crate::proofs::lemmas::texts::TextLemmas::first_places))]
 fn text_in(from: &[u8], ctx: StrCtx) -> Result<Option<&str>>
     ensures room { IfOk result (λ _. wanted_len ctx ≤ length from.now) }
-    ensures text { IfOk result (λ found. IfSome found (λ text. text.now ≡ take (text_len ctx from.now) from.now)) }
-    ensures len { IfOk result (λ found. IfSome found (λ text. length text.now ≡ text_len ctx from.now)) }
-    ensures none { IfOk result (λ found. IfNone found (¬ (IsUtf8 (take (text_len ctx from.now) from.now)))) }
+    ensures text { IfOk result (λ found. IfSome found
+        (λ text. text.now ≡ take (text_len ctx from.now) from.now)) }
+    ensures len { IfOk result (λ found. IfSome found
+        (λ text. length text.now ≡ text_len ctx from.now)) }
+    ensures none { IfOk result (λ found. IfNone found
+        (¬ (IsUtf8 (take (text_len ctx from.now) from.now)))) }
     ensures there { OnOk result (HasDelimiter ctx from.now) }
-    ensures refused { IfErr result (λ e. RefusesShort (wanted_len ctx) from.now e ⊎ RefusesMissing ctx from.now e) }
+    ensures refused { IfErr result (λ e. RefusesShort (wanted_len ctx) from.now e
+        ⊎ RefusesMissing ctx from.now e) }
 {
     match ctx {
         StrCtx::Delimiter(delimiter) => Ok(text_before(delimiter, from)),
@@ -67,11 +71,15 @@ fn text_in(from: &[u8], ctx: StrCtx) -> Result<Option<&str>>
 #[inline(always)]
 fn required_text(delimiter: u8, from: &[u8]) -> Result<Option<&str>>
     ensures there { OnOk result (first_place delimiter from.now < length from.now) }
-    ensures text { IfOk result (λ found. IfSome found (λ text. text.now ≡ take (first_place delimiter from.now) from.now)) }
-    ensures len { IfOk result (λ found. IfSome found (λ text. length text.now ≡ first_place delimiter from.now)) }
-    ensures none { IfOk result (λ found. IfNone found (¬ (IsUtf8 (take (first_place delimiter from.now) from.now)))) }
+    ensures text { IfOk result (λ found. IfSome found
+        (λ text. text.now ≡ take (first_place delimiter from.now) from.now)) }
+    ensures len { IfOk result (λ found. IfSome found
+        (λ text. length text.now ≡ first_place delimiter from.now)) }
+    ensures none { IfOk result (λ found. IfNone found
+        (¬ (IsUtf8 (take (first_place delimiter from.now) from.now)))) }
     ensures missing { OnErr result (¬ (first_place delimiter from.now < length from.now)) }
-    ensures refused { IfErr result (λ e. IsBadInput e (length from.now) (codes "missing delimiter")) }
+    ensures refused { IfErr result (λ e.
+        IsBadInput e (length from.now) (codes "missing delimiter")) }
 {
     let size = from.len();
     let found = text_before(delimiter, from);

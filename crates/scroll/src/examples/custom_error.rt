@@ -1,21 +1,15 @@
-// A number of one's own, which is refused with a text of its own.
+// A number of one's own, which is refused with a text of its own. Its context is a byte order, and the allocator for the
+// text.
 ghost use Rattle.std.specs.Prelude.{◌≡◌, ◌≤◌, ◌<◌, length, codes, Some, ◌⊎◌};
 ghost use Rattle.std.proofs.Common.{rules};
 ghost use Rattle.scroll.specs.Errors.{line_of};
-ghost use Rattle.scroll.specs.NumberLaws.{WritesNumber-keeps};
+ghost use Rattle.scroll.specs.lemmas.Frames.{WritesNumber-keeps};
 ghost use Rattle.scroll.specs.Numbers.{ReadsNumber, WritesNumber};
 ghost use Rattle.scroll.specs.declared.error.Error.TheVariants.{NoMemory};
 
 use crate::ctx::{TryFromCtx, TryIntoCtx};
 use crate::{BE, Endian, Error, LE, Pread, Pwrite, Result};
 use std::alloc::Global;
-
-// A byte order, and the memory for the text of an error.
-#[derive(Clone, Copy)]
-struct Order {
-    order: Endian,
-    alloc: Global,
-}
 
 #[derive(Clone, Copy, Debug)]
 struct Foo(u16);
@@ -30,40 +24,40 @@ fn whatever(alloc: Global) -> Error
     }
 }
 
-impl<'a> TryFromCtx<'a, Order> for Foo {
+impl<'a, 'g> TryFromCtx<'a, (Endian, &'g Global)> for Foo {
     type Error = Error;
 
-    ghost reads = { λ ctx source x n. ReadsNumber 2 ctx.order source x.0 n };
+    ghost reads = { λ ctx source x n. ReadsNumber 2 ctx.0 source x.0 n };
 
     ghost refuses = { λ _ source e. (length source < 2) × ((line_of e ≡ Some (codes "whatever")) ⊎ (e ≡ NoMemory)) };
 
     ghost reads_bounded = { λ ctx source x n h. Prim.search rules };
 
-    fn try_from_ctx(from: &'a [u8], ctx: Order) -> Result<(Foo, usize)> {
+    fn try_from_ctx(from: &'a [u8], ctx: (Endian, &'g Global)) -> Result<(Foo, usize)> {
         if from.len() < 2 {
-            return Err(whatever(ctx.alloc));
+            return Err(whatever(*ctx.1));
         }
-        let n = from.pread_with(0, ctx.order)?;
+        let n = from.pread_with(0, ctx.0)?;
         Ok((Foo(n), 2))
     }
 }
 
-impl TryIntoCtx<Order> for Foo {
+impl<'g> TryIntoCtx<(Endian, &'g Global)> for Foo {
     type Error = Error;
 
-    ghost writes = { λ ctx x old new n. WritesNumber 2 ctx.order x.0 old new n };
+    ghost writes = { λ ctx x old new n. WritesNumber 2 ctx.0 x.0 old new n };
 
     ghost refuses = { λ _ _ old new e. (length old < 2) × (new ≡ old) × ((line_of e ≡ Some (codes "whatever")) ⊎ (e ≡ NoMemory)) };
 
     ghost writes_bounded = { λ ctx x old new n h. Prim.search rules };
 
-    ghost writes_keeps = { λ ctx x. WritesNumber-keeps 2 ctx.order x.0 };
+    ghost writes_keeps = { λ ctx x. WritesNumber-keeps 2 ctx.0 x.0 };
 
-    fn try_into_ctx(self, dst: &mut [u8], ctx: Order) -> Result<usize> {
+    fn try_into_ctx(self, dst: &mut [u8], ctx: (Endian, &'g Global)) -> Result<usize> {
         if dst.len() < 2 {
-            return Err(whatever(ctx.alloc));
+            return Err(whatever(*ctx.1));
         }
-        self.0.try_into_ctx(dst, ctx.order)
+        self.0.try_into_ctx(dst, ctx.0)
     }
 }
 
@@ -79,14 +73,9 @@ fn text_of<T: Drop>(answer: Result<T>) -> Result<Option<String>> {
 
 #[test]
 fn refused_with_its_own_text(rt: HostRuntime) -> Result<()> {
-    let little = Order {
-        order: LE,
-        alloc: rt.alloc(),
-    };
-    let big = Order {
-        order: BE,
-        alloc: rt.alloc(),
-    };
+    let alloc = rt.alloc();
+    let little = (LE, &alloc);
+    let big = (BE, &alloc);
     let bytes: [u8; 4] = [0xde, 0xad, 0, 0];
     let source = &bytes[..];
     assert!(rt; matches!(&source.pread_with::<Foo>(0, little), Ok(Foo(44510))));
@@ -98,10 +87,8 @@ fn refused_with_its_own_text(rt: HostRuntime) -> Result<()> {
 
 #[test]
 fn written_and_refused(rt: HostRuntime) -> Result<()> {
-    let little = Order {
-        order: LE,
-        alloc: rt.alloc(),
-    };
+    let alloc = rt.alloc();
+    let little = (LE, &alloc);
     let mut out = [0u8; 4];
     let mut target = &mut out[..];
     assert!(rt; matches!(&target.pwrite_with(Foo(0x7f), 1, little), Ok(2)));

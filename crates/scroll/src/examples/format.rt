@@ -6,7 +6,7 @@ ghost use Rattle.scroll.specs.Bytes.{ReadsFront, RefusesShort, WritesFront, Leav
 ghost use Rattle.scroll.specs.Numbers.{number, number_bytes};
 
 use crate::ctx::{FromCtx, IntoCtx, SizeWith, TryFromCtx, TryIntoCtx};
-use crate::{Cread, Endian, Error, Result, slice};
+use crate::{Cread, Endian, Error, Result, check_room, slice};
 
 /// How sound is kept.
 #[derive(Clone, Copy, Debug)]
@@ -25,12 +25,7 @@ pub fn read_format(file: &[u8], order: Endian) -> Result<Format>
     ensures rate { IfOk result (λ format. format.rate ≡ number order 4 (drop 4 file.now)) }
     ensures room { 8 ≤ length file.now → IsOk result }
 {
-    if file.len() < SIZE {
-        return Err(Error::TooBig {
-            size: SIZE,
-            len: file.len(),
-        });
-    }
+    check_room(SIZE, file.len())?;
     Ok(Format {
         tag: file.cread_with(0, order),
         channels: file.cread_with(2, order),
@@ -70,12 +65,7 @@ impl<'a> TryFromCtx<'a, Endian> for Format {
     ghost reads_bounded = { λ order source x n h. Prim.search rules };
 
     fn try_from_ctx(from: &'a [u8], ctx: Endian) -> Result<(Format, usize)> {
-        if from.len() < 8 {
-            return Err(Error::TooBig {
-                size: 8,
-                len: from.len(),
-            });
-        }
+        check_room(8, from.len())?;
         Ok((Format::from_ctx(from, ctx), 8))
     }
 }
@@ -112,12 +102,7 @@ impl TryIntoCtx<Endian> for Format {
     ghost writes_keeps = { λ order x old new n h. Prim.search rules };
 
     fn try_into_ctx(self, dst: &mut [u8], ctx: Endian) -> Result<usize> {
-        if dst.len() < 8 {
-            return Err(Error::TooBig {
-                size: 8,
-                len: dst.len(),
-            });
-        }
+        check_room(8, dst.len())?;
         self.into_ctx(dst, ctx);
         Ok(8)
     }

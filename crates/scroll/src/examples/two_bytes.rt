@@ -1,7 +1,7 @@
 // A number that is read from a source of exactly its two bytes, with an error of one's own.
 ghost use Rattle.std.specs.Prelude.{◌≡◌, ◌≤◌, ◌<◌, length, ◌⊎◌};
 ghost use Rattle.std.proofs.Common.{rules};
-ghost use Rattle.scroll.specs.NumberLaws.{WritesNumber-keeps};
+ghost use Rattle.scroll.specs.lemmas.Frames.{WritesNumber-keeps};
 ghost use Rattle.scroll.specs.Numbers.{ReadsNumber, WritesNumber};
 
 use super::external_error::ExternalError;

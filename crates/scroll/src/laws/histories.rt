@@ -1,14 +1,20 @@
 // Laws of what was written.
-ghost use Rattle.std.specs.Prelude.{◌≡◌, ◌≢◌, ◌≤◌, IsUtf8, ◌^◌, ◌<◌, ◌+◌, ◌++◌, ℕ, ℤ, pos, neg_ℤ, ◌≤ℤ◌, ◌<ℤ◌, ◌*ℤ◌, [], ◌∷◌, List, length, take, drop, Result};
+ghost use Rattle.std.specs.Prelude.{◌≡◌, ◌≢◌, ◌≤◌, IsUtf8, ◌^◌, ◌<◌, ◌+◌, ◌++◌, ℕ, ℤ, pos, neg_ℤ, ◌≤ℤ◌, ◌<ℤ◌, ◌*ℤ◌, [], ◌∷◌, List, length, take, drop, Result, IfOk, IfErr};
+ghost use Rattle.std.specs.Float.{Format};
 ghost use Rattle.std.specs.List.{All, flat_map};
 ghost use Rattle.scroll.specs.Arrays.{WritesArray, LeavesArray};
+ghost use Rattle.scroll.specs.Bytes.{WritesFront, LeavesShort};
 ghost use Rattle.scroll.specs.CStrings.{ReadsCString};
+ghost use Rattle.scroll.specs.Errors.{IsBadOffset};
+ghost use Rattle.scroll.specs.Floats.{float_width, float_bytes, WritesFloat};
 ghost use Rattle.scroll.specs.History.{Piece, seen};
-ghost use Rattle.scroll.specs.Laws.{Apart, IsHistory, WrittenLast};
+ghost use Rattle.scroll.specs.Laws.{Apart, IsHistory, WrittenLast, WritesNested, LeavesNested, leaves_nested};
 ghost use Rattle.scroll.specs.Leaves.{pieces, WritesLeaves, HasLeaves};
-ghost use Rattle.scroll.specs.Numbers.{number_bytes, signed_bytes, ReadsNumber, ReadsSigned};
+ghost use Rattle.scroll.specs.LebWrites.{uleb_text, sleb_text, WritesUleb, WritesSleb};
+ghost use Rattle.scroll.specs.Numbers.{number_bytes, signed_bytes, ReadsNumber, ReadsSigned, WritesNumber, WritesSigned};
 ghost use Rattle.scroll.specs.Reads.{ReadsAt};
 ghost use Rattle.scroll.specs.Texts.{ReadsText, ReadsSlice};
+ghost use Rattle.scroll.specs.Writes.{WritesAt, RefusesWriteAt};
 ghost use Rattle.scroll.specs.declared.ctx.str_ctx.StrCtx.TheVariants.{Length};
 ghost use Rattle.scroll.specs.declared.endian.Endian.{Endian};
 ghost use Rattle.scroll.specs.declared.error.Error.{Error};
@@ -54,8 +60,46 @@ pub fn writes_apart_may_be_exchanged()
         → (mid' : List ℕ) × WritesLeaves old place' leaves' mid' r' × WritesLeaves mid' place leaves new r }
 {}
 
+/// What is written is a list of leaves, each of them bytes that are written whole or not at all. A number, bytes as they
+/// are, a C string and a number in LEB128 are one leaf. Arrays of them, nested to any depth, have the leaves of the
+/// innermost elements, in order: `counts` has the lengths, from the outermost on.
+pub fn writes_have_leaves()
+    ensures number { (w : ℕ) (order : Endian) → HasLeaves (λ x. number_bytes order w x ∷ []) (WritesNumber w order) (λ _. LeavesShort w) }
+    ensures signed { (w : ℕ) (order : Endian) → HasLeaves (λ x. signed_bytes order w x ∷ []) (WritesSigned w order) (λ _. LeavesShort w) }
+    ensures float { (f : Format) (order : Endian) → HasLeaves (λ x. float_bytes f order x ∷ []) (WritesFloat f order) (λ _. LeavesShort (float_width f)) }
+    ensures bytes { HasLeaves (λ t. t ∷ []) (λ t. WritesFront (length t) t) (λ t. LeavesShort (length t)) }
+    ensures c_string { HasLeaves (λ t. (t ++ 0 ∷ []) ∷ []) (λ t. WritesFront (length (t ++ 0 ∷ [])) (t ++ 0 ∷ [])) (λ t. LeavesShort (length (t ++ 0 ∷ []))) }
+    ensures uleb { HasLeaves (λ x. uleb_text x ∷ []) WritesUleb (λ x. LeavesShort x.count) }
+    ensures sleb { HasLeaves (λ x. sleb_text x ∷ []) WritesSleb (λ x. LeavesShort x.count) }
+    ensures numbers { (w : ℕ) (order : Endian) (counts : List ℕ)
+        → HasLeaves (leaves_nested (λ x. number_bytes order w x ∷ []) counts) (WritesNested (WritesNumber w order) counts) (LeavesNested (WritesNumber w order) (λ _. LeavesShort w) counts) }
+    ensures signed_numbers { (w : ℕ) (order : Endian) (counts : List ℕ)
+        → HasLeaves (leaves_nested (λ x. signed_bytes order w x ∷ []) counts) (WritesNested (WritesSigned w order) counts) (LeavesNested (WritesSigned w order) (λ _. LeavesShort w) counts) }
+    ensures floats { (f : Format) (order : Endian) (counts : List ℕ)
+        → HasLeaves (leaves_nested (λ x. float_bytes f order x ∷ []) counts) (WritesNested (WritesFloat f order) counts) (LeavesNested (WritesFloat f order) (λ _. LeavesShort (float_width f)) counts) }
+    ensures texts { (counts : List ℕ)
+        → HasLeaves (leaves_nested (λ t. t ∷ []) counts) (WritesNested (λ t. WritesFront (length t) t) counts) (LeavesNested (λ t. WritesFront (length t) t) (λ t. LeavesShort (length t)) counts) }
+    ensures c_strings { (counts : List ℕ)
+        → HasLeaves (leaves_nested (λ t. (t ++ 0 ∷ []) ∷ []) counts) (WritesNested (λ t. WritesFront (length (t ++ 0 ∷ [])) (t ++ 0 ∷ [])) counts) (LeavesNested (λ t. WritesFront (length (t ++ 0 ∷ [])) (t ++ 0 ∷ [])) (λ t. LeavesShort (length (t ++ 0 ∷ []))) counts) }
+    ensures ulebs { (counts : List ℕ)
+        → HasLeaves (leaves_nested (λ x. uleb_text x ∷ []) counts) (WritesNested WritesUleb counts) (LeavesNested WritesUleb (λ x. LeavesShort x.count) counts) }
+    ensures slebs { (counts : List ℕ)
+        → HasLeaves (leaves_nested (λ x. sleb_text x ∷ []) counts) (WritesNested WritesSleb counts) (LeavesNested WritesSleb (λ x. LeavesShort x.count) counts) }
+{}
+
 /// An array has the leaves of its elements, in order. So arrays of arrays have those of the innermost elements.
 pub fn array_has_leaves<Ctx: Copy, T: TryIntoCtx<Ctx, Error = Error>>()
     ensures { (ctx : Ctx) (leaves : T → List (List ℕ)) → HasLeaves leaves (T.writes ctx) (T.refuses ctx)
         → HasLeaves (flat_map leaves) (WritesArray (T.writes ctx)) (LeavesArray (T.writes ctx) (T.refuses ctx)) }
+{}
+
+/// A call that writes at a place, of `Pwrite` or of `slice`, writes the leaves of the value there: what it leaves and what
+/// it returns, an error too, is what `WritesLeaves` says of them. The two premises are the call's clauses `wrote` and
+/// `refused`.
+pub fn write_is_of_its_leaves<Ctx: Copy, T: TryIntoCtx<Ctx, Error = Error>>()
+    ensures { (ctx : Ctx) (leaves : T → List (List ℕ)) → HasLeaves leaves (T.writes ctx) (T.refuses ctx)
+        → (x : T) (old new : List ℕ) (place : ℕ) (r : Result ℕ Error)
+        → IfOk r (WritesAt (T.writes ctx x) old place new)
+        → IfErr r (RefusesWriteAt (T.refuses ctx x) IsBadOffset old place new)
+        → WritesLeaves old place (leaves x) new r }
 {}

@@ -1,6 +1,7 @@
 // Laws of numbers.
 ghost use Rattle.std.specs.Prelude.{◌≡◌, ◌≤◌, ◌^◌, ◌<◌, ℕ, ℤ, pos, neg_ℤ, ◌≤ℤ◌, ◌<ℤ◌, ◌*ℤ◌, List, length, drop, reverse};
-ghost use Rattle.scroll.specs.Numbers.{number, ReadsNumber, ReadsSigned, WritesNumber, WritesSigned};
+ghost use Rattle.std.specs.List.{All};
+ghost use Rattle.scroll.specs.Numbers.{number, number_bytes, signed_bytes, ReadsNumber, ReadsSigned, WritesNumber, WritesSigned};
 ghost use Rattle.scroll.specs.Runs.{bytes_in};
 ghost use Rattle.scroll.specs.declared.endian.Endian.{Endian};
 ghost use Rattle.scroll.specs.declared.endian.Endian.TheVariants.{Little, Big};
@@ -17,7 +18,7 @@ pub fn big_endian_is_little_endian_reversed()
 /// A number that was written in a byte order reads back equal in that order, and the bytes outside its width stay.
 ///
 /// The number is in the range of its width: below 256 to the power of `w`, and for a signed one from minus half of that
-/// to below half of it.
+/// to below half of it. Its bytes are the only ones, of that many, that read as the number.
 pub fn number_reads_back()
     ensures unsigned { (w : ℕ) (order : Endian) (x : ℕ) (old new : List ℕ) (n : ℕ) → x < 256 ^ w
         → WritesNumber w order x old new n → ReadsNumber w order new x w }
@@ -28,6 +29,10 @@ pub fn number_reads_back()
         → WritesNumber w order x old new n → drop w new ≡ drop w old }
     ensures others_signed { (w : ℕ) (order : Endian) (x : ℤ) (old new : List ℕ) (n : ℕ)
         → WritesSigned w order x old new n → drop w new ≡ drop w old }
+    ensures only { (w : ℕ) (order : Endian) (s : List ℕ) (x : ℕ) → All (λ b. b < 256) s → length s ≡ w
+        → ReadsNumber w order s x w → s ≡ number_bytes order w x }
+    ensures only_signed { (w : ℕ) (order : Endian) (s : List ℕ) (x : ℤ) → All (λ b. b < 256) s → length s ≡ w
+        → ReadsSigned w order s x w → s ≡ signed_bytes order w x }
 {}
 
 /// The size of a number type, by [`SizeWith`], is the size of each read and of each write of such a number.

@@ -1,8 +1,10 @@
 // Laws of reads.
 ghost use Rattle.std.specs.Prelude.{◌≡◌, ◌≤◌, ◌<◌, ◌+◌, ℕ, List, length};
+ghost use Rattle.std.specs.Float.{Format};
 ghost use Rattle.scroll.specs.Arrays.{ReadsArray, RefusesArray, ReadsNested, RefusesNested};
 ghost use Rattle.scroll.specs.Bytes.{RefusesShort};
 ghost use Rattle.scroll.specs.CStrings.{ReadsCString, RefusesCString};
+ghost use Rattle.scroll.specs.Floats.{float_width, ReadsFloat};
 ghost use Rattle.scroll.specs.Laws.{IsLocal, IsBounded, IsWithin, AllowsOneAtEach};
 ghost use Rattle.scroll.specs.Leb128.{ReadsUleb, ReadsSleb, ReadsCountedUleb, ReadsCountedSleb};
 ghost use Rattle.scroll.specs.LebRefusals.{RefusesUleb, RefusesSleb};
@@ -21,6 +23,7 @@ use crate::error::Error;
 pub fn read_depends_on_its_bytes()
     ensures number { (w : ℕ) (order : Endian) → IsLocal (ReadsNumber w order) }
     ensures signed { (w : ℕ) (order : Endian) → IsLocal (ReadsSigned w order) }
+    ensures float { (f : Format) (order : Endian) → IsLocal (ReadsFloat f order) }
     ensures slice { (n : ℕ) → IsLocal (ReadsSlice n) }
     ensures text { (ctx : StrCtx) → IsLocal (ReadsText ctx) }
     ensures c_string { IsLocal ReadsCString }
@@ -37,6 +40,7 @@ pub fn array_depends_on_its_bytes<'a, Ctx: Copy, T: TryFromCtx<'a, Ctx>>()
 pub fn read_size_is_bounded()
     ensures number { (w : ℕ) (order : Endian) → IsWithin (ReadsNumber w order) }
     ensures signed { (w : ℕ) (order : Endian) → IsWithin (ReadsSigned w order) }
+    ensures float { (f : Format) (order : Endian) → IsWithin (ReadsFloat f order) }
     ensures slice { (n : ℕ) → IsWithin (ReadsSlice n) }
     ensures text { (ctx : StrCtx) → IsBounded (ReadsText ctx) }
     ensures text_of_length { (n : ℕ) → IsWithin (ReadsText (Length n)) }
@@ -58,6 +62,7 @@ pub fn array_size_is_bounded<'a, Ctx: Copy, T: TryFromCtx<'a, Ctx>>()
 pub fn place_has_one_answer()
     ensures number { (w : ℕ) (order : Endian) → AllowsOneAtEach (ReadsNumber w order) (RefusesShort w) }
     ensures signed { (w : ℕ) (order : Endian) → AllowsOneAtEach (ReadsSigned w order) (RefusesShort w) }
+    ensures float { (f : Format) (order : Endian) → AllowsOneAtEach (ReadsFloat f order) (RefusesShort (float_width f)) }
     ensures slice { (n : ℕ) → AllowsOneAtEach (ReadsSlice n) (RefusesSlice n) }
     ensures text { (ctx : StrCtx) → AllowsOneAtEach (ReadsText ctx) (RefusesText ctx) }
     ensures c_string { AllowsOneAtEach ReadsCString RefusesCString }
@@ -67,6 +72,8 @@ pub fn place_has_one_answer()
         → AllowsOneAtEach (ReadsNested (ReadsNumber w order) counts) (RefusesNested (ReadsNumber w order) (RefusesShort w) IsBadOffset counts) }
     ensures signed_numbers { (w : ℕ) (order : Endian) (counts : List ℕ)
         → AllowsOneAtEach (ReadsNested (ReadsSigned w order) counts) (RefusesNested (ReadsSigned w order) (RefusesShort w) IsBadOffset counts) }
+    ensures floats { (f : Format) (order : Endian) (counts : List ℕ)
+        → AllowsOneAtEach (ReadsNested (ReadsFloat f order) counts) (RefusesNested (ReadsFloat f order) (RefusesShort (float_width f)) IsBadOffset counts) }
     ensures slices { (n : ℕ) (counts : List ℕ)
         → AllowsOneAtEach (ReadsNested (ReadsSlice n) counts) (RefusesNested (ReadsSlice n) (RefusesSlice n) IsBadOffset counts) }
     ensures texts { (ctx : StrCtx) (counts : List ℕ)

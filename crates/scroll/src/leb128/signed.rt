@@ -10,7 +10,7 @@ ghost use Rattle.scroll.specs.LebRefusals.{RefusesSleb};
 ghost use Rattle.scroll.specs.Spelling.{HasSignedSpelling};
 ghost use Rattle.scroll.specs.Bytes.{LeavesShort};
 ghost use Rattle.scroll.specs.LebWrites.{IsLeast, WritesSleb};
-ghost use Rattle.scroll.specs.LebWriteLaws.{WritesSleb-keeps};
+ghost use Rattle.scroll.specs.lemmas.Frames.{WritesSleb-keeps};
 
 use super::sleb_loads;
 use super::write::{put_sleb, shortest_count, turned};
@@ -173,14 +173,6 @@ impl TryIntoCtx<()> for Sleb128 {
         ensures begins { OnOk result ((source : List ℕ) → All (λ b. b < 256) source → ReadsSleb source self.value self.count
             → take self.count source ≡ take self.count dst.new) }
     {
-        let len = dst.len();
-        if len < self.count {
-            return Err(Error::TooBig {
-                size: self.count,
-                len,
-            });
-        }
-        put_sleb(dst, self.value, self.count);
-        Ok(self.count)
+        put_sleb(dst, self.value, self.count)
     }
 }

@@ -9,7 +9,7 @@ ghost use Rattle.scroll.specs.LebRefusals.{RefusesUleb};
 ghost use Rattle.scroll.specs.Spelling.{HasSpelling};
 ghost use Rattle.scroll.specs.Bytes.{LeavesShort};
 ghost use Rattle.scroll.specs.LebWrites.{IsLeast, WritesUleb};
-ghost use Rattle.scroll.specs.LebWriteLaws.{WritesUleb-keeps};
+ghost use Rattle.scroll.specs.lemmas.Frames.{WritesUleb-keeps};
 
 use super::uleb_loads;
 use super::write::{put_uleb, shortest_count};
@@ -171,14 +171,6 @@ impl TryIntoCtx<()> for Uleb128 {
         ensures begins { OnOk result ((source : List ℕ) → All (λ b. b < 256) source → ReadsUleb source self.value self.count
             → take self.count source ≡ take self.count dst.new) }
     {
-        let len = dst.len();
-        if len < self.count {
-            return Err(Error::TooBig {
-                size: self.count,
-                len,
-            });
-        }
-        put_uleb(dst, self.value, self.count);
-        Ok(self.count)
+        put_uleb(dst, self.value, self.count)
     }
 }

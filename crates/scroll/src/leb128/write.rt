@@ -1,12 +1,27 @@
 // Texts of LEB128 that are written.
-ghost use Rattle.std.specs.Prelude.{◌≡◌, ℕ, ◌+◌, ◌*◌, ◌/◌, ◌%◌, ◌^◌, ◌<◌, ◌≤◌, ◌++◌, length, drop, slice_index};
-ghost use Rattle.scroll.specs.Bytes.{sum_below};
+ghost use Rattle.std.specs.Prelude.{◌≡◌, ℕ, ◌+◌, ◌-◌, ◌*◌, ◌/◌, ◌%◌, ◌^◌, ◌<◌, ◌≤◌, ◌++◌, length, drop, slice_index, IfOk, IfErr};
+ghost use Rattle.scroll.specs.Bytes.{sum_below, WritesFront, LeavesShort};
 ghost use Rattle.scroll.specs.Spelling.{spelling, spelled_byte, unsigned_form, HoldsGroups, HasSpelling, HasSignedSpelling};
 ghost use Rattle.scroll.specs.LebWrites.{ten_groups, turned_round, IsLeast};
+
+use crate::error::{Error, Result};
 
 // The least count of groups that hold `value`.
 #[inline(always)]
 pub fn shortest_count(value: u64) -> usize
+    ensures { IsLeast (HoldsGroups value) result }
+{
+    // Most numbers have one byte, and a write tests for one byte first: the two tests become one jump.
+    if value < 0x80 {
+        1
+    } else {
+        count_by_place(value)
+    }
+}
+
+// The same, by the place of the highest digit.
+#[inline(always)]
+fn count_by_place(value: u64) -> usize
     ensures { IsLeast (HoldsGroups value) result }
 {
     // The place of the highest digit set. Seven places make a group: for places up to 63 this is place / 7 + 1.
@@ -27,62 +42,98 @@ pub fn turned(value: i64) -> u64
     }
 }
 
-// Writes the text of `value` in `count` bytes to the front of a target.
+// Writes the text of `value` in `count` bytes to the front of a target, and returns `count`. A shorter target is refused.
 #[inline(always)]
-pub fn put_uleb(dst: &mut [u8], value: u64, count: usize)
+pub fn put_uleb(dst: &mut [u8], value: u64, count: usize) -> Result<usize>
     requires spelled { HasSpelling value count }
-    requires room { count ≤ length dst.old }
-    ensures { dst.new ≡ spelling value count ++ drop count dst.old }
+    ensures wrote { IfOk result (WritesFront count (spelling value count) dst.old dst.new) }
+    ensures refused { IfErr result (LeavesShort count dst.old dst.new) }
 {
-    put_groups(dst, value, (value >> 63) as u8, count);
+    put_groups(dst, value, (value >> 63) as u8, count)
 }
 
-// Writes the text of the signed `value` in `count` bytes to the front of a target.
+// The same of a signed `value`.
 #[inline(always)]
-pub fn put_sleb(dst: &mut [u8], value: i64, count: usize)
+pub fn put_sleb(dst: &mut [u8], value: i64, count: usize) -> Result<usize>
     requires spelled { HasSignedSpelling value count }
-    requires room { count ≤ length dst.old }
-    ensures { dst.new ≡ spelling (unsigned_form value count) count ++ drop count dst.old }
+    ensures wrote { IfOk result (WritesFront count (spelling (unsigned_form value count) count) dst.old dst.new) }
+    ensures refused { IfErr result (LeavesShort count dst.old dst.new) }
 {
     // Behind the highest digit each bit is the sign.
     let tenth = if value < 0 { 0x7f } else { 0 };
-    put_groups(dst, value.cast_unsigned(), tenth, count);
+    put_groups(dst, value.cast_unsigned(), tenth, count)
 }
 
-// Writes a text of `count` groups to the front of a target: the first nine of them are those of `low`, and then comes
-// `tenth`.
+// Writes a text of `count` groups to the front of a target, and returns `count`: the first nine of them are those of `low`,
+// and then comes `tenth`. A shorter target is refused.
 #[inline(always)]
-fn put_groups(dst: &mut [u8], low: u64, tenth: u8, count: usize)
+fn put_groups(dst: &mut [u8], low: u64, tenth: u8, count: usize) -> Result<usize>
     requires group { tenth < 128 }
     requires some { 1 ≤ count }
     requires few { count ≤ 10 }
-    requires room { count ≤ length dst.old }
-    ensures { dst.new ≡ spelling (ten_groups low tenth % 128 ^ count) count ++ drop count dst.old }
+    ensures wrote { IfOk result (WritesFront count (spelling (ten_groups low tenth % 128 ^ count) count) dst.old dst.new) }
+    ensures refused { IfErr result (LeavesShort count dst.old dst.new) }
 {
-    // Constant counts, so that each loop is unrolled.
+    // Before the test for room, so that the jump by which a count of one was found leads here.
     if count == 1 {
-        put_bytes(dst, low, tenth, 1);
-    } else if count == 2 {
-        put_bytes(dst, low, tenth, 2);
-    } else if count == 3 {
-        put_bytes(dst, low, tenth, 3);
+        if dst.is_empty() {
+            return Err(Error::TooBig { size: 1, len: 0 });
+        }
+        put_one(dst, low, tenth);
+        return Ok(1);
+    }
+    let len = dst.len();
+    if len < count {
+        return Err(Error::TooBig { size: count, len });
+    }
+    if count <= 3 {
+        put_short(dst, low, tenth, count);
     } else if count <= 8 {
         put_words(dst, low, tenth, count);
     } else {
         put_long(dst, low, tenth, count);
     }
+    Ok(count)
 }
 
-// Writes a text byte by byte.
+// Writes a text of one byte.
 #[inline(always)]
-fn put_bytes(dst: &mut [u8], low: u64, tenth: u8, count: usize)
+fn put_one(dst: &mut [u8], low: u64, tenth: u8)
     requires group { tenth < 128 }
-    requires few { count ≤ 10 }
+    requires room { 1 ≤ length dst.old }
+    ensures { dst.new ≡ spelling (ten_groups low tenth % 128 ^ 1) 1 ++ drop 1 dst.old }
+{
+    dst[0] = byte_of(low, tenth, 1, 0);
+}
+
+// Writes a text of two or three bytes with no branch between the two lengths: the second byte is put twice where it is the
+// last.
+#[inline(always)]
+fn put_short(dst: &mut [u8], low: u64, tenth: u8, count: usize)
+    requires group { tenth < 128 }
+    requires some { 2 ≤ count }
+    requires few { count ≤ 3 }
     requires room { count ≤ length dst.old }
     ensures { dst.new ≡ spelling (ten_groups low tenth % 128 ^ count) count ++ drop count dst.old }
 {
-    for i in 0..count {
-        dst[i] = byte_of(low, tenth, count, i);
+    let last = last_of_short(low, tenth, count);
+    dst[0] = byte_of(low, tenth, 3, 0);
+    dst[1] = byte_of(low, tenth, 3, 1);
+    dst[count - 1] = last;
+}
+
+// The last byte of a text of two or three.
+#[inline(always)]
+fn last_of_short(low: u64, tenth: u8, count: usize) -> u8
+    requires group { tenth < 128 }
+    requires some { 2 ≤ count }
+    requires few { count ≤ 3 }
+    ensures { result ≡ spelled_byte (ten_groups low tenth % 128 ^ count) count (count - 1) }
+{
+    if count == 2 {
+        byte_of(low, tenth, 2, 1)
+    } else {
+        byte_of(low, tenth, 3, 2)
     }
 }
 
@@ -124,7 +175,16 @@ fn put_four(dst: &mut [u8], at: usize, bytes: [u8; 4])
     ensures before { (k : ℕ) → k < at → slice_index dst.new k ≡ slice_index dst.old k }
     ensures after { drop (at + 4) dst.new ≡ drop (at + 4) dst.old }
 {
-    dst[at..at + 4].copy_from_slice(&bytes);
+    fill_four(&mut dst[at..at + 4], bytes);
+}
+
+// Fills four bytes: one store, where `copy_from_slice` would first test whether the two lie over one another.
+#[inline(always)]
+fn fill_four(dst: &mut [u8], bytes: [u8; 4])
+    requires { length dst.old ≡ 4 }
+    ensures { dst.new ≡ bytes }
+{
+    *dst.as_mut_array().unwrap() = bytes;
 }
 
 // The lowest four groups, each with the bit that says that more follow.

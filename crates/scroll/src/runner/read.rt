@@ -4,9 +4,9 @@ ghost use Rattle.std.specs.String.{string_bytes};
 ghost use Rattle.scroll.specs.Runs.{Reads, Refuses, ReadsHere, RefusesHere, ReadStep, UnlessNoMemory, ReadsWide, is_signed, bytes_in};
 ghost use Rattle.scroll.specs.Arrays.{ReadsArray, RefusesArray};
 ghost use Rattle.scroll.specs.Bytes.{RefusesShort};
-ghost use Rattle.scroll.specs.Errors.{IsBadOffset};
+ghost use Rattle.scroll.specs.Errors.{IsBadOffset, PastEnd};
 ghost use Rattle.scroll.specs.Texts.{ReadsText, RefusesText};
-ghost use Rattle.scroll.specs.declared.error.Error.TheVariants.{BadOffset, NoMemory};
+ghost use Rattle.scroll.specs.declared.error.Error.TheVariants.{NoMemory};
 
 use super::{Answer, Kind, Place, Value, Width};
 use crate::cstr::{CStr, CString};
@@ -19,14 +19,15 @@ use std::alloc::Global;
 use std::result;
 
 // Answers a read. A cursor that it uses moves by the size of what was read, once the answer's value stands.
-pub fn read(
+pub(crate) fn read(
     alloc: Global,
     buffer: &[u8],
     cursor: &mut usize,
     place: Place,
     kind: Kind,
 ) -> Result<Answer>
-    ensures answered { IfOk result (λ answer. ReadStep buffer.now cursor.old place kind answer cursor.new) }
+    ensures answered { IfOk result (λ answer.
+        ReadStep buffer.now cursor.old place kind answer cursor.new) }
     ensures only_memory { IfErr result (λ e. e ≡ NoMemory) }
     ensures stays { OnErr result (cursor.new ≡ cursor.old) }
 {
@@ -50,8 +51,10 @@ fn read_value(
     place: Place,
     kind: Kind,
 ) -> Result<Value>
-    ensures read { IfOk result (λ x. ReadsHere (Reads kind) buffer.now cursor.old place x cursor.new) }
-    ensures refused { IfErr result (UnlessNoMemory (λ e. RefusesHere (Refuses kind) IsBadOffset buffer.now cursor.old place e cursor.new)) }
+    ensures read { IfOk result (λ x.
+        ReadsHere (Reads kind) buffer.now cursor.old place x cursor.new) }
+    ensures refused { IfErr result (UnlessNoMemory (λ e.
+        RefusesHere (Refuses kind) IsBadOffset buffer.now cursor.old place e cursor.new)) }
 {
     match kind {
         Kind::Number(width, order) => read_number(buffer, cursor, place, width, order),
@@ -93,8 +96,10 @@ fn read_number(
     width: Width,
     order: Endian,
 ) -> Result<Value>
-    ensures read { IfOk result (λ x. ReadsHere (ReadsWide (is_signed width) (bytes_in width) order) buffer.now cursor.old place x cursor.new) }
-    ensures refused { IfErr result (λ e. RefusesHere (RefusesShort (bytes_in width)) IsBadOffset buffer.now cursor.old place e cursor.new) }
+    ensures read { IfOk result (λ x. ReadsHere (ReadsWide (is_signed width)
+        (bytes_in width) order) buffer.now cursor.old place x cursor.new) }
+    ensures refused { IfErr result (λ e. RefusesHere
+        (RefusesShort (bytes_in width)) IsBadOffset buffer.now cursor.old place e cursor.new) }
 {
     match width {
         Width::U8 => read_at(buffer, cursor, place, order).map(|x: u8| Value::Unsigned(x.into())),
@@ -117,8 +122,10 @@ fn read_texts<'b>(
     place: Place,
     ctx: StrCtx,
 ) -> Result<(&'b str, &'b str)>
-    ensures read { IfOk result (λ x. ReadsHere (λ source x n. ReadsArray (ReadsText ctx) 2 source (x.0.now ∷ x.1.now ∷ []) n) buffer.now cursor.old place x cursor.new) }
-    ensures refused { IfErr result (λ e. RefusesHere (RefusesArray (ReadsText ctx) (RefusesText ctx) IsBadOffset 2) IsBadOffset buffer.now cursor.old place e cursor.new) }
+    ensures read { IfOk result (λ x. ReadsHere (λ source x n. ReadsArray (ReadsText ctx) 2 source
+        (x.0.now ∷ x.1.now ∷ []) n) buffer.now cursor.old place x cursor.new) }
+    ensures refused { IfErr result (λ e. RefusesHere (RefusesArray (ReadsText ctx)
+        (RefusesText ctx) IsBadOffset 2) IsBadOffset buffer.now cursor.old place e cursor.new) }
 {
     read_at(buffer, cursor, place, ctx).map(both)
 }
@@ -157,8 +164,10 @@ fn read_at<'b, Ctx: Copy, E: From<Error>, N: ReadFrom<&'b [u8], Ctx, Error = E>>
     place: Place,
     ctx: Ctx,
 ) -> result::Result<N, E>
-    ensures read { IfOk result (λ x. ReadsHere (N.reads ctx) buffer.now cursor.old place x cursor.new) }
-    ensures refused { IfErr result (λ e. RefusesHere (N.refuses ctx) (λ o e. E.from_gives (BadOffset o) e) buffer.now cursor.old place e cursor.new) }
+    ensures read { IfOk result (λ x.
+        ReadsHere (N.reads ctx) buffer.now cursor.old place x cursor.new) }
+    ensures refused { IfErr result (λ e. RefusesHere (N.refuses ctx)
+        (PastEnd E.from_gives) buffer.now cursor.old place e cursor.new) }
 {
     match place {
         Place::At(offset) => buffer.pread_with(offset, ctx),

@@ -12,9 +12,10 @@ use crate::error::{Error, Result};
 use crate::slice;
 
 // Answers a write, and moves a cursor that it uses by the size of what was written.
-pub fn write(buffer: &mut [u8], cursor: &mut usize, place: Place, put: &Put<'_>) -> Answer
+pub(crate) fn write(buffer: &mut [u8], cursor: &mut usize, place: Place, put: &Put<'_>) -> Answer
     ensures answer { WriteStep buffer.old cursor.old place (leaves_of put.now) result cursor.new }
-    ensures after { buffer.new ≡ seen buffer.old (pieces (length buffer.old) (place_of place cursor.old) (leaves_of put.now)) }
+    ensures after { buffer.new ≡ seen buffer.old
+        (pieces (length buffer.old) (place_of place cursor.old) (leaves_of put.now)) }
 {
     match write_value(buffer, cursor, place, put) {
         Ok(size) => Answer::Wrote(size),
@@ -23,7 +24,8 @@ pub fn write(buffer: &mut [u8], cursor: &mut usize, place: Place, put: &Put<'_>)
 }
 
 fn write_value(buffer: &mut [u8], cursor: &mut usize, place: Place, put: &Put<'_>) -> Result<usize>
-    ensures wrote { WritesLeaves buffer.old (place_of place cursor.old) (leaves_of put.now) buffer.new result }
+    ensures wrote { WritesLeaves buffer.old (place_of place cursor.old)
+        (leaves_of put.now) buffer.new result }
     ensures moves { IfOk result (λ n. cursor.new ≡ moved place cursor.old n) }
     ensures stays { OnErr result (cursor.new ≡ cursor.old) }
 {
@@ -56,7 +58,8 @@ fn write_at<Ctx: Copy, N: TryIntoCtx<Ctx, Error = Error> + Drop>(
     n: N,
     ctx: Ctx,
 ) -> Result<usize>
-    ensures wrote { AnswersWrite (N.writes ctx n) (N.refuses ctx n) (λ o e. e ≡ BadOffset o) buffer.old (place_of place cursor.old) buffer.new result }
+    ensures wrote { AnswersWrite (N.writes ctx n) (N.refuses ctx n) (λ o e.
+        e ≡ BadOffset o) buffer.old (place_of place cursor.old) buffer.new result }
     ensures moves { IfOk result (λ size. cursor.new ≡ moved place cursor.old size) }
     ensures stays { OnErr result (cursor.new ≡ cursor.old) }
 {

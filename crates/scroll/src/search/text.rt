@@ -8,7 +8,8 @@ use crate::search::{first_place, first_stop};
 /// What stands before the first delimiter, or the whole source where there is none: nothing where that is no UTF-8.
 #[inline(always)]
 pub(crate) fn text_before(delimiter: u8, source: &[u8]) -> Option<&str>
-    ensures text { IfSome result (λ text. text.now ≡ take (first_place delimiter source.now) source.now) }
+    ensures text { IfSome result (λ text.
+        text.now ≡ take (first_place delimiter source.now) source.now) }
     ensures len { IfSome result (λ text. length text.now ≡ first_place delimiter source.now) }
     ensures none { IfNone result (¬ (IsUtf8 (take (first_place delimiter source.now) source.now))) }
 {

@@ -51,8 +51,10 @@ fn a_refused_write_leaves_its_first_elements(rt: HostRuntime) {
     let mut bytes = [0xffu8; 7];
     let mut target = &mut bytes[..];
     let pairs: [[u16; 2]; 2] = [[1, 2], [3, 4]];
-    let cut: Result<usize> = target.pwrite_with(pairs, 0, BE);
+    let offset = &mut 0;
+    let cut: Result<usize> = target.gwrite_with(pairs, offset, BE);
     assert!(rt; matches!(&cut, Err(Error::TooBig { size: 2, len: 1 })));
+    assert_eq!(rt; *offset, 0);
     assert_eq!(rt; bytes, [0, 1, 0, 2, 0, 3, 0xff]);
     let mut wide = [0xffu8; 9];
     let mut target = &mut wide[..];

@@ -4,7 +4,7 @@
 use crate::cstr::{CStr, CString};
 use crate::ctx::{TryFromCtx, TryIntoCtx};
 use crate::{Error, Pread, Pwrite, Result};
-use std::alloc::Global;
+use std::alloc::{AllocError, Global};
 use std::process::Abort;
 
 // Whether a C string that was asked for is there. Any error but want of memory ends the test.
@@ -73,8 +73,26 @@ fn texts_that_are_held(rt: HostRuntime) {
         assert_eq!(rt; string.as_c_str().to_bytes(), text);
         assert_eq!(rt; string.as_c_str().to_bytes_with_nul(), wanted);
     }
-    let long = [b'a'; 300];
-    assert_eq!(rt; make(&rt, alloc, &long).as_bytes(), long.as_slice());
+}
+
+#[test]
+fn texts_of_each_length(rt: HostRuntime) -> std::result::Result<(), AllocError> {
+    let alloc = rt.alloc();
+    for len in [0, 1, 255, 256, 4096, 65_535, 65_536] {
+        let text = vec![in alloc; b'a'; len]?;
+        let string = make(&rt, alloc, &text);
+        assert_eq!(rt; string.as_bytes(), text.as_slice());
+        let source = string.as_bytes_with_nul();
+        let mut offset = 0;
+        let copy: Result<CString> = source.gread_with(&mut offset, &alloc);
+        if !is_held(&rt, &copy, source) {
+            assert_eq!(rt; offset, 0);
+            let again: Result<CString> = source.gread_with(&mut offset, &alloc);
+            assert!(rt; is_held(&rt, &again, source));
+        }
+        assert_eq!(rt; offset, len + 1);
+    }
+    Ok(())
 }
 
 #[test]

@@ -4,9 +4,11 @@ use crate::{BE, Endian, Error, LE, NATIVE, NETWORK, Pread, Pwrite, Result};
 
 #[test]
 fn byte_orders(rt: HostRuntime) {
+    assert_eq!(rt;
+        [LE, BE, NETWORK, NATIVE],
+        [Endian::Little, Endian::Big, Endian::Big, Endian::Little]
+    );
     assert_eq!(rt; Endian::network(), BE);
-    assert_eq!(rt; NETWORK, BE);
-    assert_eq!(rt; NATIVE, LE);
     assert_eq!(rt; Endian::default(), LE);
     assert_eq!(rt; Endian::from(true), LE);
     assert_eq!(rt; Endian::from(false), BE);

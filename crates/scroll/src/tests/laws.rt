@@ -1,6 +1,7 @@
 // The laws that are generic, at a type of the crate.
 use crate::laws::{
     array_depends_on_its_bytes, array_has_leaves, array_has_one_answer, array_size_is_bounded,
+    write_is_of_its_leaves,
 };
 use crate::{Endian, Uleb128};
 
@@ -10,5 +11,6 @@ fn laws_of_arrays(_rt: HostRuntime) {
     array_has_one_answer::<Endian, u16>();
     array_has_one_answer::<(), Uleb128>();
     array_has_leaves::<Endian, u16>();
+    write_is_of_its_leaves::<(), &[u8]>();
     array_size_is_bounded::<Endian, [u16; 3]>();
 }

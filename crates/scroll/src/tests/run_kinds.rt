@@ -1,9 +1,9 @@
 // Runs of commands that read and write texts, byte slices, C strings, LEB128 and arrays. Each stands where memory is refused,
 // too: see `check_run`.
-use super::runs::check_run;
+use super::runs::{check_run, is_same};
 use crate::cstr::CStr;
 use crate::ctx::{NULL, StrCtx};
-use crate::runner::{Answer, Command, Kind, Place, Put, Value, Width};
+use crate::runner::{Answer, Command, Kind, Place, Put, Value, Width, run};
 use crate::{BE, Error, LE, Pread, Sleb128, Uleb128};
 use std::alloc::{AllocError, Global};
 use std::test::Fail;
@@ -84,34 +84,37 @@ fn texts_and_slices(rt: HostRuntime) -> Result<(), AllocError> {
     Ok(())
 }
 
-// Values of hundreds of bytes are copied as short ones are.
+// A text, a slice and C strings of each length are copied. A refusal of memory ends the test.
 #[test]
-fn long_values(rt: HostRuntime) -> Result<(), Fail> {
+fn values_of_each_length(rt: HostRuntime) -> Result<(), Fail> {
     let alloc = rt.alloc();
-    let mut first = [b'a'; 300];
-    first[299] = 0;
-    let letters = str::from_utf8(&first[..299])?;
-    let wanted = [
-        text(alloc, letters)?,
-        bytes(alloc, &first)?,
-        c_string(alloc, letters.as_bytes())?,
-        c_string(alloc, letters.as_bytes())?,
-    ];
-    check_run(
-        &rt,
-        alloc,
-        first,
-        0,
-        &[
+    for len in [0, 1, 255, 256, 4096] {
+        let mut buffer = vec![in alloc; b'a'; len]?;
+        let wanted = [
+            text(alloc, str::from_utf8(&buffer)?)?,
+            bytes(alloc, &buffer)?,
+            c_string(alloc, &buffer)?,
+            c_string(alloc, &buffer)?,
+        ];
+        buffer.push(0)?;
+        let commands = [
             Command::Read(HERE, Kind::Text(StrCtx::Delimiter(NULL))),
-            Command::Read(Place::At(0), Kind::Bytes(300)),
+            Command::Read(Place::At(0), Kind::Bytes(len)),
             Command::Read(Place::At(0), Kind::CStr),
             Command::Read(Place::At(0), Kind::CString),
-        ],
-        &wanted,
-        first,
-        300,
-    );
+        ];
+        let mut cursor = 0;
+        let mut answers = Vec::new(alloc);
+        if let Err(error) = run(alloc, &mut buffer, &mut cursor, &commands, &mut answers) {
+            assert!(rt; matches!(&error, Error::NoMemory));
+            Err(AllocError)?;
+        }
+        assert_eq!(rt; cursor, len + 1);
+        assert_eq!(rt; answers.len(), 4);
+        for (answer, want) in answers.iter().zip(wanted.iter()) {
+            assert!(rt; is_same(answer, want), "{len}");
+        }
+    }
     Ok(())
 }
 

@@ -7,7 +7,7 @@ use std::alloc::{AllocError, Global};
 use std::process::Abort;
 
 // Whether two answers are the same.
-fn is_same(a: &Answer, b: &Answer) -> bool {
+pub fn is_same(a: &Answer, b: &Answer) -> bool {
     match (a, b) {
         (Answer::Read(Value::Unsigned(x)), Answer::Read(Value::Unsigned(y))) => x == y,
         (Answer::Read(Value::Signed(x)), Answer::Read(Value::Signed(y))) => x == y,

@@ -1,29 +1,53 @@
-// Readers and writers that are slow, end early, fail or are interrupted, and a type whose size is more than it needs.
-ghost use Rattle.std.specs.Prelude.{◌≡◌, ◌++◌, drop};
-ghost use Rattle.scroll.specs.Numbers.{number, number_bytes};
-ghost use Rattle.scroll.specs.NumberLaws.{number_bytes-keeps};
-
-use crate::ctx::{FromCtx, IntoCtx, SizeWith};
-use crate::{BE, Endian, IOread, IOwrite, LE};
+// Readers and writers that are slow, end early, fail or are interrupted.
+use crate::{BE, IOread, IOwrite, LE};
 use std::io;
 use std::io::{ErrorKind, Read, Write};
+use std::process::Abort;
 use std::test::Fail;
+
+// An error of a stream: one of the operating system by its number, or one of a kind.
+#[derive(Clone, Copy, Debug)]
+enum Cause {
+    Number(i32),
+    Kind(ErrorKind),
+}
+
+impl Cause {
+    fn make_error(self) -> io::Error {
+        match self {
+            Cause::Number(number) => io::Error::from_raw_os_error(number),
+            Cause::Kind(kind) => io::Error::from(kind),
+        }
+    }
+
+    // Whether a call was answered with this error.
+    fn is_answer<T>(self, answer: &io::Result<T>) -> bool {
+        match (self, answer) {
+            (Cause::Number(number), Err(error)) => error.raw_os_error() == Some(number),
+            (Cause::Kind(kind), Err(error)) => error.kind() == kind,
+            (_, Ok(_)) => false,
+        }
+    }
+}
+
+// The operating system's number for a call that was interrupted.
+const INTERRUPTED: i32 = 4;
 
 // Which calls of a reader or a writer fail, counted from 1.
 #[derive(Clone, Copy)]
 enum Fault {
     Never,
-    At(usize, ErrorKind),
+    At(usize, Cause),
     // All but each third call.
-    Interrupted,
+    Interrupted(Cause),
 }
 
 impl Fault {
     // How a call fails.
-    fn at(self, call: usize) -> Option<ErrorKind> {
+    fn at(self, call: usize) -> Option<io::Error> {
         match self {
-            Fault::At(at, kind) if at == call => Some(kind),
-            Fault::Interrupted if call % 3 != 0 => Some(ErrorKind::Interrupted),
+            Fault::At(at, cause) if at == call => Some(cause.make_error()),
+            Fault::Interrupted(cause) if call % 3 != 0 => Some(cause.make_error()),
             _ => None,
         }
     }
@@ -40,8 +64,8 @@ struct Source<'a> {
 impl<'a> Read for Source<'a> {
     fn read(&mut self, buf: &mut [u8]) -> io::Result<usize> {
         self.calls = self.calls.saturating_add(1);
-        if let Some(kind) = self.fault.at(self.calls) {
-            return Err(io::Error::from(kind));
+        if let Some(error) = self.fault.at(self.calls) {
+            return Err(error);
         }
         let count = buf.len().min(1);
         self.rest.read(&mut buf[..count])
@@ -61,8 +85,8 @@ struct Sink {
 impl Write for Sink {
     fn write(&mut self, buf: &[u8]) -> io::Result<usize> {
         self.calls = self.calls.saturating_add(1);
-        if let Some(kind) = self.fault.at(self.calls) {
-            return Err(io::Error::from(kind));
+        if let Some(error) = self.fault.at(self.calls) {
+            return Err(error);
         }
         if buf.is_empty() || self.len >= self.room || self.len >= 5 {
             return Ok(0);
@@ -79,8 +103,19 @@ impl Write for Sink {
 
 const BYTES: [u8; 4] = [0xde, 0xad, 0xbe, 0xef];
 
-// Two kinds, so that an error of a kind that is always the same is none of the stream's.
-const KINDS: [ErrorKind; 2] = [ErrorKind::Other, ErrorKind::PermissionDenied];
+// The kinds of errors that have no number of the operating system.
+const KINDS: [ErrorKind; 4] = [
+    ErrorKind::InvalidData,
+    ErrorKind::WriteZero,
+    ErrorKind::UnexpectedEof,
+    ErrorKind::Other,
+];
+
+// Interruptions of both sorts.
+const INTERRUPTIONS: [Fault; 2] = [
+    Fault::Interrupted(Cause::Kind(ErrorKind::Interrupted)),
+    Fault::Interrupted(Cause::Number(INTERRUPTED)),
+];
 
 fn make_source(rest: &[u8], fault: Fault) -> Source<'_> {
     Source {
@@ -100,38 +135,26 @@ fn make_sink(room: usize, fault: Fault) -> Sink {
     }
 }
 
-fn fails_by<T>(answer: &io::Result<T>, kind: ErrorKind) -> bool {
-    matches!(answer, Err(error) if error.kind() == kind)
-}
-
 #[test]
 fn readers_of_one_byte_a_call(rt: HostRuntime) -> Result<(), Fail> {
     for fault in [
         Fault::Never,
-        Fault::Interrupted,
-        Fault::At(5, ErrorKind::Other),
+        INTERRUPTIONS[0],
+        INTERRUPTIONS[1],
+        Fault::At(5, Cause::Kind(ErrorKind::Other)),
     ] {
         let mut source = make_source(&BYTES, fault);
         assert_eq!(rt; source.ioread_with::<u32>(BE)?, 3735928559);
         let mut source = make_source(&BYTES, fault);
         assert_eq!(rt; source.ioread::<u32>()?, 4022250974);
     }
-    for kind in KINDS {
-        for at in 1..5 {
-            let mut source = make_source(&BYTES, Fault::At(at, kind));
-            assert!(rt; fails_by(&source.ioread_with::<u32>(BE), kind), "{at}");
-            let mut source = make_source(&BYTES, Fault::At(at, kind));
-            assert!(rt; fails_by(&source.ioread::<u32>(), kind), "{at}");
-        }
-    }
+    let ended = Cause::Kind(ErrorKind::UnexpectedEof);
     for len in 0..4 {
-        for fault in [Fault::Never, Fault::Interrupted] {
+        for fault in [Fault::Never, INTERRUPTIONS[0], INTERRUPTIONS[1]] {
             let mut source = make_source(&BYTES[..len], fault);
-            let cut = source.ioread_with::<u32>(LE);
-            assert!(rt; fails_by(&cut, ErrorKind::UnexpectedEof), "{len}");
+            assert!(rt; ended.is_answer(&source.ioread_with::<u32>(LE)), "{len}");
             let mut source = make_source(&BYTES[..len], fault);
-            let cut = source.ioread::<u32>();
-            assert!(rt; fails_by(&cut, ErrorKind::UnexpectedEof), "{len}");
+            assert!(rt; ended.is_answer(&source.ioread::<u32>()), "{len}");
         }
     }
     Ok(())
@@ -142,8 +165,9 @@ fn readers_of_one_byte_a_call(rt: HostRuntime) -> Result<(), Fail> {
 fn writers_of_one_byte_a_call(rt: HostRuntime) -> Result<(), Fail> {
     for (room, fault) in [
         (5, Fault::Never),
-        (5, Fault::Interrupted),
-        (4, Fault::At(5, ErrorKind::Other)),
+        (5, INTERRUPTIONS[0]),
+        (5, INTERRUPTIONS[1]),
+        (4, Fault::At(5, Cause::Kind(ErrorKind::Other))),
     ] {
         let mut target = make_sink(room, fault);
         target.iowrite_with(0xdeadbeefu32, BE)?;
@@ -152,25 +176,54 @@ fn writers_of_one_byte_a_call(rt: HostRuntime) -> Result<(), Fail> {
         target.iowrite(0xdeadbeefu32)?;
         assert_eq!(rt; target.held, [0xef, 0xbe, 0xad, 0xde, 0x11]);
     }
-    for kind in KINDS {
-        for at in 1..5 {
-            let mut target = make_sink(5, Fault::At(at, kind));
-            assert!(rt; fails_by(&target.iowrite_with(1u32, BE), kind), "{at}");
-            let mut target = make_sink(5, Fault::At(at, kind));
-            assert!(rt; fails_by(&target.iowrite(1u32), kind), "{at}");
+    let full = Cause::Kind(ErrorKind::WriteZero);
+    for room in 0..4 {
+        for fault in [Fault::Never, INTERRUPTIONS[0], INTERRUPTIONS[1]] {
+            let mut target = make_sink(room, fault);
+            assert!(rt; full.is_answer(&target.iowrite_with(1u32, LE)), "{room}");
+            let mut target = make_sink(room, fault);
+            assert!(rt; full.is_answer(&target.iowrite(1u32)), "{room}");
         }
     }
-    for room in 0..4 {
-        let mut target = make_sink(room, Fault::Never);
-        let cut = target.iowrite_with(1u32, LE);
-        assert!(rt; fails_by(&cut, ErrorKind::WriteZero), "{room}");
-        let mut target = make_sink(room, Fault::Interrupted);
-        assert!(rt;
-            fails_by(&target.iowrite(1u32), ErrorKind::WriteZero),
-            "{room}"
-        );
-    }
     Ok(())
+}
+
+// Each stream call answers the error of the reader or the writer, and the call that failed is not made again.
+fn check_cause(rt: &impl Abort, cause: Cause) {
+    for at in 1..5 {
+        let fault = Fault::At(at, cause);
+        let mut source = make_source(&BYTES, fault);
+        assert!(rt;
+            cause.is_answer(&source.ioread_with::<u32>(BE)),
+            "{cause:?}"
+        );
+        assert_eq!(rt; source.calls, at, "{cause:?}");
+        let mut source = make_source(&BYTES, fault);
+        assert!(rt; cause.is_answer(&source.ioread::<u32>()), "{cause:?}");
+        assert_eq!(rt; source.calls, at, "{cause:?}");
+        let mut target = make_sink(5, fault);
+        assert!(rt;
+            cause.is_answer(&target.iowrite_with(1u32, BE)),
+            "{cause:?}"
+        );
+        assert_eq!(rt; target.calls, at, "{cause:?}");
+        let mut target = make_sink(5, fault);
+        assert!(rt; cause.is_answer(&target.iowrite(1u32)), "{cause:?}");
+        assert_eq!(rt; target.calls, at, "{cause:?}");
+    }
+}
+
+#[test]
+fn each_error_of_a_stream(rt: HostRuntime) {
+    // (the operating system numbers its errors from 1 to 133)
+    for number in 1..134 {
+        if number != INTERRUPTED {
+            check_cause(&rt, Cause::Number(number));
+        }
+    }
+    for kind in KINDS {
+        check_cause(&rt, Cause::Kind(kind));
+    }
 }
 
 #[test]
@@ -220,57 +273,5 @@ fn numbers_to_memory(rt: HostRuntime) -> Result<(), Fail> {
     target.iowrite(0xdeadbeefu32)?;
     assert!(rt; target.iowrite(1u16).is_err());
     assert_eq!(rt; bytes[..4] == [0xef, 0xbe, 0xad, 0xde], true);
-    Ok(())
-}
-
-// A number of two bytes that takes up four.
-#[derive(Clone, Copy, Debug)]
-struct Wide {
-    number: u16,
-}
-
-impl FromCtx<Endian> for Wide {
-    ghost need = { λ _. 2 };
-
-    ghost makes = { λ order source x. x.number ≡ number order 2 source };
-
-    fn from_ctx(this: &[u8], ctx: Endian) -> Wide {
-        Wide {
-            number: u16::from_ctx(this, ctx),
-        }
-    }
-}
-
-impl IntoCtx<Endian> for Wide {
-    ghost need = { λ _. 2 };
-
-    ghost leaves = { λ order x old new. new ≡ number_bytes order 2 x.number ++ drop 2 old };
-
-    ghost leaves_keeps = { λ order x. number_bytes-keeps 2 order x.number };
-
-    fn into_ctx(self, dst: &mut [u8], ctx: Endian) {
-        self.number.into_ctx(dst, ctx)
-    }
-}
-
-impl SizeWith<Endian> for Wide {
-    ghost size = { λ _. 4 };
-
-    fn size_with(_ctx: &Endian) -> usize {
-        4
-    }
-}
-
-#[test]
-fn a_type_that_needs_less_than_its_size(rt: HostRuntime) -> Result<(), Fail> {
-    let bytes: [u8; 5] = [1, 2, 0xff, 0xff, 9];
-    let mut source = &bytes[..];
-    assert_eq!(rt; source.ioread_with::<Wide>(BE)?.number, 258);
-    assert_eq!(rt; source, [9u8].as_slice());
-    assert!(rt; source.ioread_with::<Wide>(BE).is_err());
-    let mut bytes = [7u8; 6];
-    let mut target = &mut bytes[..];
-    target.iowrite_with(Wide { number: 258 }, BE)?;
-    assert_eq!(rt; bytes, [1, 2, 0, 0, 7, 7]);
     Ok(())
 }

@@ -213,3 +213,28 @@ fn length_is_tested_before_the_lines(rt: HostRuntime) -> Result<(), Fail> {
     }
     Ok(())
 }
+
+#[test]
+fn good_inputs_of_each_length(rt: HostRuntime) -> Result<(), Fail> {
+    for length in [17, 18, 255, 256, 4095, 4096, 4097, 8192, 65_535, 65_536] {
+        let mut input = Vec::from_slice(rt.alloc(), b"buffer -\ncursor 0")?;
+        input.resize(length, b'0')?;
+        expect_session(&rt, rt.alloc(), input.as_slice(), "buffer -\ncursor 0\n", 0)?;
+    }
+    Ok(())
+}
+
+#[test]
+fn runs_of_each_length(rt: HostRuntime) -> Result<(), Fail> {
+    for count in [0, 1, 255, 256, 257, 4096] {
+        let mut input = String::from_str(rt.alloc(), "buffer 07\ncursor 0\n")?;
+        let mut wanted = String::new(rt.alloc());
+        for _ in 0..count {
+            input.push_str("pread 0 u8 le\n")?;
+            wanted.push_str("number 7\n")?;
+        }
+        wanted.push_str("buffer 07\ncursor 0\n")?;
+        expect_session(&rt, rt.alloc(), input.as_bytes(), wanted.as_str(), 0)?;
+    }
+    Ok(())
+}

@@ -1,7 +1,9 @@
 // Readers and writers that are slow, interrupted or faulty.
 use crate::session::session;
+use std::alloc::Global;
 use std::io;
 use std::io::{ErrorKind, Read, Write};
+use std::process::Abort;
 use std::test::Fail;
 
 const INPUT: &[u8] = b"buffer deadbeef\ncursor 0\npread 0 u32 be\npread 0 u32 le\npread 1 u16 be\n";
@@ -9,24 +11,61 @@ const INPUT: &[u8] = b"buffer deadbeef\ncursor 0\npread 0 u32 be\npread 0 u32 le
 const OUTPUT: &[u8] =
     b"number 3735928559\nnumber 4022250974\nnumber 44478\nbuffer deadbeef\ncursor 0\n";
 
-// Which calls of a reader or a writer fail, counted from 1.
+// An error of a stream: one of the operating system by its number, or one of a kind.
+#[derive(Clone, Copy, Debug)]
+enum Cause {
+    Number(i32),
+    Kind(ErrorKind),
+}
+
+impl Cause {
+    fn make_error(self) -> io::Error {
+        match self {
+            Cause::Number(number) => io::Error::from_raw_os_error(number),
+            Cause::Kind(kind) => io::Error::from(kind),
+        }
+    }
+
+    // Whether a session ended with this error.
+    fn is_answer(self, answer: &io::Result<u8>) -> bool {
+        match (self, answer) {
+            (Cause::Number(number), Err(error)) => error.raw_os_error() == Some(number),
+            (Cause::Kind(kind), Err(error)) => error.kind() == kind,
+            (_, Ok(_)) => false,
+        }
+    }
+}
+
+// The operating system's number for a call that was interrupted.
+const INTERRUPTED: i32 = 4;
+
+// The kinds of errors that have no number of the operating system.
+const KINDS: [ErrorKind; 4] = [
+    ErrorKind::InvalidData,
+    ErrorKind::WriteZero,
+    ErrorKind::UnexpectedEof,
+    ErrorKind::Other,
+];
+
+// Which calls of a reader or a writer fail, counted from 1: one, or each that is odd, or up to one or from one on is
+// interrupted.
 #[derive(Clone, Copy)]
 enum Fault {
     Never,
-    At(usize, ErrorKind),
-    Odd(ErrorKind),
-    UpTo(usize, ErrorKind),
-    From(usize, ErrorKind),
+    At(usize, Cause),
+    Odd(Cause),
+    UpTo(usize),
+    From(usize),
 }
 
 impl Fault {
     // How a call fails.
-    fn at(self, call: usize) -> Option<ErrorKind> {
+    fn at(self, call: usize) -> Option<io::Error> {
         match self {
-            Fault::At(at, kind) if at == call => Some(kind),
-            Fault::Odd(kind) if call % 2 == 1 => Some(kind),
-            Fault::UpTo(last, kind) if call <= last => Some(kind),
-            Fault::From(first, kind) if call >= first => Some(kind),
+            Fault::At(at, cause) if at == call => Some(cause.make_error()),
+            Fault::Odd(cause) if call % 2 == 1 => Some(cause.make_error()),
+            Fault::UpTo(last) if call <= last => Some(io::Error::from(ErrorKind::Interrupted)),
+            Fault::From(first) if call >= first => Some(io::Error::from(ErrorKind::Interrupted)),
             _ => None,
         }
     }
@@ -44,8 +83,8 @@ struct Source<'a> {
 impl<'a> Read for Source<'a> {
     fn read(&mut self, buf: &mut [u8]) -> io::Result<usize> {
         self.calls = self.calls.saturating_add(1);
-        if let Some(kind) = self.fault.at(self.calls) {
-            return Err(io::Error::from(kind));
+        if let Some(error) = self.fault.at(self.calls) {
+            return Err(error);
         }
         let count = self.step.min(buf.len());
         self.rest.read(&mut buf[..count])
@@ -66,8 +105,8 @@ impl Write for Sink {
     fn write(&mut self, buf: &[u8]) -> io::Result<usize> {
         self.calls = self.calls.saturating_add(1);
         self.is_flushed = false;
-        if let Some(kind) = self.fault.at(self.calls) {
-            return Err(io::Error::from(kind));
+        if let Some(error) = self.fault.at(self.calls) {
+            return Err(error);
         }
         let count = self.step.min(buf.len());
         self.held.extend_from_slice(&buf[..count])?;
@@ -76,8 +115,8 @@ impl Write for Sink {
 
     fn flush(&mut self) -> io::Result<()> {
         self.calls = self.calls.saturating_add(1);
-        if let Some(kind) = self.fault.at(self.calls) {
-            return Err(io::Error::from(kind));
+        if let Some(error) = self.fault.at(self.calls) {
+            return Err(error);
         }
         self.is_flushed = true;
         Ok(())
@@ -107,13 +146,16 @@ fn make_sink(held: Vec<u8>, step: usize, fault: Fault) -> Sink {
 
 #[test]
 fn in_pieces(rt: HostRuntime) -> Result<(), Fail> {
-    let interrupted = Fault::Odd(ErrorKind::Interrupted);
+    let by_kind = Fault::Odd(Cause::Kind(ErrorKind::Interrupted));
+    let by_number = Fault::Odd(Cause::Number(INTERRUPTED));
     for (step, fault) in [
         (1, Fault::Never),
         (7, Fault::Never),
         (4096, Fault::Never),
-        (1, interrupted),
-        (4096, interrupted),
+        (1, by_kind),
+        (4096, by_kind),
+        (1, by_number),
+        (4096, by_number),
     ] {
         let mut input = make_source(step, fault);
         let mut output = make_sink(Vec::new(rt.alloc()), step, fault);
@@ -124,44 +166,71 @@ fn in_pieces(rt: HostRuntime) -> Result<(), Fail> {
     Ok(())
 }
 
-#[test]
-fn reader_fails(rt: HostRuntime) -> Result<(), Fail> {
-    for at in 1..INPUT.len() + 3 {
-        let mut input = make_source(1, Fault::At(at, ErrorKind::PermissionDenied));
-        let mut output = Vec::new(rt.alloc());
-        let answer = session(rt.alloc(), &mut input, &mut output);
-        if at <= INPUT.len() + 1 {
-            assert!(rt;
-                matches!(&answer, Err(e) if e.kind() == ErrorKind::PermissionDenied),
-                "{at}"
-            );
-            assert!(rt; output.is_empty(), "{at}");
-        } else {
-            assert!(rt; matches!(&answer, Ok(0)), "{at}");
-        }
+// Runs the session where the reader fails at a call. Where it comes to that, the error is the session's, and the call is not
+// made again.
+fn check_reader(rt: &impl Abort, alloc: Global, at: usize, cause: Cause) {
+    let mut input = make_source(1, Fault::At(at, cause));
+    let mut output = Vec::new(alloc);
+    let answer = session(alloc, &mut input, &mut output);
+    if at <= INPUT.len() + 1 {
+        assert!(rt; cause.is_answer(&answer), "{at} {cause:?}");
+        assert_eq!(rt; input.calls, at, "{at} {cause:?}");
+        assert!(rt; output.is_empty(), "{at} {cause:?}");
+    } else {
+        assert!(rt; matches!(&answer, Ok(0)), "{at}");
     }
-    Ok(())
+}
+
+// The same of the writer. Its last call is the flush.
+fn check_writer(rt: &impl Abort, alloc: Global, at: usize, cause: Cause) {
+    let mut input = INPUT;
+    let mut output = make_sink(Vec::new(alloc), 1, Fault::At(at, cause));
+    let answer = session(alloc, &mut input, &mut output);
+    if at <= OUTPUT.len() + 1 {
+        assert!(rt; cause.is_answer(&answer), "{at} {cause:?}");
+        assert_eq!(rt; output.calls, at, "{at} {cause:?}");
+        assert!(rt;
+            output.held.as_slice() == &OUTPUT[..at.saturating_sub(1)],
+            "{at} {cause:?}"
+        );
+        assert!(rt; !output.is_flushed, "{at} {cause:?}");
+    } else {
+        assert!(rt; matches!(&answer, Ok(0)), "{at}");
+    }
 }
 
 #[test]
-fn writer_fails(rt: HostRuntime) -> Result<(), Fail> {
+fn each_call_fails(rt: HostRuntime) {
+    let denied = Cause::Kind(ErrorKind::PermissionDenied);
+    for at in 1..INPUT.len() + 3 {
+        check_reader(&rt, rt.alloc(), at, denied);
+    }
     for at in 1..OUTPUT.len() + 3 {
-        let mut input = INPUT;
-        let fault = Fault::At(at, ErrorKind::PermissionDenied);
-        let mut output = make_sink(Vec::new(rt.alloc()), 1, fault);
-        let answer = session(rt.alloc(), &mut input, &mut output);
-        if at <= OUTPUT.len() + 1 {
-            assert!(rt;
-                matches!(&answer, Err(e) if e.kind() == ErrorKind::PermissionDenied),
-                "{at}"
-            );
-            assert!(rt; output.held.as_slice() == &OUTPUT[..at - 1], "{at}");
-            assert!(rt; !output.is_flushed, "{at}");
-        } else {
-            assert!(rt; matches!(&answer, Ok(0)), "{at}");
+        check_writer(&rt, rt.alloc(), at, denied);
+    }
+}
+
+// The first call and the last, and the flush, fail by an error.
+fn check_cause(rt: &impl Abort, alloc: Global, cause: Cause) {
+    for at in [1, INPUT.len() + 1] {
+        check_reader(rt, alloc, at, cause);
+    }
+    for at in [1, OUTPUT.len(), OUTPUT.len() + 1] {
+        check_writer(rt, alloc, at, cause);
+    }
+}
+
+#[test]
+fn each_error_of_a_stream(rt: HostRuntime) {
+    // (the operating system numbers its errors from 1 to 133)
+    for number in 1..134 {
+        if number != INTERRUPTED {
+            check_cause(&rt, rt.alloc(), Cause::Number(number));
         }
     }
-    Ok(())
+    for kind in KINDS {
+        check_cause(&rt, rt.alloc(), Cause::Kind(kind));
+    }
 }
 
 #[test]
@@ -180,8 +249,7 @@ const CALLS: usize = 131_072;
 
 #[test]
 fn interrupted_for_ever(rt: HostRuntime) -> Result<(), Fail> {
-    let interrupted = Fault::From(1, ErrorKind::Interrupted);
-    let mut input = make_source(1, interrupted);
+    let mut input = make_source(1, Fault::From(1));
     let mut output = make_sink(Vec::new(rt.alloc()), 1, Fault::Never);
     let answer = session(rt.alloc(), &mut input, &mut output);
     assert!(rt; matches!(&answer, Err(e) if e.kind() == ErrorKind::Other));
@@ -190,8 +258,7 @@ fn interrupted_for_ever(rt: HostRuntime) -> Result<(), Fail> {
     // from the first byte on, from the last one on, and where the writer is flushed
     for first in [1, OUTPUT.len(), OUTPUT.len() + 1] {
         let mut input = INPUT;
-        let fault = Fault::From(first, ErrorKind::Interrupted);
-        let mut output = make_sink(Vec::new(rt.alloc()), 1, fault);
+        let mut output = make_sink(Vec::new(rt.alloc()), 1, Fault::From(first));
         let answer = session(rt.alloc(), &mut input, &mut output);
         assert!(rt; matches!(&answer, Err(e) if e.kind() == ErrorKind::Other));
         assert!(rt; output.held.as_slice() == &OUTPUT[..first - 1], "{first}");
@@ -205,7 +272,7 @@ fn interrupted_as_often_as_may_be(rt: HostRuntime) -> Result<(), Fail> {
     // (a last call finds the end of the input)
     let spare = CALLS - INPUT.len() - 1;
     for (more, is_read) in [(0, true), (1, false)] {
-        let mut input = make_source(1, Fault::UpTo(spare + more, ErrorKind::Interrupted));
+        let mut input = make_source(1, Fault::UpTo(spare + more));
         let mut output = Vec::new(rt.alloc());
         let answer = session(rt.alloc(), &mut input, &mut output);
         assert!(rt; is_read == matches!(&answer, Ok(0)));
@@ -213,8 +280,7 @@ fn interrupted_as_often_as_may_be(rt: HostRuntime) -> Result<(), Fail> {
     }
     for (more, is_written) in [(0, true), (1, false)] {
         let mut input = INPUT;
-        let fault = Fault::UpTo(CALLS + more, ErrorKind::Interrupted);
-        let mut output = make_sink(Vec::new(rt.alloc()), 1, fault);
+        let mut output = make_sink(Vec::new(rt.alloc()), 1, Fault::UpTo(CALLS + more));
         let answer = session(rt.alloc(), &mut input, &mut output);
         assert!(rt; is_written == matches!(&answer, Ok(0)));
         assert_eq!(rt; output.held.len(), OUTPUT.len() - more);

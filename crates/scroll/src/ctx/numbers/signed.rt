@@ -1,7 +1,7 @@
 // The signed types, in two's complement: `i8`, `i16`, `i32`, `i64` and `i128`.
 ghost use Rattle.scroll.specs.Numbers.{signed_number, twos_complement};
 
-use super::{Number, Written, front, put_front};
+use super::{Number, Written, front, put_front, put_sixteen};
 use crate::endian::Endian;
 
 impl Written for i8 {
@@ -126,10 +126,7 @@ impl Written for i128 {
     }
 
     fn write_front(self, dst: &mut [u8], order: Endian) {
-        match order {
-            Endian::Little => put_front(dst, self.to_le_bytes()),
-            Endian::Big => put_front(dst, self.to_be_bytes()),
-        }
+        put_sixteen(dst, self.cast_unsigned(), order)
     }
 }
 

@@ -1,7 +1,7 @@
 // The unsigned types: `u8`, `u16`, `u32`, `u64` and `u128`.
 ghost use Rattle.scroll.specs.Numbers.{number};
 
-use super::{Number, Written, front, put_front};
+use super::{Number, Written, front, put_front, put_sixteen};
 use crate::endian::Endian;
 
 impl Written for u8 {
@@ -126,10 +126,7 @@ impl Written for u128 {
     }
 
     fn write_front(self, dst: &mut [u8], order: Endian) {
-        match order {
-            Endian::Little => put_front(dst, self.to_le_bytes()),
-            Endian::Big => put_front(dst, self.to_be_bytes()),
-        }
+        put_sixteen(dst, self, order)
     }
 }
 

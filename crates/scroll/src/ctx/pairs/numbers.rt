@@ -1,6 +1,9 @@
-// The ten number types, as parts of a pair.
+// The number types, as parts of a pair.
+ghost use Rattle.std.specs.Prelude.{to_bits};
+ghost use Rattle.std.specs.Float.{binary32, binary64};
+ghost use Rattle.scroll.specs.Floats.{float_bytes};
 ghost use Rattle.scroll.specs.Numbers.{number_bytes, signed_bytes};
-ghost use Rattle.scroll.specs.NumberLaws.{length-number_bytes, length-signed_bytes};
+ghost use Rattle.scroll.specs.lemmas.Frames.{length-number_bytes, length-signed_bytes};
 
 use super::Fields;
 use crate::ctx::numbers::Written;
@@ -159,6 +162,38 @@ impl Fields for i128 {
 
     fn width() -> usize {
         16
+    }
+
+    fn write_fields(self, dst: &mut [u8], order: Endian) {
+        self.write_front(dst, order)
+    }
+}
+
+impl Fields for f32 {
+    ghost width = { 4 };
+
+    ghost bytes = { λ order x. float_bytes binary32 order x };
+
+    ghost bytes_len = { λ order x. length-number_bytes order 4 (to_bits binary32 x) };
+
+    fn width() -> usize {
+        4
+    }
+
+    fn write_fields(self, dst: &mut [u8], order: Endian) {
+        self.write_front(dst, order)
+    }
+}
+
+impl Fields for f64 {
+    ghost width = { 8 };
+
+    ghost bytes = { λ order x. float_bytes binary64 order x };
+
+    ghost bytes_len = { λ order x. length-number_bytes order 8 (to_bits binary64 x) };
+
+    fn width() -> usize {
+        8
     }
 
     fn write_fields(self, dst: &mut [u8], order: Endian) {

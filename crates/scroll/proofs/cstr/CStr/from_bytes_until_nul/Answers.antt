@@ -1,7 +1,7 @@
 use Rattle.std.proofs.Common.{◌<◌, length, arith}
 use Rattle.std.proofs.lemmas.Grind.{common_steps}
-use Rattle.scroll.proofs.CStringLemmas.{IsCString-front}
-use Rattle.scroll.specs.TextLaws.{first_place-le}
+use Rattle.scroll.proofs.lemmas.texts.CStringLemmas.{IsCString-front}
+use Rattle.scroll.specs.lemmas.Sizes.{first_place-le}
 use Rattle.scroll.specs.Texts.{first_place}
 use Rattle.scroll.proofs.cstr.CStr.from_bytes_until_nul.Goals as goal
 

@@ -1,4 +1,4 @@
-use Rattle.scroll.proofs.CStringLemmas.{text_without_zero}
+use Rattle.scroll.proofs.lemmas.texts.CStringLemmas.{text_without_zero}
 use Rattle.scroll.proofs.cstr.CStr.to_bytes.Goals as goal
 
 pub returns-clause-no_zero : goal.returns-clause-no_zero

@@ -1,4 +1,4 @@
-use Rattle.scroll.proofs.CStringLemmas.{with_zero_again}
+use Rattle.scroll.proofs.lemmas.texts.CStringLemmas.{with_zero_again}
 use Rattle.scroll.proofs.cstr.CStr.to_bytes_with_nul.Goals as goal
 
 pub returns-clause-text : goal.returns-clause-text

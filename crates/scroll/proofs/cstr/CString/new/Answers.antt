@@ -1,6 +1,6 @@
 use Rattle.std.proofs.Common.{◌≡◌, length, inr, refl, arith}
-use Rattle.scroll.proofs.CStringLemmas.{IsCString-push}
-use Rattle.scroll.specs.TextLaws.{first_place-le}
+use Rattle.scroll.proofs.lemmas.texts.CStringLemmas.{IsCString-push}
+use Rattle.scroll.specs.lemmas.Sizes.{first_place-le}
 use Rattle.scroll.specs.Texts.{first_place}
 use Rattle.scroll.proofs.cstr.CString.new.Goals as goal
 

@@ -1,4 +1,4 @@
-use Rattle.scroll.proofs.TextLemmas.{first_place-take, take-until}
+use Rattle.scroll.proofs.lemmas.texts.TextLemmas.{first_place-take, take-until}
 use Rattle.scroll.proofs.ctx.text.text_in.Goals as goal
 
 pub returns-in_ok-check_room-in-DelimiterUntil-clause-text : goal.returns-in_ok-check_room-in-DelimiterUntil-clause-text

@@ -1,4 +1,4 @@
-use Rattle.scroll.proofs.CStringReadLemmas.{no-zero, taken, written-back}
+use Rattle.scroll.proofs.lemmas.texts.CStringReadLemmas.{no-zero, taken, written-back}
 use Rattle.scroll.proofs.laws.c_strings.c_string_has_one_zero.Goals as goal
 
 pub returns-clause-no_zero : goal.returns-clause-no_zero

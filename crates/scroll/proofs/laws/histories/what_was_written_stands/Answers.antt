@@ -1,9 +1,9 @@
 use Rattle.std.proofs.Common.{arith, ◌++◌, [], ◌∷◌}
-use Rattle.scroll.proofs.CStringReadLemmas.{begins-c_string}
-use Rattle.scroll.proofs.FrontLemmas.{begins-number, begins-signed}
-use Rattle.scroll.proofs.SeenLemmas.{length-seen}
-use Rattle.scroll.proofs.StandLemmas.{stands, pieces-apart}
-use Rattle.scroll.proofs.TextReadLemmas.{begins-slice, begins-text}
+use Rattle.scroll.proofs.lemmas.texts.CStringReadLemmas.{begins-c_string}
+use Rattle.scroll.proofs.lemmas.numbers.FrontLemmas.{begins-number, begins-signed}
+use Rattle.scroll.proofs.lemmas.history.SeenLemmas.{length-seen}
+use Rattle.scroll.proofs.lemmas.history.StandLemmas.{stands, pieces-apart}
+use Rattle.scroll.proofs.lemmas.texts.TextReadLemmas.{begins-slice, begins-text}
 use Rattle.scroll.specs.Numbers.{number_bytes, signed_bytes}
 use Rattle.scroll.proofs.laws.histories.what_was_written_stands.Goals as goal
 

@@ -1,7 +1,7 @@
 use Rattle.scroll.specs.Spelling.{unsigned_form}
-use Rattle.scroll.proofs.SignedSpellingLemmas.{reads_signed_spelling}
-use Rattle.scroll.proofs.LebWriteLemmas.{text_back, text_begins, text_again}
-use Rattle.scroll.proofs.SignedWriteLemmas.{signed_written_reads}
+use Rattle.scroll.proofs.lemmas.leb128.SignedSpellingLemmas.{reads_signed_spelling}
+use Rattle.scroll.proofs.lemmas.leb128.LebWriteLemmas.{text_back, text_begins, text_again}
+use Rattle.scroll.proofs.lemmas.leb128.SignedWriteLemmas.{signed_written_reads}
 use Rattle.scroll.proofs.laws.leb128.signed_texts_are_kept.Goals as goal
 
 pub returns-clause-back : goal.returns-clause-back

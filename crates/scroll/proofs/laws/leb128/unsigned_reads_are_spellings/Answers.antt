@@ -1,4 +1,4 @@
-use Rattle.scroll.proofs.SpellingLemmas.{reads_spelling, longer_spelling, one_spelling}
+use Rattle.scroll.proofs.lemmas.leb128.SpellingLemmas.{reads_spelling, longer_spelling, one_spelling}
 use Rattle.scroll.proofs.laws.leb128.unsigned_reads_are_spellings.Goals as goal
 
 pub returns : goal.returns

@@ -1,5 +1,5 @@
-use Rattle.scroll.proofs.SpellingLemmas.{reads_spelling}
-use Rattle.scroll.proofs.LebWriteLemmas.{text_back, text_begins, text_again, written_reads}
+use Rattle.scroll.proofs.lemmas.leb128.SpellingLemmas.{reads_spelling}
+use Rattle.scroll.proofs.lemmas.leb128.LebWriteLemmas.{text_back, text_begins, text_again, written_reads}
 use Rattle.scroll.proofs.laws.leb128.unsigned_texts_are_kept.Goals as goal
 
 pub returns-clause-back : goal.returns-clause-back

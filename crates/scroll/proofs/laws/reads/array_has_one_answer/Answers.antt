@@ -1,4 +1,4 @@
-use Rattle.scroll.specs.OneAnswer.{one-array}
+use Rattle.scroll.proofs.lemmas.callers.OneAnswer.{one-array}
 use Rattle.scroll.proofs.laws.reads.array_has_one_answer.Goals as goal
 
 pub returns : goal.returns

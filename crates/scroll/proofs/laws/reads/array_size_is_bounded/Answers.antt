@@ -1,4 +1,4 @@
-use Rattle.scroll.proofs.LocalLemmas.{bounded-array, within-array}
+use Rattle.scroll.proofs.lemmas.numbers.LocalLemmas.{bounded-array, within-array}
 use Rattle.scroll.proofs.laws.reads.array_size_is_bounded.Goals as goal
 
 pub returns-clause-bounded : goal.returns-clause-bounded

@@ -1,13 +1,14 @@
 use Rattle.std.proofs.Common.{take}
-use Rattle.scroll.proofs.CStringReadLemmas.{one-c_string}
-use Rattle.scroll.proofs.LebReadLemmas.{one-uleb, one-sleb}
-use Rattle.scroll.proofs.TextReadLemmas.{one-text}
+use Rattle.scroll.proofs.lemmas.texts.CStringReadLemmas.{one-c_string}
+use Rattle.scroll.proofs.lemmas.leb128.LebReadLemmas.{one-uleb, one-sleb}
+use Rattle.scroll.proofs.lemmas.texts.TextReadLemmas.{one-text}
 use Rattle.scroll.specs.Bytes.{RefusesShort}
 use Rattle.scroll.specs.CStrings.{ReadsCString, RefusesCString}
+use Rattle.scroll.specs.Floats.{float_width, float, ReadsFloat}
 use Rattle.scroll.specs.Leb128.{ReadsUleb, ReadsSleb, ReadsCountedUleb, ReadsCountedSleb}
 use Rattle.scroll.specs.LebRefusals.{RefusesUleb, RefusesSleb}
 use Rattle.scroll.specs.Numbers.{number, signed_number, ReadsNumber, ReadsSigned}
-use Rattle.scroll.specs.OneAnswer.{one-at, one-front, one-nested, one-sized}
+use Rattle.scroll.proofs.lemmas.callers.OneAnswer.{one-at, one-front, one-nested, one-sized}
 use Rattle.scroll.specs.Texts.{ReadsText, RefusesText, ReadsSlice, RefusesSlice}
 use Rattle.scroll.proofs.laws.reads.place_has_one_answer.Goals as goal
 
@@ -16,6 +17,9 @@ returns-clause-number c w order = one-at (ReadsNumber w order) (RefusesShort w) 
 
 pub returns-clause-signed : goal.returns-clause-signed
 returns-clause-signed c w order = one-at (ReadsSigned w order) (RefusesShort w) (one-front w (signed_number order w))
+
+pub returns-clause-float : goal.returns-clause-float
+returns-clause-float c f order = one-at (ReadsFloat f order) (RefusesShort (float_width f)) (one-front (float_width f) (float f order))
 
 pub returns-clause-slice : goal.returns-clause-slice
 returns-clause-slice c n = one-at (ReadsSlice n) (RefusesSlice n) (one-front n (take n))
@@ -38,6 +42,10 @@ returns-clause-numbers c w order = one-nested (ReadsNumber w order) (RefusesShor
 pub returns-clause-signed_numbers : goal.returns-clause-signed_numbers
 returns-clause-signed_numbers c w order =
     one-nested (ReadsSigned w order) (RefusesShort w) (one-at (ReadsSigned w order) (RefusesShort w) (one-front w (signed_number order w)))
+
+pub returns-clause-floats : goal.returns-clause-floats
+returns-clause-floats c f order counts =
+    one-nested (ReadsFloat f order) (RefusesShort (float_width f)) (one-at (ReadsFloat f order) (RefusesShort (float_width f)) (one-front (float_width f) (float f order))) counts
 
 pub returns-clause-slices : goal.returns-clause-slices
 returns-clause-slices c n = one-nested (ReadsSlice n) (RefusesSlice n) (one-at (ReadsSlice n) (RefusesSlice n) (one-front n (take n)))

@@ -1,7 +1,8 @@
-use Rattle.scroll.proofs.CStringReadLemmas.{local-c_string}
-use Rattle.scroll.proofs.LebReadLemmas.{local-uleb, local-sleb}
-use Rattle.scroll.proofs.TextReadLemmas.{local-slice, local-text}
-use Rattle.scroll.proofs.LocalLemmas.{local-number, local-signed}
+use Rattle.scroll.proofs.lemmas.texts.CStringReadLemmas.{local-c_string}
+use Rattle.scroll.proofs.lemmas.numbers.FloatLemmas.{local-float}
+use Rattle.scroll.proofs.lemmas.leb128.LebReadLemmas.{local-uleb, local-sleb}
+use Rattle.scroll.proofs.lemmas.texts.TextReadLemmas.{local-slice, local-text}
+use Rattle.scroll.proofs.lemmas.numbers.LocalLemmas.{local-number, local-signed}
 use Rattle.scroll.proofs.laws.reads.read_depends_on_its_bytes.Goals as goal
 
 pub returns-clause-number : goal.returns-clause-number
@@ -9,6 +10,9 @@ returns-clause-number c = local-number
 
 pub returns-clause-signed : goal.returns-clause-signed
 returns-clause-signed c = local-signed
+
+pub returns-clause-float : goal.returns-clause-float
+returns-clause-float c = local-float
 
 pub returns-clause-slice : goal.returns-clause-slice
 returns-clause-slice c = local-slice

@@ -1,7 +1,7 @@
 use Rattle.std.proofs.Common.{arith}
-use Rattle.scroll.proofs.CStringReadLemmas.{within-c_string}
-use Rattle.scroll.proofs.TextReadLemmas.{within-length}
-use Rattle.scroll.specs.TextLaws.{ReadsText-bounded}
+use Rattle.scroll.proofs.lemmas.texts.CStringReadLemmas.{within-c_string}
+use Rattle.scroll.proofs.lemmas.texts.TextReadLemmas.{within-length}
+use Rattle.scroll.specs.lemmas.Sizes.{ReadsText-bounded}
 use Rattle.scroll.proofs.laws.reads.read_size_is_bounded.Goals as goal
 
 pub returns-clause-slice : goal.returns-clause-slice

@@ -1,6 +1,6 @@
 use Rattle.std.proofs.Common.{◌≤◌, ℕ, List, length, inl, inr, refl, arith}
-use Rattle.scroll.proofs.LocalLemmas.{within-array}
-use Rattle.scroll.proofs.TextReadLemmas.{local-text, within-required}
+use Rattle.scroll.proofs.lemmas.numbers.LocalLemmas.{within-array}
+use Rattle.scroll.proofs.lemmas.texts.TextReadLemmas.{local-text, within-required}
 use Rattle.scroll.specs.Texts.{ReadsText, RefusesText}
 use Rattle.scroll.specs.declared.ctx.str_ctx.StrCtx.TheVariants.{Required}
 use Rattle.scroll.specs.declared.error.Error.TheVariants.{BadOffset}

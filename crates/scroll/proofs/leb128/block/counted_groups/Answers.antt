@@ -1,4 +1,4 @@
-use Rattle.scroll.proofs.BlockLemmas.{word_none, word_some, word_carries, word_count, word_groups}
+use Rattle.scroll.proofs.lemmas.leb128.BlockLemmas.{word_none, word_some, word_carries, word_count, word_groups}
 use Rattle.scroll.proofs.leb128.block.counted_groups.Goals as goal
 
 pub returns-then-filled : goal.returns-then-filled

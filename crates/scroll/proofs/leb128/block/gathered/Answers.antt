@@ -1,4 +1,4 @@
-use Rattle.scroll.proofs.WordLemmas.{gathered_word}
+use Rattle.scroll.proofs.lemmas.words.WordLemmas.{gathered_word}
 use Rattle.scroll.proofs.leb128.block.gathered.Goals as goal
 
 pub returns : goal.returns

@@ -1,4 +1,4 @@
-use Rattle.scroll.proofs.BlockLemmas.{one_byte, two_bytes}
+use Rattle.scroll.proofs.lemmas.leb128.BlockLemmas.{one_byte, two_bytes}
 use Rattle.scroll.proofs.leb128.block.groups_in.Goals as goal
 
 pub returns-then-word-eq0 : goal.returns-then-word-eq0

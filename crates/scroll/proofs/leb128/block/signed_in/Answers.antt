@@ -1,7 +1,7 @@
 use Rattle.std.proofs.Common.{rules, refl}
 use Rattle.std.specs.Int.{w64, to_le_bytes}
-use Rattle.scroll.proofs.BlockLemmas.{one_byte, two_bytes}
-use Rattle.scroll.proofs.SignedSpellingLemmas.{block_signed, block_below}
+use Rattle.scroll.proofs.lemmas.leb128.BlockLemmas.{one_byte, two_bytes}
+use Rattle.scroll.proofs.lemmas.leb128.SignedSpellingLemmas.{block_signed, block_below}
 use Rattle.scroll.proofs.leb128.block.signed_in.Goals as goal
 
 pub returns-then-word-eq0 : goal.returns-then-word-eq0

@@ -4,8 +4,8 @@ use Rattle.std.specs.List.{slice_get}
 use Rattle.std.proofs.lemmas.Int.{to_z-of_z}
 use Rattle.scroll.specs.Leb128.{end_of, groups_value}
 use Rattle.scroll.specs.Loads.{Loading}
-use Rattle.scroll.proofs.LebLemmas.{groups_lt}
-use Rattle.scroll.proofs.LoadLemmas.{block_reads_signed, groups_read_signed, nine_read, tenth_reads_signed, tenth_is_cut, tenth_refused_signed}
+use Rattle.scroll.proofs.lemmas.leb128.LebLemmas.{groups_lt}
+use Rattle.scroll.proofs.lemmas.leb128.LoadLemmas.{block_reads_signed, groups_read_signed, nine_read, tenth_reads_signed, tenth_is_cut, tenth_refused_signed}
 use Rattle.scroll.proofs.leb128.gathered.sleb_loads.Goals as goal
 
 pub two_complement-requires-clause-low : goal.two_complement-requires-clause-low

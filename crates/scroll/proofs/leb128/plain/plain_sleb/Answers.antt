@@ -1,8 +1,8 @@
 use Rattle.std.proofs.Common.{◌≡◌, ◌+◌, ◌*◌, ◌%◌, ◌^◌, bit_or, to_z, length, ap, ◌∙◌, refl, arith, rules, below_more, FitsSigned}
 use Rattle.std.specs.Int.{w64}
 use Rattle.std.proofs.lemmas.Int.{to_z-of_z}
-use Rattle.scroll.proofs.LebLemmas.{late_end, no_end, groups_lt, or_group, gives_at, byte_there, not_there, tenth_there}
-use Rattle.scroll.proofs.LoadLemmas.{groups_read_signed, tenth_reads_signed, tenth_is_cut, tenth_refused_signed}
+use Rattle.scroll.proofs.lemmas.leb128.LebLemmas.{late_end, no_end, groups_lt, or_group, gives_at, byte_there, not_there, tenth_there}
+use Rattle.scroll.proofs.lemmas.leb128.LoadLemmas.{groups_read_signed, tenth_reads_signed, tenth_is_cut, tenth_refused_signed}
 use Rattle.scroll.proofs.leb128.plain.plain_sleb.Goals as goal
 
 pub returns-in_default-clause-refused : goal.returns-in_default-clause-refused

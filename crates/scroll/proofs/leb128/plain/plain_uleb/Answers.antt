@@ -1,6 +1,6 @@
 use Rattle.std.proofs.Common.{◌≡◌, ◌+◌, length, refl, arith, below_more}
-use Rattle.scroll.proofs.LebLemmas.{late_end, no_end, or_group, gives_at, byte_there, not_there, tenth_there}
-use Rattle.scroll.proofs.LoadLemmas.{groups_read, tenth_reads, tenth_is_cut, tenth_refused}
+use Rattle.scroll.proofs.lemmas.leb128.LebLemmas.{late_end, no_end, or_group, gives_at, byte_there, not_there, tenth_there}
+use Rattle.scroll.proofs.lemmas.leb128.LoadLemmas.{groups_read, tenth_reads, tenth_is_cut, tenth_refused}
 use Rattle.scroll.proofs.leb128.plain.plain_uleb.Goals as goal
 
 pub returns-in_default-clause-refused : goal.returns-in_default-clause-refused

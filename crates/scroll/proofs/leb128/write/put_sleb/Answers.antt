@@ -1,13 +1,12 @@
-use Rattle.std.proofs.Common.{◌≡◌, ap, ◌∙◌, ◌++◌, drop, of_z}
+use Rattle.std.proofs.Common.{◌≡◌, ap, ◌∙◌, of_z}
 use Rattle.std.specs.Int.{w64}
 use Rattle.std.proofs.lemmas.Int.{to_z-of_z}
-use Rattle.scroll.specs.Spelling.{spelling}
-use Rattle.scroll.proofs.SignedWriteLemmas.{tenth_of, tenth_below, tenth_above, signed_groups_form}
+use Rattle.scroll.proofs.lemmas.leb128.SignedWriteLemmas.{tenth_of, tenth_below, tenth_above, signed_groups_form}
 use Rattle.scroll.proofs.leb128.write.put_sleb.Goals as goal
 use Rattle.scroll.proofs.leb128.write.put_sleb.Goals.{then-value-lt0, else-value-lt0}
 
-pub returns : goal.returns
-returns c =
+pub returns-clause-wrote : goal.returns-clause-wrote
+returns-clause-wrote c =
     let a = c.args in
     let back = to_z-of_z w64 a.value c.ranges.value in
     let tenth : c.if-value-lt0.tenth ≡ tenth_of a.value = elim c.if-value-lt0.branch [
@@ -15,5 +14,4 @@ returns c =
       | else-value-lt0 w ↦ tenth_above a.value _ (rw back at w.if-value-lt0.false) w.tenth-is
     ] in
     let low : c.cast_unsigned.result ≡ of_z w64 a.value = c.cast_unsigned.ensures ∙ ap (of_z w64) back in
-    rw (low, tenth) at c.put_groups.ensures
-    ∙ ap (λ u. spelling u a.count ++ drop a.count a.dst.now) (signed_groups_form a.value a.count c.requires.spelled)
+    rw (low, tenth, signed_groups_form a.value a.count c.requires.spelled) at c.put_groups.ensures.wrote

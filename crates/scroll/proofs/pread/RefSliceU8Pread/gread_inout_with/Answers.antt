@@ -1,8 +1,8 @@
 use Rattle.std.proofs.Common.{◌+◌, ◌<◌, length, arith, ◌∙◌}
 use Rattle.std.proofs.lemmas.List.{take_more_set, drop-set-lt}
 use Rattle.std.proofs.Math.ListN.{length-set}
-use Rattle.scroll.proofs.BulkLemmas.{drop-next}
-use Rattle.scroll.specs.Callers.{ReadsAll-push}
+use Rattle.scroll.proofs.lemmas.arrays.BulkLemmas.{drop-next}
+use Rattle.scroll.proofs.lemmas.callers.Cursors.{ReadsAll-push}
 use Rattle.scroll.proofs.pread.RefSliceU8Pread.gread_inout_with.Goals as goal
 
 pub loop-i-preserved : goal.loop-i-preserved

@@ -1,8 +1,6 @@
 use Rattle.std.proofs.Common.{rules, [], ◌∷◌}
 use Rattle.std.specs.Int.{w8, w16, w32, w64, w128}
-use Rattle.scroll.proofs.LebLeaves.{uleb-leaf, sleb-leaf}
-use Rattle.scroll.proofs.NumberLeaves.{number-leaf, signed-leaf}
-use Rattle.scroll.proofs.PutLeaves.{bytes-leaf, numbers-leaves, slices-leaves}
+use Rattle.scroll.proofs.lemmas.callers.Leaves.{number-leaf, signed-leaf, bytes-leaf, uleb-leaf, sleb-leaf, numbers-leaves, slices-leaves}
 use Rattle.scroll.proofs.runner.write.write_value.Goals as goal
 
 pub returns-in-U8-clause-wrote : goal.returns-in-U8-clause-wrote

@@ -1,8 +1,8 @@
 use Rattle.std.proofs.Common.{◌≡◌, ◌+◌, ◌≤◌, ◌⊎◌, inl, inr, length, take, get_or, ap, ◌∙◌, arith, rules}
 use Rattle.std.proofs.lemmas.List.{length-take-le}
 use Rattle.scroll.specs.Texts.{first_place}
-use Rattle.scroll.specs.TextLaws.{first_place-le}
-use Rattle.scroll.proofs.StopLemmas.{front_is_ascii, ends_there, ends_further}
+use Rattle.scroll.specs.lemmas.Sizes.{first_place-le}
+use Rattle.scroll.proofs.lemmas.search.StopLemmas.{front_is_ascii, ends_there, ends_further}
 use Rattle.scroll.proofs.search.text.text_before.Goals as goal
 use Rattle.scroll.proofs.search.text.text_before.Goals.{then-stop-source-via-then-stop-source, then-stop-source-via-else-stop-source+then-source-stop}
 

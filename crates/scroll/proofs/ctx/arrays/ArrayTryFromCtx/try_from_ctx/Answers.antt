@@ -1,5 +1,5 @@
 use Rattle.std.proofs.Common.{arith, sym, ◌∙◌}
-use Rattle.scroll.proofs.ArrayLemmas.{IsFilled-push, map_some-same}
+use Rattle.scroll.proofs.lemmas.arrays.ArrayLemmas.{IsFilled-push, map_some-same}
 use Rattle.scroll.proofs.ctx.arrays.ArrayTryFromCtx.try_from_ctx.Goals as goal
 
 pub loop-i-preserved : goal.loop-i-preserved

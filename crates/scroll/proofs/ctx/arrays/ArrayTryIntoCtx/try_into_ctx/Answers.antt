@@ -1,4 +1,4 @@
-use Rattle.scroll.proofs.ArrayLemmas.{IsPartWritten-next}
+use Rattle.scroll.proofs.lemmas.arrays.ArrayLemmas.{IsPartWritten-next}
 use Rattle.scroll.proofs.ctx.arrays.ArrayTryIntoCtx.try_into_ctx.Goals as goal
 
 pub loop-i-preserved : goal.loop-i-preserved

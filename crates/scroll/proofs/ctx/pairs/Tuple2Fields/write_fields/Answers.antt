@@ -1,5 +1,5 @@
--- The second of a pair stands behind the first.
-use Rattle.scroll.specs.Callers.{Begins, grow}
+-- The second of a pair stands after the first.
+use Rattle.scroll.proofs.lemmas.callers.Cursors.{Begins, grow}
 use Rattle.scroll.proofs.ctx.pairs.Tuple2Fields.write_fields.Goals as goal
 
 pub returns : goal.returns

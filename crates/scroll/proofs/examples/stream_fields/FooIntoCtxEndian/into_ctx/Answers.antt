@@ -1,9 +1,9 @@
 use Rattle.std.proofs.Common.{rules}
 use Rattle.std.proofs.lemmas.Int.{to_z-of_z}
 use Rattle.std.specs.Int.{w64}
-use Rattle.scroll.specs.Callers.{begin, grow}
+use Rattle.scroll.proofs.lemmas.callers.Cursors.{begin, grow}
 use Rattle.scroll.specs.Numbers.{number_bytes, signed_bytes}
-use Rattle.scroll.specs.NumberLaws.{length-number_bytes, length-signed_bytes}
+use Rattle.scroll.specs.lemmas.Frames.{length-number_bytes, length-signed_bytes}
 use Rattle.scroll.proofs.examples.stream_fields.FooIntoCtxEndian.into_ctx.Goals as goal
 
 pub returns : goal.returns

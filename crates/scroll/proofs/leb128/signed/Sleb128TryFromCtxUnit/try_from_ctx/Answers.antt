@@ -1,7 +1,7 @@
 use Rattle.std.proofs.Common.{FitsSigned, rules}
 use Rattle.std.specs.Int.{w64}
 use Rattle.std.proofs.lemmas.Int.{to_z-of_z}
-use Rattle.scroll.proofs.SignedSpellingLemmas.{gives_signed_spelling}
+use Rattle.scroll.proofs.lemmas.leb128.SignedSpellingLemmas.{gives_signed_spelling}
 use Rattle.scroll.proofs.leb128.signed.Sleb128TryFromCtxUnit.try_from_ctx.Goals as goal
 
 pub invariant_of-result : goal.invariant_of-result

@@ -1,4 +1,4 @@
-use Rattle.scroll.proofs.SpellingLemmas.{gives_spelling}
+use Rattle.scroll.proofs.lemmas.leb128.SpellingLemmas.{gives_spelling}
 use Rattle.scroll.proofs.leb128.unsigned.Uleb128TryFromCtxUnit.try_from_ctx.Goals as goal
 
 pub invariant_of-result : goal.invariant_of-result

@@ -1,0 +1,111 @@
+"""What the programs of bench/run.sh printed, as rows: a row has the times of both sides in four layouts."""
+
+import csv
+import fnmatch
+import os
+
+SHIFTS = (0, 16, 32, 48)
+
+# Each set's title, in the order of the table and of the chart.
+TITLES = {
+    "numbers": "Numbers read at a cursor (gread_with)",
+    "cread": "Numbers read where there is room (cread_with)",
+    "floats": "Floats",
+    "writes": "Numbers written at a cursor (gwrite_with)",
+    "texts": "Texts up to a zero (&str)",
+    "c_strings": "C strings (CStr)",
+    "slices": "Byte slices and arrays",
+    "leb_reads": "LEB128 read (gread)",
+    "leb_writes": "LEB128 written (gwrite)",
+    "files": "An object file with DWARF",
+    "growth": "From 1 KiB to 64 MiB, per byte",
+}
+
+
+def mean(numbers):
+    numbers = list(numbers)
+    return sum(numbers) / len(numbers)
+
+
+class Row:
+    """One row: for each side the best time of its forms in each layout, in nanoseconds a step."""
+
+    def __init__(self, name_of_set, name, times):
+        self.set, self.name = name_of_set, name
+        self.ours = [min(times["ours"][form][shift] for form in times["ours"]) for shift in SHIFTS]
+        self.rust = [min(times["rust"][form][shift] for form in times["rust"]) for shift in SHIFTS]
+        self.rust_form = min(times["rust"], key=lambda form: mean(times["rust"][form].values()))
+        self.ours_ns, self.rust_ns = mean(self.ours), mean(self.rust)
+        self.ratio = self.ours_ns / self.rust_ns
+        ratios = [a / b for a, b in zip(self.ours, self.rust)]
+        self.low, self.high = min(ratios), max(ratios)
+        self.before = None
+        self.reason = ""
+
+
+def read_raw(path):
+    """The rows of a file with lines `shift,set,row,side,form,count,nanoseconds`, of which the least of each loop counts."""
+    times = {}
+    with open(path, newline="") as file:
+        for shift, name_of_set, name, side, form, _count, nanoseconds in csv.reader(file):
+            forms = times.setdefault((name_of_set, name), {"ours": {}, "rust": {}})[side]
+            best = forms.setdefault(form, {})
+            best[int(shift)] = min(float(nanoseconds), best.get(int(shift), float("inf")))
+    return [Row(name_of_set, name, forms) for (name_of_set, name), forms in times.items()]
+
+
+COLUMNS = (
+    ["set", "row", "rust_form"]
+    + [f"ours_{shift}" for shift in SHIFTS]
+    + [f"rust_{shift}" for shift in SHIFTS]
+    + ["ours_ns", "rust_ns", "ratio", "ratio_low", "ratio_high", "ratio_before"]
+)
+
+
+def write_csv(path, rows):
+    with open(path, "w", newline="") as file:
+        writer = csv.writer(file, lineterminator="\n")
+        writer.writerow(COLUMNS)
+        for row in rows:
+            numbers = row.ours + row.rust + [row.ours_ns, row.rust_ns]
+            ratios = [row.ratio, row.low, row.high] + ([row.before] if row.before else [])
+            line = [row.set, row.name, row.rust_form] + [f"{x:.4f}" for x in numbers] + [f"{x:.3f}" for x in ratios]
+            writer.writerow(line + [""] * (len(COLUMNS) - len(line)))
+
+
+def take_ratios_before(path, rows):
+    """Takes each row's ratio in the run before, where its table is there."""
+    if not os.path.exists(path):
+        return
+    with open(path, newline="") as file:
+        before = {(line["set"], line["row"]): float(line["ratio"]) for line in csv.DictReader(file)}
+    for row in rows:
+        row.before = before.get((row.set, row.name))
+
+
+def steady(rows):
+    """How many rows have a ratio before, and how many of these differ from it by less than a tenth."""
+    both = [row for row in rows if row.before]
+    return len(both), sum(abs(row.ratio / row.before - 1) < 0.1 for row in both)
+
+
+def take_reasons(path, rows):
+    """Gives each row that is over 1.00 the mark of its reason: the first line `MARK SET ROW..` that fits it.
+
+    A row of at most 1.05 that no line fits is marked `=`: as fast, as far as such a measurement tells.
+    """
+    reasons = []
+    with open(path) as file:
+        for line in file:
+            line = line.split("#")[0].strip()
+            if line:
+                reasons.append(line.split(None, 2))
+    for row in rows:
+        if row.ratio < 1.005:
+            continue
+        for mark, name_of_set, pattern in reasons:
+            if row.set == name_of_set and fnmatch.fnmatchcase(row.name.replace("[", "(").replace("]", ")"), pattern):
+                row.reason = mark
+                break
+        else:
+            row.reason = "=" if row.ratio <= 1.05 else "?"

@@ -1,0 +1,157 @@
+#!/bin/sh
+# Times loops over the proved library beside the same loops in Rust: over the crate `scroll`, std's `CStr`, and a loop in
+# gimli's form for writes of LEB128.
+#
+#     sh bench/run.sh [SET..]
+#
+# It proves the library where that is not done yet, and the loops (bench/sets), builds them as a static library, links that with the
+# loops in Rust (bench/src) four times, with all code shifted by 0, 16, 32 and 48 bytes, and runs each program twice. With no SET
+# it takes all sets, and writes docs/speed.csv, docs/speed.svg, docs/growth.svg and the table of docs/SPEED.md. With
+# names of sets it takes these, and writes nothing into the repository: it prints the table.
+#
+# It needs cargo, rt, a C compiler and Python 3. Variables:
+#
+#     SCROLL=FOLDER   the source of Rust's crate `scroll` 0.13.0, in place of the one in cargo's registry
+#     ROUNDS=N        how often a program runs each loop, of which the best time counts (200)
+#     ROOM=FOLDER     a folder that keeps what was built, for the next run
+#     JOBS=N          the jobs of each check, in place of rt's own choice
+#
+# The exit status is 0 where all was built and both sides agree on every sum and every byte that they write.
+set -u
+export PYTHONDONTWRITEBYTECODE=1
+
+top=$(CDPATH='' cd -- "$(dirname -- "$0")/.." && pwd) || exit 1
+here=$top/bench
+all='numbers cread floats writes texts c_strings slices leb_reads leb_writes files growth'
+
+fail() {
+    echo "bench: $*" >&2
+    exit 1
+}
+
+need() {
+    command -v "$1" >/dev/null || fail "$1 is not there: $2"
+}
+
+need cargo "the loops in Rust are built by it, with the crate scroll 0.13.0 from its registry, or from a folder (SCROLL=FOLDER)"
+need rt "the library and the loops over it are proved and built by the Rattle kit's command"
+need cc "the files that the set files reads are made by a C compiler"
+need python3 "the table and the charts are made by a script in Python"
+
+# Floats come into the sets as soon as the library has them.
+has_floats() {
+    grep -rqw f32 "$top/crates/scroll/src/ctx"
+}
+
+if [ $# -gt 0 ]; then
+    sets=$*
+    for set in $sets; do
+        [ -f "$here/sets/$set.rt.txt" ] || fail "$set: no such set; there are: $all"
+    done
+else
+    sets=
+    for set in $all; do
+        [ "$set" = floats ] && ! has_floats || sets="${sets:+$sets }$set"
+    done
+fi
+
+if [ -n "${ROOM:-}" ]; then
+    mkdir -p "$ROOM" && room=$(CDPATH='' cd -- "$ROOM" && pwd) || exit 1
+else
+    room=$(mktemp -d) || exit 1
+    trap 'rm -rf "$room"' EXIT
+    trap 'exit 1' HUP INT TERM
+fi
+
+# Runs a command, and shows the end of what it says where it fails.
+quietly() {
+    "$@" >"$room/said" 2>&1 || {
+        grep -v ': proved' "$room/said" | tail -n 20 | cut -c 1-200 >&2
+        fail "$*"
+    }
+}
+
+# The library, proved and built in the tree itself, and the loops over it as a static library in a workspace of their own.
+build_loops() {
+    echo "bench: the library is proved and built" >&2
+    cd "$top/crates/scroll" || exit 1
+    quietly rt lib ${JOBS:+--jobs "$JOBS"}
+    tree=$room/tree
+    loops=$tree/crates/loops
+    mkdir -p "$loops/src" "$loops/specs" && rm -rf "$tree/crates/scroll" || exit 1
+    tar -C "$top/crates" --exclude=scroll/must-fail --exclude=scroll/out/incremental -cf - scroll | tar -C "$tree/crates" -xf - || exit 1
+    cp "$top/HANDLES" "$tree/" || exit 1
+    { grep '^scroll:' "$top/crates.txt" && echo 'loops staticlib: scroll'; } >"$tree/crates.txt" || exit 1
+    rm -f "$loops"/src/*.rt
+    : >"$loops/specs/Lib.antt"
+    {
+        echo '//! Loops over the library, whose time is taken.'
+        echo '#![tactic(auto)]'
+        echo
+        for set in $sets; do
+            echo "pub mod $set;"
+            cp "$here/sets/$set.rt.txt" "$loops/src/$set.rt" || exit 1
+        done
+    } >"$loops/src/lib.rt"
+    echo "bench: the loops are proved and built" >&2
+    cd "$loops" || exit 1
+    quietly rt check ${JOBS:+--jobs "$JOBS"}
+    quietly rt lib
+}
+
+# The program with both sides, once for each layout.
+build_programs() {
+    echo "bench: cargo builds the loops in Rust, in four layouts" >&2
+    side=$room/side
+    mkdir -p "$side/src" && cp "$here"/src/*.rs "$side/src/" && cp "$here/build.rs" "$side/" || exit 1
+    if [ -n "${SCROLL:-}" ]; then
+        folder=$(cd "$top" && cd -- "$SCROLL" && pwd) || fail "SCROLL=$SCROLL is no folder"
+        crate="{ path = \"$folder\" }"
+    else
+        crate='"=0.13.0"'
+    fi
+    sed "s|@SCROLL@|$crate|" "$here/Cargo.toml.in" >"$side/Cargo.toml" || exit 1
+    cd "$side" || exit 1
+    features=$(echo "$sets" | tr ' ' ',')
+    export LOOPS="$loops/out" RUSTFLAGS='-C target-cpu=x86-64-v2' CARGO_TARGET_DIR="$side/target"
+    for shift in 0 16 32 48; do
+        export SHIFT="$shift"
+        quietly cargo build --release --features "$features"
+        cp target/release/side_by_side "side_$shift" || exit 1
+    done
+    ! cmp -s side_0 side_16 || fail 'the code is not shifted'
+}
+
+# An object file with debugging information, for the set `files`.
+make_sample() {
+    cd "$room" || exit 1
+    cp "$here/sample.c" "$here/sample.h" "$room/" || exit 1
+    flags='-g -gdwarf-5 -O2 -ffunction-sections -c sample.c -o sample.o'
+    # (gcc writes views between the lists of locations, where it is not told otherwise)
+    # shellcheck disable=SC2086 # words
+    cc -gno-variable-location-views $flags 2>"$room/said" || quietly cc $flags
+}
+
+build_loops
+build_programs
+make_sample
+
+# Twice in turn, so that no layout has a quieter time than the others.
+raw=$room/raw.csv
+: >"$raw"
+status=0
+for pass in 1 2; do
+    for shift in 0 16 32 48; do
+        echo "bench: pass $pass, code shifted by $shift bytes" >&2
+        SAMPLE=$room/sample.o "$side/side_$shift" >"$room/rows" 2>"$room/said" || status=1
+        grep '^DIFFER' "$room/said" >&2
+        sed "s/^/$shift,/" "$room/rows" >>"$raw"
+    done
+done
+[ "$status" -eq 0 ] || fail 'the two sides disagree, or a program failed'
+
+if [ $# -gt 0 ]; then
+    python3 "$here/draw.py" "$raw"
+else
+    python3 "$here/draw.py" "$raw" "$top/docs"
+fi

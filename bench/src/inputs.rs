@@ -1,0 +1,148 @@
+//! What is read and written: the same in each run.
+
+/// How many bytes most loops work on.
+pub const SIZE: usize = 1 << 16;
+
+/// Numbers that look random, and are the same in each run (xorshift).
+pub struct Random(u64);
+
+impl Random {
+    pub fn new() -> Random {
+        Random(0x1234_5678_9abc_def1)
+    }
+
+    pub fn next(&mut self) -> u64 {
+        self.0 ^= self.0 << 13;
+        self.0 ^= self.0 >> 7;
+        self.0 ^= self.0 << 17;
+        self.0
+    }
+
+    /// A number below `bound`.
+    pub fn below(&mut self, bound: u64) -> u64 {
+        (self.next() >> 16) % bound
+    }
+}
+
+/// Bytes of all values.
+pub fn bytes(len: usize) -> Vec<u8> {
+    let mut random = Random::new();
+    (0..len).map(|_| random.next() as u8).collect()
+}
+
+/// What letters a text has.
+#[derive(Clone, Copy, PartialEq)]
+pub enum Letters {
+    /// Those of ASCII alone.
+    Ascii,
+    /// One character in thirty is none of ASCII's.
+    Few,
+    /// One character in three is none of ASCII's.
+    Third,
+    /// None is of ASCII.
+    Chinese,
+}
+
+/// Adds a text of `len` bytes.
+pub fn push_text(out: &mut Vec<u8>, len: usize, letters: Letters, random: &mut Random) {
+    let end = out.len() + len;
+    while out.len() < end {
+        let left = end - out.len();
+        let other = match letters {
+            Letters::Ascii => false,
+            Letters::Few => random.below(30) == 0,
+            Letters::Third => random.below(3) == 0,
+            Letters::Chinese => true,
+        };
+        if other && left >= 3 {
+            let characters = ['é', '€', '漢', 'α'];
+            let pick = if letters == Letters::Chinese { 2 } else { random.below(4) as usize };
+            let mut place = [0; 4];
+            out.extend_from_slice(characters[pick].encode_utf8(&mut place).as_bytes());
+        } else {
+            out.push(b'a' + random.below(26) as u8);
+        }
+    }
+}
+
+/// The unsigned number's shortest text.
+pub fn push_uleb(out: &mut Vec<u8>, mut number: u64) {
+    while number >= 0x80 {
+        out.push(number as u8 | 0x80);
+        number >>= 7;
+    }
+    out.push(number as u8);
+}
+
+/// The signed number's shortest text.
+pub fn push_sleb(out: &mut Vec<u8>, mut number: i64) {
+    while !(-64..64).contains(&number) {
+        out.push(number as u8 | 0x80);
+        number >>= 7;
+    }
+    out.push(number as u8 & 0x7f);
+}
+
+/// How long the texts of numbers in LEB128 are.
+#[derive(Clone, Copy)]
+pub enum Lengths {
+    /// All of this length.
+    All(u32),
+    /// One to ten, each as often.
+    Mixed,
+    /// Nine of ten have one byte, and the others three.
+    MostlyOne,
+    /// Of a hundred 75 have one byte, 17 two, 5 three, and 3 five.
+    Real,
+}
+
+pub const LENGTHS: [(&str, Lengths); 13] = [
+    ("1 byte", Lengths::All(1)),
+    ("2 bytes", Lengths::All(2)),
+    ("3 bytes", Lengths::All(3)),
+    ("4 bytes", Lengths::All(4)),
+    ("5 bytes", Lengths::All(5)),
+    ("6 bytes", Lengths::All(6)),
+    ("7 bytes", Lengths::All(7)),
+    ("8 bytes", Lengths::All(8)),
+    ("9 bytes", Lengths::All(9)),
+    ("10 bytes", Lengths::All(10)),
+    ("mixed 1 to 10 bytes", Lengths::Mixed),
+    ("9 of 10 of 1 byte", Lengths::MostlyOne),
+    ("real mix", Lengths::Real),
+];
+
+impl Lengths {
+    fn pick(self, random: &mut Random) -> u32 {
+        match self {
+            Lengths::All(len) => len,
+            Lengths::Mixed => 1 + random.below(10) as u32,
+            Lengths::MostlyOne => {
+                if random.below(10) == 0 {
+                    3
+                } else {
+                    1
+                }
+            }
+            Lengths::Real => match random.below(100) {
+                0..75 => 1,
+                75..92 => 2,
+                92..97 => 3,
+                _ => 5,
+            },
+        }
+    }
+
+    /// A number whose shortest text has such a length.
+    pub fn unsigned(self, random: &mut Random) -> u64 {
+        let bits = (7 * self.pick(random)).min(64);
+        (random.next() | 1 << 63) >> (64 - bits)
+    }
+
+    /// The same, of either sign.
+    pub fn signed(self, random: &mut Random) -> i64 {
+        let bits = (7 * self.pick(random)).min(64);
+        let positive = ((random.next() | 1 << 62) & !(1 << 63)) >> (64 - bits);
+        if random.below(2) == 0 { positive as i64 } else { !positive as i64 }
+    }
+}

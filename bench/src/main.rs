@@ -1,0 +1,97 @@
+//! Times loops over the proved library and the same loops in Rust, one row after the other, and prints for each form of a
+//! row its best time: `set,row,side,form,count,nanoseconds`, with the nanoseconds of one of the `count` steps.
+//!
+//! Where the forms of a row disagree on what they return or write, it says so, and the exit status is 1.
+
+// (a set alone uses a part of these)
+#[allow(dead_code)]
+mod inputs;
+#[allow(dead_code)]
+mod timing;
+
+#[cfg(feature = "c_strings")]
+mod c_strings;
+#[cfg(feature = "cread")]
+mod cread;
+#[cfg(feature = "files")]
+mod dwarf;
+#[cfg(feature = "files")]
+mod files;
+#[cfg(feature = "floats")]
+mod floats;
+#[cfg(any(feature = "files", feature = "leb_writes"))]
+mod gimli_form;
+#[cfg(feature = "growth")]
+mod growth;
+#[cfg(feature = "leb_reads")]
+mod leb_reads;
+#[cfg(feature = "leb_writes")]
+mod leb_writes;
+#[cfg(feature = "numbers")]
+mod numbers;
+#[cfg(feature = "slices")]
+mod slices;
+#[cfg(feature = "texts")]
+mod texts;
+#[cfg(feature = "writes")]
+mod writes;
+
+// All code comes after these bytes, so it is shifted by them.
+std::arch::global_asm!(
+    ".pushsection .text.code_shift,\"ax\",@progbits",
+    ".globl code_shift",
+    "code_shift:",
+    concat!(".skip ", env!("SHIFT"), ", 0x90"),
+    ".popsection"
+);
+
+unsafe extern "C" {
+    fn code_shift();
+}
+
+// The loops over the library ask for no memory.
+#[unsafe(no_mangle)]
+extern "C" fn rattle_alloc() {
+    std::process::abort()
+}
+
+#[unsafe(no_mangle)]
+extern "C" fn rattle_dealloc() {
+    std::process::abort()
+}
+
+#[unsafe(no_mangle)]
+extern "C" fn rattle_realloc() {
+    std::process::abort()
+}
+
+fn main() {
+    // (a linker leaves out what nothing names)
+    std::hint::black_box(code_shift as *const ());
+    let mut bench = timing::Bench::from_env();
+    #[cfg(feature = "numbers")]
+    numbers::all(&mut bench);
+    #[cfg(feature = "cread")]
+    cread::all(&mut bench);
+    #[cfg(feature = "floats")]
+    floats::all(&mut bench);
+    #[cfg(feature = "writes")]
+    writes::all(&mut bench);
+    #[cfg(feature = "texts")]
+    texts::all(&mut bench);
+    #[cfg(feature = "c_strings")]
+    c_strings::all(&mut bench);
+    #[cfg(feature = "slices")]
+    slices::all(&mut bench);
+    #[cfg(feature = "leb_reads")]
+    leb_reads::all(&mut bench);
+    #[cfg(feature = "leb_writes")]
+    leb_writes::all(&mut bench);
+    #[cfg(feature = "files")]
+    files::all(&mut bench);
+    #[cfg(feature = "growth")]
+    growth::all(&mut bench);
+    if bench.differs() {
+        std::process::exit(1);
+    }
+}

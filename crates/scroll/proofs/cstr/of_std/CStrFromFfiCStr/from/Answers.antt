@@ -1,0 +1,5 @@
+use Rattle.scroll.proofs.lemmas.texts.StdCStrings.{IsCString-of_std}
+use Rattle.scroll.proofs.cstr.of_std.CStrFromFfiCStr.from.Goals as goal
+
+pub invariant_of-result : goal.invariant_of-result
+invariant_of-result c = record { one_zero = IsCString-of_std _ c.to_bytes_with_nul.ensures.ended }

@@ -1,0 +1,5 @@
+use Rattle.scroll.proofs.lemmas.texts.StdCStrings.{IsCString-to_std}
+use Rattle.scroll.proofs.cstr.of_std.FfiCStrFromCStr.from.Goals as goal
+
+pub from_bytes_with_nul_unchecked-requires : goal.from_bytes_with_nul_unchecked-requires
+from_bytes_with_nul_unchecked-requires c = IsCString-to_std _ c.args.s.one_zero

@@ -1,0 +1,6 @@
+pub mod ArrayLeaves
+pub mod ArrayLemmas
+pub mod ArrayViews
+pub mod BulkLemmas
+pub mod CallLemmas
+pub mod SlotLemmas

@@ -1,0 +1,7 @@
+pub mod ByteArrays
+pub mod Cursors
+pub mod Leaves
+pub mod OneAnswer
+pub mod Records
+pub mod RoundTrips
+pub mod SpanLemmas

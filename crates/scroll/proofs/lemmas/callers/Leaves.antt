@@ -1,0 +1,227 @@
+-- From a call to leaves. What is written is a list of leaves, each of which is written whole or not at all: these lemmas
+-- say which leaves a type has, that a write at a place is a write of them there, and that writes apart may be exchanged.
+use Rattle.std.proofs.Common.{◌≡◌, ℕ, ℤ, ◌+◌, ◌-◌, ◌≤◌, ◌<◌, ◌++◌, List, [], ◌∷◌, length, drop, map, arith, refl, sym, ◌∙◌, ap, subst, inl, inr, Some, Result, Ok, Err, IfOk, IfErr, FitsSigned, to_z, of_z}
+use Rattle.std.proofs.lemmas.Int.{to_z-of_z}
+use Rattle.std.specs.Borrow.{Bor}
+use Rattle.std.specs.Float.{Format}
+use Rattle.std.specs.Int.{Width}
+use Rattle.std.specs.List.{sum_by, flat_map}
+use Rattle.std.specs.Prelude.{to_bits}
+use Rattle.scroll.proofs.lemmas.arrays.ArrayLeaves.{leaves-of-array}
+use Rattle.scroll.proofs.lemmas.history.LeafLemmas.{pieces-fits, pieces-misfit, pieces-past, left_over-fits, left_over-misfit, left_over-drop, refusal-inside, refusal-past, seen-rest, front-piece}
+use Rattle.scroll.proofs.lemmas.history.SeenLemmas.{length-seen, seen-append, seen-nil}
+use Rattle.scroll.proofs.lemmas.history.StandLemmas.{seen-exchange, pieces-behind}
+use Rattle.scroll.specs.Arrays.{WritesArray, LeavesArray}
+use Rattle.scroll.specs.Bytes.{WritesFront, LeavesShort}
+use Rattle.scroll.specs.Errors.{IsBadOffset}
+use Rattle.scroll.specs.Floats.{float_width, float_bytes, WritesFloat}
+use Rattle.scroll.specs.History.{seen}
+use Rattle.scroll.specs.Laws.{Apart, WritesNested, LeavesNested, leaves_nested}
+use Rattle.scroll.specs.Leaves.{pieces, AnswersLeaves, WritesLeaves, HasLeaves}
+use Rattle.scroll.specs.Leb128.{Counted}
+use Rattle.scroll.specs.LebWrites.{uleb_text, sleb_text, WritesUleb, WritesSleb}
+use Rattle.scroll.specs.Numbers.{number_bytes, signed_bytes, WritesNumber, WritesSigned}
+use Rattle.scroll.specs.Spelling.{unsigned_form}
+use Rattle.scroll.specs.Writes.{WritesAt, RefusesWriteAt, AnswersWrite}
+use Rattle.scroll.specs.declared.endian.Endian.{Endian}
+use Rattle.scroll.specs.declared.error.Error.{Error}
+use Rattle.scroll.specs.declared.error.Error.TheVariants.{TooBig}
+use Rattle.scroll.specs.lemmas.Frames.{length-number_bytes, length-signed_bytes, length-spelling}
+
+-- WHICH LEAVES A TYPE HAS
+-- bytes that are written whole or not at all are one leaf: so a type of one's own with `WritesFront` and `LeavesShort`
+pub front-leaf-by : {V : Type 0} (w : V → ℕ) (bytes : V → List ℕ) → ((x : V) → length (bytes x) ≡ w x) → HasLeaves (λ x. bytes x ∷ []) (λ x. WritesFront (w x) (bytes x)) (λ x. LeavesShort (w x))
+front-leaf-by w bytes len = record {
+  written = λ x old new n h.
+      let t = bytes x in
+      let inside : 0 + length (bytes x) ≤ length old = omega (arith, len x, h.room) in
+      record {
+        after = h.after ∙ ap (λ m. bytes x ++ drop m old) (sym (len x)) ∙ front-piece (bytes x) old (omega (arith, inside))
+            ∙ ap (seen old) (sym (pieces-fits (length old) 0 (bytes x) [] inside));
+        answer = (
+          refusal-inside (length old) 0 (bytes x ∷ []) (omega arith) ∙ left_over-fits (length old) 0 (bytes x) [] inside,
+          h.size ∙ sym (len x) ∙ omega arith,
+        );
+      };
+  refused = λ x old new e h.
+      let outside : length old < 0 + length (bytes x) = omega (arith, len x, h.short) in
+      let all : length old - 0 ≡ length old = omega arith in
+      record {
+        after = h.same ∙ sym (seen-nil old) ∙ ap (seen old) (sym (pieces-misfit (length old) 0 (bytes x) [] outside));
+        answer = refusal-inside (length old) 0 (bytes x ∷ []) (omega arith)
+            ∙ left_over-misfit (length old) 0 (bytes x) [] outside
+            ∙ ap (λ m. Some (TooBig (length (bytes x)) m)) all
+            ∙ ap (λ m. Some (TooBig m (length old))) (len x) ∙ ap Some (sym h.error);
+      };
+}
+
+-- the same where each value has as many bytes
+pub front-leaf : {V : Type 0} (w : ℕ) (bytes : V → List ℕ) → ((x : V) → length (bytes x) ≡ w) → HasLeaves (λ x. bytes x ∷ []) (λ x. WritesFront w (bytes x)) (λ _. LeavesShort w)
+front-leaf w = front-leaf-by (λ _. w)
+
+-- bytes that are written as they are: a slice, a text, a C string with its zero
+pub bytes-leaves : {V : Type 0} (bytes : V → List ℕ) → HasLeaves (λ x. bytes x ∷ []) (λ x. WritesFront (length (bytes x)) (bytes x)) (λ x. LeavesShort (length (bytes x)))
+bytes-leaves bytes = front-leaf-by (λ x. length (bytes x)) bytes (λ _. refl)
+
+-- a number, without a sign or with one
+pub number-leaves : (w : ℕ) (order : Endian) → HasLeaves (λ x. number_bytes order w x ∷ []) (WritesNumber w order) (λ _. LeavesShort w)
+number-leaves w order = front-leaf w (number_bytes order w) (length-number_bytes order w)
+
+pub signed-leaves : (w : ℕ) (order : Endian) → HasLeaves (λ x. signed_bytes order w x ∷ []) (WritesSigned w order) (λ _. LeavesShort w)
+signed-leaves w order = front-leaf w (signed_bytes order w) (length-signed_bytes order w)
+
+-- a float, by its bits
+pub float-leaves : (f : Format) (order : Endian) → HasLeaves (λ x. float_bytes f order x ∷ []) (WritesFloat f order) (λ _. LeavesShort (float_width f))
+float-leaves f order = front-leaf (float_width f) (float_bytes f order) (λ x. length-number_bytes order (float_width f) (to_bits f x))
+
+-- a number in LEB128
+pub uleb-leaves : HasLeaves (λ (x : Counted ℕ). uleb_text x ∷ []) WritesUleb (λ x. LeavesShort x.count)
+uleb-leaves =
+    let one = λ (x : Counted ℕ). front-leaf x.count (λ (_ : ℕ). uleb_text x) (λ _. length-spelling x.value x.count) in
+    record { written = λ x. (one x).written 0; refused = λ x. (one x).refused 0 }
+
+pub sleb-leaves : HasLeaves (λ (x : Counted ℤ). sleb_text x ∷ []) WritesSleb (λ x. LeavesShort x.count)
+sleb-leaves =
+    let one = λ (x : Counted ℤ). front-leaf x.count (λ (_ : ℕ). sleb_text x) (λ _. length-spelling (unsigned_form x.value x.count) x.count) in
+    record { written = λ x. (one x).written 0; refused = λ x. (one x).refused 0 }
+
+-- an array has those of its elements, in order
+pub array-leaves : {V : Type 0} (leaves : V → List (List ℕ)) (writes : V → List ℕ → List ℕ → ℕ → Type 0) (refuses : V → List ℕ → List ℕ → Error → Type 0) → HasLeaves leaves writes refuses → HasLeaves (flat_map leaves) (WritesArray writes) (LeavesArray writes refuses)
+array-leaves = leaves-of-array
+
+-- so do arrays of arrays, nested to any depth
+pub nested-leaves : {V : Type 0} (leaves : V → List (List ℕ)) (writes : V → List ℕ → List ℕ → ℕ → Type 0) (refuses : V → List ℕ → List ℕ → Error → Type 0) → HasLeaves leaves writes refuses → (counts : List ℕ) → HasLeaves (leaves_nested leaves counts) (WritesNested writes counts) (LeavesNested writes refuses counts)
+nested-leaves leaves writes refuses has [] = has
+nested-leaves leaves writes refuses has (count ∷ counts) =
+    array-leaves (leaves_nested leaves counts) (WritesNested writes counts) (LeavesNested writes refuses counts) (nested-leaves leaves writes refuses has counts)
+
+-- a refusal that is told under a condition which holds, as an array's is in generic code
+pub leaves-where : {V : Type 0} (leaves : V → List (List ℕ)) (writes : V → List ℕ → List ℕ → ℕ → Type 0) (refuses : V → List ℕ → List ℕ → Error → Type 0) (P : Type 0) → P → HasLeaves leaves writes refuses → HasLeaves leaves writes (λ v old new e. P → refuses v old new e)
+leaves-where leaves writes refuses P p has = record {
+  written = has.written;
+  refused = λ v old new e h. has.refused v old new e (h p);
+}
+
+-- A WRITE AT A PLACE
+-- a write at a place is a write of the leaves there, whichever its answer
+pub at-leaves : {V : Type 0} (leaves : V → List (List ℕ)) (writes : V → List ℕ → List ℕ → ℕ → Type 0) (refuses : V → List ℕ → List ℕ → Error → Type 0) → HasLeaves leaves writes refuses → (x : V) (old : List ℕ) (o : ℕ) (new : List ℕ) (r : Result ℕ Error) → AnswersWrite (writes x) (refuses x) IsBadOffset old o new r → WritesLeaves old o (leaves x) new r
+at-leaves leaves writes refuses has x old o new (Ok n) w =
+    let part = has.written x (drop o old) (drop o new) n w.after in
+    record {
+      after = seen-rest o old new (leaves x) w.inside w.len w.before part.after;
+      answer = (
+        refusal-inside (length old) o (leaves x) w.inside ∙ left_over-drop old o (leaves x) w.inside ∙ part.answer.0,
+        part.answer.1,
+      );
+    }
+at-leaves leaves writes refuses has x old o new (Err e) (inl w) =
+    record {
+      after = w.same ∙ sym (seen-nil old) ∙ ap (seen old) (sym (pieces-past (length old) o (leaves x) w.past));
+      answer = refusal-past (length old) o (leaves x) w.past ∙ ap Some (sym w.error);
+    }
+at-leaves leaves writes refuses has x old o new (Err e) (inr w) =
+    let part = has.refused x (drop o old) (drop o new) e w.after in
+    record {
+      after = seen-rest o old new (leaves x) w.inside w.len w.before part.after;
+      answer = refusal-inside (length old) o (leaves x) w.inside ∙ left_over-drop old o (leaves x) w.inside ∙ part.answer;
+    }
+
+-- the same of a call, by its clauses `wrote` and `refused`
+pub call-leaves : {V : Type 0} (leaves : V → List (List ℕ)) (writes : V → List ℕ → List ℕ → ℕ → Type 0) (refuses : V → List ℕ → List ℕ → Error → Type 0) → HasLeaves leaves writes refuses → (x : V) (old : List ℕ) (place : ℕ) (new : List ℕ) (r : Result ℕ Error) → IfOk r (WritesAt (writes x) old place new) → IfErr r (RefusesWriteAt (refuses x) IsBadOffset old place new) → WritesLeaves old place (leaves x) new r
+call-leaves leaves writes refuses has x old place new (Ok n) w l = at-leaves leaves writes refuses has x old place new (Ok n) w
+call-leaves leaves writes refuses has x old place new (Err e) w l = at-leaves leaves writes refuses has x old place new (Err e) l
+
+-- and of one that succeeded, as behind a `?`
+pub wrote-leaves : {V : Type 0} {leaves : V → List (List ℕ)} {writes : V → List ℕ → List ℕ → ℕ → Type 0} {refuses : V → List ℕ → List ℕ → Error → Type 0} → HasLeaves leaves writes refuses → (x : V) {old : List ℕ} {place : ℕ} {new : List ℕ} {n : ℕ} → WritesAt (writes x) old place new n → WritesLeaves old place (leaves x) new (Ok n)
+wrote-leaves {V} {leaves} {writes} {refuses} has x {old} {place} {new} {n} w = at-leaves leaves writes refuses has x old place new (Ok n) w
+
+-- a number that is written at a place
+pub number-leaf : (w : ℕ) (order : Endian) (x : ℕ) (old : List ℕ) (o : ℕ) (new : List ℕ) (r : Result ℕ Error) → AnswersWrite (WritesNumber w order x) (LeavesShort w) IsBadOffset old o new r → WritesLeaves old o (number_bytes order w x ∷ []) new r
+number-leaf w order x old o new r h = at-leaves _ _ _ (number-leaves w order) x old o new r h
+
+-- a signed number that is written at a place, where it is passed in its bits
+pub signed-leaf : (w : ℕ) (b : Width) (order : Endian) (x : ℤ) (old : List ℕ) (o : ℕ) (new : List ℕ) (r : Result ℕ Error) → FitsSigned b x → AnswersWrite (WritesSigned w order (to_z b (of_z b x))) (LeavesShort w) IsBadOffset old o new r → WritesLeaves old o (signed_bytes order w x ∷ []) new r
+signed-leaf w b order x old o new r fits h =
+    at-leaves _ _ _ (signed-leaves w order) x old o new r (rw (to_z-of_z b x fits) at h)
+
+-- bytes that are written at a place
+pub bytes-leaf : (bytes old : List ℕ) (o : ℕ) (new : List ℕ) (r : Result ℕ Error) → AnswersWrite (WritesFront (length bytes) bytes) (LeavesShort (length bytes)) IsBadOffset old o new r → WritesLeaves old o (bytes ∷ []) new r
+bytes-leaf bytes old o new r h = at-leaves _ _ _ (bytes-leaves (λ b. b)) bytes old o new r h
+
+-- a number in LEB128 that is written at a place
+pub uleb-leaf : (x : Counted ℕ) (old : List ℕ) (o : ℕ) (new : List ℕ) (r : Result ℕ Error) → AnswersWrite (WritesUleb x) (LeavesShort x.count) IsBadOffset old o new r
+    → WritesLeaves old o (uleb_text x ∷ []) new r
+uleb-leaf = at-leaves (λ (x : Counted ℕ). uleb_text x ∷ []) WritesUleb (λ x. LeavesShort x.count) uleb-leaves
+
+pub sleb-leaf : (x : Counted ℤ) (old : List ℕ) (o : ℕ) (new : List ℕ) (r : Result ℕ Error) → AnswersWrite (WritesSleb x) (LeavesShort x.count) IsBadOffset old o new r
+    → WritesLeaves old o (sleb_text x ∷ []) new r
+sleb-leaf = at-leaves (λ (x : Counted ℤ). sleb_text x ∷ []) WritesSleb (λ x. LeavesShort x.count) sleb-leaves
+
+-- one leaf for each element
+one_each : {V : Type 0} (f : V → List ℕ) (xs : List V) → flat_map (λ x. f x ∷ []) xs ≡ map f xs
+one_each f [] = refl
+one_each f (x ∷ xs) = ap (λ ls. f x ∷ ls) (one_each f xs)
+
+-- an array of numbers that is written at a place, where it fits in memory
+pub numbers-leaves : {P : Type 0} (w : ℕ) (order : Endian) (xs : List ℕ) (old : List ℕ) (o : ℕ) (new : List ℕ) (r : Result ℕ Error) → AnswersWrite (WritesArray (WritesNumber w order) xs) (λ old new e. P → LeavesArray (WritesNumber w order) (λ _. LeavesShort w) xs old new e) IsBadOffset old o new r → P → WritesLeaves old o (map (number_bytes order w) xs) new r
+numbers-leaves {P} w order xs old o new r h p =
+    subst (λ ls. WritesLeaves old o ls new r) (one_each (number_bytes order w) xs)
+    (at-leaves _ _ _ (leaves-where _ _ _ P p (array-leaves _ _ _ (number-leaves w order))) xs old o new r h)
+
+-- an array of slices that is written at a place, where it fits in memory
+pub slices-leaves : {P : Type 0} (xs : List (Bor (List ℕ))) (old : List ℕ) (o : ℕ) (new : List ℕ) (r : Result ℕ Error) → AnswersWrite (WritesArray (λ x. WritesFront (length x.now) x.now) xs) (λ old new e. P → LeavesArray (λ x. WritesFront (length x.now) x.now) (λ x. LeavesShort (length x.now)) xs old new e) IsBadOffset old o new r → P → WritesLeaves old o (flat_map (λ x. x.now ∷ []) xs) new r
+slices-leaves {P} xs old o new r h p =
+    at-leaves _ _ _ (leaves-where _ _ _ P p (array-leaves _ _ _ (bytes-leaves (λ x. x.now)))) xs old o new r h
+
+-- WRITES IN EITHER ORDER
+-- leaves that end where others begin, or before, are apart from them
+pub apart-behind : (len place place' : ℕ) (leaves leaves' : List (List ℕ)) → place + sum_by length leaves ≤ place' → Apart (pieces len place leaves) (pieces len place' leaves')
+apart-behind = pieces-behind
+
+pub apart-before : (len place place' : ℕ) (leaves leaves' : List (List ℕ)) → place' + sum_by length leaves' ≤ place → Apart (pieces len place leaves) (pieces len place' leaves')
+apart-before len place place' leaves leaves' h i a b = apart-behind len place' place leaves' leaves h i b a
+
+-- two writes that are apart may be exchanged
+pub leaves-exchange : (old mid new : List ℕ) (place place' : ℕ) (leaves leaves' : List (List ℕ)) (r r' : Result ℕ Error) → Apart (pieces (length old) place leaves) (pieces (length old) place' leaves') → WritesLeaves old place leaves mid r → WritesLeaves mid place' leaves' new r' → (mid' : List ℕ) × WritesLeaves old place' leaves' mid' r' × WritesLeaves mid' place leaves new r
+leaves-exchange old mid new o o' ls ls' r r' apart w w' =
+    let second : WritesLeaves (seen old (pieces (length old) o ls)) o' ls' new r' = subst (λ x. WritesLeaves x o' ls' new r') w.after w' in
+    let len = length-seen old (pieces (length old) o ls) in
+    let len' = length-seen old (pieces (length old) o' ls') in (
+      seen old (pieces (length old) o' ls'),
+      record {
+        after = refl;
+        answer = subst (λ n. AnswersLeaves n o' ls' r') len second.answer;
+      },
+      record {
+        after = second.after ∙ ap (λ n. seen (seen old (pieces (length old) o ls)) (pieces n o' ls')) len
+            ∙ seen-append old (pieces (length old) o ls) (pieces (length old) o' ls')
+            ∙ seen-exchange old (pieces (length old) o ls) (pieces (length old) o' ls') apart
+            ∙ sym (seen-append old (pieces (length old) o' ls') (pieces (length old) o ls))
+            ∙ ap (λ n. seen (seen old (pieces (length old) o' ls')) (pieces n o ls)) (sym len');
+        answer = subst (λ n. AnswersLeaves n o ls r) (sym len') w.answer;
+      },
+    )
+
+-- a write of leaves has one outcome: what it leaves, and its answer
+one-answer : (len place : ℕ) (leaves : List (List ℕ)) (r q : Result ℕ Error) → AnswersLeaves len place leaves r → AnswersLeaves len place leaves q → r ≡ q
+one-answer len place leaves (Ok n) (Ok m) a b = ap Ok (a.1 ∙ sym b.1)
+one-answer len place leaves (Ok n) (Err e) a b = let wrong = sym a.0 ∙ b in absurd (cc wrong)
+one-answer len place leaves (Err e) (Ok n) a b = let wrong = sym b.0 ∙ a in absurd (cc wrong)
+one-answer len place leaves (Err e) (Err d) a b =
+    let some : Some e ≡ Some d = sym a ∙ b in
+    let same : e ≡ d = cc some in
+    ap Err same
+
+pub one-outcome : (old : List ℕ) (place : ℕ) (leaves : List (List ℕ)) (new new' : List ℕ) (r r' : Result ℕ Error) → WritesLeaves old place leaves new r → WritesLeaves old place leaves new' r' → (new ≡ new') × (r ≡ r')
+one-outcome old place leaves new new' r r' w w' = (
+  w.after ∙ sym w'.after,
+  one-answer (length old) place leaves r r' w.answer w'.answer,
+)
+
+-- two writes that are apart leave the same bytes in either order, and have the same answers
+pub either-order : {old mid new mid' new' : List ℕ} {place place' : ℕ} {leaves leaves' : List (List ℕ)} {r r' q q' : Result ℕ Error} → Apart (pieces (length old) place leaves) (pieces (length old) place' leaves') → WritesLeaves old place leaves mid r → WritesLeaves mid place' leaves' new r' → WritesLeaves old place' leaves' mid' q' → WritesLeaves mid' place leaves new' q → (new ≡ new') × (r ≡ q) × (r' ≡ q')
+either-order {old} {mid} {new} {mid'} {new'} {place} {place'} {leaves} {leaves'} {r} {r'} {q} {q'} apart w w' v' v =
+    let turned = leaves-exchange old mid new place place' leaves leaves' r r' apart w w' in
+    let first = one-outcome old place' leaves' turned.0 mid' r' q' turned.1 v' in
+    let second = one-outcome mid' place leaves new new' r q (subst (λ m. WritesLeaves m place leaves new r) first.0 turned.2) v in
+    (second.0, second.1, first.1)

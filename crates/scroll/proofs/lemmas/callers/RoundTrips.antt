@@ -1,0 +1,243 @@
+-- Lemmas for callers: what was read is written back, and what was written is read again.
+use Rattle.std.proofs.Common.{◌≡◌, ◌≢◌, ℕ, ℤ, pos, neg_ℤ, nat_abs, ◌+ℤ◌, ◌-ℤ◌, ◌*ℤ◌, ◌≤ℤ◌, ◌<ℤ◌, zero, suc, ◌+◌, ◌-◌, ◌*◌, ◌/◌, ◌%◌, ◌^◌, ◌<◌, ◌≤◌, ◌++◌, ◌==◌, true, List, [], ◌∷◌, length, take, drop, get_or, slice_index, Fits, w8, refl, sym, ap, subst, ◌∙◌, inl, inr, arith, IsUtf8, append_assoc, length-append, length-take, length-drop, get_or-take}
+use Rattle.std.proofs.Math.Nat.{add_comm, add-mul, add_assoc, add-mul-div_right, add-mul-mod_self_right, div-add-mod', mod-eq_of_lt, mod-lt, mul-add-mod_self_right, mul-le-mul_right, mul_assoc, mul_comm, one-le-pow, pow-suc}
+use Rattle.std.proofs.Math.Seq.{take-add}
+use Rattle.std.proofs.lemmas.Bool.{cases_lt}
+use Rattle.std.proofs.lemmas.Grind.{common_steps, flat_map-append, same_number_lists}
+use Rattle.std.proofs.lemmas.Int.{ints}
+use Rattle.std.proofs.lemmas.List.{append-nil, drop-drop, drop_at, take_at, take_all, take_more, get_or_append_left, length-take-le}
+use Rattle.std.proofs.lemmas.List.Elements.{All-get_or, All-head, All-tail}
+use Rattle.std.proofs.lemmas.List.FromFn.{get_or-map-range_with_len}
+use Rattle.std.proofs.lemmas.List.Sums.{passes_at_first}
+use Rattle.std.proofs.lemmas.Nat.{div-mul-add, pow-add}
+use Rattle.std.specs.List.{All, flat_map}
+use Rattle.std.specs.Prelude.{int_lt, nat_lt, if◌then◌else◌}
+use Rattle.scroll.specs.Bytes.{sum_below}
+use Rattle.scroll.proofs.lemmas.callers.Cursors.{Begins, grow, byte-bound, digits-bound, number-bound, number-front}
+use Rattle.scroll.specs.lemmas.Frames.{length-number_bytes}
+use Rattle.scroll.specs.Numbers.{number, number_bytes, signed_number, signed_bytes}
+use Rattle.scroll.proofs.lemmas.numbers.NumberLemmas.{complement-back}
+use Rattle.scroll.specs.Reads.{ReadsAt, ReadsAll}
+use Rattle.scroll.proofs.lemmas.numbers.SumLemmas.{sum_below-same, sum_below-backwards}
+use Rattle.scroll.specs.Texts.{first_place, ReadsText}
+use Rattle.scroll.specs.declared.ctx.str_ctx.StrCtx.TheVariants.{Required}
+use Rattle.scroll.specs.declared.endian.Endian.{Endian}
+use Rattle.scroll.specs.declared.endian.Endian.TheVariants.{Little, Big}
+
+-- the two low digits of n, to the bases c and then m
+mod-split : (n : ℕ) {m c : ℕ} → zero < m → zero < c → n % (m * c) ≡ (n / c % m) * c + n % c
+mod-split n {m} {c} hm hc =
+    let a = mod-lt (n / c) hm in
+    let b = mod-lt n hc in
+    let top : (n / c % m + 1) * c ≤ m * c = mul-le-mul_right c (omega arith) in
+    let expand : (n / c % m + 1) * c ≡ n / c % m * c + 1 * c = add-mul (n / c % m) 1 c in
+    let split : n ≡ n / c / m * (m * c) + (n / c % m * c + n % c) =
+    sym (div-add-mod' n c)
+    ∙ ap (λ (x : ℕ). x * c + n % c) (sym (div-add-mod' (n / c) m))
+    ∙ ap (λ (x : ℕ). x + n % c) (add-mul (n / c / m * m) (n / c % m) c ∙ ap (λ (x : ℕ). x + n / c % m * c) (mul_assoc (n / c / m) m c))
+    ∙ add_assoc (n / c / m * (m * c)) (n / c % m * c) (n % c) in
+    ap (λ (x : ℕ). x % (m * c)) split ∙ mul-add-mod_self_right (n / c / m) (m * c) (n / c % m * c + n % c) ∙ mod-eq_of_lt (omega arith)
+
+-- a power of 256 is above zero
+pow_positive : (n : ℕ) → zero < 256 ^ n
+pow_positive n = let h = one-le-pow n 256 (omega arith) in omega arith
+
+-- the digits of x, each times its power
+digits : (w x : ℕ) → sum_below (λ i. x / 256 ^ i % 256 * 256 ^ i) w ≡ x % 256 ^ w
+digits zero x = omega arith
+digits (suc w) x =
+    let before = digits w x in
+    let split = mod-split x {m = 256} {c = 256 ^ w} (omega arith) (pow_positive w) in
+    let power : 256 ^ suc w ≡ 256 * 256 ^ w = pow-suc 256 w ∙ mul_comm (256 ^ w) 256 in
+    rw (power, split, before) (omega arith)
+
+-- the number in the bytes of x
+number-number_bytes : (order : Endian) (w x : ℕ) → x < 256 ^ w → number order w (number_bytes order w x) ≡ x
+number-number_bytes Little w x h =
+    sum_below-same _ _ w (λ i l. ap (λ b. b * 256 ^ i) (get_or-map-range_with_len (λ j. x / 256 ^ j % 256) 0 w i i 0 l (omega arith)))
+    ∙ digits w x ∙ mod-eq_of_lt h
+number-number_bytes Big w x h =
+    sum_below-same _ _ w
+    (λ i l. ap (λ b. b * 256 ^ (w - 1 - i)) (get_or-map-range_with_len (λ j. x / 256 ^ (w - 1 - j) % 256) 0 w i i 0 l (omega arith)))
+    ∙ sym (sum_below-backwards (λ i. x / 256 ^ i % 256 * 256 ^ i) w) ∙ digits w x ∙ mod-eq_of_lt h
+
+-- a list that begins with the bytes of x begins with that number
+pub number-begins : (order : Endian) (w x : ℕ) (rest : List ℕ) → x < 256 ^ w → number order w (number_bytes order w x ++ rest) ≡ x
+number-begins order w x rest h =
+    let len = length-number_bytes order w x in
+    number-front order w (number_bytes order w x ++ rest) (number_bytes order w x)
+    (λ i l. get_or_append_left (number_bytes order w x) rest 0 i (omega (arith, l, len)))
+    ∙ number-number_bytes order w x h
+
+shuffle : (a p q : ℕ) → a * (p * 256 * q) ≡ a * p * 256 * q
+shuffle a p q = omega arith
+
+-- a digit of a sum of digits to the base 256, each times its power
+digit-at : (d : ℕ → ℕ) → ((i : ℕ) → d i < 256) → (w i : ℕ) → i < w → sum_below (λ j. d j * 256 ^ j) w / 256 ^ i % 256 ≡ d i
+digit-at d h zero i l = absurd (omega (arith, l))
+digit-at d h (suc w) i l =
+    let below : ℕ = sum_below (λ j. d j * 256 ^ j) w in
+    elim (cases_lt i w) as (λ _. (sum_below (λ j. d j * 256 ^ j) w + d w * 256 ^ w) / 256 ^ i % 256 ≡ d i) [
+      | inl inside ↦
+          let k : ℕ = w - 1 - i in
+          let split : 256 ^ w ≡ 256 ^ k * 256 * 256 ^ i =
+          ap (λ n. 256 ^ n) (omega (arith, inside)) ∙ pow-add 256 (suc k) i ∙ ap (λ p. p * 256 ^ i) (pow-suc 256 k) in
+          let whole : d w * 256 ^ w ≡ d w * 256 ^ k * 256 * 256 ^ i = ap (λ p. d w * p) split ∙ shuffle (d w) (256 ^ k) (256 ^ i) in
+          ap (λ n. (below + n) / 256 ^ i % 256) whole
+          ∙ ap (λ n. n % 256) (add-mul-div_right below (d w * 256 ^ k * 256) (pow_positive i))
+          ∙ add-mul-mod_self_right (below / 256 ^ i) (d w * 256 ^ k) 256
+          ∙ digit-at d h w i inside
+      | inr top ↦
+          let same : i ≡ w = omega (arith, l, top) in
+          ap (λ j. (below + d w * 256 ^ w) / 256 ^ j % 256) same
+          ∙ ap (λ n. n / 256 ^ w % 256) (add_comm below (d w * 256 ^ w))
+          ∙ ap (λ n. n % 256) (div-mul-add (d w) (256 ^ w) below (digits-bound d h w))
+          ∙ mod-eq_of_lt (h w) ∙ ap d (sym same)
+    ]
+
+-- the bytes of the number that stands at a place are those that stand there
+pub number-back : (order : Endian) (w place : ℕ) (s : List ℕ) → ((i : ℕ) → Fits w8 (slice_index s i)) → place + w ≤ length s → number_bytes order w (number order w (drop place s)) ≡ take w (drop place s)
+number-back Little w place s h room =
+    let t = drop place s in
+    let len : length (take w t) ≡ w = length-take-le w t (omega (arith, room, length-drop place s)) in
+    same_number_lists (number_bytes Little w (number Little w t)) (take w t) (length-number_bytes Little w (number Little w t) ∙ sym len) (λ i l.
+    let inside : i < w = omega (arith, l, length-number_bytes Little w (number Little w t)) in
+    get_or-map-range_with_len (λ j. number Little w t / 256 ^ j % 256) 0 w i i 0 inside (omega arith)
+    ∙ digit-at (λ j. slice_index t j) (byte-bound place s h) w i inside
+    ∙ sym (get_or-take w t i 0 inside))
+number-back Big w place s h room =
+    let t = drop place s in
+    let len : length (take w t) ≡ w = length-take-le w t (omega (arith, room, length-drop place s)) in
+    let back = sum_below-backwards (λ i. slice_index t i * 256 ^ (w - 1 - i)) w in
+    let turned = sum_below-same (λ i. slice_index t (w - 1 - i) * 256 ^ (w - 1 - (w - 1 - i))) (λ i. slice_index t (w - 1 - i) * 256 ^ i) w (λ i l. ap (λ k. slice_index t (w - 1 - i) * 256 ^ k) (omega (arith, l))) in
+    same_number_lists (number_bytes Big w (number Big w t)) (take w t) (length-number_bytes Big w (number Big w t) ∙ sym len) (λ i l.
+    let inside : i < w = omega (arith, l, length-number_bytes Big w (number Big w t)) in
+    let twice : w - 1 - (w - 1 - i) ≡ i = omega (arith, inside) in
+    get_or-map-range_with_len (λ j. number Big w t / 256 ^ (w - 1 - j) % 256) 0 w i i 0 inside (omega arith)
+    ∙ ap (λ n. n / 256 ^ (w - 1 - i) % 256) (back ∙ turned)
+    ∙ digit-at (λ j. slice_index t (w - 1 - j)) (λ j. byte-bound place s h (w - 1 - j)) w (w - 1 - i) (omega (arith, inside))
+    ∙ ap (λ k. slice_index t k) twice
+    ∙ sym (get_or-take w t i 0 inside))
+
+-- bytes that are written back one behind the other: some more
+pub back-next : (place n : ℕ) (s : List ℕ) {front bytes : List ℕ} → front ≡ take place s → bytes ≡ take n (drop place s) → front ++ bytes ≡ take (place + n) s
+back-next place n s {front} {bytes} before next = ap (λ l. l ++ bytes) before ∙ ap (λ l. take place s ++ l) next ∙ sym (take-add place n s)
+
+-- and those of one more number
+pub back-grow : (order : Endian) (w place : ℕ) (s front : List ℕ) → ((i : ℕ) → Fits w8 (slice_index s i)) → place + w ≤ length s → front ≡ take place s → front ++ number_bytes order w (number order w (drop place s)) ≡ take (place + w) s
+back-grow order w place s front h room is = back-next place w s is (number-back order w place s h room)
+
+is-byte : (b d : ℕ) → (b == d) ≡ true → b ≡ d
+is-byte b d e = grind (arith, e)
+
+-- a text that a delimiter ends: how many bytes it takes, and that these are its own and the delimiter
+pub required-size : (d : ℕ) (s text : List ℕ) (n : ℕ) → ReadsText (Required d) s text n → n ≡ length text + 1
+required-size d s text n r = let len = ap length r.front in let part = length-take (first_place d s) s in omega (arith, r.size, len, part, r.there)
+
+pub required-back : (d : ℕ) (s text : List ℕ) (n : ℕ) → ReadsText (Required d) s text n → take n s ≡ text ++ d ∷ []
+required-back d s text n r =
+    let byte : get_or s (first_place d s) 0 ≡ d = is-byte (get_or s (first_place d s) 0) d (passes_at_first (λ b. b == d) s 0 r.there) in
+    ap (λ m. take m s) r.size ∙ take_more s (first_place d s) 0 r.there
+    ∙ ap (λ b. take (first_place d s) s ++ b ∷ []) byte ∙ ap (λ t. t ++ d ∷ []) (sym r.front)
+
+-- the first delimiter behind bytes that are none
+pub place-behind : (d : ℕ) (t rest : List ℕ) → All (λ b. b ≢ d) t → first_place d (t ++ d ∷ rest) ≡ length t
+place-behind d [] rest h = grind arith
+place-behind d (b ∷ bs) rest h =
+    let hb = All-head (λ x. x ≢ d) b bs h in
+    let ih = place-behind d bs rest (All-tail (λ x. x ≢ d) b bs h) in
+    grind (arith, ih, hb)
+
+-- a text without the delimiter, and the delimiter behind it, are read again
+pub required-again : (d : ℕ) (text rest : List ℕ) → All (λ b. b ≢ d) text → IsUtf8 text → ReadsText (Required d) (text ++ d ∷ rest) text (length text + 1)
+required-again d text rest h utf8 =
+    let at = place-behind d text rest h in
+    record {
+      room = omega arith;
+      front = sym (ap (λ n. take n (text ++ d ∷ rest)) at ∙ take_at text (d ∷ rest) (length text) refl);
+      utf8 = utf8;
+      size = ap (λ n. n + 1) (sym at);
+      there = omega (arith, at, length-append text (d ∷ rest));
+    }
+
+-- values that were read one after the other are written back, where each is
+pub ReadsAll-back : {V : Type 0} (reads : List ℕ → V → ℕ → Type 0) (bytes : V → List ℕ) (buffer : List ℕ) → ((place : ℕ) (v : V) (n : ℕ) → ReadsAt reads buffer place v n → bytes v ≡ take n (drop place buffer)) → (from : ℕ) (vs : List V) (to : ℕ) → ReadsAll reads buffer from vs to → take from buffer ++ flat_map bytes vs ≡ take to buffer
+ReadsAll-back reads bytes buffer back from [] to h = append-nil (take from buffer) ∙ ap (λ n. take n buffer) (sym h)
+ReadsAll-back reads bytes buffer back from (v ∷ vs) to h =
+    sym (append_assoc (take from buffer) (bytes v) (flat_map bytes vs))
+    ∙ ap (λ l. l ++ flat_map bytes vs) (back-next from h.0 buffer refl (back from v h.0 h.1))
+    ∙ ReadsAll-back reads bytes buffer back (from + h.0) vs to h.2
+
+-- values that were written one after the other are read again, where each is
+pub ReadsAll-again : {V : Type 0} (reads : List ℕ → V → ℕ → Type 0) (bytes : V → List ℕ) (vs : List V) → All (λ v. (rest : List ℕ) → reads (bytes v ++ rest) v (length (bytes v))) vs → (front rest : List ℕ) → ReadsAll reads (front ++ flat_map bytes vs ++ rest) (length front) vs (length (front ++ flat_map bytes vs))
+ReadsAll-again reads bytes [] again front rest = ap length (append-nil front)
+ReadsAll-again {V} reads bytes (v ∷ vs) again front rest =
+    let P : V → Type 0 = λ x. (rest : List ℕ) → reads (bytes x ++ rest) x (length (bytes x)) in
+    let first = All-head P v vs again in
+    let others = flat_map bytes vs in
+    let behind : drop (length front) (front ++ (bytes v ++ others) ++ rest) ≡ bytes v ++ (others ++ rest) =
+    ap (drop (length front)) (append_assoc front (bytes v ++ others) rest) ∙ drop_at front (bytes v ++ others ++ rest) (length front) refl ∙ append_assoc (bytes v) others rest in
+    let later = ReadsAll-again reads bytes vs (All-tail P v vs again) (front ++ bytes v) rest in
+    let whole = subst (λ l. ReadsAll reads (l ++ rest) (length (front ++ bytes v)) vs (length l)) (append_assoc front (bytes v) others) later in (
+      length (bytes v),
+      record {
+        inside = let a = length-append (front ++ (bytes v ++ others)) rest in let b = length-append front (bytes v ++ others) in omega (arith, a, b);
+        value = rw behind (first (others ++ rest));
+      },
+      subst (λ n. ReadsAll reads (front ++ (bytes v ++ others) ++ rest) n vs (length (front ++ (bytes v ++ others)))) (length-append front (bytes v)) whole,
+    )
+
+-- values that are written one behind the other: one more
+pub grow-next : {V : Type 0} (bytes : V → List ℕ) (vs : List V) (i : ℕ) (d : V) {place w : ℕ} {first a b : List ℕ} → Begins place (flat_map bytes (take i vs)) first a → i < length vs → length (bytes (get_or vs i d)) ≡ w → take place b ≡ take place a → drop place b ≡ bytes (get_or vs i d) ++ drop w (drop place a) → Begins (place + w) (flat_map bytes (take (i + 1) vs)) first b
+grow-next bytes vs i d {place} {w} {first} {a} {b} h inside size before after =
+    let more : flat_map bytes (take (i + 1) vs) ≡ flat_map bytes (take i vs) ++ bytes (get_or vs i d) =
+    ap (flat_map bytes) (take_more vs i d inside) ∙ flat_map-append bytes (take i vs) (get_or vs i d ∷ [])
+    ∙ ap (λ l. flat_map bytes (take i vs) ++ l) (append-nil (bytes (get_or vs i d))) in
+    subst (λ l. Begins (place + w) l first b) (sym more) (grow (bytes (get_or vs i d)) h size before after)
+
+-- bytes that were written from a place on: those before it stay, and these stand there
+pub grown-at : {to place : ℕ} (n : ℕ) (bytes : List ℕ) {first now : List ℕ} → Begins to (take place first ++ bytes) first now → place ≤ length first → to ≡ place + n → (take place now ≡ take place first) × (drop place now ≡ bytes ++ drop n (drop place first))
+grown-at {to} {place} n bytes {first} {now} h room is =
+    let len : length (take place first) ≡ place = length-take-le place first room in
+    let rest : drop to first ≡ drop n (drop place first) = ap (λ m. drop m first) is ∙ sym (drop-drop n place first) in
+    let whole : now ≡ take place first ++ (bytes ++ drop n (drop place first)) =
+    h.is ∙ ap (λ l. take place first ++ bytes ++ l) rest ∙ append_assoc (take place first) bytes (drop n (drop place first)) in (
+      ap (take place) whole ∙ take_at (take place first) (bytes ++ drop n (drop place first)) place len,
+      ap (drop place) whole ∙ drop_at (take place first) (bytes ++ drop n (drop place first)) place len,
+    )
+
+-- the number that stands for a signed one is that of its bytes
+complement-again : (m n : ℕ) → n < m → (x : ℤ) → x ≡ (if nat_lt (2 * n) m then pos n else pos n -ℤ pos m) → (if int_lt x (pos 0) then nat_abs (pos m +ℤ x) else nat_abs x) ≡ n
+complement-again m n h x is = grind (arith, ints)
+
+-- the same of a signed number: its bytes are those that stand there
+pub signed-back : (order : Endian) (w place : ℕ) (s : List ℕ) → ((i : ℕ) → Fits w8 (slice_index s i)) → place + w ≤ length s → signed_bytes order w (signed_number order w (drop place s)) ≡ take w (drop place s)
+signed-back order w place s h room =
+    ap (number_bytes order w) (complement-again (256 ^ w) (number order w (drop place s)) (number-bound order w place s h) (signed_number order w (drop place s)) refl)
+    ∙ number-back order w place s h room
+
+-- and those of one more, behind bytes that are written back
+pub signed-grow : (order : Endian) (w place : ℕ) (s front : List ℕ) → ((i : ℕ) → Fits w8 (slice_index s i)) → place + w ≤ length s → front ≡ take place s → front ++ signed_bytes order w (signed_number order w (drop place s)) ≡ take (place + w) s
+signed-grow order w place s front h room is = back-next place w s is (signed-back order w place s h room)
+
+-- a list that begins with the bytes of a signed number begins with that number
+pub signed-begins : (order : Endian) (w : ℕ) (x : ℤ) (rest : List ℕ) → neg_ℤ (pos (256 ^ w)) ≤ℤ (pos 2 *ℤ x) → (pos 2 *ℤ x) <ℤ pos (256 ^ w) → signed_number order w (signed_bytes order w x ++ rest) ≡ x
+signed-begins order w x rest low high =
+    let back = complement-back (256 ^ w) x low high (if int_lt x (pos 0) then nat_abs (pos (256 ^ w) +ℤ x) else nat_abs x) refl in
+    ap (λ (n : ℕ). if nat_lt (2 * n) (256 ^ w) then pos n else pos n -ℤ pos (256 ^ w))
+    (number-begins order w (if int_lt x (pos 0) then nat_abs (pos (256 ^ w) +ℤ x) else nat_abs x) rest back.0)
+    ∙ back.1
+
+-- each element of a list of bytes fits a byte, and so does what is read past its end
+byte-fits : (s : List ℕ) → All (λ b. b < 256) s → (i : ℕ) → Fits w8 (slice_index s i)
+byte-fits s h i = elim (cases_lt i (length s)) as (λ _. Fits w8 (slice_index s i)) [
+  | inl l ↦ let b = All-get_or (λ x. x < 256) s i 0 l h in record { fits = omega (arith, b) }
+  | inr l ↦ let none : slice_index s i ≡ 0 = grind (arith, common_steps) in rw none (record { fits = omega arith })
+]
+
+-- bytes that read as a number are that number's, and no others do
+pub number-only : (order : Endian) (w : ℕ) (s : List ℕ) → All (λ b. b < 256) s → length s ≡ w → s ≡ number_bytes order w (number order w s)
+number-only order w s h len = sym (number-back order w 0 s (byte-fits s h) (omega (arith, len)) ∙ take_all w s (omega (arith, len)))
+
+pub signed-only : (order : Endian) (w : ℕ) (s : List ℕ) → All (λ b. b < 256) s → length s ≡ w → s ≡ signed_bytes order w (signed_number order w s)
+signed-only order w s h len = sym (signed-back order w 0 s (byte-fits s h) (omega (arith, len)) ∙ take_all w s (omega (arith, len)))

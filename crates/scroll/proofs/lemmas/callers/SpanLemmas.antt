@@ -1,0 +1,191 @@
+-- Bytes that are read or written one after another.
+use Rattle.std.proofs.Common.{◌≡◌, ℕ, ◌+◌, ◌-◌, ◌<◌, ◌≤◌, ◌↔◌, ◌++◌, ℤ, List, [], ◌∷◌, length, take, drop, get_or, slice_index, Fits, w8, inl, inr, refl, sym, ap, subst, ◌∙◌, arith, append_assoc, length-append, length-drop}
+use Rattle.std.proofs.lemmas.Grind.{take_at_read, flat_map-append}
+use Rattle.std.proofs.lemmas.List.{append-nil, flat_map_more, take-append-drop, length-take-le, take_at, drop_at, drop-drop, get_or-drop}
+use Rattle.std.proofs.lemmas.List.Elements.{All-from_get_or}
+use Rattle.std.proofs.lemmas.List.FromFn.{length-map-range_with_len}
+use Rattle.std.specs.List.{All, flat_map, slice_range}
+use Rattle.scroll.specs.Bytes.{WritesFront, LeavesShort}
+use Rattle.scroll.specs.Errors.{IsBadOffset}
+use Rattle.scroll.specs.Leb128.{Counted, ReadsUleb, ReadsSleb, ReadsCountedUleb, ReadsCountedSleb}
+use Rattle.scroll.specs.LebWrites.{uleb_text, sleb_text, WritesUleb, WritesSleb}
+use Rattle.scroll.specs.Reads.{ReadsBetween}
+use Rattle.scroll.specs.Spans.{Stands, Puts, PutsFront}
+use Rattle.scroll.specs.Spelling.{BeginsWith, BeginsWithSigned, spelling, spelled_byte, unsigned_form}
+use Rattle.scroll.specs.Writes.{WritesAt, RefusesWriteAt}
+use Rattle.scroll.specs.declared.error.Error.{Error}
+
+-- nothing stands yet
+pub stands-none : {buffer : List ℕ} {from : ℕ} → from ≤ length buffer → Stands [] buffer from from
+stands-none h = record { inside = h; size = omega arith; is = refl }
+
+-- a text behind another
+pub stands-next : {t u buffer : List ℕ} {a b c : ℕ} → Stands t buffer a b → Stands u buffer b c → Stands (t ++ u) buffer a c
+stands-next {t} {u} {buffer} {a} {b} {c} p q = record {
+  inside = q.inside;
+  size = omega (arith, p.size, q.size, length-append t u);
+  is = p.is ∙ ap (λ s. t ++ s) q.is ∙ sym (append_assoc t u (drop c buffer));
+}
+
+-- the bytes themselves
+pub stands-range : {t buffer : List ℕ} {a b : ℕ} → Stands t buffer a b → slice_range buffer a b ≡ t
+stands-range {t} {buffer} {a} {b} h = ap (take (b - a)) h.is ∙ take_at t (drop b buffer) (b - a) (omega (arith, h.size))
+
+-- the first n bytes from a place on
+pub front-stands : {t buffer : List ℕ} {a b : ℕ} (n : ℕ) → a ≤ length buffer → n ≤ length (drop a buffer) → take n (drop a buffer) ≡ t → b ≡ a + n → Stands t buffer a b
+front-stands {t} {buffer} {a} {b} n inside room is to =
+    let len : length t ≡ n = sym (ap length is) ∙ length-take-le n (drop a buffer) room in
+    let rest : drop n (drop a buffer) ≡ drop b buffer = drop-drop n a buffer ∙ ap (λ k. drop k buffer) (sym to) in
+    record {
+      inside = omega (arith, inside, room, to, length-drop a buffer);
+      size = omega (arith, len, to);
+      is = sym (take-append-drop n (drop a buffer)) ∙ rw (is, rest) refl;
+    }
+
+pub bytes-below : (place : ℕ) (s : List ℕ) → ((i : ℕ) → Fits w8 (slice_index s i)) → All (λ b. b < 256) (drop place s)
+bytes-below place s h = All-from_get_or (λ b. b < 256) (drop place s) 0 (λ i l. rw (get_or-drop place s i 0) (omega (arith, (h (place + i)).fits)))
+
+-- a number in LEB128 that was read stands as its text; `law` is what `unsigned_reads_are_spellings` says
+pub uleb-stands : {buffer : List ℕ} {a b : ℕ} {x : Counted ℕ} → ((s : List ℕ) (v n : ℕ) → All (λ b. b < 256) s → ReadsUleb s v n ↔ BeginsWith s v n)
+    → ((i : ℕ) → Fits w8 (slice_index buffer i)) → ReadsBetween ReadsCountedUleb buffer a b x → Stands (uleb_text x) buffer a b
+uleb-stands {buffer} {a} {b} {x} law bytes r =
+    let read = r.2.value in
+    let front = ((law (drop a buffer) x.value r.0 (bytes-below a buffer bytes)).0 read.0).front in
+    front-stands r.0 r.2.inside (omega (arith, read.0.size, read.0.complete.0)) (front ∙ ap (spelling x.value) (sym read.1)) r.1
+
+pub sleb-stands : {buffer : List ℕ} {a b : ℕ} {x : Counted ℤ} → ((s : List ℕ) (v : ℤ) (n : ℕ) → All (λ b. b < 256) s → ReadsSleb s v n ↔ BeginsWithSigned s v n)
+    → ((i : ℕ) → Fits w8 (slice_index buffer i)) → ReadsBetween ReadsCountedSleb buffer a b x → Stands (sleb_text x) buffer a b
+sleb-stands {buffer} {a} {b} {x} law bytes r =
+    let read = r.2.value in
+    let front = ((law (drop a buffer) x.value r.0 (bytes-below a buffer bytes)).0 read.0).front in
+    front-stands r.0 r.2.inside (omega (arith, read.0.size, read.0.complete.0)) (front ∙ ap (λ k. spelling (unsigned_form x.value k) k) (sym read.1)) r.1
+
+-- nothing is written yet
+pub puts-none : {old : List ℕ} {from : ℕ} → from ≤ length old → Puts [] old old from from
+puts-none {old} {from} h = record { inside = h; size = omega arith; is = sym (take-append-drop from old) }
+
+-- what stands up to the text and with it, and behind it
+puts-parts : {t a b : List ℕ} {p q : ℕ} → Puts t a b p q → (take q b ≡ take p a ++ t) × (drop q b ≡ drop q a) × (length b ≡ length a)
+puts-parts {t} {a} {b} {p} {q} h =
+    let first : length (take p a) ≡ p = length-take-le p a (omega (arith, h.inside, h.size)) in
+    let front : length (take p a ++ t) ≡ q = omega (arith, first, h.size, length-append (take p a) t) in
+    let split : b ≡ (take p a ++ t) ++ drop q a = h.is ∙ sym (append_assoc (take p a) t (drop q a)) in (
+      ap (take q) split ∙ take_at (take p a ++ t) (drop q a) q front,
+      ap (drop q) split ∙ drop_at (take p a ++ t) (drop q a) q front,
+      omega (arith, ap length split, length-append (take p a ++ t) (drop q a), front, length-drop q a, h.inside),
+    )
+
+-- a text that is written behind another
+pub puts-next : {t u a b c : List ℕ} {p q r : ℕ} → Puts t a b p q → Puts u b c q r → Puts (t ++ u) a c p r
+puts-next {t} {u} {a} {b} {c} {p} {q} {r} x y =
+    let parts = puts-parts x in
+    let rest : drop r b ≡ drop r a = rw (y.size, ← drop-drop (length u) q b, ← drop-drop (length u) q a) (ap (drop (length u)) parts.1) in
+    record {
+      inside = omega (arith, y.inside, parts.2);
+      size = omega (arith, x.size, y.size, length-append t u);
+      is = y.is ∙ rw (parts.0, rest, append_assoc (take p a) t (u ++ drop r a), append_assoc t u (drop r a)) refl;
+    }
+
+-- a text that is written stands
+pub puts-stands : {t a b : List ℕ} {p q : ℕ} → Puts t a b p q → Stands t b p q
+puts-stands {t} {a} {b} {p} {q} h =
+    let parts = puts-parts h in
+    let first : length (take p a) ≡ p = length-take-le p a (omega (arith, h.inside, h.size)) in
+    record {
+      inside = omega (arith, h.inside, parts.2);
+      size = h.size;
+      is = ap (drop p) h.is ∙ drop_at (take p a) (t ++ drop q a) p first ∙ ap (λ s. t ++ s) (sym parts.1);
+    }
+
+-- what stands in one buffer and is written to another is there byte for byte
+pub puts-back : {t old new source : List ℕ} {a b p q : ℕ} → Puts t old new p q → Stands t source a b → slice_range new p q ≡ slice_range source a b
+puts-back w s = stands-range (puts-stands w) ∙ sym (stands-range s)
+
+-- a write of one value
+pub puts-write : {t old new : List ℕ} {w n p q : ℕ} → length t ≡ w → WritesAt (WritesFront w t) old p new n → q ≡ p + n → Puts t old new p q
+puts-write {t} {old} {new} {w} {n} {p} {q} len h to =
+    let next : p + w ≡ q = omega (arith, to, h.after.size) in
+    let rest : drop w (drop p old) ≡ drop q old = drop-drop w p old ∙ ap (λ k. drop k old) next in
+    record {
+      inside = omega (arith, h.inside, h.after.room, length-drop p old, next);
+      size = omega (arith, next, len);
+      is = sym (take-append-drop p new) ∙ rw (h.before, h.after.after, rest) refl;
+    }
+
+-- a refusal of one value
+pub front-write : {t old new : List ℕ} {w p : ℕ} {e : Error} → length t ≡ w → p ≤ length old → RefusesWriteAt (LeavesShort w) IsBadOffset old p new e → PutsFront t old new p e
+front-write len inside (inl past) = absurd (omega (arith, past.past, inside))
+front-write {t} {old} {new} {w} {p} {e} len inside (inr h) =
+    let same : new ≡ old = sym (take-append-drop p new) ∙ rw (h.before, h.after.same) (take-append-drop p old) in
+    record {
+      front = [];
+      part = t;
+      rest = [];
+      parts = sym (append-nil t);
+      to = p;
+      put = rw same (puts-none inside);
+      short = omega (arith, h.after.short, length-drop p old, inside, len);
+      error = rw (len, ← length-drop p old) h.after.error;
+    }
+
+-- a number in LEB128 that was written, and one that was refused
+length-uleb_text : (x : Counted ℕ) → length (uleb_text x) ≡ x.count
+length-uleb_text x = length-map-range_with_len (spelled_byte x.value x.count) 0 x.count
+
+pub uleb-puts : (x : Counted ℕ) {old new : List ℕ} {n p q : ℕ} → WritesAt (WritesUleb x) old p new n → q ≡ p + n → Puts (uleb_text x) old new p q
+uleb-puts x = puts-write (length-uleb_text x)
+
+pub uleb-front : (x : Counted ℕ) {old new : List ℕ} {p : ℕ} {e : Error} → p ≤ length old → RefusesWriteAt (LeavesShort x.count) IsBadOffset old p new e → PutsFront (uleb_text x) old new p e
+uleb-front x = front-write (length-uleb_text x)
+
+length-sleb_text : (x : Counted ℤ) → length (sleb_text x) ≡ x.count
+length-sleb_text x = length-map-range_with_len (spelled_byte (unsigned_form x.value x.count) x.count) 0 x.count
+
+pub sleb-puts : (x : Counted ℤ) {old new : List ℕ} {n p q : ℕ} → WritesAt (WritesSleb x) old p new n → q ≡ p + n → Puts (sleb_text x) old new p q
+sleb-puts x = puts-write (length-sleb_text x)
+
+pub sleb-front : (x : Counted ℤ) {old new : List ℕ} {p : ℕ} {e : Error} → p ≤ length old → RefusesWriteAt (LeavesShort x.count) IsBadOffset old p new e → PutsFront (sleb_text x) old new p e
+sleb-front x = front-write (length-sleb_text x)
+
+-- a refusal before a text, and one behind it
+pub front-first : {t old new : List ℕ} {p : ℕ} {e : Error} (u : List ℕ) → PutsFront t old new p e → PutsFront (t ++ u) old new p e
+front-first {t} u h = record {
+  front = h.front;
+  part = h.part;
+  rest = h.rest ++ u;
+  parts = ap (λ s. s ++ u) h.parts ∙ append_assoc h.front (h.part ++ h.rest) u ∙ ap (λ s. h.front ++ s) (append_assoc h.part h.rest u);
+  to = h.to;
+  put = h.put;
+  short = h.short;
+  error = h.error;
+}
+
+pub front-next : {t u a b c : List ℕ} {p q : ℕ} {e : Error} → Puts t a b p q → PutsFront u b c q e → PutsFront (t ++ u) a c p e
+front-next {t} {u} x h =
+    let len = (puts-parts x).2 in
+    record {
+      front = t ++ h.front;
+      part = h.part;
+      rest = h.rest;
+      parts = ap (λ s. t ++ s) h.parts ∙ sym (append_assoc t h.front (h.part ++ h.rest));
+      to = h.to;
+      put = puts-next x h.put;
+      short = omega (arith, h.short, len);
+      error = rw (← len) h.error;
+    }
+
+-- the texts of a list, up to an element and with it
+item-text : {X : Type 0} (f : X → List ℕ) (xs : List X) (i : ℕ) (x : X) → i < length xs → x ≡ get_or xs i x → flat_map f (take (i + 1) xs) ≡ flat_map f (take i xs) ++ f x
+item-text f xs i x h is = ap (flat_map f) ((take_at_read xs i x h).1 ∙ ap (λ y. take i xs ++ y ∷ []) (sym is)) ∙ sym (flat_map_more f [] (take i xs) x)
+
+-- one more element of a list is written, or is refused
+pub puts-item : {X : Type 0} (f : X → List ℕ) (xs : List X) {i : ℕ} {x : X} {a b c : List ℕ} {p q r : ℕ} → i < length xs → x ≡ get_or xs i x
+    → Puts (flat_map f (take i xs)) a b p q → Puts (f x) b c q r → Puts (flat_map f (take (i + 1) xs)) a c p r
+puts-item f xs {i} {x} h is before wrote = rw (item-text f xs i x h is) (puts-next before wrote)
+
+pub front-item : {X : Type 0} (f : X → List ℕ) (xs : List X) {i : ℕ} {x : X} {a b c : List ℕ} {p q : ℕ} {e : Error} → i < length xs → x ≡ get_or xs i x
+    → Puts (flat_map f (take i xs)) a b p q → PutsFront (f x) b c q e → PutsFront (flat_map f xs) a c p e
+front-item f xs {i} {x} {a} {b} {c} {p} {q} {e} h is before refused =
+    let rest = flat_map f (drop (i + 1) xs) in
+    let whole : flat_map f xs ≡ (flat_map f (take i xs) ++ f x) ++ rest = ap (flat_map f) (sym (take-append-drop (i + 1) xs)) ∙ flat_map-append f (take (i + 1) xs) (drop (i + 1) xs) ∙ ap (λ s. s ++ rest) (item-text f xs i x h is) in
+    subst (λ t. PutsFront t a c p e) (sym whole) (front-first rest (front-next before refused))

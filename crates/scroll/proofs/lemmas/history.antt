@@ -1,0 +1,4 @@
+pub mod LeafLemmas
+pub mod RunLemmas
+pub mod SeenLemmas
+pub mod StandLemmas

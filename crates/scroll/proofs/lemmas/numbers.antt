@@ -1,0 +1,7 @@
+pub mod FloatLemmas
+pub mod FrontLemmas
+pub mod HalfLemmas
+pub mod LocalLemmas
+pub mod NumberLemmas
+pub mod ReverseLemmas
+pub mod SumLemmas

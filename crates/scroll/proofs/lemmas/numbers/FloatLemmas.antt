@@ -1,0 +1,56 @@
+-- Floats and their bits, and floats and their bytes.
+use Rattle.std.proofs.Common.{◌≡◌, ℕ, ◌+◌, ◌*◌, ◌<◌, ◌≤◌, ◌^◌, ◌++◌, List, length, take, drop, slice_index, Fits, w8, T, to_bits, from_bits, refl, sym, ◌∙◌, ap, arith, All, inl, inr}
+use Rattle.std.proofs.Math.ListN.{get_or-eq_default}
+use Rattle.std.proofs.lemmas.Bool.{cases_lt}
+use Rattle.std.proofs.lemmas.List.Elements.{All-get_or}
+use Rattle.std.specs.Float.{Float, Format, binary32, binary64, NotNan}
+use Rattle.std.specs.Float.Ieee.{fits, top}
+use lib.Ieee.Bits.{of_bits-to_bits, to_bits-lt, to_bits-of_bits}
+use Rattle.scroll.proofs.lemmas.numbers.LocalLemmas.{number-same}
+use Rattle.scroll.proofs.lemmas.callers.Cursors.{number-bound}
+use Rattle.scroll.specs.Floats.{float_width, float, float_bytes, ReadsFloat}
+use Rattle.scroll.specs.Laws.{IsLocal}
+use Rattle.scroll.specs.lemmas.Frames.{length-number_bytes}
+use Rattle.scroll.specs.Numbers.{number, number_bytes}
+use Rattle.scroll.proofs.lemmas.callers.RoundTrips.{number-back, number-begins}
+use Rattle.scroll.specs.declared.endian.Endian.{Endian}
+
+-- the bits of a format are those of its bytes
+all-bits : (f : Format) → 2 * top f ≡ 256 ^ float_width f
+all-bits binary32 = refl
+all-bits binary64 = refl
+
+-- there are as many bytes as the format has
+pub length-float_bytes : (f : Format) (order : Endian) (x : Float) → length (float_bytes f order x) ≡ float_width f
+length-float_bytes f order x = length-number_bytes order (float_width f) (to_bits f x)
+
+-- a list that begins with the bytes of a float begins with that float
+pub float-begins : (f : Format) (order : Endian) (x : Float) (rest : List ℕ) → T (fits f x) → float f order (float_bytes f order x ++ rest) ≡ x
+float-begins f order x rest h =
+    let bound : to_bits f x < 256 ^ float_width f = omega (arith, to_bits-lt f x h, all-bits f) in
+    ap (from_bits f) (number-begins order (float_width f) (to_bits f x) rest bound) ∙ of_bits-to_bits f x h
+
+-- the bytes of the float that stands at a place are those that stand there, where it is no NaN
+pub float-back : (f : Format) (order : Endian) (place : ℕ) (s : List ℕ) → ((i : ℕ) → Fits w8 (slice_index s i)) → place + float_width f ≤ length s → NotNan (float f order (drop place s)) → float_bytes f order (float f order (drop place s)) ≡ take (float_width f) (drop place s)
+float-back f order place s h room real =
+    let bits = number order (float_width f) (drop place s) in
+    let bound : number order (float_width f) (drop place s) < 2 * top f = omega (arith, number-bound order (float_width f) place s h, all-bits f) in
+    ap (number_bytes order (float_width f)) (to_bits-of_bits f (number order (float_width f) (drop place s)) bound real)
+    ∙ number-back order (float_width f) place s h room
+
+-- a list of bytes as the lemmas on numbers take it
+pub bytes-fit : (s : List ℕ) → All (λ b. b < 256) s → (i : ℕ) → Fits w8 (slice_index s i)
+bytes-fit s h i = elim (cases_lt i (length s)) as (λ _. Fits w8 (slice_index s i)) [
+  | inl l ↦ record { fits = All-get_or (λ b. b < 256) s i 0 l h }
+  | inr l ↦ record { fits = rw (get_or-eq_default s 0 l) (omega arith) }
+]
+
+-- a float depends on its own bytes alone
+pub local-float : (f : Format) (order : Endian) → IsLocal (ReadsFloat f order)
+local-float f order s t x n r h long e =
+    let front : take (float_width f) t ≡ take (float_width f) s = ap (λ m. take m t) (sym r.size) ∙ e ∙ ap (λ m. take m s) r.size in
+    record {
+      room = omega (arith, r.room, long);
+      value = r.value ∙ sym (ap (from_bits f) (number-same (float_width f) order s t front));
+      size = r.size;
+    }

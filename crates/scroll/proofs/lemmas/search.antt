@@ -1,0 +1,4 @@
+pub mod FlagLemmas
+pub mod SearchLemmas
+pub mod StopLemmas
+pub mod VectorLemmas

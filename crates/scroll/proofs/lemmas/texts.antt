@@ -1,0 +1,5 @@
+pub mod CStringLemmas
+pub mod CStringReadLemmas
+pub mod StdCStrings
+pub mod TextLemmas
+pub mod TextReadLemmas

@@ -1,7 +1,0 @@
-use Rattle.std.proofs.Common.{◌*◌}
-use Rattle.scroll.specs.Search.{is_stop}
-use Rattle.scroll.proofs.SearchLemmas.{Nowhere}
-use Rattle.scroll.proofs.search.words.first_stop_by_words.Given as goal
-
-abbrev pub invariant-loop-k : goal.invariant-loop-k
-invariant-loop-k l = Nowhere (is_stop l.delimiter) l.source (l.k * 8)

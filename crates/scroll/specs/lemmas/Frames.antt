@@ -1,0 +1,106 @@
+-- What a write leaves unchanged: the bytes after those that were written.
+-- The implementations cite these lemmas in the laws that their traits ask for. They are proved, and promise nothing.
+use Rattle.std.proofs.Common.{◌≡◌, ℕ, ℤ, max, ◌+◌, ◌*◌, ◌-◌, ◌/◌, ◌%◌, ◌^◌, ◌≤◌, ◌++◌, List, [], ◌∷◌, length, take, drop, length-take, refl, sym, ap, ◌∙◌, arith}
+use Rattle.std.proofs.Math.Nat.{mul-suc}
+use Rattle.std.proofs.lemmas.Grind.{common_steps}
+use Rattle.std.proofs.lemmas.List.{drop-drop, length-replicate}
+use Rattle.std.proofs.lemmas.List.FromFn.{length-map-range_with_len}
+use Rattle.scroll.specs.Arrays.{WritesAll, WritesArray, LeavesAll, FillsArray}
+use Rattle.scroll.specs.Bytes.{WritesFront}
+use Rattle.scroll.specs.Exact.{LeavesExactly, WritesExactly}
+use Rattle.scroll.specs.Leb128.{Counted}
+use Rattle.scroll.specs.LebWrites.{WritesUleb, WritesSleb}
+use Rattle.scroll.specs.Numbers.{number_bytes, signed_bytes, WritesNumber}
+use Rattle.scroll.specs.Zeros.{zeros}
+use Rattle.scroll.specs.Spelling.{spelled_byte, spelling, unsigned_form}
+use Rattle.scroll.specs.declared.endian.Endian.{Endian}
+use Rattle.scroll.specs.declared.endian.Endian.TheVariants.{Little, Big}
+
+-- there are w bytes
+pub length-number_bytes : (order : Endian) (w x : ℕ) → length (number_bytes order w x) ≡ w
+length-number_bytes Little w x = length-map-range_with_len (λ i. x / 256 ^ i % 256) 0 w
+length-number_bytes Big w x = length-map-range_with_len (λ i. x / 256 ^ (w - 1 - i) % 256) 0 w
+
+pub length-signed_bytes : (order : Endian) (w : ℕ) (x : ℤ) → length (signed_bytes order w x) ≡ w
+length-signed_bytes order w x = length-number_bytes order w _
+
+-- bytes that were written at the front leave those behind them
+pub drop-front : (w : ℕ) (bytes old new : List ℕ) → length bytes ≡ w → new ≡ bytes ++ drop w old → drop w new ≡ drop w old
+drop-front w bytes old new len is = grind (arith, common_steps)
+
+pub number_bytes-keeps : (w : ℕ) (order : Endian) (x : ℕ) (old new : List ℕ) → new ≡ number_bytes order w x ++ drop w old → drop w new ≡ drop w old
+number_bytes-keeps w order x old new is = drop-front w (number_bytes order w x) old new (length-number_bytes order w x) is
+
+pub signed_bytes-keeps : (w : ℕ) (order : Endian) (x : ℤ) (old new : List ℕ) → new ≡ signed_bytes order w x ++ drop w old → drop w new ≡ drop w old
+signed_bytes-keeps w order x old new is = drop-front w (signed_bytes order w x) old new (length-signed_bytes order w x) is
+
+pub WritesNumber-keeps : (w : ℕ) (order : Endian) (x : ℕ) (old new : List ℕ) (n : ℕ) → WritesNumber w order x old new n → drop n new ≡ drop n old
+WritesNumber-keeps w order x old new n h = rw h.size (number_bytes-keeps w order x old new h.after)
+
+-- the bytes behind those that were written stay
+pub WritesFront-keeps : (bytes old new : List ℕ) (n : ℕ) → WritesFront (length bytes) bytes old new n → drop n new ≡ drop n old
+WritesFront-keeps bytes old new n h = let after = h.after in let size = h.size in grind (arith, common_steps)
+
+-- lists that are the same from a place on are so from a later place on
+pub drop-same : {X : Type 0} (n k : ℕ) (xs ys : List X) → n ≤ k → drop n xs ≡ drop n ys → drop k xs ≡ drop k ys
+drop-same n k xs ys le e =
+    let at : n + (k - n) ≡ k = omega (arith, le) in
+    rw (← at, ← drop-drop (k - n) n xs, ← drop-drop (k - n) n ys, e) refl
+
+-- writes one after the other leave what stands behind the last
+WritesAll-keeps : {V : Type 0} (writes : V → List ℕ → List ℕ → ℕ → Type 0) → ((x : V) (old new : List ℕ) (n : ℕ) → writes x old new n → drop n new ≡ drop n old) → (old : List ℕ) (from : ℕ) (vs : List V) (new : List ℕ) (to : ℕ) → WritesAll writes old from vs new to → (from ≤ to) × (drop to new ≡ drop to old)
+WritesAll-keeps writes keeps old from [] new to h = (omega (arith, h.1), ap (drop to) h.0)
+WritesAll-keeps writes keeps old from (v ∷ vs) new to h =
+    let first = keeps v (drop from old) (drop from h.0) h.1 h.2.after in
+    let here : drop (from + h.1) h.0 ≡ drop (from + h.1) old = sym (drop-drop h.1 from h.0) ∙ first ∙ drop-drop h.1 from old in
+    let rest = WritesAll-keeps writes keeps h.0 (from + h.1) vs new to h.3 in
+    (omega (arith, rest.0), rest.1 ∙ drop-same (from + h.1) to h.0 old rest.0 here)
+
+pub WritesArray-keeps : {V : Type 0} (writes : V → List ℕ → List ℕ → ℕ → Type 0) → ((x : V) (old new : List ℕ) (n : ℕ) → writes x old new n → drop n new ≡ drop n old) → (vs : List V) (old new : List ℕ) (n : ℕ) → WritesArray writes vs old new n → drop n new ≡ drop n old
+WritesArray-keeps writes keeps vs old new n h = (WritesAll-keeps writes keeps old 0 vs new n h).1
+
+-- a text of n bytes has n bytes
+pub length-spelling : (v n : ℕ) → length (spelling v n) ≡ n
+length-spelling v n = length-map-range_with_len (spelled_byte v n) 0 n
+
+spelling-keeps : (v w : ℕ) (old new : List ℕ) (n : ℕ) → WritesFront w (spelling v w) old new n → drop n new ≡ drop n old
+spelling-keeps v w old new n h = rw h.size (drop-front w (spelling v w) old new (length-spelling v w) h.after)
+
+pub WritesUleb-keeps : (x : Counted ℕ) (old new : List ℕ) (n : ℕ) → WritesUleb x old new n → drop n new ≡ drop n old
+WritesUleb-keeps x old new n h = spelling-keeps x.value x.count old new n h
+
+pub WritesSleb-keeps : (x : Counted ℤ) (old new : List ℕ) (n : ℕ) → WritesSleb x old new n → drop n new ≡ drop n old
+WritesSleb-keeps x old new n h = spelling-keeps (unsigned_form x.value x.count) x.count old new n h
+
+-- values that are put one after another leave what stands after the last
+LeavesAll-keeps : {V : Type 0} (width need : ℕ) (leaves : V → List ℕ → List ℕ → Type 0) → ((x : V) (old new : List ℕ) → leaves x old new → drop need new ≡ drop need old) → (end : ℕ) (old : List ℕ) (from : ℕ) (vs : List V) (new : List ℕ) → from + max width need * length vs ≤ end → LeavesAll width leaves old from vs new → drop end new ≡ drop end old
+LeavesAll-keeps width need leaves keeps end old from [] new le h = ap (drop end) h
+LeavesAll-keeps width need leaves keeps end old from (v ∷ vs) new le h =
+    let more : max width need * length (v ∷ vs) ≡ max width need + max width need * length vs = mul-suc (max width need) (length vs) ∙ omega arith in
+    let first = keeps v (drop from old) (drop from h.0) h.1.after in
+    let here : drop (from + need) h.0 ≡ drop (from + need) old = sym (drop-drop need from h.0) ∙ first ∙ drop-drop need from old in
+    LeavesAll-keeps width need leaves keeps end h.0 (from + width) vs new (omega (arith, le, more)) h.2
+    ∙ drop-same (from + need) end h.0 old (omega (arith, le, more)) here
+
+pub FillsArray-keeps : {V : Type 0} (width need : ℕ) (leaves : V → List ℕ → List ℕ → Type 0) → ((x : V) (old new : List ℕ) → leaves x old new → drop need new ≡ drop need old) → (count : ℕ) (vs : List V) (old new : List ℕ) → FillsArray width leaves count vs old new → drop (max width need * count) new ≡ drop (max width need * count) old
+FillsArray-keeps width need leaves keeps count vs old new h =
+    LeavesAll-keeps width need leaves keeps (max width need * count) old 0 vs new (rw h.len (omega arith)) h.each
+
+-- the first n bytes of a slice, or all where it has fewer
+pub slice-keeps : (n : ℕ) (slice old new : List ℕ) → new ≡ take n slice ++ drop (length (take n slice)) old → drop n new ≡ drop n old
+slice-keeps n slice old new is =
+    drop-same (length (take n slice)) n new old (omega (arith, length-take n slice)) (drop-front (length (take n slice)) (take n slice) old new refl is)
+
+-- zeros
+pub zeros-keeps : (n : ℕ) (old new : List ℕ) → new ≡ zeros n ++ drop n old → drop n new ≡ drop n old
+zeros-keeps n old new is = drop-front n (zeros n) old new (length-replicate n 0) is
+
+pub WritesZeros-keeps : (n : ℕ) (old new : List ℕ) (size : ℕ) → WritesFront n (zeros n) old new size → drop size new ≡ drop size old
+WritesZeros-keeps n old new size h = rw h.size (zeros-keeps n old new h.after)
+
+-- values with an array among their fields
+pub LeavesExactly-keeps : {w : ℕ} {bytes old new : List ℕ} → LeavesExactly w bytes old new → drop w new ≡ drop w old
+LeavesExactly-keeps {w} {bytes} {old} {new} h = drop-front w bytes old new h.len h.after
+
+pub WritesExactly-keeps : {w : ℕ} {bytes old new : List ℕ} {n : ℕ} → WritesExactly w bytes old new n → drop n new ≡ drop n old
+WritesExactly-keeps {w} {bytes} {old} {new} h = rw h.size (drop-front w bytes old new h.len h.after)

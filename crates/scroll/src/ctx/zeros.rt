@@ -1,0 +1,105 @@
+// Zeros, as padding.
+ghost use Rattle.std.specs.Prelude.{◌≡◌, ◌≢◌, ℕ, ◌≤◌, ◌<◌, ◌++◌, length, drop, slice_index, IfSome, IfNone};
+ghost use Rattle.std.proofs.Common.{rules};
+ghost use Rattle.scroll.specs.Bytes.{WritesFront, LeavesShort};
+ghost use Rattle.scroll.specs.Zeros.{padding_len, zeros, ReadsZeros, RefusesZeros};
+ghost use Rattle.scroll.specs.lemmas.Frames.{zeros-keeps, WritesZeros-keeps};
+
+use crate::ctx::{IntoCtx, TryFromCtx, TryIntoCtx};
+use crate::error::{Error, Result, check_room};
+use crate::slice;
+
+/// Bytes that are all zero, as many as the context says: padding, or what a format reserves.
+///
+/// A read returns [`Error::TooBig`] where the source has fewer bytes, and else [`Error::BadInput`] with the message
+/// `padding is not zero` where one of them isn't zero: its `size` is the place of the first such byte, counted from the
+/// first. A write puts zeros. [`padding`] says how many bytes stand before the next multiple of a size.
+///
+/// ```rust
+/// file.gread_with::<Zeros>(&mut offset, padding(offset, 8))?;
+/// ```
+#[derive(Clone, Copy, Debug, PartialEq, Eq)]
+pub struct Zeros;
+
+/// Returns how many bytes stand between an offset and the next multiple of `multiple`: none where the offset is a multiple,
+/// and where `multiple` is zero.
+///
+/// ```rust
+/// assert_eq!(rt; padding(62, 8), 2);
+/// assert_eq!(rt; padding(64, 8), 0);
+/// ```
+#[inline]
+pub fn padding(offset: usize, multiple: usize) -> usize
+    ensures { result ≡ padding_len offset multiple }
+{
+    if multiple == 0 {
+        return 0;
+    }
+    (multiple - offset % multiple) % multiple
+}
+
+// The place of the first byte that isn't zero.
+fn first_nonzero(bytes: &[u8]) -> Option<usize>
+    ensures found { IfSome result (λ place. (place < length bytes.now) × (slice_index bytes.now place ≢ 0) × ((i : ℕ) → i < place → slice_index bytes.now i ≡ 0)) }
+    ensures none { IfNone result ((i : ℕ) → i < length bytes.now → slice_index bytes.now i ≡ 0) }
+{
+    for place in 0..bytes.len() {
+        if bytes[place] != 0 {
+            return Some(place);
+        }
+    }
+    None
+}
+
+impl<'a> TryFromCtx<'a, usize> for Zeros {
+    type Error = Error;
+
+    ghost reads = { λ n source _. ReadsZeros n source };
+
+    ghost refuses = { RefusesZeros };
+
+    ghost reads_bounded = { λ n source x size h. Prim.search rules };
+
+    fn try_from_ctx(from: &'a [u8], ctx: usize) -> Result<(Zeros, usize)> {
+        check_room(ctx, from.len())?;
+        match first_nonzero(&from[..ctx]) {
+            None => Ok((Zeros, ctx)),
+            Some(size) => Err(Error::BadInput {
+                size,
+                msg: "padding is not zero",
+            }),
+        }
+    }
+}
+
+impl IntoCtx<usize> for Zeros {
+    ghost need = { λ n. n };
+
+    ghost leaves = { λ n _ old new. new ≡ zeros n ++ drop n old };
+
+    ghost leaves_keeps = { λ n _. zeros-keeps n };
+
+    fn into_ctx(self, dst: &mut [u8], ctx: usize) {
+        for place in 0..ctx {
+            slice::cwrite_with(dst, 0u8, place, crate::LE);
+        }
+    }
+}
+
+impl TryIntoCtx<usize> for Zeros {
+    type Error = Error;
+
+    ghost writes = { λ n _. WritesFront n (zeros n) };
+
+    ghost refuses = { λ n _. LeavesShort n };
+
+    ghost writes_bounded = { λ n x old new size h. Prim.search rules };
+
+    ghost writes_keeps = { λ n _. WritesZeros-keeps n };
+
+    fn try_into_ctx(self, dst: &mut [u8], ctx: usize) -> Result<usize> {
+        check_room(ctx, dst.len())?;
+        self.into_ctx(dst, ctx);
+        Ok(ctx)
+    }
+}

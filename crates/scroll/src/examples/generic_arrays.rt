@@ -1,0 +1,49 @@
+// Callers that are generic over the elements of an array, and over how many there are.
+ghost use Rattle.std.specs.Prelude.{IfOk, IfErr, IfSome, IsSome};
+ghost use Rattle.scroll.specs.Arrays.{ReadsArray, RefusesArray};
+ghost use Rattle.scroll.specs.Fits.{SlotsFit};
+ghost use Rattle.scroll.specs.Reads.{ReadsSome, RefusesAt};
+ghost use Rattle.scroll.specs.declared.endian.Endian.TheVariants.{Little};
+ghost use Rattle.scroll.specs.declared.error.Error.TheVariants.{BadOffset};
+
+use crate::ctx::{TryFromCtx, array_fits};
+use crate::{Endian, Error, LE, Pread};
+
+/// The first `N` values of a file, little-endian.
+pub fn first_values<
+    'a,
+    E: From<Error>,
+    T: TryFromCtx<'a, Endian, Error = E> + Drop + 'a,
+    const N: usize,
+>(file: &'a [u8]) -> Result<[T; N], E>
+    requires fits { SlotsFit T.row N.row }
+    ensures read { IfOk result (ReadsSome (ReadsArray (T.reads Little) N) file.now 0) }
+    ensures refused { IfErr result (RefusesAt (RefusesArray (T.reads Little) (T.refuses Little) (λ place e. E.from_gives (BadOffset place) e) N) (λ place e. E.from_gives (BadOffset place) e) file.now 0) }
+{
+    file.pread_with(0, LE)
+}
+
+/// The same with nothing asked of the caller: nothing, where so many values don't fit in memory.
+pub fn try_first_values<
+    'a,
+    E: From<Error>,
+    T: TryFromCtx<'a, Endian, Error = E> + Drop + 'a,
+    const N: usize,
+>(file: &'a [u8]) -> Option<Result<[T; N], E>>
+    ensures refused { IfSome result (λ values. IfErr values (RefusesAt (RefusesArray (T.reads Little) (T.refuses Little) (λ place e. E.from_gives (BadOffset place) e) N) (λ place e. E.from_gives (BadOffset place) e) file.now 0)) }
+{
+    if array_fits::<T, N>() {
+        Some(first_values(file))
+    } else {
+        None
+    }
+}
+
+#[test]
+fn values_of_a_file(rt: HostRuntime) {
+    let file: [u8; 5] = [1, 0, 2, 0, 3];
+    let two: Result<[u16; 2], Error> = first_values(&file);
+    assert!(rt; matches!(&two, Ok([1, 2])));
+    let three: Option<Result<[u16; 3], Error>> = try_first_values(&file);
+    assert!(rt; matches!(&three, Some(Err(Error::TooBig { size: 2, len: 1 }))));
+}

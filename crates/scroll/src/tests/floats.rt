@@ -1,0 +1,254 @@
+// Floats: the values of the Rust crate's tests, and the bytes that it reads and writes for zeros, subnormals, infinities
+// and NaNs.
+use crate::ctx::{FromCtx, IntoCtx, SizeWith, TryFromCtx, TryIntoCtx};
+use crate::{BE, Cread, Cwrite, Error, IOread, IOwrite, LE, Pread, Pwrite, Result};
+use std::io;
+
+// The first float of the bytes that the Rust crate's tests read.
+macro_rules! check_gread {
+    ($rt:ident, $float:ty, $value:expr, $size:expr) => {
+        let bytes: [u8; 8] = [0, 0, 0, 0, 0, 0, 224, 63];
+        let mut offset = 0;
+        let read: $float = bytes[..].gread_with(&mut offset, LE)?;
+        assert_eq!($rt; read, $value);
+        assert_eq!($rt; offset, $size);
+    };
+}
+
+#[test]
+fn gread_f32(rt: HostRuntime) -> Result<()> {
+    check_gread!(rt, f32, 0.0, 4);
+    Ok(())
+}
+
+#[test]
+fn gread_f64(rt: HostRuntime) -> Result<()> {
+    check_gread!(rt, f64, 0.5, 8);
+    Ok(())
+}
+
+// Writes a float in one order and then in the other behind it, and reads both back.
+macro_rules! check_gread_gwrite {
+    ($rt:ident, $float:ty, $value:expr, $size:expr) => {
+        let mut bytes = [0u8; 16];
+        let mut target = &mut bytes[..];
+        let value: $float = $value;
+        let mut offset = 0;
+        assert!($rt; matches!(&target.gwrite_with(value, &mut offset, LE), Ok($size)));
+        assert!($rt; matches!(&target.gwrite_with(value, &mut offset, BE), Ok($size)));
+        assert_eq!($rt; offset, 2 * $size);
+        let mut offset = 0;
+        let little: $float = bytes[..].gread_with(&mut offset, LE)?;
+        let big: $float = bytes[..].gread_with(&mut offset, BE)?;
+        assert_eq!($rt; [little, big], [value, value]);
+        assert_eq!($rt; offset, 2 * $size);
+    };
+}
+
+#[test]
+fn gread_gwrite_f64_1(rt: HostRuntime) -> Result<()> {
+    check_gread_gwrite!(rt, f64, 0.25, 8);
+    Ok(())
+}
+
+#[test]
+fn gread_gwrite_f64_2(rt: HostRuntime) -> Result<()> {
+    check_gread_gwrite!(rt, f64, 0.5, 8);
+    Ok(())
+}
+
+#[test]
+fn gread_gwrite_f64_3(rt: HostRuntime) -> Result<()> {
+    check_gread_gwrite!(rt, f64, 0.064, 8);
+    Ok(())
+}
+
+#[test]
+fn gread_gwrite_f32_1(rt: HostRuntime) -> Result<()> {
+    check_gread_gwrite!(rt, f32, 0.25, 4);
+    Ok(())
+}
+
+#[test]
+fn gread_gwrite_f32_2(rt: HostRuntime) -> Result<()> {
+    check_gread_gwrite!(rt, f32, 0.5, 4);
+    Ok(())
+}
+
+#[test]
+fn gread_gwrite_f32_3(rt: HostRuntime) -> Result<()> {
+    check_gread_gwrite!(rt, f32, 0.0, 4);
+    Ok(())
+}
+
+// Floats and their bytes, as the Rust crate writes them in big-endian order: zeros of both signs, the least and the
+// greatest subnormal, the least normal float, the greatest, infinities, and others.
+const SINGLES: [(f32, [u8; 4]); 11] = [
+    (0.0, [0, 0, 0, 0]),
+    (-0.0, [0x80, 0, 0, 0]),
+    (1e-45, [0, 0, 0, 1]),
+    (-1.1754942e-38, [0x80, 0x7f, 0xff, 0xff]),
+    (f32::MIN_POSITIVE, [0, 0x80, 0, 0]),
+    (f32::MAX, [0x7f, 0x7f, 0xff, 0xff]),
+    (f32::MIN, [0xff, 0x7f, 0xff, 0xff]),
+    (f32::INFINITY, [0x7f, 0x80, 0, 0]),
+    (f32::NEG_INFINITY, [0xff, 0x80, 0, 0]),
+    (0.1, [0x3d, 0xcc, 0xcc, 0xcd]),
+    (-1.5, [0xbf, 0xc0, 0, 0]),
+];
+
+const DOUBLES: [(f64, [u8; 8]); 11] = [
+    (0.0, [0, 0, 0, 0, 0, 0, 0, 0]),
+    (-0.0, [0x80, 0, 0, 0, 0, 0, 0, 0]),
+    (5e-324, [0, 0, 0, 0, 0, 0, 0, 1]),
+    (
+        -2.225073858507201e-308,
+        [0x80, 0x0f, 0xff, 0xff, 0xff, 0xff, 0xff, 0xff],
+    ),
+    (f64::MIN_POSITIVE, [0, 0x10, 0, 0, 0, 0, 0, 0]),
+    (f64::MAX, [0x7f, 0xef, 0xff, 0xff, 0xff, 0xff, 0xff, 0xff]),
+    (f64::MIN, [0xff, 0xef, 0xff, 0xff, 0xff, 0xff, 0xff, 0xff]),
+    (f64::INFINITY, [0x7f, 0xf0, 0, 0, 0, 0, 0, 0]),
+    (f64::NEG_INFINITY, [0xff, 0xf0, 0, 0, 0, 0, 0, 0]),
+    (0.064, [0x3f, 0xb0, 0x62, 0x4d, 0xd2, 0xf1, 0xa9, 0xfc]),
+    (-1.5, [0xbf, 0xf8, 0, 0, 0, 0, 0, 0]),
+];
+
+// Both zeros are equal: which of them was read is told by what is written of it.
+macro_rules! check_floats {
+    ($rt:ident, $table:ident, $float:ty, $width:expr) => {
+        for (value, big) in $table.iter() {
+            let mut little = *big;
+            little.reverse();
+            for (bytes, order) in [(*big, BE), (little, LE)] {
+                let read: $float = bytes[..].pread_with(0, order)?;
+                assert_eq!($rt; read, *value);
+                let mut target = [7u8; $width];
+                let mut slice = &mut target[..];
+                slice.pwrite_with(read, 0, order)?;
+                assert_eq!($rt; target, bytes);
+                value.into_ctx(&mut target, order);
+                assert_eq!($rt; target, bytes);
+            }
+        }
+    };
+}
+
+#[test]
+fn floats_and_their_bytes(rt: HostRuntime) -> Result<()> {
+    check_floats!(rt, SINGLES, f32, 4);
+    check_floats!(rt, DOUBLES, f64, 8);
+    Ok(())
+}
+
+// Quiet and signalling NaNs of both signs, with payloads. The Rust crate reads each as a NaN, and writes its own bits;
+// here each is written as the quiet NaN with no sign and no payload.
+const SINGLE_NANS: [[u8; 4]; 5] = [
+    [0x7f, 0xc0, 0, 0],
+    [0xff, 0xc0, 0, 0],
+    [0x7f, 0x80, 0, 1],
+    [0xff, 0x80, 0, 1],
+    [0xff, 0xff, 0xff, 0xff],
+];
+
+const DOUBLE_NANS: [[u8; 8]; 5] = [
+    [0x7f, 0xf8, 0, 0, 0, 0, 0, 0],
+    [0xff, 0xf8, 0, 0, 0, 0, 0, 0],
+    [0x7f, 0xf0, 0, 0, 0, 0, 0, 1],
+    [0xff, 0xf0, 0, 0, 0, 0, 0, 1],
+    [0xff, 0xff, 0xff, 0xff, 0xff, 0xff, 0xff, 0xff],
+];
+
+#[test]
+fn nans_and_their_bytes(rt: HostRuntime) -> Result<()> {
+    for bytes in SINGLE_NANS.iter() {
+        let read: f32 = bytes[..].pread_with(0, BE)?;
+        assert!(rt; read.is_nan());
+        let mut target = [7u8; 4];
+        read.try_into_ctx(&mut target, LE)?;
+        assert_eq!(rt; target, [0, 0, 0xc0, 0x7f]);
+    }
+    for bytes in DOUBLE_NANS.iter() {
+        let (read, size) = f64::try_from_ctx(bytes, BE)?;
+        assert!(rt; read.is_nan());
+        assert_eq!(rt; size, 8);
+        let mut target = [7u8; 8];
+        (&read).try_into_ctx(&mut target, BE)?;
+        assert_eq!(rt; target, [0x7f, 0xf8, 0, 0, 0, 0, 0, 0]);
+    }
+    Ok(())
+}
+
+#[test]
+fn sizes_and_refusals(rt: HostRuntime) {
+    assert_eq!(rt; [f32::size_with(&LE), f64::size_with(&BE)], [4, 8]);
+    assert_eq!(rt; [f32::size_with(&()), f64::size_with(&())], [4, 8]);
+    assert_eq!(rt; <[[f64; 3]; 2]>::size_with(&LE), 48);
+    let mut bytes = [0u8; 3];
+    let short: Result<f32> = bytes[..].pread_with(0, LE);
+    assert!(rt; matches!(&short, Err(Error::TooBig { size: 4, len: 3 })));
+    let short: Result<f64> = bytes[..].pread_with(1, LE);
+    assert!(rt; matches!(&short, Err(Error::TooBig { size: 8, len: 2 })));
+    let past: Result<f32> = bytes[..].pread_with(4, LE);
+    assert!(rt; matches!(&past, Err(Error::BadOffset(4))));
+    let mut target = &mut bytes[..];
+    let short = target.pwrite_with(1.0f32, 0, LE);
+    assert!(rt; matches!(&short, Err(Error::TooBig { size: 4, len: 3 })));
+    assert_eq!(rt; bytes, [0, 0, 0]);
+}
+
+#[test]
+fn with_room_made_sure_of(rt: HostRuntime) {
+    let mut bytes = [0u8; 12];
+    let mut target = &mut bytes[..];
+    target.cwrite_with(1.5f32, 0, BE);
+    target.cwrite(-2.25f64, 4);
+    assert_eq!(rt; bytes, [0x3f, 0xc0, 0, 0, 0, 0, 0, 0, 0, 0, 0x02, 0xc0]);
+    assert_eq!(rt; bytes[..].cread_with::<f32>(0, BE), 1.5);
+    assert_eq!(rt; bytes[..].cread::<f64>(4), -2.25);
+    assert_eq!(rt; f32::from_ctx(&bytes, BE), 1.5);
+}
+
+#[test]
+fn arrays_and_bulk_reads(rt: HostRuntime) -> Result<()> {
+    let mut bytes = [0u8; 20];
+    let mut target = &mut bytes[..];
+    let rows = [[0.5f32, -2.0], [0.1, 65504.0]];
+    assert_eq!(rt; target.pwrite_with(rows, 4, LE)?, 16);
+    let wanted: [u8; 20] = [
+        0, 0, 0, 0, 0, 0, 0, 0x3f, 0, 0, 0, 0xc0, 0xcd, 0xcc, 0xcc, 0x3d, 0, 0xe0, 0x7f, 0x47,
+    ];
+    assert_eq!(rt; bytes, wanted);
+    let read: [[f32; 2]; 2] = bytes[..].pread_with(4, LE)?;
+    assert_eq!(rt; read, rows);
+    let mut all = [0.0f32; 5];
+    let mut offset = 0;
+    bytes[..].gread_inout_with(&mut offset, &mut all, LE)?;
+    assert_eq!(rt; all, [0.0, 0.5, -2.0, 0.1, 65504.0]);
+    assert_eq!(rt; offset, 20);
+    Ok(())
+}
+
+// What the Rust crate's documentation of streams reads, and an `f64` that they are too short for.
+#[test]
+fn streams_of_floats(rt: HostRuntime) -> io::Result<()> {
+    let bytes: [u8; 12] = [0x0b, 0x0b, 0, 0, 0, 0, 0, 0, 0xef, 0xbe, 0, 0];
+    let mut reader = &bytes[..];
+    assert_eq!(rt; reader.ioread_with::<i64>(LE)?, 0xb0b);
+    assert_eq!(rt; reader.ioread_with::<u32>(LE)?, 0xbeef);
+    let end: io::Result<f64> = reader.ioread_with(LE);
+    assert!(rt; end.is_err());
+    let mut written = Vec::new(rt.alloc());
+    written.iowrite_with(0.1f32, BE)?;
+    written.iowrite(-0.064f64)?;
+    let wanted: [u8; 12] = [
+        0x3d, 0xcc, 0xcc, 0xcd, 0xfc, 0xa9, 0xf1, 0xd2, 0x4d, 0x62, 0xb0, 0xbf,
+    ];
+    assert_eq!(rt; written.as_slice(), wanted.as_slice());
+    let mut reader = written.as_slice();
+    let single: f32 = reader.ioread_with(BE)?;
+    let double: f64 = reader.ioread()?;
+    assert_eq!(rt; single, 0.1);
+    assert_eq!(rt; double, -0.064);
+    Ok(())
+}

@@ -1,0 +1,13 @@
+use Rattle.std.proofs.Common.{ap, sym, subst}
+use Rattle.std.proofs.lemmas.Str.{IsUtf8-string_bytes}
+use Rattle.scroll_run.specs.Puts.{SpellText}
+use Rattle.scroll_run.proofs.puts.parse_text.Goals as goal
+
+pub returns-in_default : goal.returns-in_default
+returns-in_default c = let none = rw c.in_default.is at c.in_ok-bytes.ensures in λ p s. none s.0.now s.1.0
+
+pub returns-in-Ok : goal.returns-in-Ok
+returns-in-Ok c =
+    let bytes = rw c.in-Some.is at c.in_ok-bytes.ensures in
+    let same = ap (λ v. v.items) c.in-Ok.ensures.ok in
+    λ p h. (h.0, subst (SpellText _) (sym h.2) (rw same bytes, IsUtf8-string_bytes c.in-Ok.text), h.1)

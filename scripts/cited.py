@@ -1,0 +1,81 @@
+#!/usr/bin/env python3
+"""Looks up the names that the documents cite in the sources, so that none of them is gone.
+
+    python3 scripts/cited.py
+
+A name is what stands between backticks and is a word, or words joined by `::`, such as `Pread::gread_with`; in the tables of
+LAWS.md and PROVED.md also a lemma, such as `ReadsAll-push`. Each of its words stands in the code of a crate or a client, with
+no comments, or is the name of an edit, a session, a script or a document; or it is one of the words below, of Rust or of a
+tool. The last line is `N passed, M failed`, which counts documents. The exit status is 0 where M is 0 and N is not.
+"""
+
+import re
+import sys
+from pathlib import Path
+from typing import Set
+
+TOP = Path(__file__).resolve().parents[1]
+
+# Names of Rust, of its crates and of processors, and words of docs/SESSIONS.md that stand for others.
+FOREIGN = set("""
+I Self::Units array::try_from_fn cause collect core::mem core::result f64 memchr scroll_derive x86-64-v2
+HEX HH ORD SESSION law_7
+""".split())
+
+SPAN = re.compile(r"(?<!`)`([^`\n]+)`(?!`)")
+CITED = re.compile(r"(?:r#)?[A-Za-z_][\w-]*(?:::(?:[A-Za-z_]\w*|\*))*")
+WORD = re.compile(r"[^\W\d][\w-]*")
+FENCE = re.compile(r"^```.*?^```$", re.M | re.S)
+
+
+def documents() -> "list[Path]":
+    found = [TOP / "README.md", TOP / "CONTRIBUTING.md", *TOP.glob("docs/*.md"), *TOP.glob("clients/*.md")]
+    return sorted([*found, *TOP.glob("crates/*/CALLING.md"), *TOP.glob("crates/*/must-fail/README.md")])
+
+
+def words_of_sources() -> Set[str]:
+    """The words of the code, and the names of files and folders. A word with a `-` or a `◌` counts by its parts too."""
+    words: Set[str] = set()
+    for path in TOP.rglob("*"):
+        parts = path.relative_to(TOP).parts
+        if ".git" in parts or "out" in parts:
+            continue
+        words.update(part for name in parts for part in (name, name.split(".")[0]))
+        name = path.name[: -len(".txt")] if path.name.endswith(".txt") else path.name
+        if path.is_file() and name.endswith((".rt", ".rs", ".antt", ".sh", ".py", ".c", ".in", ".out")) or name == "crates.txt":
+            text = path.read_text(encoding="utf-8", errors="replace")
+            comment = {".rt": r"//.*", ".antt": r"(?m)(?:^|\s)--.*|//.*"}.get(Path(name).suffix)
+            text = re.sub(comment, "", text) if comment else text
+            for word in WORD.findall(text):
+                words.update((word, *word.split("-")))
+    return words
+
+
+def is_known(word: str, known: Set[str]) -> bool:
+    if word == "*" or word in known:
+        return True
+    return (word[0] == "_" and any(it.endswith(word) for it in known)) or (word[-1] == "_" and any(it.startswith(word) for it in known))
+
+
+def main() -> int:
+    known = words_of_sources() | FOREIGN
+    passed = failed = names = 0
+    for path in documents():
+        text = FENCE.sub(lambda it: "\n" * it[0].count("\n"), path.read_text(encoding="utf-8"))
+        gone = []
+        for number, line in enumerate(text.split("\n"), 1):
+            for span in SPAN.findall(line):
+                if CITED.fullmatch(span):
+                    names += 1
+                    if span not in known and not all(is_known(it, known) for it in span.split("::")):
+                        gone.append(f"{path.relative_to(TOP)}:{number}: `{span}` is not in the sources")
+        for it in gone:
+            print(f"FAILED {it}")
+        passed, failed = passed + (not gone), failed + bool(gone)
+    print(f"cited: {names} names were looked up")
+    print(f"{passed} passed, {failed} failed")
+    return 0 if passed and not failed else 1
+
+
+if __name__ == "__main__":
+    sys.exit(main())

@@ -1,0 +1,151 @@
+"""Edits: bugs in code that the prover must refuse. This module reads their files and puts them into a copy of a crate.
+
+The folders `must-fail/` and `bugs/` of a crate hold a file BUG.edit for each bug:
+
+    file: src/pwrite.rt
+    old: if offset > self.len() {
+    new: if offset >= self.len() {
+    bug: a write at the end of the slice is past the end
+    breaks: `Pwrite::pwrite_with`, `wrote`
+
+`rt` reads the first three words, and passes over the last two. The text after `old:` stands exactly once in its file. More
+pairs of `old:` and `new:` may follow, and a further `file:` before them.
+"""
+
+import re
+from dataclasses import dataclass
+from pathlib import Path
+from typing import Dict, Iterable, List, NamedTuple, Set, Tuple
+
+FOLDERS = ("must-fail", "bugs")
+NAME = re.compile(r"[A-Za-z0-9_-][A-Za-z0-9_.-]*\.edit")
+HEAD = re.compile(r"^([ \t]*)(?:pub(?:\([a-z]+\))? )?(?:final )?(?:const )?(?:unsafe )?fn (\w+)", re.M)
+
+
+class Bad(Exception):
+    """An edit can't be read or put in."""
+
+
+class Pair(NamedTuple):
+    file: str
+    old: str
+    new: str
+
+
+@dataclass(frozen=True)
+class Edit:
+    crate: str
+    folder: str
+    name: str
+    bug: str
+    breaks: str
+    pairs: Tuple[Pair, ...]
+
+
+class Function(NamedTuple):
+    """A function of a source file, with the lines from its head to its closing brace; `name` is empty outside of functions."""
+
+    file: str
+    name: str
+    first: int
+    last: int
+
+
+def read_edit(path: Path) -> Edit:
+    file = old = bug = breaks = ""
+    pairs: List[Pair] = []
+    for line in path.read_text(encoding="utf-8").splitlines():
+        word, _, text = line.partition(":")
+        text = text[1:] if text.startswith(" ") else text
+        if word == "file":
+            file = text.strip()
+        elif word == "old":
+            old = text
+        elif word == "new":
+            if not file or not old:
+                raise Bad("a `new:` stands before any `file:` or `old:`")
+            pairs.append(Pair(file, old, text))
+            old = ""
+        elif word == "bug":
+            bug = text.strip()
+        elif word == "breaks":
+            breaks = text.strip()
+        else:
+            raise Bad(f"the line `{line}` is none of file, old, new, bug and breaks")
+    if not pairs or old:
+        raise Bad("it has no pair of `old:` and `new:`, or half of one")
+    return Edit(path.parents[1].name, path.parent.name, path.stem, bug, breaks, tuple(pairs))
+
+
+def edit_paths(crate: Path) -> List[Path]:
+    """The files of a crate's two folders, sorted by name; the tables are no edits."""
+    found = [path for folder in FOLDERS for path in sorted((crate / folder).glob("**/*")) if path.is_file()]
+    return [path for path in found if path.suffix != ".md"]
+
+
+class Texts:
+    """The files of a crate's src/, as they stand and after some edits. Each `old:` text is looked for in the file as it stands."""
+
+    def __init__(self, crate: Path) -> None:
+        self.crate = crate
+        self.before: Dict[str, str] = {}
+
+    def load(self, file: str) -> str:
+        if file not in self.before:
+            if not file.startswith("src/") or not (self.crate / file).is_file():
+                raise Bad(f"there is no file {file} below src/")
+            self.before[file] = (self.crate / file).read_text(encoding="utf-8")
+        return self.before[file]
+
+    def places(self, edit: Edit) -> List[Tuple[int, Pair]]:
+        """Where each pair of the edit changes its file as it stands. As for `rt`, a pair's `old:` text is looked for after the pairs before it."""
+        texts: Dict[str, str] = {}
+        found: List[Tuple[int, Pair]] = []
+        for pair in edit.pairs:
+            text = texts.get(pair.file, self.load(pair.file))
+            if text.count(pair.old) != 1:
+                raise Bad(f"an `old:` text stands {text.count(pair.old)} times in {pair.file}, and not once")
+            place = text.index(pair.old)
+            texts[pair.file] = text.replace(pair.old, pair.new)
+            before = [len(it.new) - len(it.old) for at, it in found if it.file == pair.file and at < place]
+            found.append((place - sum(before), pair))
+        return found
+
+    def functions(self, edit: Edit) -> Set[Function]:
+        """The functions that the edit changes, by their lines as the files stand."""
+        return {function_at(it.file, self.load(it.file), place) for place, it in self.places(edit)}
+
+    def after(self, edits: Iterable[Edit]) -> Tuple[Dict[str, str], Dict[str, Set[Function]]]:
+        """The texts of the files that the edits change, and the functions that each edit changes, by their lines in these texts."""
+        changes = sorted((it.file, place, it, edit.name) for edit in edits for place, it in self.places(edit))
+        texts: Dict[str, str] = {}
+        places: List[Tuple[str, str, int]] = []
+        end: Dict[str, int] = {}
+        for file, place, pair, name in changes:
+            start = end.get(file, 0)
+            if place < start:
+                raise Bad(f"two edits change the same text of {file}")
+            texts[file] = texts.get(file, "") + self.load(file)[start:place]
+            places.append((name, file, len(texts[file])))
+            texts[file] += pair.new
+            end[file] = place + len(pair.old)
+        for file in texts:
+            texts[file] += self.load(file)[end[file] :]
+        functions: Dict[str, Set[Function]] = {}
+        for name, file, place in places:
+            functions.setdefault(name, set()).add(function_at(file, texts[file], place))
+        return texts, functions
+
+
+def function_at(file: str, text: str, place: int) -> Function:
+    """The function around a place of a file's text, with its attributes."""
+    line = text.count("\n", 0, place) + 1
+    for head in reversed(list(HEAD.finditer(text, 0, text.find("\n", place)))):
+        end = re.compile(f"^{head[1]}}}", re.M).search(text, head.end())
+        last = text.count("\n", 0, end.start()) + 1 if end else line
+        if line <= last:
+            lines = text[: head.start()].split("\n")[:-1]
+            while lines and lines[-1].strip().startswith("#["):
+                lines.pop()
+            return Function(file, head[2], len(lines) + 1, last)
+    return Function(file, "", 0, 0)

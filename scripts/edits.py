@@ -1,0 +1,218 @@
+#!/usr/bin/env python3
+"""Tries the edits of the crates: bugs in code, each of which the prover must refuse in the function in which it stands.
+
+    python3 scripts/edits.py [--self-test] [CRATE|CRATE/EDIT..]
+
+All edits are tried, or those of the crates that are named and those that are named themselves. scripts/edit_files.py says
+what an edit is.
+
+A check of a crate says of each function whether it is proved. So one check tries a batch of edits, each in a function of its
+own, in a copy of the crate with what the tree's own checks kept. An edit
+
+- is refused where the prover leaves a goal of its function open, or rejects an answer to one (proofs/../FUNCTION/);
+- fails where that happens only because a proof names what the edit took away;
+- goes into a later check where its function is not refused and only calls one that another edit broke;
+- is tried by itself where its function is proved, or where the check can't read it. Then it passes where another function
+  is refused by a proper note, and the edit's line `breaks:` names that function; else it fails.
+
+A check has two jobs. As many checks run side by side as there are pairs of processors, or fewer, so that each has 6 GB of
+memory. The variable WORKERS sets another number of jobs. `--self-test` tries the script itself (scripts/edits_test.py).
+
+The last line is `N passed, M failed`. The exit status is 0 where M is 0 and N is not.
+"""
+
+import argparse
+import os
+import re
+import resource
+import shutil
+import signal
+import subprocess
+import sys
+import tempfile
+import time
+from concurrent.futures import FIRST_COMPLETED, Future, ThreadPoolExecutor, wait
+from dataclasses import dataclass, field
+from pathlib import Path
+from typing import Dict, List, Optional, Set, Tuple
+
+from edit_files import FOLDERS, NAME, Bad, Edit, Function, Texts, edit_paths, read_edit
+from edit_judge import Judge, Said, parse
+
+TOP = Path(__file__).resolve().parents[1]
+# The jobs of a check.
+JOBS = 2
+
+
+@dataclass
+class Gate:
+    """The copies in which edits are tried. `base` holds the tree, with what its checks kept."""
+
+    room: Path
+    base: Path
+    count: int = 0
+    running: "Set[subprocess.Popen[str]]" = field(default_factory=set)
+    is_ended: bool = False
+
+    def run_rt(self, folder: Path, *words: str) -> Tuple[int, str]:
+        """Runs `rt` in a folder, and returns its status and what it says."""
+        if self.is_ended:
+            raise InterruptedError
+        how = {"stdin": subprocess.DEVNULL, "stdout": subprocess.PIPE, "stderr": subprocess.STDOUT}
+        with subprocess.Popen(["rt", *words], cwd=folder, text=True, errors="replace", **how) as ran:
+            self.running.add(ran)
+            said, _ = ran.communicate()
+            self.running.discard(ran)
+        return ran.returncode, said
+
+    def end(self, *_: object) -> None:
+        """Ends the checks that run, and the script. (`rt` ends what it started.)"""
+        self.is_ended = True
+        for ran in list(self.running):
+            ran.terminate()
+        # (the threads that copy files end with this process)
+        subprocess.Popen(["sh", "-c", 'sleep 1; exec rm -rf "$0"', str(self.room)])
+        os._exit(1)
+
+    def copy(self, crate: str, to: Path) -> None:
+        """Copies a crate with what its checks kept, and the libraries of the repository as they were built."""
+        for name in ("crates.txt", "HANDLES"):
+            to.mkdir(exist_ok=True)
+            shutil.copy(self.base / name, to / name)
+        for folder in sorted((self.base / "crates").iterdir()):
+            left_out = [*FOLDERS, "rlib" if folder.name == crate else "incremental"]
+            shutil.copytree(folder, to / "crates" / folder.name, ignore=shutil.ignore_patterns(*left_out))
+
+    def check(self, judge: Judge, batch: List[Edit]) -> Tuple[Dict[str, Set[Function]], Said, float]:
+        """Checks a copy of the crate with the edits of a batch put in."""
+        start = time.time()
+        self.count += 1
+        tree = self.room / f"batch{self.count}"
+        self.copy(judge.crate.name, tree)
+        try:
+            texts, places = judge.texts.after(batch)
+            crate = tree / "crates" / judge.crate.name
+            for file, text in texts.items():
+                (crate / file).write_text(text, encoding="utf-8")
+            _, said = self.run_rt(crate, "check", "--jobs", str(JOBS))
+        finally:
+            shutil.rmtree(tree, ignore_errors=True)
+        return places, parse(said), time.time() - start
+
+
+def read_edits(crate: Path, failures: List[str]) -> List[Edit]:
+    """The edits of a crate. A file that is none, or that can't be put in, is a failure."""
+    edits: List[Edit] = []
+    texts = Texts(crate)
+    for path in edit_paths(crate):
+        try:
+            if not NAME.fullmatch(path.name) or path.parent.parent != crate:
+                raise Bad("it is no file NAME.edit of the folder itself")
+            edit = read_edit(path)
+            texts.after([edit])
+            if not edit.bug or not edit.breaks:
+                raise Bad("it has no line `bug:`, or no line `breaks:`")
+            if any(edit.name == it.name for it in edits):
+                raise Bad("both folders have an edit of this name")
+            edits.append(edit)
+        except (Bad, UnicodeDecodeError) as why:
+            failures.append(f"{path.relative_to(crate.parent)}: {why}")
+    return edits
+
+
+def try_all(gate: Gate, judges: Dict[str, Judge], edits: List[Edit], workers: int) -> None:
+    """Tries all edits, in as many checks side by side as there are workers, until each is judged."""
+    running: "Dict[Future[Tuple[Dict[str, Set[Function]], Said, float]], List[Edit]]" = {}
+    with ThreadPoolExecutor(workers) as pool:
+
+        def submit(more: List[Edit]) -> None:
+            for name, judge in judges.items():
+                for batch in judge.batches([it for it in more if it.crate == name]):
+                    running[pool.submit(gate.check, judge, batch)] = batch
+
+        submit(edits)
+        again: List[Edit] = []
+        while running:
+            for done in wait(running, return_when=FIRST_COMPLETED).done:
+                batch = running.pop(done)
+                places, said, seconds = done.result()
+                left = judges[batch[0].crate].judge(batch, places, said)
+                again += left
+                names = f" ({batch[0].name})" if len(batch) == 1 else f", {len(left)} to be tried again"
+                print(f"edits: {batch[0].crate}: a check of {len(batch)}{names}, {seconds:.0f} s", flush=True)
+            # (what waited is gathered, so that it is tried in few checks)
+            if again and (not running or len(running) < workers):
+                more, again = again, []
+                submit(more)
+
+
+def prepare(crates: List[Path], room: Path, workers: int) -> Optional[Gate]:
+    """Copies the tree with what its checks kept, and checks there that each crate is proved without an edit."""
+    gate = Gate(room, room / "base")
+    for it in (signal.SIGINT, signal.SIGTERM, signal.SIGHUP):
+        signal.signal(it, gate.end)
+    shutil.copytree(TOP, gate.base, ignore=shutil.ignore_patterns(".git", *FOLDERS))
+    for crate in crates:
+        status, said = gate.run_rt(gate.base / "crates" / crate.name, "check", "--jobs", str(JOBS * workers))
+        if status:
+            print("\n".join(said.splitlines()[-20:]))
+            print(f"FAILED {crate.name}: it is not proved without an edit")
+            return None
+    return gate
+
+
+def count_workers() -> int:
+    """How many checks run side by side."""
+    memory = re.search(r"MemAvailable:\s+(\d+)", Path("/proc/meminfo").read_text())
+    by_memory = int(memory[1]) // (3 << 20) if memory else 1
+    jobs = int(os.environ.get("WORKERS", 0)) or min(len(os.sched_getaffinity(0)), by_memory)
+    return max(1, jobs // JOBS)
+
+
+def processor_seconds() -> float:
+    used = resource.getrusage(resource.RUSAGE_CHILDREN)
+    return used.ru_utime + used.ru_stime
+
+
+def main() -> int:
+    words = argparse.ArgumentParser(description="Tries the edits of the crates.")
+    words.add_argument("--self-test", action="store_true", help="tries the judge itself")
+    words.add_argument("names", nargs="*", metavar="CRATE|CRATE/EDIT")
+    given = words.parse_args()
+    if given.self_test:
+        from edits_test import self_test
+
+        return self_test(count_workers())
+    names = given.names or sorted(it.parent.name for it in TOP.glob("crates/*/must-fail"))
+    crates = [TOP / "crates" / it for it in sorted({it.partition("/")[0] for it in names})]
+    workers = count_workers()
+    start = time.time()
+    failures: List[str] = []
+    edits = [it for crate in crates for it in read_edits(crate, failures) if {it.crate, f"{it.crate}/{it.name}"} & {*names}]
+    judges = {crate.name: Judge(crate, Texts(crate)) for crate in crates}
+    with tempfile.TemporaryDirectory(prefix="edits-") as room:
+        gate = prepare(crates, Path(room), workers)
+        if gate:
+            print(f"edits: the copy and the crates without an edit took {time.time() - start:.0f} s", flush=True)
+            try_all(gate, judges, edits, workers)
+    return report(edits, judges, failures, start, workers, gate.count if gate else 0)
+
+
+def report(edits: List[Edit], judges: Dict[str, Judge], failures: List[str], start: float, workers: int, checks: int) -> int:
+    passed = 0
+    for edit in edits:
+        judge = judges[edit.crate]
+        if edit.name in judge.refused:
+            passed += 1
+            print(f"refused {edit.crate}/{edit.name}: {judge.refused[edit.name]}")
+        else:
+            failures.append(f"{edit.crate}/{edit.folder}/{edit.name}: {judge.failed.get(edit.name, 'not tried')}")
+    for failure in failures:
+        print(f"FAILED {failure}")
+    print(f"edits: {len(edits)} edits, {checks} checks by {workers} workers, {time.time() - start:.0f} s, {processor_seconds():.0f} processor seconds")
+    print(f"{passed} passed, {len(failures)} failed")
+    return 0 if passed and not failures else 1
+
+
+if __name__ == "__main__":
+    sys.exit(main())
