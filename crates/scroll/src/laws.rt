@@ -13,9 +13,7 @@ mod required;
 
 pub use self::c_strings::{c_string_has_one_zero, c_string_has_one_zero as law_9};
 pub use self::constants::constants_have_their_values;
-pub use self::floats::{
-    float_has_one_leaf, float_reads_back, sizes_of_floats_are_those_of_reads_and_writes,
-};
+pub use self::floats::{float_reads_back, sizes_of_floats_are_those_of_reads_and_writes};
 pub use self::histories::{
     array_has_leaves, what_was_written_stands, what_was_written_stands as law_3,
     write_is_of_its_leaves, writes_apart_may_be_exchanged, writes_apart_may_be_exchanged as law_6,

@@ -1,10 +1,8 @@
 // Laws of floats.
-ghost use Rattle.std.specs.Prelude.{◌≡◌, ◌<◌, ◌++◌, ℕ, T, All, [], ◌∷◌, List, drop, take};
+ghost use Rattle.std.specs.Prelude.{◌≡◌, ◌<◌, ◌++◌, ℕ, T, All, List, drop, take};
 ghost use Rattle.std.specs.Float.{Float, Format, binary32, binary64, NotNan};
 ghost use Rattle.std.specs.Float.Ieee.{fits};
-ghost use Rattle.scroll.specs.Bytes.{LeavesShort};
-ghost use Rattle.scroll.specs.Floats.{float_width, float_bytes, ReadsFloat, WritesFloat};
-ghost use Rattle.scroll.specs.Leaves.{HasLeaves};
+ghost use Rattle.scroll.specs.Floats.{float_width, ReadsFloat, WritesFloat};
 ghost use Rattle.scroll.specs.declared.endian.Endian.{Endian};
 
 use crate::ctx::SizeWith;
@@ -22,12 +20,6 @@ pub fn float_reads_back()
     ensures back { (f : Format) (order : Endian) (source old new : List ℕ) (x : Float) (m n : ℕ) → All (λ b. b < 256) source
         → ReadsFloat f order source x n → NotNan x → WritesFloat f order x old new m
         → (m ≡ n) × (new ≡ take n source ++ drop n old) }
-{}
-
-/// A float is one leaf: its bytes.
-pub fn float_has_one_leaf()
-    ensures { (f : Format) (order : Endian)
-        → HasLeaves (λ x. float_bytes f order x ∷ []) (WritesFloat f order) (λ _. LeavesShort (float_width f)) }
 {}
 
 /// The sizes of `f32` and `f64`, by [`SizeWith`], are the sizes of each read and of each write of such a float.

@@ -60,8 +60,8 @@ pub fn writes_apart_may_be_exchanged()
         → (mid' : List ℕ) × WritesLeaves old place' leaves' mid' r' × WritesLeaves mid' place leaves new r }
 {}
 
-/// What is written is a list of leaves, each of them bytes that are written whole or not at all. A number, bytes as they
-/// are, a C string and a number in LEB128 are one leaf. Arrays of them, nested to any depth, have the leaves of the
+/// What is written is a list of leaves, each of them bytes that are written whole or not at all. A number, a float, bytes
+/// as they are, a C string and a number in LEB128 are one leaf. Arrays of them, nested to any depth, have the leaves of the
 /// innermost elements, in order: `counts` has the lengths, from the outermost on.
 pub fn writes_have_leaves()
     ensures number { (w : ℕ) (order : Endian) → HasLeaves (λ x. number_bytes order w x ∷ []) (WritesNumber w order) (λ _. LeavesShort w) }

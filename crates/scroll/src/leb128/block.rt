@@ -1,4 +1,4 @@
-// Texts of LEB128 within one word of eight bytes.
+// LEB128 encodings within one word of eight bytes.
 ghost use Rattle.std.specs.Prelude.{◌≡◌, ◌-◌, ◌<◌, ◌≤◌, ◌*◌, ◌^◌, nat_lt, pos, ◌-ℤ◌, if◌then◌else◌, IfSome, IfNone, MatchOption};
 ghost use Rattle.std.specs.Int.{w64, to_le_bytes};
 ghost use Rattle.scroll.specs.Leb128.{end_of, groups_value, EndsInBlock, EndsInSignedBlock};
@@ -6,7 +6,7 @@ ghost use Rattle.scroll.specs.Leb128.{end_of, groups_value, EndsInBlock, EndsInS
 // The low seven bits of each byte.
 const GROUPS: u64 = 0x7f7f_7f7f_7f7f_7f7f;
 
-/// The value and the size of the unsigned text that starts at the first of eight bytes, or `None` where none of them ends
+/// The value and the size of the unsigned encoding that starts at the first of eight bytes, or `None` where none of them ends
 /// it.
 #[inline(always)]
 pub fn uleb_block(b: [u8; 8]) -> Option<(u64, usize)>
@@ -16,7 +16,7 @@ pub fn uleb_block(b: [u8; 8]) -> Option<(u64, usize)>
     groups_in(u64::from_le_bytes(b))
 }
 
-/// The value and the size of the signed text that starts at the first of eight bytes, or `None` where none of them ends it.
+/// The value and the size of the signed encoding that starts at the first of eight bytes, or `None` where none of them ends it.
 #[inline(always)]
 pub fn sleb_block(b: [u8; 8]) -> Option<(i64, usize)>
     ensures read { IfSome result (λ read. EndsInSignedBlock b read.0 read.1) }
@@ -33,12 +33,12 @@ pub fn block_groups(b: [u8; 8]) -> u64
     gathered(u64::from_le_bytes(b))
 }
 
-// The groups up to the end of the text, as one number, and how many there are.
+// The groups up to the end of the encoding, as one number, and how many there are.
 #[inline(always)]
 fn groups_in(word: u64) -> Option<(u64, usize)>
     ensures { MatchOption result (8 ≤ end_of (to_le_bytes w64 word)) (λ read. EndsInBlock (to_le_bytes w64 word) read.0 read.1) }
 {
-    // Most texts have one byte or two: a branch that is guessed takes less time than a count that is waited for.
+    // Most encodings have one byte or two: a branch that is guessed takes less time than a count that is waited for.
     if word & 0x80 == 0 {
         return Some((word & 0x7f, 1));
     }
@@ -55,13 +55,13 @@ fn signed_in(word: u64) -> Option<(i64, usize)>
 {
     // A shift by a constant is one step, and one by a count is three.
     if word & 0x80 == 0 {
-        return Some((two_complement(word & 0x7f, 1), 1));
+        return Some((sign_extend(word & 0x7f, 1), 1));
     }
     if word & 0x8000 == 0 {
-        return Some((two_complement(word & 0x7f | (word & 0x7f00) >> 1, 2), 2));
+        return Some((sign_extend(word & 0x7f | (word & 0x7f00) >> 1, 2), 2));
     }
     let (groups, count) = counted_groups(word)?;
-    Some((two_complement(groups, count), count))
+    Some((sign_extend(groups, count), count))
 }
 
 // The groups up to the end, whose place is counted.
@@ -91,10 +91,10 @@ fn gathered(word: u64) -> u64
     fours & 0x0000_0000_0fff_ffff | (fours & 0x0fff_ffff_0000_0000) >> 4
 }
 
-// The signed number that `count` groups are in two's complement. The sign bit of the last group is turned over, and then taken
-// away: where it was set, that is the power of 128 less. One shift by a count, and no branch.
+// Sign-extends the number that `count` groups are. The sign bit of the last group is turned over, and then taken away: where
+// it was set, that is the power of 128 less. One shift by a count, and no branch.
 #[inline(always)]
-pub fn two_complement(groups: u64, count: usize) -> i64
+pub fn sign_extend(groups: u64, count: usize) -> i64
     requires some { 1 ≤ count }
     requires few { count ≤ 9 }
     requires low { groups < 128 ^ count }

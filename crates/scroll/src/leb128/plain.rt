@@ -3,12 +3,13 @@ ghost use Rattle.std.specs.Prelude.{IfOk, IfErr};
 ghost use Rattle.scroll.specs.Leb128.{ReadsUleb, ReadsSleb};
 ghost use Rattle.scroll.specs.LebRefusals.{RefusesUleb, RefusesSleb};
 
-use super::block::two_complement;
+use super::TRUNCATED;
+use super::block::sign_extend;
 use crate::error::{Error, Result};
 
 /// The value and the size of the unsigned number at the front of `src`, which is read byte by byte.
 ///
-/// It answers and refuses as a read of a [`Uleb128`](super::Uleb128) does.
+/// It returns what a read of a [`Uleb128`](super::Uleb128) returns, errors included.
 #[inline(always)]
 pub fn plain_uleb(src: &[u8]) -> Result<(u64, usize)>
     ensures read { IfOk result (λ read. ReadsUleb src.now read.0 read.1) }
@@ -17,7 +18,7 @@ pub fn plain_uleb(src: &[u8]) -> Result<(u64, usize)>
     let mut groups: u64 = 0;
     for i in 0..9 {
         let Some(&byte) = src.get(i) else {
-            return Err(Error::TooBig { size: 1, len: 0 });
+            return Err(TRUNCATED);
         };
         groups |= u64::from(byte & 0x7f) << (7 * i);
         if byte < 0x80 {
@@ -30,13 +31,13 @@ pub fn plain_uleb(src: &[u8]) -> Result<(u64, usize)>
             size: src.len(),
             msg: "failed to parse",
         }),
-        None => Err(Error::TooBig { size: 1, len: 0 }),
+        None => Err(TRUNCATED),
     }
 }
 
 /// The value and the size of the signed number at the front of `src`, which is read byte by byte.
 ///
-/// It answers and refuses as a read of a [`Sleb128`](super::Sleb128) does.
+/// It returns what a read of a [`Sleb128`](super::Sleb128) returns, errors included.
 #[inline(always)]
 pub fn plain_sleb(src: &[u8]) -> Result<(i64, usize)>
     ensures read { IfOk result (λ read. ReadsSleb src.now read.0 read.1) }
@@ -45,11 +46,11 @@ pub fn plain_sleb(src: &[u8]) -> Result<(i64, usize)>
     let mut groups: u64 = 0;
     for i in 0..9 {
         let Some(&byte) = src.get(i) else {
-            return Err(Error::TooBig { size: 1, len: 0 });
+            return Err(TRUNCATED);
         };
         groups |= u64::from(byte & 0x7f) << (7 * i);
         if byte < 0x80 {
-            return Ok((two_complement(groups, i + 1), i + 1));
+            return Ok((sign_extend(groups, i + 1), i + 1));
         }
     }
     match src.get(9) {
@@ -61,6 +62,6 @@ pub fn plain_sleb(src: &[u8]) -> Result<(i64, usize)>
             size: src.len(),
             msg: "failed to parse",
         }),
-        None => Err(Error::TooBig { size: 1, len: 0 }),
+        None => Err(TRUNCATED),
     }
 }

@@ -20,12 +20,12 @@ use crate::loads::Loads;
 use crate::pread::Pread;
 use std::marker::Model;
 
-/// A signed number in LEB128, and how many bytes its text has.
+/// A signed number in LEB128, and how many bytes its encoding has.
 ///
-/// The groups of the text are in two's complement: the value is below zero where the second highest bit of the last byte
-/// is set. It is read and written in the context `()`. A source that ends before its text does, within the first ten
-/// bytes, is refused by `TooBig { size: 1, len: 0 }`; a text of more than ten bytes, or with a value that no `i64` has, by
-/// `BadInput { size, msg: "failed to parse" }`, whose `size` is the length of the source.
+/// The groups of the encoding are in two's complement: the value is below zero where the second highest bit of the last byte
+/// is set. It is read and written in the context `()`. A truncated source, which ends before its encoding does and within
+/// the first ten bytes, is refused by `TooBig { size: 1, len: 0 }`; an encoding of more than ten bytes, or of a value that
+/// no `i64` has, by `BadInput { size, msg: "failed to parse" }`, whose `size` is the length of the source.
 ///
 /// ```rust
 /// let bytes: [u8; 3] = [0xff, 0x7e, 0x00];
@@ -50,7 +50,7 @@ impl Model for Sleb128 {
 }
 
 impl Sleb128 {
-    /// The number with the shortest of its texts.
+    /// The number with its shortest encoding.
     ///
     /// ```rust
     /// let mut bytes = [0u8; 2];
@@ -69,7 +69,7 @@ impl Sleb128 {
         }
     }
 
-    /// How many bytes the text has: from one to ten.
+    /// How many bytes the encoding has: from one to ten.
     #[inline(always)]
     pub fn size(&self) -> usize
         ensures size { result ≡ self.now.count }
@@ -78,7 +78,7 @@ impl Sleb128 {
         self.count
     }
 
-    /// Reads a number at `offset`, and moves `offset` behind its text. On an error `offset` stays.
+    /// Reads a number at `offset`, and moves `offset` past its encoding. On an error `offset` is unchanged.
     ///
     /// It refuses as a read of a [`Sleb128`] does, and an offset past the end by `BadOffset(offset)`.
     ///
@@ -99,7 +99,7 @@ impl Sleb128 {
     }
 }
 
-/// Two numbers are equal where their values are equal and their texts have as many bytes.
+/// Two numbers are equal where their values are equal and their encodings have as many bytes.
 impl PartialEq for Sleb128 {
     ghost eq = { counted_eq int_eq };
 
@@ -161,10 +161,11 @@ impl TryIntoCtx<()> for Sleb128 {
 
     ghost writes_keeps = { λ _. WritesSleb-keeps };
 
-    /// Writes the text of the number that has as many bytes as the number says, and answers how many these are.
+    /// Writes the encoding of the number that has as many bytes as the number says, and returns how many these are.
     ///
     /// The target then reads as this number, and every source that reads so begins with the bytes that were written. A
-    /// shorter target is refused by `TooBig { size, len }`, with the bytes of the text and of the target, and stays.
+    /// shorter target is refused by `TooBig { size, len }`, with the sizes of the encoding and of the target, and is
+    /// unchanged.
     #[inline(always)]
     fn try_into_ctx(self, dst: &mut [u8], _ctx: ()) -> Result<usize>
         ensures wrote { IfOk result (WritesSleb self dst.old dst.new) }

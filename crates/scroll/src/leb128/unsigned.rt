@@ -19,11 +19,11 @@ use crate::loads::Loads;
 use crate::pread::Pread;
 use std::marker::Model;
 
-/// An unsigned number in LEB128, and how many bytes its text has.
+/// An unsigned number in LEB128, and how many bytes its encoding has.
 ///
-/// It is read and written in the context `()`. A source that ends before its text does, within the first ten bytes, is refused by
-/// `TooBig { size: 1, len: 0 }`; a text of more than ten bytes, or with a value that no `u64` has, by
-/// `BadInput { size, msg: "failed to parse" }`, whose `size` is the length of the source.
+/// It is read and written in the context `()`. A truncated source, which ends before its encoding does and within the first
+/// ten bytes, is refused by `TooBig { size: 1, len: 0 }`; an encoding of more than ten bytes, or of a value that no `u64`
+/// has, by `BadInput { size, msg: "failed to parse" }`, whose `size` is the length of the source.
 ///
 /// ```rust
 /// let bytes: [u8; 3] = [0x82, 0x01, 0xff];
@@ -48,7 +48,7 @@ impl Model for Uleb128 {
 }
 
 impl Uleb128 {
-    /// The number with the shortest of its texts.
+    /// The number with its shortest encoding.
     ///
     /// ```rust
     /// let mut bytes = [0u8; 2];
@@ -67,7 +67,7 @@ impl Uleb128 {
         }
     }
 
-    /// How many bytes the text has: from one to ten.
+    /// How many bytes the encoding has: from one to ten.
     #[inline(always)]
     pub fn size(&self) -> usize
         ensures size { result ≡ self.now.count }
@@ -76,7 +76,7 @@ impl Uleb128 {
         self.count
     }
 
-    /// Reads a number at `offset`, and moves `offset` behind its text. On an error `offset` stays.
+    /// Reads a number at `offset`, and moves `offset` past its encoding. On an error `offset` is unchanged.
     ///
     /// It refuses as a read of a [`Uleb128`] does, and an offset past the end by `BadOffset(offset)`.
     ///
@@ -97,7 +97,7 @@ impl Uleb128 {
     }
 }
 
-/// Two numbers are equal where their values are equal and their texts have as many bytes.
+/// Two numbers are equal where their values are equal and their encodings have as many bytes.
 impl PartialEq for Uleb128 {
     ghost eq = { counted_eq ◌==◌ };
 
@@ -159,10 +159,11 @@ impl TryIntoCtx<()> for Uleb128 {
 
     ghost writes_keeps = { λ _. WritesUleb-keeps };
 
-    /// Writes the text of the number that has as many bytes as the number says, and answers how many these are.
+    /// Writes the encoding of the number that has as many bytes as the number says, and returns how many these are.
     ///
     /// The target then reads as this number, and every source that reads so begins with the bytes that were written. A
-    /// shorter target is refused by `TooBig { size, len }`, with the bytes of the text and of the target, and stays.
+    /// shorter target is refused by `TooBig { size, len }`, with the sizes of the encoding and of the target, and is
+    /// unchanged.
     #[inline(always)]
     fn try_into_ctx(self, dst: &mut [u8], _ctx: ()) -> Result<usize>
         ensures wrote { IfOk result (WritesUleb self dst.old dst.new) }

@@ -1,4 +1,4 @@
-// Texts of LEB128 that are written.
+// LEB128 encodings that are written.
 ghost use Rattle.std.specs.Prelude.{◌≡◌, ℕ, ◌+◌, ◌-◌, ◌*◌, ◌/◌, ◌%◌, ◌^◌, ◌<◌, ◌≤◌, ◌++◌, length, drop, slice_index, IfOk, IfErr};
 ghost use Rattle.scroll.specs.Bytes.{sum_below, WritesFront, LeavesShort};
 ghost use Rattle.scroll.specs.Spelling.{spelling, spelled_byte, unsigned_form, HoldsGroups, HasSpelling, HasSignedSpelling};
@@ -42,7 +42,7 @@ pub fn turned(value: i64) -> u64
     }
 }
 
-// Writes the text of `value` in `count` bytes to the front of a target, and returns `count`. A shorter target is refused.
+// Writes the encoding of `value` in `count` bytes to the front of a target, and returns `count`. A shorter target is refused.
 #[inline(always)]
 pub fn put_uleb(dst: &mut [u8], value: u64, count: usize) -> Result<usize>
     requires spelled { HasSpelling value count }
@@ -59,12 +59,12 @@ pub fn put_sleb(dst: &mut [u8], value: i64, count: usize) -> Result<usize>
     ensures wrote { IfOk result (WritesFront count (spelling (unsigned_form value count) count) dst.old dst.new) }
     ensures refused { IfErr result (LeavesShort count dst.old dst.new) }
 {
-    // Behind the highest digit each bit is the sign.
+    // Above the highest digit each bit is the sign.
     let tenth = if value < 0 { 0x7f } else { 0 };
     put_groups(dst, value.cast_unsigned(), tenth, count)
 }
 
-// Writes a text of `count` groups to the front of a target, and returns `count`: the first nine of them are those of `low`,
+// Writes an encoding of `count` groups to the front of a target, and returns `count`: the first nine of them are those of `low`,
 // and then comes `tenth`. A shorter target is refused.
 #[inline(always)]
 fn put_groups(dst: &mut [u8], low: u64, tenth: u8, count: usize) -> Result<usize>
@@ -96,7 +96,7 @@ fn put_groups(dst: &mut [u8], low: u64, tenth: u8, count: usize) -> Result<usize
     Ok(count)
 }
 
-// Writes a text of one byte.
+// Writes an encoding of one byte.
 #[inline(always)]
 fn put_one(dst: &mut [u8], low: u64, tenth: u8)
     requires group { tenth < 128 }
@@ -106,7 +106,7 @@ fn put_one(dst: &mut [u8], low: u64, tenth: u8)
     dst[0] = byte_of(low, tenth, 1, 0);
 }
 
-// Writes a text of two or three bytes with no branch between the two lengths: the second byte is put twice where it is the
+// Writes an encoding of two or three bytes with no branch between the two lengths: the second byte is put twice where it is the
 // last.
 #[inline(always)]
 fn put_short(dst: &mut [u8], low: u64, tenth: u8, count: usize)
@@ -122,7 +122,7 @@ fn put_short(dst: &mut [u8], low: u64, tenth: u8, count: usize)
     dst[count - 1] = last;
 }
 
-// The last byte of a text of two or three.
+// The last byte of an encoding of two or three.
 #[inline(always)]
 fn last_of_short(low: u64, tenth: u8, count: usize) -> u8
     requires group { tenth < 128 }
@@ -137,7 +137,7 @@ fn last_of_short(low: u64, tenth: u8, count: usize) -> u8
     }
 }
 
-// Writes a text of four to eight bytes by two words, which may overlap.
+// Writes an encoding of four to eight bytes by two words, which may overlap.
 #[inline(always)]
 fn put_words(dst: &mut [u8], low: u64, tenth: u8, count: usize)
     requires some { 4 ≤ count }
@@ -150,7 +150,7 @@ fn put_words(dst: &mut [u8], low: u64, tenth: u8, count: usize)
     put_four(dst, last, last_groups(low >> (7 * last)));
 }
 
-// Writes a text of nine or ten bytes.
+// Writes an encoding of nine or ten bytes.
 #[inline(always)]
 fn put_long(dst: &mut [u8], low: u64, tenth: u8, count: usize)
     requires group { tenth < 128 }
@@ -178,7 +178,7 @@ fn put_four(dst: &mut [u8], at: usize, bytes: [u8; 4])
     fill_four(&mut dst[at..at + 4], bytes);
 }
 
-// Fills four bytes: one store, where `copy_from_slice` would first test whether the two lie over one another.
+// Fills four bytes: one store, where `copy_from_slice` would first test whether source and target overlap.
 #[inline(always)]
 fn fill_four(dst: &mut [u8], bytes: [u8; 4])
     requires { length dst.old ≡ 4 }
@@ -195,7 +195,7 @@ fn open_groups(low: u64) -> [u8; 4]
     (spread(low) | 0x8080_8080).to_le_bytes()
 }
 
-// The lowest four groups, the fourth of which is the last of the text.
+// The lowest four groups, the fourth of which is the last of the encoding.
 #[inline(always)]
 fn last_groups(low: u64) -> [u8; 4]
     ensures open { (k : ℕ) → k < 3 → slice_index result k ≡ 128 + low / 128 ^ k % 128 }
@@ -214,7 +214,7 @@ fn spread(low: u64) -> u32
     pairs.wrapping_add(pairs & 0x3f80_3f80)
 }
 
-// Byte `i` of a text.
+// Byte `i` of an encoding.
 #[inline(always)]
 fn byte_of(low: u64, tenth: u8, count: usize, i: usize) -> u8
     requires group { tenth < 128 }

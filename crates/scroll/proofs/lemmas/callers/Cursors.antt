@@ -1,16 +1,16 @@
 -- Lemmas for callers: what was read at a place and where the cursor then stands, lists of reads, bytes that are written
 -- one behind the other, a number beside its bytes, and an error that `?` hands on.
 use Rattle.std.proofs.Common.{◌≡◌, ℕ, zero, suc, ◌+◌, ◌-◌, ◌*◌, ◌^◌, ◌<◌, ◌≤◌, ◌++◌, List, [], ◌∷◌, length, take, drop, slice_index, Some, Fits, w8, refl, sym, ap, ◌∙◌, arith, append_assoc, Result, IfErr}
-use Rattle.std.proofs.Math.Nat.{mul-le-mul_right, mul-suc, pow-suc}
+use Rattle.std.proofs.Math.Nat.{mul-suc}
 use Rattle.std.proofs.lemmas.Grind.{common_steps}
 use Rattle.std.proofs.lemmas.List.{get_or-drop, take-append-drop, drop_at, take_at, drop-drop, length-append, get_or-take, get_or_append_left, length-take-le}
 use Rattle.std.proofs.lemmas.Result.{err_from_is_err_and}
 use Rattle.std.specs.List.{slice_get}
 use Rattle.std.specs.Result.{IsErrAnd}
 use borrow.Rule.Slice.PartMut.{put_mid}
-use Rattle.scroll.specs.Bytes.{sum_below, ReadsFront, WritesFront}
+use Rattle.scroll.specs.Bytes.{ReadsFront, WritesFront}
 use Rattle.scroll.specs.Numbers.{number}
-use Rattle.scroll.proofs.lemmas.numbers.SumLemmas.{sum_below-same, sum_below-backwards}
+use Rattle.scroll.proofs.lemmas.numbers.SumLemmas.{sum_below-same, sum_below-backwards, digits-bound}
 use Rattle.scroll.specs.Reads.{ReadsAt, ReadsBetween, ReadsAll}
 use Rattle.scroll.specs.Writes.{WritesAt}
 use Rattle.scroll.specs.declared.endian.Endian.{Endian}
@@ -93,23 +93,14 @@ number-front Big w s t h = sum_below-same _ _ w (λ i l. ap (λ b. b * 256 ^ (w 
 pub byte-bound : (place : ℕ) (s : List ℕ) → ((i : ℕ) → Fits w8 (slice_index s i)) → (i : ℕ) → slice_index (drop place s) i < 256
 byte-bound place s h i = rw (get_or-drop place s i 0) (omega (arith, (h (place + i)).fits))
 
--- digits to the base 256, each times its power
-pub digits-bound : (d : ℕ → ℕ) → ((i : ℕ) → d i < 256) → (w : ℕ) → sum_below (λ i. d i * 256 ^ i) w < 256 ^ w
-digits-bound d h zero = omega arith
-digits-bound d h (suc w) =
-    let before = digits-bound d h w in
-    let digit : d w ≤ 255 = omega (arith, h w) in
-    let top : d w * 256 ^ w ≤ 255 * 256 ^ w = mul-le-mul_right (256 ^ w) digit in
-    rw (pow-suc 256 w) (omega (arith, before, top))
-
 -- a number of w bytes is below 256 ^ w; of a slice `s` of bytes `type_inv.s` says that each fits
 pub number-bound : (order : Endian) (w place : ℕ) (s : List ℕ) → ((i : ℕ) → Fits w8 (slice_index s i)) → number order w (drop place s) < 256 ^ w
-number-bound Little w place s h = digits-bound (λ i. slice_index (drop place s) i) (byte-bound place s h) w
+number-bound Little w place s h = digits-bound 256 (λ i. slice_index (drop place s) i) (byte-bound place s h) w
 number-bound Big w place s h =
     let t = drop place s in
     let back = sum_below-backwards (λ i. slice_index t i * 256 ^ (w - 1 - i)) w in
     let turned = sum_below-same (λ i. slice_index t (w - 1 - i) * 256 ^ (w - 1 - (w - 1 - i))) (λ i. slice_index t (w - 1 - i) * 256 ^ i) w (λ i l. ap (λ k. slice_index t (w - 1 - i) * 256 ^ k) (omega (arith, l))) in
-    rw (back, turned) (digits-bound (λ i. slice_index t (w - 1 - i)) (λ i. byte-bound place s h (w - 1 - i)) w)
+    rw (back, turned) (digits-bound 256 (λ i. slice_index t (w - 1 - i)) (λ i. byte-bound place s h (w - 1 - i)) w)
 
 -- the first w bytes alone make the number
 pub number-take : (order : Endian) (w n : ℕ) (s : List ℕ) → w ≤ n → number order w (take n s) ≡ number order w s

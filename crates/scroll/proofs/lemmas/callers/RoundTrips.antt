@@ -1,6 +1,6 @@
 -- Lemmas for callers: what was read is written back, and what was written is read again.
-use Rattle.std.proofs.Common.{◌≡◌, ◌≢◌, ℕ, ℤ, pos, neg_ℤ, nat_abs, ◌+ℤ◌, ◌-ℤ◌, ◌*ℤ◌, ◌≤ℤ◌, ◌<ℤ◌, zero, suc, ◌+◌, ◌-◌, ◌*◌, ◌/◌, ◌%◌, ◌^◌, ◌<◌, ◌≤◌, ◌++◌, ◌==◌, true, List, [], ◌∷◌, length, take, drop, get_or, slice_index, Fits, w8, refl, sym, ap, subst, ◌∙◌, inl, inr, arith, IsUtf8, append_assoc, length-append, length-take, length-drop, get_or-take}
-use Rattle.std.proofs.Math.Nat.{add_comm, add-mul, add_assoc, add-mul-div_right, add-mul-mod_self_right, div-add-mod', mod-eq_of_lt, mod-lt, mul-add-mod_self_right, mul-le-mul_right, mul_assoc, mul_comm, one-le-pow, pow-suc}
+use Rattle.std.proofs.Common.{◌≡◌, ◌≢◌, ℕ, ℤ, pos, neg_ℤ, nat_abs, ◌+ℤ◌, ◌-ℤ◌, ◌*ℤ◌, ◌≤ℤ◌, ◌<ℤ◌, ◌+◌, ◌-◌, ◌*◌, ◌/◌, ◌%◌, ◌^◌, ◌<◌, ◌≤◌, ◌++◌, ◌==◌, true, List, [], ◌∷◌, length, take, drop, get_or, slice_index, Fits, w8, refl, sym, ap, subst, ◌∙◌, inl, inr, arith, IsUtf8, append_assoc, length-append, length-take, length-drop, get_or-take}
+use Rattle.std.proofs.Math.Nat.{mod-eq_of_lt}
 use Rattle.std.proofs.Math.Seq.{take-add}
 use Rattle.std.proofs.lemmas.Bool.{cases_lt}
 use Rattle.std.proofs.lemmas.Grind.{common_steps, flat_map-append, same_number_lists}
@@ -9,57 +9,28 @@ use Rattle.std.proofs.lemmas.List.{append-nil, drop-drop, drop_at, take_at, take
 use Rattle.std.proofs.lemmas.List.Elements.{All-get_or, All-head, All-tail}
 use Rattle.std.proofs.lemmas.List.FromFn.{get_or-map-range_with_len}
 use Rattle.std.proofs.lemmas.List.Sums.{passes_at_first}
-use Rattle.std.proofs.lemmas.Nat.{div-mul-add, pow-add}
 use Rattle.std.specs.List.{All, flat_map}
 use Rattle.std.specs.Prelude.{int_lt, nat_lt, if◌then◌else◌}
-use Rattle.scroll.specs.Bytes.{sum_below}
-use Rattle.scroll.proofs.lemmas.callers.Cursors.{Begins, grow, byte-bound, digits-bound, number-bound, number-front}
+use Rattle.scroll.proofs.lemmas.callers.Cursors.{Begins, grow, byte-bound, number-bound, number-front}
 use Rattle.scroll.specs.lemmas.Frames.{length-number_bytes}
 use Rattle.scroll.specs.Numbers.{number, number_bytes, signed_number, signed_bytes}
 use Rattle.scroll.proofs.lemmas.numbers.NumberLemmas.{complement-back}
 use Rattle.scroll.specs.Reads.{ReadsAt, ReadsAll}
-use Rattle.scroll.proofs.lemmas.numbers.SumLemmas.{sum_below-same, sum_below-backwards}
+use Rattle.scroll.proofs.lemmas.numbers.SumLemmas.{sum_below-same, sum_below-backwards, digits-sum, digit-at}
 use Rattle.scroll.specs.Texts.{first_place, ReadsText}
 use Rattle.scroll.specs.declared.ctx.str_ctx.StrCtx.TheVariants.{Required}
 use Rattle.scroll.specs.declared.endian.Endian.{Endian}
 use Rattle.scroll.specs.declared.endian.Endian.TheVariants.{Little, Big}
 
--- the two low digits of n, to the bases c and then m
-mod-split : (n : ℕ) {m c : ℕ} → zero < m → zero < c → n % (m * c) ≡ (n / c % m) * c + n % c
-mod-split n {m} {c} hm hc =
-    let a = mod-lt (n / c) hm in
-    let b = mod-lt n hc in
-    let top : (n / c % m + 1) * c ≤ m * c = mul-le-mul_right c (omega arith) in
-    let expand : (n / c % m + 1) * c ≡ n / c % m * c + 1 * c = add-mul (n / c % m) 1 c in
-    let split : n ≡ n / c / m * (m * c) + (n / c % m * c + n % c) =
-    sym (div-add-mod' n c)
-    ∙ ap (λ (x : ℕ). x * c + n % c) (sym (div-add-mod' (n / c) m))
-    ∙ ap (λ (x : ℕ). x + n % c) (add-mul (n / c / m * m) (n / c % m) c ∙ ap (λ (x : ℕ). x + n / c % m * c) (mul_assoc (n / c / m) m c))
-    ∙ add_assoc (n / c / m * (m * c)) (n / c % m * c) (n % c) in
-    ap (λ (x : ℕ). x % (m * c)) split ∙ mul-add-mod_self_right (n / c / m) (m * c) (n / c % m * c + n % c) ∙ mod-eq_of_lt (omega arith)
-
--- a power of 256 is above zero
-pow_positive : (n : ℕ) → zero < 256 ^ n
-pow_positive n = let h = one-le-pow n 256 (omega arith) in omega arith
-
--- the digits of x, each times its power
-digits : (w x : ℕ) → sum_below (λ i. x / 256 ^ i % 256 * 256 ^ i) w ≡ x % 256 ^ w
-digits zero x = omega arith
-digits (suc w) x =
-    let before = digits w x in
-    let split = mod-split x {m = 256} {c = 256 ^ w} (omega arith) (pow_positive w) in
-    let power : 256 ^ suc w ≡ 256 * 256 ^ w = pow-suc 256 w ∙ mul_comm (256 ^ w) 256 in
-    rw (power, split, before) (omega arith)
-
 -- the number in the bytes of x
 number-number_bytes : (order : Endian) (w x : ℕ) → x < 256 ^ w → number order w (number_bytes order w x) ≡ x
 number-number_bytes Little w x h =
     sum_below-same _ _ w (λ i l. ap (λ b. b * 256 ^ i) (get_or-map-range_with_len (λ j. x / 256 ^ j % 256) 0 w i i 0 l (omega arith)))
-    ∙ digits w x ∙ mod-eq_of_lt h
+    ∙ digits-sum 256 (omega arith) w x ∙ mod-eq_of_lt h
 number-number_bytes Big w x h =
     sum_below-same _ _ w
     (λ i l. ap (λ b. b * 256 ^ (w - 1 - i)) (get_or-map-range_with_len (λ j. x / 256 ^ (w - 1 - j) % 256) 0 w i i 0 l (omega arith)))
-    ∙ sym (sum_below-backwards (λ i. x / 256 ^ i % 256 * 256 ^ i) w) ∙ digits w x ∙ mod-eq_of_lt h
+    ∙ sym (sum_below-backwards (λ i. x / 256 ^ i % 256 * 256 ^ i) w) ∙ digits-sum 256 (omega arith) w x ∙ mod-eq_of_lt h
 
 -- a list that begins with the bytes of x begins with that number
 pub number-begins : (order : Endian) (w x : ℕ) (rest : List ℕ) → x < 256 ^ w → number order w (number_bytes order w x ++ rest) ≡ x
@@ -69,32 +40,6 @@ number-begins order w x rest h =
     (λ i l. get_or_append_left (number_bytes order w x) rest 0 i (omega (arith, l, len)))
     ∙ number-number_bytes order w x h
 
-shuffle : (a p q : ℕ) → a * (p * 256 * q) ≡ a * p * 256 * q
-shuffle a p q = omega arith
-
--- a digit of a sum of digits to the base 256, each times its power
-digit-at : (d : ℕ → ℕ) → ((i : ℕ) → d i < 256) → (w i : ℕ) → i < w → sum_below (λ j. d j * 256 ^ j) w / 256 ^ i % 256 ≡ d i
-digit-at d h zero i l = absurd (omega (arith, l))
-digit-at d h (suc w) i l =
-    let below : ℕ = sum_below (λ j. d j * 256 ^ j) w in
-    elim (cases_lt i w) as (λ _. (sum_below (λ j. d j * 256 ^ j) w + d w * 256 ^ w) / 256 ^ i % 256 ≡ d i) [
-      | inl inside ↦
-          let k : ℕ = w - 1 - i in
-          let split : 256 ^ w ≡ 256 ^ k * 256 * 256 ^ i =
-          ap (λ n. 256 ^ n) (omega (arith, inside)) ∙ pow-add 256 (suc k) i ∙ ap (λ p. p * 256 ^ i) (pow-suc 256 k) in
-          let whole : d w * 256 ^ w ≡ d w * 256 ^ k * 256 * 256 ^ i = ap (λ p. d w * p) split ∙ shuffle (d w) (256 ^ k) (256 ^ i) in
-          ap (λ n. (below + n) / 256 ^ i % 256) whole
-          ∙ ap (λ n. n % 256) (add-mul-div_right below (d w * 256 ^ k * 256) (pow_positive i))
-          ∙ add-mul-mod_self_right (below / 256 ^ i) (d w * 256 ^ k) 256
-          ∙ digit-at d h w i inside
-      | inr top ↦
-          let same : i ≡ w = omega (arith, l, top) in
-          ap (λ j. (below + d w * 256 ^ w) / 256 ^ j % 256) same
-          ∙ ap (λ n. n / 256 ^ w % 256) (add_comm below (d w * 256 ^ w))
-          ∙ ap (λ n. n % 256) (div-mul-add (d w) (256 ^ w) below (digits-bound d h w))
-          ∙ mod-eq_of_lt (h w) ∙ ap d (sym same)
-    ]
-
 -- the bytes of the number that stands at a place are those that stand there
 pub number-back : (order : Endian) (w place : ℕ) (s : List ℕ) → ((i : ℕ) → Fits w8 (slice_index s i)) → place + w ≤ length s → number_bytes order w (number order w (drop place s)) ≡ take w (drop place s)
 number-back Little w place s h room =
@@ -103,7 +48,7 @@ number-back Little w place s h room =
     same_number_lists (number_bytes Little w (number Little w t)) (take w t) (length-number_bytes Little w (number Little w t) ∙ sym len) (λ i l.
     let inside : i < w = omega (arith, l, length-number_bytes Little w (number Little w t)) in
     get_or-map-range_with_len (λ j. number Little w t / 256 ^ j % 256) 0 w i i 0 inside (omega arith)
-    ∙ digit-at (λ j. slice_index t j) (byte-bound place s h) w i inside
+    ∙ digit-at 256 (λ j. slice_index t j) (byte-bound place s h) w i inside
     ∙ sym (get_or-take w t i 0 inside))
 number-back Big w place s h room =
     let t = drop place s in
@@ -115,7 +60,7 @@ number-back Big w place s h room =
     let twice : w - 1 - (w - 1 - i) ≡ i = omega (arith, inside) in
     get_or-map-range_with_len (λ j. number Big w t / 256 ^ (w - 1 - j) % 256) 0 w i i 0 inside (omega arith)
     ∙ ap (λ n. n / 256 ^ (w - 1 - i) % 256) (back ∙ turned)
-    ∙ digit-at (λ j. slice_index t (w - 1 - j)) (λ j. byte-bound place s h (w - 1 - j)) w (w - 1 - i) (omega (arith, inside))
+    ∙ digit-at 256 (λ j. slice_index t (w - 1 - j)) (λ j. byte-bound place s h (w - 1 - j)) w (w - 1 - i) (omega (arith, inside))
     ∙ ap (λ k. slice_index t k) twice
     ∙ sym (get_or-take w t i 0 inside))
 

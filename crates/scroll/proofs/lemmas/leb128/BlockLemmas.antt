@@ -7,14 +7,15 @@ use Rattle.std.proofs.lemmas.Nat.{and_mask, or_block, and_block, or_lt, le_or_r,
 use Rattle.std.proofs.lemmas.Nat.Bits.{and_pow}
 use Rattle.std.proofs.lemmas.Bool.{cases_lt}
 use Rattle.std.proofs.lemmas.Bool.Decides.{nat_tests}
+use Rattle.std.proofs.lemmas.List.{length-map}
 use Rattle.std.specs.Int.{w64, to_le_bytes}
 use Rattle.std.specs.Int.Count.{count_trailing_zeros}
 use Rattle.std.specs.Int.Bits.{and_zero_r, or_shifted_r}
 use Rattle.std.specs.List.{AllByRecursion}
 use Rattle.scroll.specs.Leb128.{end_of, count_of, group, groups_value, unsigned_of, EndsInBlock}
-use Rattle.scroll.proofs.lemmas.words.LaneLemmas.{lanes_word}
+use Rattle.scroll.proofs.lemmas.words.LaneLemmas.{lanes_word, flipped, each_itself}
 use Rattle.scroll.proofs.lemmas.leb128.LebLemmas.{groups_same, groups_more, end_at}
-use Rattle.scroll.proofs.lemmas.words.WordLemmas.{lanes, Lanewise, done, lane, and_lanes, or_lanes, flipped, keep, word_lanes, bytes_small}
+use Rattle.scroll.proofs.lemmas.words.WordLemmas.{lanes, Lanewise, done, lane, and_lanes, or_lanes, keep, word_lanes, bytes_small}
 use Rattle.scroll.proofs.lemmas.words.ZeroLemmas.{zeros_odd, zeros_shifted}
 
 -- an answer by cases, as two facts
@@ -205,19 +206,11 @@ carry_small (b ∷ bs) = elim (cases_lt b 128) [
   | inr high ↦ let t : nat_lt b 128 ≡ false = grind (arith, nat_tests) in rw t (omega arith, carry_small bs)
 ]
 
-fulls_length : (bs : List ℕ) → length (map full bs) ≡ length bs
-fulls_length [] = refl
-fulls_length (b ∷ bs) = omega (arith, fulls_length bs)
-
-zeros_length : (bs : List ℕ) → length {A = ℕ} (map (λ (b : ℕ). 0) bs) ≡ length bs
-zeros_length [] = refl
-zeros_length (b ∷ bs) = omega (arith, zeros_length bs)
-
 carry_length : (bs : List ℕ) → length (carry bs) ≡ length bs
 unfolding carry
 carry_length [] = refl
 carry_length (b ∷ bs) = elim (cases_lt b 128) [
-  | inl low ↦ let t : nat_lt b 128 ≡ true = grind (arith, nat_tests) in rw t (omega (arith, fulls_length bs))
+  | inl low ↦ let t : nat_lt b 128 ≡ true = grind (arith, nat_tests) in rw t (omega (arith, length-map bs full))
   | inr high ↦ let t : nat_lt b 128 ≡ false = grind (arith, nat_tests) in rw t (omega (arith, carry_length bs))
 ]
 
@@ -225,7 +218,7 @@ kept_length : (bs : List ℕ) → length (kept bs) ≡ length bs
 unfolding kept
 kept_length [] = refl
 kept_length (b ∷ bs) = elim (cases_lt b 128) [
-  | inl low ↦ let t : nat_lt b 128 ≡ true = grind (arith, nat_tests) in rw t (omega (arith, zeros_length bs))
+  | inl low ↦ let t : nat_lt b 128 ≡ true = grind (arith, nat_tests) in rw t (omega (arith, length-map {B = ℕ} bs (λ (b : ℕ). 0)))
   | inr high ↦ let t : nat_lt b 128 ≡ false = grind (arith, nat_tests) in rw t (omega (arith, kept_length bs))
 ]
 
@@ -313,9 +306,9 @@ kept_word : (n : ℕ) → n < 2 ^ 64 → end_of (to_le_bytes w64 n) < 8
 kept_word n fits within =
     let bs = to_le_bytes w64 n in
     let carried : bit_or n 0x7f7f_7f7f_7f7f_7f7f + 1 ≡ lanes 8 (carry bs) = ap (λ m. m + 1) (filled_word n fits) ∙ carry_is bs within in
-    let flip = flipped (carry bs) (carry_small bs) in
+    let flip = flipped (λ b. b) (λ b h. h) (carry bs) (carry_small bs) in
     let power : 256 ^ length (carry bs) ≡ 2 ^ 64 = rw (carry_length bs) refl in
-    let complement : 18446744073709551615 - (bit_or n 0x7f7f_7f7f_7f7f_7f7f + 1) ≡ lanes 8 (map (λ b. 255 - b) (carry bs)) = omega (arith, carried, flip, power) in
+    let complement : 18446744073709551615 - (bit_or n 0x7f7f_7f7f_7f7f_7f7f + 1) ≡ lanes 8 (map (λ b. 255 - b) (carry bs)) = omega (arith, carried, flip, power, each_itself (carry bs)) in
     ap (bit_and n) complement
     ∙ ap (λ m. bit_and m (lanes 8 (map (λ b. 255 - b) (carry bs)))) (word_lanes n fits)
     ∙ and_lanes (keeps bs (bytes_small n))

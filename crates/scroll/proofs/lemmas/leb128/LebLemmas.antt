@@ -1,5 +1,5 @@
-use Rattle.std.proofs.Common.{◌≡◌, ℕ, zero, suc, ◌+◌, ◌-◌, ◌*◌, ◌%◌, ◌^◌, ◌<◌, ◌≤◌, inl, inr, true, false, nat_lt, List, length, take, get_or, bit_and, bit_or, refl, sym, ap, ◌∙◌, arith, add-one, add-suc, pow-suc}
-use Rattle.std.proofs.Math.Nat.{mod-eq_of_lt, pow-le-pow_right, mul-le-mul, mul-le-mul_right, mul_assoc, mul_comm}
+use Rattle.std.proofs.Common.{◌≡◌, ℕ, zero, suc, ◌+◌, ◌-◌, ◌*◌, ◌%◌, ◌^◌, ◌<◌, ◌≤◌, inl, inr, true, false, nat_lt, List, length, take, get_or, bit_and, bit_or, refl, sym, ap, ◌∙◌, arith, add-one, pow-suc}
+use Rattle.std.proofs.Math.Nat.{mod-eq_of_lt, pow-le-pow_right, mul-le-mul, mul-le-mul_right}
 use Rattle.std.proofs.lemmas.Nat.{pow-add, mul-add-lt, and_mask}
 use Rattle.std.proofs.lemmas.Bool.{cases_lt}
 use Rattle.std.proofs.lemmas.Bool.Decides.{nat_tests}
@@ -9,6 +9,7 @@ use Rattle.std.proofs.Common.{Some, None}
 use Rattle.std.proofs.lemmas.Option.{slice_get-get_or, get_or_from_slice_get}
 use Rattle.std.proofs.lemmas.List.{get_or-take, length-take-le}
 use Rattle.std.specs.List.{slice_get}
+use Rattle.scroll.proofs.lemmas.numbers.SumLemmas.{digits-bound}
 use Rattle.scroll.specs.Leb128.{group, groups_value, end_of, unsigned_of, count_of, ReadsGroups}
 
 -- ---- powers and sums
@@ -22,10 +23,7 @@ pub groups_more : (s : List ℕ) (n : ℕ) → groups_value s (n + 1) ≡ groups
 groups_more s n = rw add-one refl
 
 pub groups_lt : (s : List ℕ) (n : ℕ) → groups_value s n < 128 ^ n
-groups_lt s zero = omega arith
-groups_lt s (suc n) =
-    let low : group s n < 128 = omega arith in
-    omega (arith, mul-add-lt (group s n) (128 ^ n) (groups_value s n) 128 low (groups_lt s n), pow-suc 128 n)
+groups_lt s n = digits-bound 128 (λ i. group s i) (λ i. omega arith) n
 
 -- ---- the end
 pub end_at : (s : List ℕ) (i : ℕ) → i < length s → ((k : ℕ) → k < i → 128 ≤ get_or s k 0) → get_or s i 0 < 128 → end_of s ≡ i
@@ -71,15 +69,7 @@ late_end s i within more = elim (cases_lt (end_of s) i) [
   | inr late ↦ late
 ]
 
--- ---- the first groups of many
-pub groups_split : (s : List ℕ) (m k : ℕ) → (rest : ℕ) × (groups_value s (m + k) ≡ rest * 128 ^ m + groups_value s m)
-groups_split s m zero = let e : m + 0 ≡ m = omega arith in (0, rw e (omega arith))
-groups_split s m (suc k) =
-    let before = groups_split s m k in
-    let power : group s (m + k) * 128 ^ (m + k) ≡ group s (m + k) * 128 ^ k * 128 ^ m =
-    rw (pow-add 128 m k) (omega (arith, mul_assoc (group s (m + k)) (128 ^ k) (128 ^ m), mul_comm (128 ^ k) (128 ^ m))) in
-    (before.0 + group s (m + k) * 128 ^ k, rw add-suc (omega (arith, before.1, power)))
-
+-- ---- the sign
 -- the sign is the top bit of the groups
 pub sign_is_top : (s : List ℕ) (g n : ℕ) → end_of s < length s → g ≡ unsigned_of s → n ≡ count_of s
     → nat_lt g (64 * 128 ^ (n - 1)) ≡ nat_lt (group s (end_of s)) 64

@@ -3,7 +3,6 @@ use Rattle.std.proofs.Common.{◌≡◌, ℕ, suc, ◌+◌, ◌-◌, ◌*◌, �
 use Rattle.std.proofs.Math.Nat.{mod-eq_of_lt, mul_assoc, one-le-pow}
 use Rattle.std.proofs.Math.Pow.{pow_mono}
 use Rattle.std.proofs.lemmas.Nat.{pow-add, div-mul-add, div_below, and_mask, leading_top, le_or_l, le_or_r, or_lt}
-use Rattle.std.proofs.Math.Seq.{take-append_seam}
 use Rattle.std.proofs.lemmas.Bool.{cases_lt}
 use Rattle.std.proofs.lemmas.Bool.Decides.{nat_tests}
 use Rattle.std.proofs.Math.ListN.{set}
@@ -15,11 +14,10 @@ use Rattle.std.specs.Int.Count.{count_leading_zeros}
 use Rattle.std.specs.List.{All}
 use Rattle.scroll.specs.Bytes.{WritesFront}
 use Rattle.scroll.specs.Leb128.{ReadsUleb}
-use Rattle.scroll.specs.lemmas.Frames.{length-spelling}
 use Rattle.scroll.specs.Spelling.{spelled_byte, spelling, HoldsGroups, HasSpelling}
 use Rattle.scroll.specs.LebWrites.{ten_groups, IsLeast}
 use Rattle.scroll.proofs.lemmas.leb128.LebLemmas.{pow_128}
-use Rattle.scroll.proofs.lemmas.leb128.SpellingLemmas.{power_more, from_spelling, reads_spelling}
+use Rattle.scroll.proofs.lemmas.leb128.SpellingLemmas.{power_more, from_spelling, reads_spelling, spelling_front}
 
 -- ---- digits
 -- r = y * p + z, and a multiple of 128 * p
@@ -80,9 +78,9 @@ pub mod_room : (x n : ℕ) → x % 128 ^ n < 128 ^ n
 mod_room x n = let positive : 0 < 128 ^ n = one-le-pow n 128 (omega arith) in omega arith
 
 -- a target whose first bytes are those of a text
-pub text_written : (u n : ℕ) (old new : List ℕ) → n ≤ length new → ((k : ℕ) → k < n → get_or new k 0 ≡ spelled_byte u n k) → drop n new ≡ drop n old
+pub encoding_written : (u n : ℕ) (old new : List ℕ) → n ≤ length new → ((k : ℕ) → k < n → get_or new k 0 ≡ spelled_byte u n k) → drop n new ≡ drop n old
     → new ≡ spelling u n ++ drop n old
-text_written u n old new room bytes rest =
+encoding_written u n old new room bytes rest =
     let front : take n new ≡ spelling u n = fill_by_all (spelled_byte u n) (take n new) n 0 (length-take-le n new room) (λ k h. get_or-take n new k 0 h ∙ bytes k h) in
     sym (take-append-drop n new) ∙ rw (front, rest) refl
 
@@ -118,39 +116,35 @@ short_written u n a b l old some few room first second last =
     ] in
     let rest : drop n new ≡ drop n old =
     drop-set-lt n two (n - 1) l (omega arith) ∙ drop-set-lt n one 1 b (omega arith) ∙ drop-set-lt n old 0 a (omega arith) in
-    text_written u n old new (omega (arith, size, room)) byte rest
-
--- and it begins with the text
-pub text_front : (u n : ℕ) (t rest : List ℕ) → t ≡ spelling u n ++ rest → take n t ≡ spelling u n
-text_front u n t rest is = ap (take n) is ∙ ap (λ j. take j (spelling u n ++ rest)) (sym (length-spelling u n)) ∙ take-append_seam (spelling u n) rest
+    encoding_written u n old new (omega (arith, size, room)) byte rest
 
 -- it reads as what was written, and so reads no source that begins otherwise
 pub written_reads : (v n : ℕ) (t rest : List ℕ) → HasSpelling v n → t ≡ spelling v n ++ rest → ReadsUleb t v n
 written_reads v n t rest has is =
-    let g = from_spelling t v n has.groups (text_front v n t rest is) in
+    let g = from_spelling t v n has.groups (spelling_front v n t rest is) in
     record { complete = g.complete; fits = omega (arith, g.value, has.fits); value = g.value; size = g.size }
 
 pub read_is_written : (v n : ℕ) (s t rest : List ℕ) → t ≡ spelling v n ++ rest → All (λ b. b < 256) s → ReadsUleb s v n → take n s ≡ take n t
-read_is_written v n s t rest is bytes g = ((reads_spelling s v n bytes).0 g).front ∙ sym (text_front v n t rest is)
+read_is_written v n s t rest is bytes g = ((reads_spelling s v n bytes).0 g).front ∙ sym (spelling_front v n t rest is)
 
 -- ---- what was read, written back; f gives the number to be spelled in so many bytes
-pub text_back : (f : ℕ → ℕ) (c m n : ℕ) (s old new : List ℕ) → take n s ≡ spelling (f n) n → c ≡ n → WritesFront c (spelling (f c) c) old new m
+pub encoding_back : (f : ℕ → ℕ) (c m n : ℕ) (s old new : List ℕ) → take n s ≡ spelling (f n) n → c ≡ n → WritesFront c (spelling (f c) c) old new m
     → (m ≡ n) × (new ≡ take n s ++ drop n old)
-text_back f c m n s old new front e w =
+encoding_back f c m n s old new front e w =
     let w_n = rw e at w in
     (w_n.size, w_n.after ∙ ap (λ t. t ++ drop n old) (sym front))
 
-pub text_begins : (f : ℕ → ℕ) (c m n : ℕ) (s old new : List ℕ) → take n s ≡ spelling (f n) n → c ≡ n → WritesFront c (spelling (f c) c) old new m
+pub encoding_begins : (f : ℕ → ℕ) (c m n : ℕ) (s old new : List ℕ) → take n s ≡ spelling (f n) n → c ≡ n → WritesFront c (spelling (f c) c) old new m
     → take m s ≡ take m new
-text_begins f c m n s old new front e w =
+encoding_begins f c m n s old new front e w =
     let w_n = rw e at w in
-    rw w_n.size (front ∙ sym (text_front (f n) n new (drop n old) w_n.after))
+    rw w_n.size (front ∙ sym (spelling_front (f n) n new (drop n old) w_n.after))
 
-pub text_again : (f : ℕ → ℕ) (c n : ℕ) (old new after : List ℕ) → WritesFront c (spelling (f c) c) old new n
+pub encoding_again : (f : ℕ → ℕ) (c n : ℕ) (old new after : List ℕ) → WritesFront c (spelling (f c) c) old new n
     → (take n new ++ after ≡ spelling (f n) n ++ after) × (c ≡ n)
-text_again f c n old new after w =
+encoding_again f c n old new after w =
     let w_n = rw (← w.size) at w in
-    (ap (λ t. t ++ after) (text_front (f n) n new (drop n old) w_n.after), sym w.size)
+    (ap (λ t. t ++ after) (spelling_front (f n) n new (drop n old) w_n.after), sym w.size)
 
 -- ---- the shortest count
 pub place_found : (v l : ℕ) → v < 2 ^ 64 → l ≡ count_leading_zeros 64 (bit_or v 1) → (l ≤ 63) × (2 ^ (63 - l) ≤ bit_or v 1) × (bit_or v 1 < 2 ^ (63 - l + 1))

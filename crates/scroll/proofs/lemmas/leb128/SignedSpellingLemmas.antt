@@ -1,5 +1,5 @@
 -- Signed numbers and their texts.
-use Rattle.std.proofs.Common.{◌≡◌, ℕ, suc, ◌+◌, ◌-◌, ◌*◌, ◌^◌, ◌<◌, ◌≤◌, ◌↔◌, inl, inr, true, false, nat_lt, if◌then◌else◌, List, ◌++◌, take, length, refl, sym, ap, ◌∙◌, arith, ℤ, pos, negsuc, ◌-ℤ◌, FitsSigned, to_z, of_z}
+use Rattle.std.proofs.Common.{◌≡◌, ℕ, suc, ◌+◌, ◌-◌, ◌*◌, ◌^◌, ◌<◌, ◌≤◌, ◌↔◌, inl, inr, true, false, nat_lt, if◌then◌else◌, List, ◌++◌, length, refl, sym, ap, ◌∙◌, arith, ℤ, pos, negsuc, ◌-ℤ◌, FitsSigned, to_z, of_z}
 use Rattle.std.proofs.Math.Nat.{pow-le-pow_right}
 use Rattle.std.proofs.lemmas.Int.{ints, to_z-of_z}
 use Rattle.std.proofs.lemmas.Bool.{cases_lt}
@@ -110,6 +110,6 @@ pub one_signed_spelling : (v w : ℤ) (m n : ℕ) (x y : List ℕ) → HasSigned
     → spelling (unsigned_form v m) m ++ x ≡ spelling (unsigned_form w n) n ++ y → (v ≡ w) × (m ≡ n)
 one_signed_spelling v w m n x y p q same =
     let s = spelling (unsigned_form v m) m ++ x in
-    let a = from_spelling s (unsigned_form v m) m (form_small v m p) (spelling_front (unsigned_form v m) m x) in
-    let b = from_spelling s (unsigned_form w n) n (form_small w n q) (ap (take n) same ∙ spelling_front (unsigned_form w n) n y) in
+    let a = from_spelling s (unsigned_form v m) m (form_small v m p) (spelling_front (unsigned_form v m) m s x refl) in
+    let b = from_spelling s (unsigned_form w n) n (form_small w n q) (spelling_front (unsigned_form w n) n s y same) in
     (form_signed s v m p a ∙ sym (form_signed s w n q b), a.size ∙ sym b.size)

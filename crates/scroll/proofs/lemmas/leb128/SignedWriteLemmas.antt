@@ -9,9 +9,8 @@ use Rattle.scroll.specs.Spelling.{spelling, unsigned_form, HoldsGroups, HasSigne
 use Rattle.scroll.specs.LebWrites.{ten_groups, turned_round, IsLeast}
 use Rattle.std.specs.List.{All}
 use Rattle.scroll.specs.Leb128.{ReadsSleb}
-use Rattle.scroll.proofs.lemmas.leb128.SpellingLemmas.{from_spelling}
+use Rattle.scroll.proofs.lemmas.leb128.SpellingLemmas.{from_spelling, spelling_front}
 use Rattle.scroll.proofs.lemmas.leb128.SignedSpellingLemmas.{power_last, form_small, form_signed, reads_signed_spelling}
-use Rattle.scroll.proofs.lemmas.leb128.LebWriteLemmas.{text_front}
 
 to_turned : (v : ℤ) (n : ℕ) → HasSignedSpelling v n → HoldsGroups (2 * turned_round v) n
 to_turned (pos a) n h = record { some = h.some; few = h.few; room = omega (arith, ints, power_last n h.some, h.high) }
@@ -82,9 +81,9 @@ unsigned_groups_form v n room =
 -- a text that was written reads as the number, and so reads no source that begins otherwise
 pub signed_written_reads : (v : ℤ) (n : ℕ) (t rest : List ℕ) → HasSignedSpelling v n → t ≡ spelling (unsigned_form v n) n ++ rest → ReadsSleb t v n
 signed_written_reads v n t rest has is =
-    let g = from_spelling t (unsigned_form v n) n (form_small v n has) (text_front (unsigned_form v n) n t rest is) in
+    let g = from_spelling t (unsigned_form v n) n (form_small v n has) (spelling_front (unsigned_form v n) n t rest is) in
     let e = form_signed t v n has g in
     record { complete = g.complete; fits = rw e at has.fits; value = e; size = g.size }
 
 pub signed_read_is_written : (v : ℤ) (n : ℕ) (s t rest : List ℕ) → t ≡ spelling (unsigned_form v n) n ++ rest → All (λ b. b < 256) s → ReadsSleb s v n → take n s ≡ take n t
-signed_read_is_written v n s t rest is bytes g = ((reads_signed_spelling s v n bytes).0 g).front ∙ sym (text_front (unsigned_form v n) n t rest is)
+signed_read_is_written v n s t rest is bytes g = ((reads_signed_spelling s v n bytes).0 g).front ∙ sym (spelling_front (unsigned_form v n) n t rest is)

@@ -1,18 +1,19 @@
 -- Digits of base 128, and the texts that they make.
-use Rattle.std.proofs.Common.{◌≡◌, ℕ, zero, suc, ◌+◌, ◌-◌, ◌*◌, ◌/◌, ◌%◌, ◌^◌, ◌<◌, ◌≤◌, ◌↔◌, inl, inr, true, false, nat_lt, List, ◌++◌, take, length, get_or, refl, sym, ap, ◌∙◌, arith, add-one, pow-suc}
-use Rattle.std.proofs.Math.Nat.{mod-eq_of_lt, mul_assoc, mul_comm, one-le-pow, pow-le-pow_right}
-use Rattle.std.proofs.Math.Arith.{mod-mul}
-use Rattle.std.proofs.lemmas.Nat.{mod-mul-add, div-mul-add, div_below}
+use Rattle.std.proofs.Common.{◌≡◌, ℕ, ◌+◌, ◌-◌, ◌*◌, ◌/◌, ◌%◌, ◌^◌, ◌<◌, ◌≤◌, ◌↔◌, inl, inr, true, false, nat_lt, List, ◌++◌, take, length, get_or, refl, sym, ap, ◌∙◌, arith, add-one, pow-suc}
+use Rattle.std.proofs.Math.Nat.{mod-eq_of_lt, mul_comm, one-le-pow, pow-le-pow_right}
+use Rattle.std.proofs.lemmas.Nat.{div_below}
 use Rattle.std.proofs.lemmas.Bool.{cases_lt}
 use Rattle.std.proofs.lemmas.Bool.Decides.{nat_tests}
 use Rattle.std.proofs.lemmas.List.{get_or-take, length-take, length-take-le}
-use Rattle.std.proofs.lemmas.List.FromFn.{fill_by_all, length-map-range_with_len, get_or-map-range_with_len}
+use Rattle.std.proofs.lemmas.List.FromFn.{fill_by_all, get_or-map-range_with_len}
 use Rattle.std.proofs.lemmas.List.Elements.{All-get_or}
 use Rattle.std.proofs.Math.Seq.{take-append_seam}
 use Rattle.std.specs.List.{All}
 use Rattle.scroll.specs.Leb128.{group, groups_value, end_of, count_of, ReadsGroups, ReadsUleb}
+use Rattle.scroll.specs.lemmas.Frames.{length-spelling}
+use Rattle.scroll.proofs.lemmas.numbers.SumLemmas.{sum_below-same, digits-sum, digit-at}
 use Rattle.scroll.specs.Spelling.{spelled_byte, spelling, HoldsGroups, HasSpelling, BeginsWith}
-use Rattle.scroll.proofs.lemmas.leb128.LebLemmas.{groups_lt, groups_more, groups_split, end_at, end_below, open_before}
+use Rattle.scroll.proofs.lemmas.leb128.LebLemmas.{groups_lt, end_at, end_below, open_before}
 
 pub power_more : (i : ℕ) → 128 ^ (i + 1) ≡ 128 * 128 ^ i
 power_more i = rw add-one (pow-suc 128 i ∙ mul_comm (128 ^ i) 128)
@@ -49,22 +50,11 @@ digit_at s v n k e = elim (cases_lt (k + 1) n) [
 
 -- group i is digit i of the sum
 digit_is : (s : List ℕ) (n i : ℕ) → i < n → groups_value s n / 128 ^ i % 128 ≡ group s i
-digit_is s n i h =
-    let r = groups_split s (i + 1) (n - (i + 1)) in
-    let whole : i + 1 + (n - (i + 1)) ≡ n = omega arith in
-    let low : group s i < 128 = omega arith in
-    let sum : groups_value s n ≡ (r.0 * 128 + group s i) * 128 ^ i + groups_value s i =
-    omega (arith, rw whole at r.1, groups_more s i, ap (λ x. r.0 * x) (power_more i), mul_assoc r.0 128 (128 ^ i)) in
-    rw (sum, div-mul-add (r.0 * 128 + group s i) (128 ^ i) (groups_value s i) (groups_lt s i)) (mod-mul-add r.0 128 (group s i) low)
+digit_is s n i h = digit-at 128 (λ i. group s i) (λ i. omega arith) n i h
 
 -- a sum of digits is what they are the digits of
 digits_sum : (s : List ℕ) (v n : ℕ) → ((i : ℕ) → i < n → group s i ≡ v / 128 ^ i % 128) → groups_value s n ≡ v % 128 ^ n
-digits_sum s v zero h = omega arith
-digits_sum s v (suc n) h =
-    let before = digits_sum s v n (λ i l. h i (omega arith)) in
-    let power : 128 ^ suc n ≡ 128 * 128 ^ n = pow-suc 128 n ∙ mul_comm (128 ^ n) 128 in
-    let positive : 0 < 128 ^ n = one-le-pow n 128 (omega arith) in
-    rw (power, mod-mul v {m = 128} {c = 128 ^ n} (omega arith) positive, before, h n (omega arith)) (omega arith)
+digits_sum s v n h = sum_below-same _ _ n (λ i l. ap (λ g. g * 128 ^ i) (h i l)) ∙ digits-sum 128 (omega arith) n v
 
 spelled_at : (s : List ℕ) (v n k : ℕ) → n ≤ length s → ((i : ℕ) → i < length s → get_or s i 0 < 256)
     → n ≡ end_of s + 1 → v ≡ groups_value s n → v < 128 ^ n → end_of s < length s → k < n → get_or s k 0 ≡ spelled_byte v n k
@@ -99,7 +89,7 @@ to_spelling s v n bytes g =
 
 pub from_spelling : (s : List ℕ) (v n : ℕ) → HoldsGroups v n → take n s ≡ spelling v n → ReadsGroups s v n
 from_spelling s v n has is =
-    let within : n ≤ length s = omega (arith, length-take n s, ap length is ∙ length-map-range_with_len (spelled_byte v n) 0 n) in
+    let within : n ≤ length s = omega (arith, length-take n s, ap length is ∙ length-spelling v n) in
     let byte = λ (k : ℕ) (h : k < n). sym (get_or-take n s k 0 h) ∙ ap (λ l. get_or l k 0) is ∙ get_or-map-range_with_len (spelled_byte v n) 0 n k k 0 h (omega arith) in
     let more = λ (k : ℕ) (h : k < n - 1). before_last s v n k (byte k (omega arith)) (omega arith) in
     let top = last_one s v n (byte (n - 1) (omega (arith, has.some))) has.some has.room in
@@ -123,16 +113,15 @@ reads_spelling s v n bytes = (
       record { complete = g.complete; fits = omega (arith, g.value, b.has.fits); value = g.value; size = g.size },
 )
 
--- a text, and whatever follows it, begins with the text
-pub spelling_front : (v n : ℕ) (rest : List ℕ) → take n (spelling v n ++ rest) ≡ spelling v n
-spelling_front v n rest =
-    ap (λ j. take j (spelling v n ++ rest)) (sym (length-map-range_with_len (spelled_byte v n) 0 n)) ∙ take-append_seam (spelling v n) rest
+-- what is a text, and then whatever follows it, begins with the text
+pub spelling_front : (v n : ℕ) (t rest : List ℕ) → t ≡ spelling v n ++ rest → take n t ≡ spelling v n
+spelling_front v n t rest is = ap (take n) is ∙ ap (λ j. take j (spelling v n ++ rest)) (sym (length-spelling v n)) ∙ take-append_seam (spelling v n) rest
 
 -- no spelling begins another
 pub one_spelling : (v w m n : ℕ) (x y : List ℕ) → HoldsGroups v m → HoldsGroups w n → spelling v m ++ x ≡ spelling w n ++ y → (v ≡ w) × (m ≡ n)
 one_spelling v w m n x y p q same =
-    let a = from_spelling (spelling v m ++ x) v m p (spelling_front v m x) in
-    let b = from_spelling (spelling v m ++ x) w n q (ap (take n) same ∙ spelling_front w n y) in
+    let a = from_spelling (spelling v m ++ x) v m p (spelling_front v m (spelling v m ++ x) x refl) in
+    let b = from_spelling (spelling v m ++ x) w n q (spelling_front w n (spelling v m ++ x) y same) in
     (a.value ∙ sym b.value, a.size ∙ sym b.size)
 
 -- what was read has a spelling

@@ -11,7 +11,7 @@ use Rattle.scroll.specs.Spelling.{spelled_byte, spelling}
 use Rattle.scroll.specs.LebWrites.{ten_groups}
 use Rattle.scroll.proofs.lemmas.leb128.LebLemmas.{pow_128}
 use Rattle.scroll.proofs.lemmas.words.WordLemmas.{lanes, Lanewise, done, lane, and_lanes, or_lanes, keep}
-use Rattle.scroll.proofs.lemmas.leb128.LebWriteLemmas.{word_digit, last_byte, mod_room, text_written}
+use Rattle.scroll.proofs.lemmas.leb128.LebWriteLemmas.{word_digit, last_byte, mod_room, encoding_written}
 
 -- the words after each round, as the code makes them
 abbrev pub parted : ℕ → ℕ
@@ -152,7 +152,7 @@ words_written low tenth n old mid new a z some few room opens lasts end first se
                 close_byte low tenth n k _ (omega arith) (omega arith) (here ∙ digit ∙ later_digit low (n - 4) j ∙ rw place refl)
           ]
     ] in
-    text_written (ten_groups low tenth % 128 ^ n) n old new room byte rest
+    encoding_written (ten_groups low tenth % 128 ^ n) n old new room byte rest
 
 pub eight_written : (low tenth n : ℕ) (old mid new a z : List ℕ) → 9 ≤ n
     → ((k : ℕ) → k < 4 → get_or a k 0 ≡ 128 + low / 128 ^ k % 128)

@@ -32,7 +32,7 @@ pub each_add : (f g : ℕ → ℕ) → (bs : List ℕ) → each f bs + each g bs
 each_add f g [] = refl
 each_add f g (b ∷ bs) = omega (arith, each_add f g bs)
 
-flipped : (f : ℕ → ℕ) → KeepsBytes f → (bs : List ℕ) → IsBytes bs → each (λ b. 255 - f b) bs + each f bs + 1 ≡ 256 ^ length bs
+pub flipped : (f : ℕ → ℕ) → KeepsBytes f → (bs : List ℕ) → IsBytes bs → each (λ b. 255 - f b) bs + each f bs + 1 ≡ 256 ^ length bs
 flipped f p [] h = refl
 flipped f p (b ∷ bs) h = let small = p b h.0 in omega (arith, flipped f p bs h.1, small, pow-suc 256 (length bs))
 

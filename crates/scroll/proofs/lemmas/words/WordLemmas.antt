@@ -1,5 +1,5 @@
 -- A word of lanes: what masks, shifts and counts of zeros do lane by lane.
-use Rattle.std.proofs.Common.{◌≡◌, ℕ, ◌+◌, ◌-◌, ◌*◌, ◌/◌, ◌%◌, ◌^◌, ◌<◌, List, [], ◌∷◌, map, length, bit_and, bit_or, refl, ap, ◌∙◌, arith, pow-suc}
+use Rattle.std.proofs.Common.{◌≡◌, ℕ, ◌+◌, ◌-◌, ◌*◌, ◌/◌, ◌%◌, ◌^◌, ◌<◌, List, [], ◌∷◌, map, bit_and, bit_or, refl, ap, ◌∙◌, arith}
 use Rattle.std.proofs.Math.Nat.{mod-eq_of_lt}
 use Rattle.std.proofs.lemmas.Nat.{and_mask, and_block, or_block, from_le_bytes-to_le_bytes_8}
 use Rattle.std.specs.Int.{w64, to_le_bytes}
@@ -30,12 +30,6 @@ or_lanes {k} (lane {x} {m} {r} {xs} {ms} {rs} p q e rest) =
 -- a word is its bytes
 pub word_lanes : (n : ℕ) → n < 2 ^ 64 → n ≡ lanes 8 (to_le_bytes w64 n)
 word_lanes n fits = omega (arith, from_le_bytes-to_le_bytes_8 n fits)
-
--- ---- complements
-
-pub flipped : (bs : List ℕ) → AllByRecursion (λ b. b < 256) bs → lanes 8 (map (λ b. 255 - b) bs) + lanes 8 bs + 1 ≡ 256 ^ length bs
-flipped [] h = refl
-flipped (b ∷ bs) h = omega (arith, flipped bs h.1, h.0, pow-suc 256 (length bs))
 
 pub bytes_small : (n : ℕ) → AllByRecursion (λ b. b < 256) (to_le_bytes w64 n)
 bytes_small n = (omega arith, (omega arith, (omega arith, (omega arith, (omega arith, (omega arith, (omega arith, (omega arith, tt))))))))

@@ -12,8 +12,8 @@ returns-in_default-clause-refused c =
     let end = no_end c.args.src.now (rw whole at c.loop-i.invariant.open_so_far) in
     ((omega arith, omega arith), refl, refl)
 
-pub two_complement-requires-clause-low : goal.two_complement-requires-clause-low
-two_complement-requires-clause-low c =
+pub sign_extend-requires-clause-low : goal.sign_extend-requires-clause-low
+sign_extend-requires-clause-low c =
     let s = c.args.src.now in
     let look = c.in-Some.ensures.lookup in
     let there = byte_there s c.loop-i.i _ look.0 look.1 in
@@ -26,9 +26,9 @@ returns-then-byte-lt128-clause-read c =
     let look = c.in-Some.ensures.lookup in
     let there = byte_there s c.loop-i.i _ look.0 look.1 in
     let groups = gives_at s c.loop-i.i c.loop-i.groups c.from.result _ there.0 (omega arith) c.loop-i.invariant.open_so_far there.2 c.if-byte-lt128.true c.loop-i.invariant.value c.from.ensures in
-    let fits_signed : FitsSigned w64 c.two_complement.result = search rules in
-    let back = to_z-of_z w64 c.two_complement.result fits_signed in
-    rw back (groups_read_signed s _ (c.loop-i.i + 1) c.two_complement.result groups fits_signed c.two_complement.ensures)
+    let fits_signed : FitsSigned w64 c.sign_extend.result = search rules in
+    let back = to_z-of_z w64 c.sign_extend.result fits_signed in
+    rw back (groups_read_signed s _ (c.loop-i.i + 1) c.sign_extend.result groups fits_signed c.sign_extend.ensures)
 
 pub loop-i-preserved : goal.loop-i-preserved
 loop-i-preserved c =

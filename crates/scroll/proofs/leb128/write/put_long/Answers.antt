@@ -4,7 +4,7 @@ use Rattle.std.proofs.lemmas.List.{drop-set-lt, length-set}
 use Rattle.std.proofs.lemmas.List.Edits.{fill_by_more}
 use Rattle.scroll.specs.Spelling.{spelled_byte}
 use Rattle.scroll.specs.LebWrites.{ten_groups}
-use Rattle.scroll.proofs.lemmas.leb128.LebWriteLemmas.{text_written}
+use Rattle.scroll.proofs.lemmas.leb128.LebWriteLemmas.{encoding_written}
 use Rattle.scroll.proofs.lemmas.leb128.SpreadLemmas.{eight_written}
 use Rattle.scroll.proofs.leb128.write.put_long.Goals as goal
 
@@ -17,7 +17,7 @@ returns-else-count-eq10 c =
     (record { put = one.put; before = one.before; after = one.after }) (record { put = two.put; before = two.before; after = two.after }) in
     let bytes = fill_by_more (spelled_byte (ten_groups a.low a.tenth % 128 ^ a.count) a.count) c.put_four-2.new.dst 8 0 (omega arith) eight.0 in
     let room : a.count ≤ length (set c.put_four-2.new.dst 8 (spelled_byte (ten_groups a.low a.tenth % 128 ^ a.count) a.count 8)) = rw length-set (omega arith) in
-    rw c.byte_of.ensures (text_written (ten_groups a.low a.tenth % 128 ^ a.count) a.count a.dst.now _ room (λ (k : ℕ) (h : k < a.count). bytes k (omega arith)) (drop-set-lt a.count c.put_four-2.new.dst 8 _ (omega arith) ∙ eight.1))
+    rw c.byte_of.ensures (encoding_written (ten_groups a.low a.tenth % 128 ^ a.count) a.count a.dst.now _ room (λ (k : ℕ) (h : k < a.count). bytes k (omega arith)) (drop-set-lt a.count c.put_four-2.new.dst 8 _ (omega arith) ∙ eight.1))
 
 pub returns-then-count-eq10 : goal.returns-then-count-eq10
 returns-then-count-eq10 c =
@@ -32,5 +32,5 @@ returns-then-count-eq10 c =
     let first = fill_by_more text c.put_four-2.new.dst 8 0 (omega arith) eight.0 in
     let bytes = fill_by_more text nine 9 0 (omega arith) first in
     let room : a.count ≤ length (set nine 9 (text 9)) = rw length-set (omega arith) in
-    rw (c.byte_of.ensures, c.byte_of-then-count-eq10.ensures) (text_written (ten_groups a.low a.tenth % 128 ^ a.count) a.count a.dst.now _ room (λ (k : ℕ) (h : k < a.count). bytes k (omega arith))
+    rw (c.byte_of.ensures, c.byte_of-then-count-eq10.ensures) (encoding_written (ten_groups a.low a.tenth % 128 ^ a.count) a.count a.dst.now _ room (λ (k : ℕ) (h : k < a.count). bytes k (omega arith))
     (drop-set-lt a.count nine 9 _ (omega arith) ∙ drop-set-lt a.count c.put_four-2.new.dst 8 _ (omega arith) ∙ eight.1))

@@ -6,18 +6,18 @@ use Rattle.scroll.specs.Leb128.{end_of, groups_value}
 use Rattle.scroll.specs.Loads.{Loading}
 use Rattle.scroll.proofs.lemmas.leb128.LebLemmas.{groups_lt}
 use Rattle.scroll.proofs.lemmas.leb128.LoadLemmas.{block_reads_signed, groups_read_signed, nine_read, tenth_reads_signed, tenth_is_cut, tenth_refused_signed}
-use Rattle.scroll.proofs.leb128.gathered.sleb_loads.Goals as goal
+use Rattle.scroll.proofs.leb128.by_loads.sleb_loads.Goals as goal
 
-pub two_complement-requires-clause-low : goal.two_complement-requires-clause-low
-two_complement-requires-clause-low c =
+pub sign_extend-requires-clause-low : goal.sign_extend-requires-clause-low
+sign_extend-requires-clause-low c =
     let r = c.in_ok-groups.ensures.read in
     rw (r.value, r.size) (groups_lt c.args.src.now.bytes _)
 
 pub returns-then-len-lt8-clause-read : goal.returns-then-len-lt8-clause-read
 returns-then-len-lt8-clause-read c =
-    let fits : FitsSigned w64 c.two_complement.result = search rules in
-    let back = to_z-of_z w64 c.two_complement.result fits in
-    groups_read_signed c.args.src.now.bytes c.in_ok-groups.groups c.in_ok-groups.count _ c.in_ok-groups.ensures.read (rw back fits) (back ∙ c.two_complement.ensures)
+    let fits : FitsSigned w64 c.sign_extend.result = search rules in
+    let back = to_z-of_z w64 c.sign_extend.result fits in
+    groups_read_signed c.args.src.now.bytes c.in_ok-groups.groups c.in_ok-groups.count _ c.in_ok-groups.ensures.read (rw back fits) (back ∙ c.sign_extend.ensures)
 
 pub returns-in-Some-sleb_block-clause-read : goal.returns-in-Some-sleb_block-clause-read
 returns-in-Some-sleb_block-clause-read c =
@@ -30,10 +30,10 @@ returns-in-None-clause-read c =
     let same : c.word.new.self.bytes ≡ c.args.src.now.bytes = ap (λ (l : Loading). l.bytes) c.word.ensures.counted in
     let nine = c.in_ok-groups-2.ensures.read in
     let last = rw c.in-None.is at nine.last in
-    let fits : FitsSigned w64 c.two_complement-in-None.result = search rules in
-    let back = to_z-of_z w64 c.two_complement-in-None.result fits in
+    let fits : FitsSigned w64 c.sign_extend-in-None.result = search rules in
+    let back = to_z-of_z w64 c.sign_extend-in-None.result fits in
     let read = nine_read c.word.new.self.bytes _ nine.within nine.value last in
-    rw (← same) (groups_read_signed c.word.new.self.bytes _ 9 _ read (rw back fits) (back ∙ c.two_complement-in-None.ensures))
+    rw (← same) (groups_read_signed c.word.new.self.bytes _ 9 _ read (rw back fits) (back ∙ c.sign_extend-in-None.ensures))
 
 pub returns-in-Some-tenth-clause-read : goal.returns-in-Some-tenth-clause-read
 returns-in-Some-tenth-clause-read c =

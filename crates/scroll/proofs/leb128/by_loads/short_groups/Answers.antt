@@ -1,7 +1,7 @@
 use Rattle.std.proofs.Common.{◌≡◌, length, sym, ap, ◌∙◌, refl, arith, below_more}
 use Rattle.std.proofs.lemmas.Option.{get_or_from_slice_get, slice_get_within}
 use Rattle.scroll.proofs.lemmas.leb128.LebLemmas.{gives_at, or_group, no_end, none_past}
-use Rattle.scroll.proofs.leb128.gathered.short_groups.Goals as goal
+use Rattle.scroll.proofs.leb128.by_loads.short_groups.Goals as goal
 
 pub unreachable-requires : goal.unreachable-requires
 unreachable-requires c =

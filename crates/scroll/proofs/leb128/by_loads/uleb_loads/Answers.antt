@@ -3,7 +3,7 @@ use Rattle.std.specs.List.{slice_get}
 use Rattle.scroll.specs.Leb128.{end_of, groups_value}
 use Rattle.scroll.specs.Loads.{Loading}
 use Rattle.scroll.proofs.lemmas.leb128.LoadLemmas.{block_reads, tenth_reads, tenth_is_cut, tenth_refused}
-use Rattle.scroll.proofs.leb128.gathered.uleb_loads.Goals as goal
+use Rattle.scroll.proofs.leb128.by_loads.uleb_loads.Goals as goal
 
 pub returns-in-Some-uleb_block-clause-read : goal.returns-in-Some-uleb_block-clause-read
 returns-in-Some-uleb_block-clause-read c =

@@ -3,7 +3,7 @@ use Rattle.std.proofs.lemmas.Option.{get_or_from_slice_get, slice_get_within}
 use Rattle.std.specs.List.{slice_get}
 use Rattle.scroll.specs.Loads.{Loading}
 use Rattle.scroll.proofs.lemmas.leb128.LebLemmas.{or_group, end_at, late_end, open_before, none_past}
-use Rattle.scroll.proofs.leb128.gathered.nine_groups.Goals as goal
+use Rattle.scroll.proofs.leb128.by_loads.nine_groups.Goals as goal
 
 pub returns-then-ninth-lt128-clause-read : goal.returns-then-ninth-lt128-clause-read
 returns-then-ninth-lt128-clause-read c =

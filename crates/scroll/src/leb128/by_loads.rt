@@ -4,14 +4,15 @@ ghost use Rattle.scroll.specs.Leb128.{end_of, groups_value, ReadsUleb, ReadsSleb
 ghost use Rattle.scroll.specs.LebRefusals.{RefusesUleb, RefusesSleb, RefusesCut};
 ghost use Rattle.scroll.specs.Loads.{Loaded, ReadsNine, most_loads};
 
-use super::block::{block_groups, sleb_block, two_complement, uleb_block};
+use super::TRUNCATED;
+use super::block::{block_groups, sign_extend, sleb_block, uleb_block};
 use crate::error::{Error, Result};
 use crate::loads::Loads;
 
 /// The value and the size of the unsigned number at the front of a source, by at most three loads, or by a load for each
 /// byte where the source has fewer than eight.
 ///
-/// It answers and refuses as a read of a [`Uleb128`](super::Uleb128) does.
+/// It returns what a read of a [`Uleb128`](super::Uleb128) returns, errors included.
 #[inline(always)]
 pub fn uleb_loads(src: &mut Loads<'_>) -> Result<(u64, usize)>
     requires { src.old.made < 2 ^ 62 }
@@ -42,7 +43,7 @@ pub fn uleb_loads(src: &mut Loads<'_>) -> Result<(u64, usize)>
 /// The value and the size of the signed number at the front of a source, by at most three loads, or by a load for each byte
 /// where the source has fewer than eight.
 ///
-/// It answers and refuses as a read of a [`Sleb128`](super::Sleb128) does.
+/// It returns what a read of a [`Sleb128`](super::Sleb128) returns, errors included.
 #[inline(always)]
 pub fn sleb_loads(src: &mut Loads<'_>) -> Result<(i64, usize)>
     requires { src.old.made < 2 ^ 62 }
@@ -52,7 +53,7 @@ pub fn sleb_loads(src: &mut Loads<'_>) -> Result<(i64, usize)>
 {
     if src.len() < 8 {
         let (groups, count) = short_groups(src)?;
-        return Ok((two_complement(groups, count), count));
+        return Ok((sign_extend(groups, count), count));
     }
     let Some(block) = src.word() else {
         unreachable!()
@@ -62,7 +63,7 @@ pub fn sleb_loads(src: &mut Loads<'_>) -> Result<(i64, usize)>
     }
     let (groups, tenth) = nine_groups(src, block_groups(block))?;
     match tenth {
-        None => Ok((two_complement(groups, 9), 9)),
+        None => Ok((sign_extend(groups, 9), 9)),
         // Each bit of the tenth byte is the sign.
         Some(tenth) if tenth == (tenth & 1) * 0x7f => {
             Ok(((groups | u64::from(tenth) << 63).cast_signed(), 10))
@@ -75,7 +76,7 @@ pub fn sleb_loads(src: &mut Loads<'_>) -> Result<(i64, usize)>
 }
 
 // The groups of the first nine bytes, of which `low` has the first eight, and the tenth byte where the ninth does not end
-// the text.
+// the encoding.
 #[inline(always)]
 fn nine_groups(src: &mut Loads<'_>, low: u64) -> Result<(u64, Option<u8>)>
     requires few { src.old.made < 2 ^ 63 - 2 }
@@ -86,7 +87,7 @@ fn nine_groups(src: &mut Loads<'_>, low: u64) -> Result<(u64, Option<u8>)>
     ensures loads { Loaded src.old src.new 2 }
 {
     let Some(ninth) = src.byte(8) else {
-        return Err(Error::TooBig { size: 1, len: 0 });
+        return Err(TRUNCATED);
     };
     let groups = low | u64::from(ninth & 0x7f) << 56;
     if ninth < 0x80 {
@@ -94,7 +95,7 @@ fn nine_groups(src: &mut Loads<'_>, low: u64) -> Result<(u64, Option<u8>)>
     }
     match src.byte(9) {
         Some(tenth) => Ok((groups, Some(tenth))),
-        None => Err(Error::TooBig { size: 1, len: 0 }),
+        None => Err(TRUNCATED),
     }
 }
 
@@ -111,7 +112,7 @@ fn short_groups(src: &mut Loads<'_>) -> Result<(u64, usize)>
     // A constant number of rounds, which can be unrolled: then a caller's source need not lie in memory.
     for i in 0..7 {
         if i == src.len() {
-            return Err(Error::TooBig { size: 1, len: 0 });
+            return Err(TRUNCATED);
         }
         let Some(byte) = src.byte(i) else {
             unreachable!()
@@ -121,5 +122,5 @@ fn short_groups(src: &mut Loads<'_>) -> Result<(u64, usize)>
             return Ok((groups, i + 1));
         }
     }
-    Err(Error::TooBig { size: 1, len: 0 })
+    Err(TRUNCATED)
 }
