@@ -8,17 +8,18 @@
 #
 # Several of these words may be given; .ci/run gives `all verdict`. The steps are:
 #
-#     prove.sh      each crate is proved from nothing and built, its tests are proved and run, and its stored run
-#     calling.sh    the code of CALLING.md is in the files that were proved
-#     sessions.sh   the stored sessions, by the program that was proved
-#     cuts.sh       sessions with their buffers cut, likewise
-#     faults.sh     the sessions and the tests where memory is refused and streams fail, by what was proved
-#     clients.sh    the clients of the library, each proved and tested as a crate of its own
-#     depending.sh  a repository that depends on the library, made by README's lines
-#     misuse.sh     what must not compile
-#     cited.py      the names that the documents cite are in the sources
-#     edit_table.py the tables of the edits say what the edits say
-#     edits.py      the edits, many in one check
+#     prove.sh        each crate is proved from nothing and built, its tests are proved and run, and its stored run
+#     calling.sh      the code of CALLING.md is in the files that were proved
+#     derive_check.sh what derive.sh prints is in the files that were proved
+#     sessions.sh     the stored sessions, by the program that was proved
+#     cuts.sh         sessions with their buffers cut, likewise
+#     faults.sh       the sessions and the tests where memory is refused and streams fail, by what was proved
+#     clients.sh      the clients of the library, each proved and tested as a crate of its own
+#     depending.sh    a repository that depends on the library, made by README's lines
+#     misuse.sh       what must not compile
+#     cited.py        the names that the documents cite are in the sources
+#     edit_table.py   the tables of the edits say what the edits say
+#     edits.py        the edits, many in one check
 #
 # The tests of the library take longest to prove, so they stand in a second copy, beside the others; rt ci runs in a third.
 #
@@ -121,7 +122,7 @@ count_beside() {
 }
 
 run_stands() {
-    for step in 'sh scripts/calling.sh' 'python3 scripts/cited.py' 'python3 scripts/edit_table.py' 'sh scripts/prove.sh scroll'; do
+    for step in 'sh scripts/calling.sh' 'sh scripts/derive_check.sh' 'python3 scripts/cited.py' 'python3 scripts/edit_table.py' 'sh scripts/prove.sh scroll'; do
         # shellcheck disable=SC2086 # words
         run_step $step
     done

@@ -9,6 +9,7 @@ mod bytes;
 mod c_strings;
 mod measure;
 mod numbers;
+mod pairs;
 mod std_c_strings;
 mod str_ctx;
 mod text;

@@ -5,7 +5,7 @@ ghost use Rattle.std.proofs.Common.{rules};
 ghost use Rattle.scroll.specs.Bytes.{ReadsFront, RefusesShort, WritesFront, LeavesShort};
 ghost use Rattle.scroll.specs.Numbers.{number, number_bytes};
 
-use crate::ctx::{FromCtx, IntoCtx, TryFromCtx, TryIntoCtx};
+use crate::ctx::{FromCtx, IntoCtx, SizeWith, TryFromCtx, TryIntoCtx};
 use crate::{Cread, Endian, Error, Result, check_room, slice};
 
 /// How sound is kept.
@@ -36,7 +36,11 @@ pub fn read_format(file: &[u8], order: Endian) -> Result<Format>
 impl FromCtx<Endian> for Format {
     ghost need = { λ _. 8 };
 
-    ghost makes = { λ order s x. x ≡ record { tag = number order 2 s; channels = number order 2 (drop 2 s); rate = number order 4 (drop 4 s) } };
+    ghost makes = { λ order s x. x ≡ record {
+      tag = number order 2 s;
+      channels = number order 2 (drop 2 s);
+      rate = number order 4 (drop 4 s);
+    } };
 
     fn from_ctx(this: &[u8], ctx: Endian) -> Format {
         Format {
@@ -50,36 +54,46 @@ impl FromCtx<Endian> for Format {
 impl<'a> TryFromCtx<'a, Endian> for Format {
     type Error = Error;
 
-    ghost reads = { λ order. ReadsFront 8 (λ s. record { tag = number order 2 s; channels = number order 2 (drop 2 s); rate = number order 4 (drop 4 s) }) };
+    ghost reads = { λ order. ReadsFront 8 (λ s. record {
+      tag = number order 2 s;
+      channels = number order 2 (drop 2 s);
+      rate = number order 4 (drop 4 s);
+    }) };
 
     ghost refuses = { λ _. RefusesShort 8 };
 
     ghost reads_bounded = { λ order source x n h. Prim.search rules };
 
     fn try_from_ctx(from: &'a [u8], ctx: Endian) -> Result<(Format, usize)> {
-        check_room(SIZE, from.len())?;
-        Ok((Format::from_ctx(from, ctx), SIZE))
+        check_room(8, from.len())?;
+        Ok((Format::from_ctx(from, ctx), 8))
     }
 }
 
 impl IntoCtx<Endian> for Format {
     ghost need = { λ _. 8 };
 
-    ghost leaves = { λ order x old new. new ≡ (number_bytes order 2 x.tag ++ number_bytes order 2 x.channels ++ number_bytes order 4 x.rate) ++ drop 8 old };
+    ghost leaves = { λ order x old new.
+        new ≡ number_bytes order 2 x.tag
+        ++ number_bytes order 2 x.channels
+        ++ number_bytes order 4 x.rate ++ drop 8 old };
 
     ghost leaves_keeps = { λ order x old new h. Prim.search rules };
 
     fn into_ctx(self, dst: &mut [u8], ctx: Endian) {
-        slice::cwrite_with(dst, self.tag, 0, ctx);
-        slice::cwrite_with(dst, self.channels, 2, ctx);
-        slice::cwrite_with(dst, self.rate, 4, ctx);
+        let fields = (self.tag, self.channels);
+        let fields = (fields, self.rate);
+        fields.into_ctx(dst, ctx)
     }
 }
 
 impl TryIntoCtx<Endian> for Format {
     type Error = Error;
 
-    ghost writes = { λ order x. WritesFront 8 (number_bytes order 2 x.tag ++ number_bytes order 2 x.channels ++ number_bytes order 4 x.rate) };
+    ghost writes = { λ order x. WritesFront 8
+        (number_bytes order 2 x.tag
+        ++ number_bytes order 2 x.channels
+        ++ number_bytes order 4 x.rate) };
 
     ghost refuses = { λ _ _. LeavesShort 8 };
 
@@ -88,9 +102,17 @@ impl TryIntoCtx<Endian> for Format {
     ghost writes_keeps = { λ order x old new n h. Prim.search rules };
 
     fn try_into_ctx(self, dst: &mut [u8], ctx: Endian) -> Result<usize> {
-        check_room(SIZE, dst.len())?;
+        check_room(8, dst.len())?;
         self.into_ctx(dst, ctx);
-        Ok(SIZE)
+        Ok(8)
+    }
+}
+
+impl SizeWith<Endian> for Format {
+    ghost size = { λ _. 8 };
+
+    fn size_with(_ctx: &Endian) -> usize {
+        8
     }
 }
 

@@ -1,0 +1,14 @@
+-- The second of a pair stands after the first.
+use Rattle.scroll.proofs.lemmas.callers.Cursors.{Begins, grow}
+use Rattle.scroll.proofs.ctx.pairs.Tuple2Fields.write_fields.Goals as goal
+
+pub returns : goal.returns
+returns g c =
+    let order = c.args.order in
+    let x = c.args.self in
+    let first : Begins g.A.Fields.width (g.A.Fields.bytes order x.0) c.args.dst.now c.write_fields.new.dst = record {
+      len = g.met.A.Fields.bytes_len order x.0;
+      is = c.write_fields.ensures;
+    } in
+    let both = grow (g.B.Fields.bytes order x.1) first (g.met.B.Fields.bytes_len order x.1) (rw c.width.ensures at c.write_behind.ensures.before) (rw c.width.ensures at c.write_behind.ensures.after) in
+    both.is

@@ -1,0 +1,376 @@
+"""The implementations of a struct's traits, as text. scripts/derive.sh says how it is called."""
+
+from __future__ import annotations
+
+import re
+import sys
+from dataclasses import dataclass
+from pathlib import Path
+
+from structs import NUMBERS, Array, BadInput, Field, Number, Source, Struct, Type, width_of
+
+TRAITS = ["FromCtx", "TryFromCtx", "IntoCtx", "TryIntoCtx", "SizeWith"]
+
+# A struct of more numbers than these is refused.
+MOST_NUMBERS = 64
+
+# The longest line of a clause before its parts stand on lines of their own.
+CLAUSE_WIDTH = 110
+
+# The words that antt reserves, and that can be a field's name here.
+RESERVED = {
+    *("data", "record", "module", "package", "open", "unfoldable", "abbrev", "axiom", "unfold", "unfolding", "ruleset"),
+    *("mutual", "infix", "infixl", "infixr", "elim", "coe", "fcoe", "tcoe", "hcom", "com"),
+}
+
+# Where the names of the ghost members come from, in the order of the `use` lines.
+GHOST_IMPORTS: list[tuple[str, list[str]]] = [
+    ("Rattle.std.specs.Prelude", ["◌≡◌", "◌++◌", "[]", "◌∷◌", "take", "drop", "slice_index", "slice_index_or", "pos", "from_bits"]),
+    ("Rattle.std.specs.Float", ["binary32", "binary64"]),
+    ("Rattle.std.proofs.Common", ["rules"]),
+    ("Rattle.scroll.specs.Bytes", ["ReadsFront", "RefusesShort", "WritesFront", "LeavesShort"]),
+    ("Rattle.scroll.specs.Floats", ["float", "float_bytes"]),
+    ("Rattle.scroll.specs.Numbers", ["number", "number_bytes", "signed_number", "signed_bytes"]),
+]
+
+
+# --- The words of the ghost members ---
+
+
+def value_at(type: Type, source: str, place: int) -> str:
+    """The value of a type at a place of a source."""
+    match type:
+        case Number():
+            return type.value_at(drop(place, source))
+        case Array() if is_bytes(type):
+            return f"take {type.length} {drop(place, source)}"
+        case Array():
+            return " ∷ ".join([*elements_at(type, source, place), "[]"])
+        case Struct():
+            inner = drop(place, source)
+            fields = [f"{label(field)} = {value_at(field.type, inner, at)}" for at, field in places(type)]
+            return f"record {{ {'; '.join(fields)} }}"
+
+
+def is_bytes(array: Array) -> bool:
+    return array.element == NUMBERS["u8"]
+
+
+def elements_at(array: Array, source: str, place: int) -> list[str]:
+    width = width_of(array.element)
+    elements = [value_at(array.element, source, place + width * index) for index in range(array.length)]
+    return [f"({element})" for element in elements] if isinstance(array.element, Array) else elements
+
+
+def label(field: Field) -> str:
+    """The name of a field, quoted where antt reserves it."""
+    return f"«{field.name}»" if field.name in RESERVED else field.name
+
+
+def places(struct: Struct) -> list[tuple[int, Field]]:
+    """The fields, each with its place."""
+    place = 0
+    found = []
+    for field in struct.fields:
+        found.append((place, field))
+        place += width_of(field.type)
+    return found
+
+
+def drop(place: int, source: str) -> str:
+    return source if place == 0 else f"(drop {place} {source})"
+
+
+@dataclass(frozen=True)
+class Part:
+    """A number in a struct: in code, and its bytes."""
+
+    code: str
+    bytes: str
+
+
+def default_of(type: Type) -> str:
+    return type.default if isinstance(type, Number) else "[]"
+
+
+def parts_of(type: Type, code: str, value: str) -> list[Part]:
+    """The numbers of a value, in order."""
+    match type:
+        case Number():
+            return [Part(code, type.bytes_of(value))]
+        case Array():
+            found: list[Part] = []
+            default = default_of(type.element)
+            for index in range(type.length):
+                element = f"(slice_index {value} {index})" if default == "0" else f"(slice_index_or {value} {index} {default})"
+                found += parts_of(type.element, f"{code}[{index}]", element)
+            return found
+        case Struct():
+            return [part for field in type.fields for part in parts_of(field.type, f"{code}.{field.name}", f"{value}.{field.name}")]
+
+
+# --- Laying the blocks out ---
+
+
+def record_clause(head: str, struct: Struct, tail: str) -> str:
+    """A clause that holds the struct's value, on one line where that is short."""
+    line = f"{head}{value_at(struct, 's', 0)}{tail}"
+    if len(line) <= CLAUSE_WIDTH:
+        return line
+    return "\n".join([f"{head}record {{", *record_lines(struct, "s", 6), f"    }}{tail}"])
+
+
+def record_lines(struct: Struct, source: str, indent: int) -> list[str]:
+    return [line for place, field in places(struct) for line in field_lines(field, source, place, indent)]
+
+
+def field_lines(field: Field, source: str, place: int, indent: int) -> list[str]:
+    """A field of a record, on lines of its own."""
+    head = f"{' ' * indent}{label(field)} = "
+    line = f"{head}{value_at(field.type, source, place)};"
+    if len(line) <= CLAUSE_WIDTH:
+        return [line]
+    if isinstance(field.type, Struct):
+        return [f"{head}record {{", *record_lines(field.type, drop(place, source), indent + 2), f"{' ' * indent}}};"]
+    assert isinstance(field.type, Array)
+    first, *rest = [*elements_at(field.type, source, place), "[];"]
+    lines = [head + first]
+    for element in rest:
+        if len(lines[-1]) + len(element) + 3 > CLAUSE_WIDTH:
+            lines.append(f"{' ' * (indent + 4)}∷ {element}")
+        else:
+            lines[-1] += f" ∷ {element}"
+    return lines
+
+
+def bytes_clause(head: str, first: str, parts: list[Part], tail: str) -> str:
+    """A clause that holds the struct's bytes, likewise."""
+    lists = [first + parts[0].bytes, *(part.bytes for part in parts[1:])]
+    line = f"{head} {' ++ '.join(lists)}{tail}"
+    if len(line) <= CLAUSE_WIDTH:
+        return line
+    return "\n".join([head, *(f"        {'++ ' if index else ''}{list}" for index, list in enumerate(lists))]) + tail
+
+
+def within(head: str, opening: str, items: list[str], end: str, indent: int) -> list[str]:
+    """A call, a tuple or an array, on one line where its items are short."""
+    space = " " * indent
+    closes = {"(": ")", "[": "]"}[opening]
+    inner = ", ".join(items)
+    if len(inner) <= 60 and "\n" not in inner and indent + len(head) + len(inner) + len(end) + 2 <= 100:
+        return [f"{space}{head}{opening}{inner}{closes}{end}"]
+    return [f"{space}{head}{opening}", *(f"{space}    {item}," for item in items), f"{space}{closes}{end}"]
+
+
+def read_expression(type: Type, place: int, indent: int) -> str:
+    """The call that reads a field."""
+    if not isinstance(type, Array):
+        return f"this.cread_with({place}, ctx)"
+    if is_bytes(type):
+        return f"*this{f'[{place}..]' if place else ''}.first_chunk().unwrap()"
+    width = width_of(type.element)
+    items = [read_expression(type.element, place + width * index, indent + 4) for index in range(type.length)]
+    return "\n".join(within("", "[", items, "", indent)).lstrip()
+
+
+def from_ctx(source: Source, struct: Struct) -> str:
+    name = struct.name
+    size = width_of(struct)
+    makes = record_clause("    ghost makes = { λ order s x. x ≡ ", struct, " };")
+    if struct.is_tuple:
+        items = [read_expression(field.type, place, 12) for place, field in places(struct)]
+        body = within(name, "(", items, "", 8)
+    else:
+        fields = [f"            {field.name}: {read_expression(field.type, place, 12)}," for place, field in places(struct)]
+        body = [f"        {name} {{", *fields, "        }"]
+    return "\n".join([
+        f"impl FromCtx<Endian> for {name} {{",
+        f"    ghost need = {{ λ _. {size} }};",
+        "",
+        makes,
+        "",
+        f"    fn from_ctx(this: &[u8], ctx: Endian) -> {name} {{",
+        *body,
+        "    }",
+        "}",
+    ])
+
+
+def room_test(slice: str, size: int) -> str:
+    return f"        check_room({size}, {slice}.len())?;"
+
+
+def signature(name: str, parameters: list[str], result: str) -> list[str]:
+    line = f"    fn {name}({', '.join(parameters)}) -> {result} {{"
+    if len(line) <= 100:
+        return [line]
+    return [f"    fn {name}(", *(f"        {parameter}," for parameter in parameters), f"    ) -> {result} {{"]
+
+
+def try_from_ctx(source: Source, struct: Struct) -> str:
+    name = struct.name
+    size = width_of(struct)
+    return "\n".join([
+        f"impl<'a> TryFromCtx<'a, Endian> for {name} {{",
+        "    type Error = Error;",
+        "",
+        record_clause(f"    ghost reads = {{ λ order. ReadsFront {size} (λ s. ", struct, ") };"),
+        "",
+        f"    ghost refuses = {{ λ _. RefusesShort {size} }};",
+        "",
+        "    ghost reads_bounded = { λ order source x n h. Prim.search rules };",
+        "",
+        *signature("try_from_ctx", ["from: &'a [u8]", "ctx: Endian"], source.result_of(f"({name}, usize)")),
+        room_test("from", size),
+        f"        Ok(({name}::from_ctx(from, ctx), {size}))",
+        "    }",
+        "}",
+    ])
+
+
+def write_lines(parts: list[Part]) -> list[str]:
+    """Pairs of what is written, each with what stands before it."""
+    if len(parts) == 1:
+        return [f"        {parts[0].code}.into_ctx(dst, ctx)"]
+    lines = []
+    before = parts[0].code
+    for part in parts[1:]:
+        lines += within("let fields = ", "(", [before, part.code], ";", 8)
+        before = "fields"
+    return [*lines, "        fields.into_ctx(dst, ctx)"]
+
+
+def into_ctx(source: Source, struct: Struct) -> str:
+    name = struct.name
+    size = width_of(struct)
+    parts = parts_of(struct, "self", "x")
+    return "\n".join([
+        f"impl IntoCtx<Endian> for {name} {{",
+        f"    ghost need = {{ λ _. {size} }};",
+        "",
+        bytes_clause("    ghost leaves = { λ order x old new.", "new ≡ ", parts, f" ++ drop {size} old }};"),
+        "",
+        "    ghost leaves_keeps = { λ order x old new h. Prim.search rules };",
+        "",
+        "    fn into_ctx(self, dst: &mut [u8], ctx: Endian) {",
+        *write_lines(parts),
+        "    }",
+        "}",
+    ])
+
+
+def try_into_ctx(source: Source, struct: Struct) -> str:
+    name = struct.name
+    size = width_of(struct)
+    return "\n".join([
+        f"impl TryIntoCtx<Endian> for {name} {{",
+        "    type Error = Error;",
+        "",
+        bytes_clause(f"    ghost writes = {{ λ order x. WritesFront {size}", "(", parts_of(struct, "self", "x"), ") };"),
+        "",
+        f"    ghost refuses = {{ λ _ _. LeavesShort {size} }};",
+        "",
+        "    ghost writes_bounded = { λ order x old new n h. Prim.search rules };",
+        "",
+        "    ghost writes_keeps = { λ order x old new n h. Prim.search rules };",
+        "",
+        f"    fn try_into_ctx(self, dst: &mut [u8], ctx: Endian) -> {source.result_of('usize')} {{",
+        room_test("dst", size),
+        "        self.into_ctx(dst, ctx);",
+        f"        Ok({size})",
+        "    }",
+        "}",
+    ])
+
+
+def size_with(source: Source, struct: Struct) -> str:
+    name = struct.name
+    size = width_of(struct)
+    return "\n".join([
+        f"impl SizeWith<Endian> for {name} {{",
+        f"    ghost size = {{ λ _. {size} }};",
+        "",
+        "    fn size_with(_ctx: &Endian) -> usize {",
+        f"        {size}",
+        "    }",
+        "}",
+    ])
+
+
+WRITERS = {"FromCtx": from_ctx, "TryFromCtx": try_from_ctx, "IntoCtx": into_ctx, "TryIntoCtx": try_into_ctx, "SizeWith": size_with}
+
+
+def use_lines(blocks: list[str], traits: list[str], crate: str) -> str:
+    """The `use` lines that the blocks need."""
+    text = "\n".join(blocks)
+    words = set(re.findall(r"[\w]+", text))
+    signs = {"◌≡◌": "≡", "◌++◌": "++", "◌∷◌": "∷", "[]": "[]"}
+
+    def is_used(name: str) -> bool:
+        return signs[name] in text if name in signs else name in words
+
+    lines = []
+    for module, names in GHOST_IMPORTS:
+        used = [name for name in names if is_used(name)]
+        if used:
+            lines.append(f"ghost use {module}.{{{', '.join(used)}}};")
+    needed = set(traits)
+    if "TryFromCtx" in needed:
+        needed.add("FromCtx")
+    if "TryIntoCtx" in needed:
+        needed.add("IntoCtx")
+    ours = ["Cread"] if "cread_with" in words else []
+    ours += [name for name in ("Endian", "Error") if name in words]
+    ours += ["Result"] if re.search(r"-> Result<(?!.*, Error>)", text) else []
+    ours += ["check_room"] if "check_room" in words else []
+    lines += ["", f"use {crate}::ctx::{braced(sorted(needed))};", f"use {crate}::{braced(ours)};"]
+    return "\n".join(lines)
+
+
+def braced(names: list[str]) -> str:
+    return names[0] if len(names) == 1 else f"{{{', '.join(names)}}}"
+
+
+def check_blocks(source: Source, name: str, traits: list[str], blocks: list[str]) -> int:
+    for trait, block in zip(traits, blocks):
+        if f"\n{block}\n" not in f"\n{source.text}":
+            print(f"{source.path}: the implementation of {trait} for {name} is not what scripts/derive.sh prints")
+            return 1
+    return 0
+
+
+def run(arguments: list[str]) -> int:
+    is_check = arguments[:1] == ["--check"]
+    path, name, *wanted = arguments[1:] if is_check else arguments
+    for trait in wanted:
+        if trait not in TRAITS:
+            raise BadInput(f"{trait}: none of the traits {', '.join(TRAITS)}")
+    source = Source(path)
+    struct = source.find_struct(name)
+    count = len(parts_of(struct, "self", "x"))
+    if count == 0:
+        source.refuse_struct(name, "has no numbers")
+    if count > MOST_NUMBERS:
+        source.refuse_struct(name, f"has {count} numbers, and at most {MOST_NUMBERS} can be done")
+    traits = [trait for trait in TRAITS if not wanted or trait in wanted]
+    blocks = [WRITERS[trait](source, struct) for trait in traits]
+    if is_check:
+        return check_blocks(source, name, traits, blocks)
+    crate = "crate" if "crates/scroll/src/" in str(Path(path).resolve()) else "scroll"
+    print("\n\n".join([use_lines(blocks, traits, crate), *blocks]))
+    return 0
+
+
+def main() -> int:
+    if len([argument for argument in sys.argv[1:] if argument != "--check"]) < 2:
+        print("usage: derive.sh [--check] FILE STRUCT [TRAIT..]", file=sys.stderr)
+        return 2
+    try:
+        return run(sys.argv[1:])
+    except BadInput as bad:
+        print(f"derive: {bad}", file=sys.stderr)
+        return 2
+
+
+if __name__ == "__main__":
+    sys.exit(main())
