@@ -47,7 +47,7 @@ write_index() {
     cat <<'END'
 # Stored sessions
 
-`sh scripts/sessions.sh --index` writes this page from the names of the files. [docs/SESSIONS.md](../docs/SESSIONS.md) says what a session is, and which files each has.
+The index of the stored sessions. `sh scripts/sessions.sh --index` writes this page from the names of the files; [docs/SESSIONS.md](../docs/SESSIONS.md) says what a session is and which files it has.
 END
     (cd "$sessions" && printf '%s\n' */*.in) | awk -F / '
         $1 != subject { subject = $1; printf "\n## %s\n\n", subject }
