@@ -1,6 +1,7 @@
 //! Laws of the definitions that the contracts cite. Each function here changes nothing: its contract is the law, and its
-//! proof is the law's. All have an empty body but [`size_is_that_of_reads_and_writes`], which returns the size of which its
-//! law speaks. Each is named by what it says, and has the law's number as a second name.
+//! proof is the law's. All have an empty body but [`size_is_that_of_reads_and_writes`] and
+//! [`sizes_of_floats_are_those_of_reads_and_writes`], which return the sizes of which their laws speak. Each is named by
+//! what it says, and has the law's number as a second name where it has one.
 
 mod c_strings;
 mod constants;
