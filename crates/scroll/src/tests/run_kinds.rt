@@ -6,7 +6,6 @@ use crate::ctx::{NULL, StrCtx};
 use crate::runner::{Answer, Command, Kind, Place, Put, Value, Width, run};
 use crate::{BE, Error, LE, Pread, Sleb128, Uleb128};
 use std::alloc::{AllocError, Global};
-use std::test::Fail;
 
 const HERE: Place = Place::Cursor;
 
@@ -86,12 +85,12 @@ fn texts_and_slices(rt: HostRuntime) -> Result<(), AllocError> {
 
 // A text, a slice and C strings of each length are copied. A refusal of memory ends the test.
 #[test]
-fn values_of_each_length(rt: HostRuntime) -> Result<(), Fail> {
+fn values_of_each_length(rt: HostRuntime) -> Result<(), AllocError> {
     let alloc = rt.alloc();
     for len in [0, 1, 255, 256, 4096] {
         let mut buffer = vec![in alloc; b'a'; len]?;
         let wanted = [
-            text(alloc, str::from_utf8(&buffer)?)?,
+            text(alloc, str::from_utf8(&buffer).unwrap_or_default())?,
             bytes(alloc, &buffer)?,
             c_string(alloc, &buffer)?,
             c_string(alloc, &buffer)?,
@@ -107,7 +106,7 @@ fn values_of_each_length(rt: HostRuntime) -> Result<(), Fail> {
         let mut answers = Vec::new(alloc);
         if let Err(error) = run(alloc, &mut buffer, &mut cursor, &commands, &mut answers) {
             assert!(rt; matches!(&error, Error::NoMemory));
-            Err(AllocError)?;
+            return Err(AllocError);
         }
         assert_eq!(rt; cursor, len + 1);
         assert_eq!(rt; answers.len(), 4);
