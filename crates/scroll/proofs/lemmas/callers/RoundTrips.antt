@@ -149,21 +149,19 @@ grow-next bytes vs i d {place} {w} {first} {a} {b} h inside size before after =
     ∙ ap (λ l. flat_map bytes (take i vs) ++ l) (append-nil (bytes (get_or vs i d))) in
     subst (λ l. Begins (place + w) l first b) (sym more) (grow (bytes (get_or vs i d)) h size before after)
 
--- and at the end all of them
-pub grown-all : {V : Type 0} (bytes : V → List ℕ) (vs : List V) (i : ℕ) {place : ℕ} {first now : List ℕ} → Begins place (flat_map bytes (take i vs)) first now → length vs ≤ i → take place now ≡ flat_map bytes vs
-grown-all bytes vs i {place} {first} {now} h end = ap (take place) h.is ∙ take_at (flat_map bytes (take i vs)) (drop place first) place h.len ∙ ap (flat_map bytes) (take_all i vs end)
-
 -- values that fill a buffer: read, they are written back
 pub all-back : {V : Type 0} (reads : List ℕ → V → ℕ → Type 0) (bytes : V → List ℕ) (buffer : List ℕ) (vs : List V) → ((place : ℕ) (v : V) (n : ℕ) → ReadsAt reads buffer place v n → bytes v ≡ take n (drop place buffer)) → ReadsAll reads buffer 0 vs (length buffer) → flat_map bytes vs ≡ buffer
 all-back reads bytes buffer vs back h = ReadsAll-back reads bytes buffer back 0 vs (length buffer) h ∙ take_all (length buffer) buffer (omega arith)
 
--- and written by a loop, they are read again, where each is that holds P
-pub all-again : {V : Type 0} (reads : List ℕ → V → ℕ → Type 0) (bytes : V → List ℕ) (P : V → Type 0) → ((v : V) → P v → (rest : List ℕ) → reads (bytes v ++ rest) v (length (bytes v))) → (vs : List V) (i : ℕ) {place : ℕ} {first now : List ℕ} → Begins place (flat_map bytes (take i vs)) first now → All P (take i vs) → length vs ≤ i → ReadsAll reads (take place now) 0 vs (length (take place now))
-all-again {V} reads bytes P again vs i h each end =
+-- and written by a loop that has come to their end, they are read again, where each is that holds P
+pub all-again : {V : Type 0} (reads : List ℕ → V → ℕ → Type 0) (bytes : V → List ℕ) (P : V → Type 0) → ((v : V) → P v → (rest : List ℕ) → reads (bytes v ++ rest) v (length (bytes v))) → (vs : List V) (i : ℕ) {s : List ℕ} → length vs ≤ i → All P (take i vs) → s ≡ flat_map bytes (take i vs) → ReadsAll reads s 0 vs (length s)
+all-again {V} reads bytes P again vs i {s} end each is =
     let all : All P vs = subst (All P) (take_all i vs end) each in
-    let whole : ReadsAll reads (flat_map bytes vs ++ []) 0 vs (length (flat_map bytes vs)) =
-    ReadsAll-again reads bytes vs (All-weaker P (λ v. (rest : List ℕ) → reads (bytes v ++ rest) v (length (bytes v))) again vs all) [] [] in
-    rw (grown-all bytes vs i h end) (subst (λ l. ReadsAll reads l 0 vs (length (flat_map bytes vs))) (append-nil (flat_map bytes vs)) whole)
+    let whole : s ≡ flat_map bytes vs ++ [] = is ∙ ap (flat_map bytes) (take_all i vs end) ∙ sym (append-nil (flat_map bytes vs)) in
+    let text : flat_map bytes vs ≡ s = sym (whole ∙ append-nil (flat_map bytes vs)) in
+    subst (λ l. ReadsAll reads l 0 vs (length s)) (sym whole)
+    (subst (λ l. ReadsAll reads (flat_map bytes vs ++ []) 0 vs (length l)) text
+    (ReadsAll-again reads bytes vs (All-weaker P (λ v. (rest : List ℕ) → reads (bytes v ++ rest) v (length (bytes v))) again vs all) [] []))
 
 -- bytes that were written from a place on: those before it stay, and these stand there
 pub grown-at : {to place : ℕ} (n : ℕ) (bytes : List ℕ) {first now : List ℕ} → Begins to (take place first ++ bytes) first now → place ≤ length first → to ≡ place + n → (take place now ≡ take place first) × (drop place now ≡ bytes ++ drop n (drop place first))
