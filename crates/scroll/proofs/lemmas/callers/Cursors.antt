@@ -3,7 +3,7 @@
 use Rattle.std.proofs.Common.{◌≡◌, ℕ, zero, suc, ◌+◌, ◌-◌, ◌*◌, ◌^◌, ◌<◌, ◌≤◌, ◌++◌, List, [], ◌∷◌, length, take, drop, slice_index, Some, Fits, w8, refl, sym, ap, ◌∙◌, arith, append_assoc, Result, IfErr}
 use Rattle.std.proofs.Math.Nat.{mul-suc}
 use Rattle.std.proofs.lemmas.Grind.{common_steps}
-use Rattle.std.proofs.lemmas.List.{get_or-drop, take-append-drop, drop_at, take_at, drop-drop, length-append, get_or-take, get_or_append_left, length-take-le}
+use Rattle.std.proofs.lemmas.List.{get_or-drop, take-append-drop, drop_at, take_at, drop-drop, length-append, get_or-take, get_or_append_left, length-take-le, take_all}
 use Rattle.std.proofs.lemmas.Result.{err_from_is_err_and}
 use Rattle.std.specs.List.{slice_get}
 use Rattle.std.specs.Result.{IsErrAnd}
@@ -68,6 +68,11 @@ grow {place} {w} {front} bytes {first} {a} {b} h size before after =
       len = omega (arith, h.len, size, length-append front bytes);
       is = sym (take-append-drop place b) ∙ rw (head, tail) (sym (append_assoc front bytes (drop (place + w) first)));
     }
+
+-- a slice that is written whole behind them, by `cwrite_with`
+pub grow-slice : {place : ℕ} {front : List ℕ} (bytes : List ℕ) {first a b : List ℕ} → Begins place front first a → take place b ≡ take place a → drop place b ≡ take (length bytes) bytes ++ drop (length (take (length bytes) bytes)) (drop place a) → Begins (place + length bytes) (front ++ bytes) first b
+grow-slice {place} {front} bytes {first} {a} {b} h before after =
+    grow bytes h refl before (after ∙ ap (λ s. s ++ drop (length s) (drop place a)) (take_all (length bytes) bytes (omega arith)))
 
 -- a write with a cursor that stands behind them
 pub grow-write : {place w from n : ℕ} {front bytes first a b : List ℕ} → Begins place front first a → length bytes ≡ w → from ≡ place → WritesAt (WritesFront w bytes) a from b n → Begins (place + w) (front ++ bytes) first b
