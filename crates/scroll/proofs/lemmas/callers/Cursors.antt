@@ -1,6 +1,6 @@
 -- Lemmas for callers: what was read at a place and where the cursor then stands, lists of reads, bytes that are written
 -- one behind the other, a number beside its bytes, and an error that `?` hands on.
-use Rattle.std.proofs.Common.{◌≡◌, ℕ, zero, suc, ◌+◌, ◌-◌, ◌*◌, ◌^◌, ◌<◌, ◌≤◌, ◌++◌, List, [], ◌∷◌, length, take, drop, slice_index, Some, Fits, w8, refl, sym, ap, ◌∙◌, arith, append_assoc, Result, IfErr}
+use Rattle.std.proofs.Common.{◌≡◌, ℕ, zero, suc, ◌+◌, ◌-◌, ◌*◌, ◌^◌, ◌<◌, ◌≤◌, ◌++◌, List, [], ◌∷◌, length, take, drop, slice_index, Some, Fits, w8, refl, sym, ap, ◌∙◌, arith, append_assoc, Result, Err, IfErr, OnErr}
 use Rattle.std.proofs.Math.Nat.{mul-suc}
 use Rattle.std.proofs.lemmas.Grind.{common_steps}
 use Rattle.std.proofs.lemmas.List.{get_or-drop, take-append-drop, drop_at, take_at, drop-drop, length-append, get_or-take, get_or_append_left, length-take-le, take_all}
@@ -11,7 +11,7 @@ use borrow.Rule.Slice.PartMut.{put_mid}
 use Rattle.scroll.specs.Bytes.{ReadsFront, WritesFront}
 use Rattle.scroll.specs.Numbers.{number}
 use Rattle.scroll.proofs.lemmas.numbers.SumLemmas.{sum_below-same, sum_below-backwards, digits-bound}
-use Rattle.scroll.specs.Reads.{ReadsAt, ReadsBetween, ReadsAll}
+use Rattle.scroll.specs.Reads.{ReadsAt, ReadsBetween, ReadsAll, RefusesAt}
 use Rattle.scroll.specs.Writes.{WritesAt}
 use Rattle.scroll.specs.declared.endian.Endian.{Endian}
 use Rattle.scroll.specs.declared.endian.Endian.TheVariants.{Little, Big}
@@ -34,6 +34,16 @@ ReadsAll-push {V} reads buffer from (w ∷ ws) mid to n v h is r = (h.0, h.1, Re
 -- one more value at the end, read with a cursor
 pub ReadsAll-next : {V : Type 0} (reads : List ℕ → V → ℕ → Type 0) (buffer : List ℕ) (from : ℕ) (vs : List V) (mid to : ℕ) (v : V) → ReadsAll reads buffer from vs mid → ReadsBetween reads buffer mid to v → ReadsAll reads buffer from (vs ++ v ∷ []) to
 ReadsAll-next reads buffer from vs mid to v h read = ReadsAll-push reads buffer from vs mid to read.0 v h read.1 read.2
+
+-- the same where the list is known by an equation, as after `push` in a loop over a table
+pub ReadsAll-pushed : {V : Type 0} {reads : List ℕ → V → ℕ → Type 0} {buffer : List ℕ} (from : ℕ) {mid to : ℕ} (vs : List V) {xs : List V} {v : V} → ReadsAll reads buffer from vs mid → ReadsBetween reads buffer mid to v → xs ≡ vs ++ v ∷ [] → ReadsAll reads buffer from xs to
+ReadsAll-pushed {V} {reads} {buffer} from {mid} {to} vs {xs} {v} h read is = rw is (ReadsAll-next reads buffer from vs mid to v h read)
+
+-- a read with a cursor that was refused, where `at` put the offset to the error: that is where the cursor stood
+pub located : {V E : Type 0} (refuses : List ℕ → E → Type 0) (past_end : ℕ → E → Type 0) (buffer : List ℕ) {from to place : ℕ} {r : Result V E} {e : E} → r ≡ Err e → place ≡ to → OnErr r (to ≡ from) → IfErr r (RefusesAt refuses past_end buffer from) → (place ≡ from) × RefusesAt refuses past_end buffer place e
+located refuses past_end buffer {from} {to} {place} {r} {e} is at stays refused =
+    let same : place ≡ from = at ∙ (rw is at stays) in
+    (same, rw same (rw is at refused))
 
 -- of values of one size that are read one after the other, each stands at its place
 pub ReadsAll-at : {X : Type 0} (f : List ℕ → X) (w : ℕ) (buffer : List ℕ) (from : ℕ) (xs : List X) (to : ℕ) → ReadsAll (ReadsFront w f) buffer from xs to → (i : ℕ) → i < length xs → slice_get xs i ≡ Some (f (drop (from + w * i) buffer))
@@ -69,7 +79,7 @@ grow {place} {w} {front} bytes {first} {a} {b} h size before after =
       is = sym (take-append-drop place b) ∙ rw (head, tail) (sym (append_assoc front bytes (drop (place + w) first)));
     }
 
--- a slice that is written whole behind them, by `cwrite_with`
+-- a slice that is written whole after them, by `cwrite_with`
 pub grow-slice : {place : ℕ} {front : List ℕ} (bytes : List ℕ) {first a b : List ℕ} → Begins place front first a → take place b ≡ take place a → drop place b ≡ take (length bytes) bytes ++ drop (length (take (length bytes) bytes)) (drop place a) → Begins (place + length bytes) (front ++ bytes) first b
 grow-slice {place} {front} bytes {first} {a} {b} h before after =
     grow bytes h refl before (after ∙ ap (λ s. s ++ drop (length s) (drop place a)) (take_all (length bytes) bytes (omega arith)))
