@@ -150,8 +150,8 @@ grow-next bytes vs i d {place} {w} {first} {a} {b} h inside size before after =
     subst (λ l. Begins (place + w) l first b) (sym more) (grow (bytes (get_or vs i d)) h size before after)
 
 -- values that fill a buffer: read, they are written back
-pub all-back : {V : Type 0} (reads : List ℕ → V → ℕ → Type 0) (bytes : V → List ℕ) (buffer : List ℕ) (vs : List V) → ((place : ℕ) (v : V) (n : ℕ) → ReadsAt reads buffer place v n → bytes v ≡ take n (drop place buffer)) → ReadsAll reads buffer 0 vs (length buffer) → flat_map bytes vs ≡ buffer
-all-back reads bytes buffer vs back h = ReadsAll-back reads bytes buffer back 0 vs (length buffer) h ∙ take_all (length buffer) buffer (omega arith)
+pub all-back : {V : Type 0} (reads : List ℕ → V → ℕ → Type 0) (bytes : V → List ℕ) (buffer : List ℕ) (vs : List V) {to : ℕ} → ((place : ℕ) (v : V) (n : ℕ) → ReadsAt reads buffer place v n → bytes v ≡ take n (drop place buffer)) → ReadsAll reads buffer 0 vs to → to ≡ length buffer → flat_map bytes vs ≡ buffer
+all-back reads bytes buffer vs {to} back h end = ReadsAll-back reads bytes buffer back 0 vs to h ∙ take_all to buffer (omega (arith, end))
 
 -- and written by a loop that has come to their end, they are read again, where each is that holds P
 pub all-again : {V : Type 0} (reads : List ℕ → V → ℕ → Type 0) (bytes : V → List ℕ) (P : V → Type 0) → ((v : V) → P v → (rest : List ℕ) → reads (bytes v ++ rest) v (length (bytes v))) → (vs : List V) (i : ℕ) {s : List ℕ} → length vs ≤ i → All P (take i vs) → s ≡ flat_map bytes (take i vs) → ReadsAll reads s 0 vs (length s)
