@@ -11,7 +11,7 @@ use borrow.Rule.Slice.PartMut.{put_mid}
 use Rattle.scroll.specs.Bytes.{ReadsFront, WritesFront}
 use Rattle.scroll.specs.Numbers.{number}
 use Rattle.scroll.proofs.lemmas.numbers.SumLemmas.{sum_below-same, sum_below-backwards, digits-bound}
-use Rattle.scroll.specs.Reads.{ReadsAt, ReadsBetween, ReadsAll, RefusesAt}
+use Rattle.scroll.specs.Reads.{ReadsAt, ReadsBetween, ReadsAll}
 use Rattle.scroll.specs.Writes.{WritesAt}
 use Rattle.scroll.specs.declared.endian.Endian.{Endian}
 use Rattle.scroll.specs.declared.endian.Endian.TheVariants.{Little, Big}
@@ -39,11 +39,10 @@ ReadsAll-next reads buffer from vs mid to v h read = ReadsAll-push reads buffer 
 pub ReadsAll-pushed : {V : Type 0} {reads : List ℕ → V → ℕ → Type 0} {buffer : List ℕ} (from : ℕ) {mid to : ℕ} (vs : List V) {xs : List V} {v : V} → ReadsAll reads buffer from vs mid → ReadsBetween reads buffer mid to v → xs ≡ vs ++ v ∷ [] → ReadsAll reads buffer from xs to
 ReadsAll-pushed {V} {reads} {buffer} from {mid} {to} vs {xs} {v} h read is = rw is (ReadsAll-next reads buffer from vs mid to v h read)
 
--- a read with a cursor that was refused, where `at` put the offset to the error: that is where the cursor stood
-pub located : {V E : Type 0} (refuses : List ℕ → E → Type 0) (past_end : ℕ → E → Type 0) (buffer : List ℕ) {from to place : ℕ} {r : Result V E} {e : E} → r ≡ Err e → place ≡ to → OnErr r (to ≡ from) → IfErr r (RefusesAt refuses past_end buffer from) → (place ≡ from) × RefusesAt refuses past_end buffer place e
-located refuses past_end buffer {from} {to} {place} {r} {e} is at stays refused =
-    let same : place ≡ from = at ∙ (rw is at stays) in
-    (same, rw same (rw is at refused))
+-- a call with a cursor that was refused, where `at` put the offset to the error: the cursor stood there, and what holds of
+-- the error holds of the one that `at` keeps
+pub located : {V E : Type 0} (P : E → Type 0) {from to place : ℕ} {r : Result V E} {e : E} → r ≡ Err e → place ≡ to → OnErr r (to ≡ from) → IfErr r P → (place ≡ from) × P e
+located P is at stays refused = (at ∙ (rw is at stays), rw is at refused)
 
 -- of values of one size that are read one after the other, each stands at its place
 pub ReadsAll-at : {X : Type 0} (f : List ℕ → X) (w : ℕ) (buffer : List ℕ) (from : ℕ) (xs : List X) (to : ℕ) → ReadsAll (ReadsFront w f) buffer from xs to → (i : ℕ) → i < length xs → slice_get xs i ≡ Some (f (drop (from + w * i) buffer))
