@@ -17,7 +17,7 @@
 #     clients.sh      the clients of the library, each proved and tested as a crate of its own
 #     depending.sh    a repository that depends on the library, made by README's lines
 #     misuse.sh       what must not compile
-#     cited.py        the names that the documents cite are in the sources
+#     cited.py        the names and links of the documents lead to something
 #     edit_table.py   the tables of the edits say what the edits say
 #     edits.py        the edits, many in one check
 #
