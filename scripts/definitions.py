@@ -84,7 +84,9 @@ def item(meaning: str, group: List[Definition]) -> str:
         if [it.split(" ")[0] for it in forms] != [it.name for it in group]:
             raise Bad(f"the comment of {names} begins with other names")
     if not all(forms):
-        raise Bad(f"{names} has several equations, and its comment doesn't begin with its name and parameters")
+        raise Bad(f"the equations of {names} don't show its parameters, and its comment doesn't begin with them")
+    if any(it.parts != group[0].parts for it in group):
+        raise Bad(f"{names} share a comment, and have different parts")
     text = "- " + ", ".join(f"`{it}`" for it in forms) + f": {meaning}"
     if meaning.endswith(":"):
         code = "\n".join(f"  {line}" for it in group for line in it.equations)
@@ -139,16 +141,14 @@ def main() -> int:
         page += "\n" + "\n\n".join([f"## {title.rstrip('.')}", *text, contents(sections)]) + "\n" + "".join(sections)
     if sys.argv[1:] == ["write"] and not failed:
         PAGE.write_text(page, encoding="utf-8")
-    text = PAGE.read_text(encoding="utf-8")
+    text = PAGE.read_text(encoding="utf-8") if PAGE.is_file() else ""
     for path, it in made:
         passed, failed = passed + (it in text), failed + (it not in text)
         if it not in text:
             print(f"FAILED {path.relative_to(TOP)}: docs/DEFINITIONS.md says something else of it")
-    if text != page and not failed:
-        print("FAILED docs/DEFINITIONS.md is not what the comments say")
-        failed += 1
-    if failed:
-        print("`python3 scripts/definitions.py write` makes docs/DEFINITIONS.md anew")
+    if text != page:
+        failed += not failed
+        print("docs/DEFINITIONS.md is not what the comments say: `python3 scripts/definitions.py write` makes it anew")
     print(f"{passed} passed, {failed} failed")
     return 0 if passed and not failed else 1
 
