@@ -55,7 +55,7 @@ pub enum Width {
 pub enum Kind {
     /// A number of a type, in a byte order.
     Number(Width, Endian),
-    /// A text in a context.
+    /// A string in a context.
     Text(StrCtx),
     /// A byte slice of this many bytes.
     Bytes(usize),
@@ -71,7 +71,7 @@ pub enum Kind {
     U8x0(Endian),
     /// An array of three numbers of type `u16`.
     U16x3(Endian),
-    /// An array of two texts.
+    /// An array of two strings.
     Textx2(StrCtx),
 }
 
@@ -98,7 +98,7 @@ pub enum Put<'c> {
     U128(u128, Endian),
     /// A signed number of 128 bits, in a byte order.
     I128(i128, Endian),
-    /// A text, with no delimiter after it.
+    /// A string, without a delimiter after it.
     Text(&'c str),
     /// A byte slice.
     Bytes(&'c [u8]),
@@ -130,7 +130,7 @@ pub enum Value {
     Unsigned(u128),
     /// A signed number of any width.
     Signed(i128),
-    /// A text, copied.
+    /// A string, copied.
     Text(String),
     /// The bytes of a slice, copied.
     Bytes(Vec<u8>),
@@ -144,7 +144,7 @@ pub enum Value {
     U8x0,
     /// Three numbers.
     U16x3([u16; 3]),
-    /// Two texts, copied.
+    /// Two strings, copied.
     Textx2(String, String),
 }
 
