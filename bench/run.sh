@@ -127,7 +127,7 @@ make_sample() {
     cd "$room" || exit 1
     cp "$here/sample.c" "$here/sample.h" "$room/" || exit 1
     flags='-g -gdwarf-5 -O2 -ffunction-sections -c sample.c -o sample.o'
-    # (gcc writes views between the lists of locations, where it is not told otherwise)
+    # (gcc writes views between the lists of locations by default)
     # shellcheck disable=SC2086 # words
     cc -gno-variable-location-views $flags 2>"$room/said" || quietly cc $flags
 }

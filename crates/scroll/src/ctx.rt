@@ -74,7 +74,7 @@ pub trait TryIntoCtx<Ctx: Copy>: Sized {
     ghost writes_keeps: { (ctx : Ctx) (x : Self) (old new : List ℕ) (n : ℕ) → writes ctx x old new n → drop n new ≡ drop n old };
 }
 
-/// A type that can be made from enough bytes in a context, without an error.
+/// A type that can be read infallibly from enough bytes in a context.
 pub trait FromCtx<Ctx: Copy>: Sized {
     // The number of bytes that a source must have.
     ghost need: { Ctx → ℕ };
@@ -89,7 +89,7 @@ pub trait FromCtx<Ctx: Copy>: Sized {
         ensures { makes ctx this.now result };
 }
 
-/// A type that can be written to enough bytes in a context, without an error.
+/// A type that can be written infallibly to enough bytes in a context.
 pub trait IntoCtx<Ctx: Copy>: Sized {
     // The number of bytes that a target must have.
     ghost need: { Ctx → ℕ };

@@ -19,7 +19,7 @@ pub enum Error {
     Custom(String),
     /// An error of a stream.
     IO(io::Error),
-    /// There was no memory for the value.
+    /// An allocation failed.
     NoMemory,
 }
 

@@ -6,7 +6,7 @@ use crate::ctx::{FromCtx, IntoCtx};
 use crate::slice;
 use crate::source::Source;
 
-/// Reads values of any type that implements [`FromCtx`] from a byte slice, without an error.
+/// Infallible reads from a byte slice, of any type that implements [`FromCtx`].
 ///
 /// Offsets are in bytes, from the start of the slice. The caller ensures that the offset plus the number of bytes that
 /// the type needs is at most the length of the slice. [`Pread`](crate::Pread) checks this instead, and returns an
@@ -54,7 +54,7 @@ impl<'a, Ctx: Copy> Cread<Ctx> for &'a [u8] {
     }
 }
 
-/// Writes values of any type that implements [`IntoCtx`] to a byte slice, without an error.
+/// Infallible writes to a byte slice, of any type that implements [`IntoCtx`].
 ///
 /// Offsets are in bytes, from the start of the slice. The caller ensures that the offset plus the number of bytes that
 /// the type needs is at most the length of the slice. The bytes before the offset, and those after the bytes that the

@@ -126,7 +126,7 @@ pub fn gwrite_with<Ctx: Copy, E: From<Error>, N: TryIntoCtx<Ctx, Error = E> + Dr
     Ok(size)
 }
 
-/// Writes `n` at `offset` in the default context, without an error: the caller ensures that there is room.
+/// Writes `n` at `offset` in the default context. This can't fail: the caller ensures that there is room.
 ///
 /// ```rust
 /// let mut bytes = [0u8; 12];
@@ -144,7 +144,7 @@ pub fn cwrite<Ctx: Copy + Default, N: IntoCtx<Ctx>>(dst: &mut [u8], n: N, offset
     cwrite_with(dst, n, offset, Ctx::default())
 }
 
-/// Writes `n` at `offset` in the context `ctx`, without an error: the caller ensures that there is room.
+/// Writes `n` at `offset` in the context `ctx`. This can't fail: the caller ensures that there is room.
 ///
 /// ```rust
 /// let mut bytes = [0u8; 16];

@@ -10,8 +10,8 @@ use crate::error::{Error, Result, check_room};
 
 /// Reads as many bytes as the context says. This is zero-copy: the slice borrows the source.
 ///
-/// The default context is 0, which reads the empty slice. A shorter source returns [`Error::TooBig`] with the length
-/// that was asked for and that of the source.
+/// The default context is 0, which reads the empty slice. A shorter source returns [`Error::TooBig`] with the length in
+/// the context and that of the source.
 impl<'a> TryFromCtx<'a, usize> for &'a [u8] {
     type Error = Error;
 

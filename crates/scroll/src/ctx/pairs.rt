@@ -11,7 +11,7 @@ mod numbers;
 
 /// A type that is written as a fixed number of bytes: a number, or a pair of such types, the second after the first.
 ///
-/// Each number type has its own implementation. With one for every `N: Written` beside the one for pairs, the compiler
+/// Each number type has its own implementation. With one for every `N: Written` next to the one for pairs, the compiler
 /// would try both at each nested pair, and give up at thirteen.
 pub trait Fields: Copy {
     // How many bytes are written.

@@ -179,7 +179,7 @@ one-nested reads refuses one [] = one
 one-nested reads refuses one (count ∷ counts) =
     one-array (ReadsNested reads counts) (RefusesNested reads refuses IsBadOffset counts) (one-nested reads refuses one counts) count
 
--- a value with its size beside it
+-- a value with its size
 abbrev Sized : {V : Type 0} → (V → ℕ → Type 0) → Counted V → ℕ → Type 0
 Sized P x n = P x.value n × (x.count ≡ n)
 
