@@ -14,7 +14,7 @@
 # `N passed, M failed`. The exit status is 0 if M is 0 and a session was replayed.
 set -u
 
-# (the same order of names everywhere)
+# (the same order of names on every machine)
 LC_ALL=C
 export LC_ALL
 

@@ -20,13 +20,13 @@ pub const TAB: u8 = 0x09;
 /// The default is `Delimiter(NULL)`.
 #[derive(Clone, Copy, Debug)]
 pub enum StrCtx {
-    /// Up to the first of these bytes, or to the end of the source where there is none.
+    /// Up to the first byte of this value, or to the end of the source if there is none.
     Delimiter(u8),
-    /// Up to the first of these bytes within this many bytes, or else this many bytes.
+    /// Up to the first byte of this value within this many bytes, or else this many bytes.
     DelimiterUntil(u8, usize),
     /// This many bytes.
     Length(usize),
-    /// Up to the first of these bytes, which the source must contain.
+    /// Up to the first byte of this value, which the source must contain.
     Required(u8),
 }
 

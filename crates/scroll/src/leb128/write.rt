@@ -41,8 +41,8 @@ pub(crate) fn turned(value: i64) -> u64
     }
 }
 
-// Writes the encoding of `value` in `count` bytes to the front of a target, and returns `count`. A shorter target is
-// refused.
+// Writes the encoding of `value` in `count` bytes to the front of a target, and returns `count`. A shorter target
+// returns `TooBig`, and is unchanged.
 #[inline(always)]
 pub(crate) fn put_uleb(dst: &mut [u8], value: u64, count: usize) -> Result<usize>
     requires spelled { HasSpelling value count }
@@ -52,7 +52,7 @@ pub(crate) fn put_uleb(dst: &mut [u8], value: u64, count: usize) -> Result<usize
     put_groups(dst, value, (value >> 63) as u8, count)
 }
 
-// The same of a signed `value`.
+// The same for a signed `value`.
 #[inline(always)]
 pub(crate) fn put_sleb(dst: &mut [u8], value: i64, count: usize) -> Result<usize>
     requires spelled { HasSignedSpelling value count }
@@ -66,7 +66,7 @@ pub(crate) fn put_sleb(dst: &mut [u8], value: i64, count: usize) -> Result<usize
 }
 
 // Writes an encoding of `count` groups to the front of a target, and returns `count`. The first nine groups are those
-// of `low`, and the tenth is `tenth`. A shorter target is refused.
+// of `low`, and the tenth is `tenth`. A shorter target returns `TooBig`, and is unchanged.
 #[inline(always)]
 fn put_groups(dst: &mut [u8], low: u64, tenth: u8, count: usize) -> Result<usize>
     requires group { tenth < 128 }
