@@ -17,8 +17,9 @@
 #     clients.sh      the clients of the library, each proved and tested as a separate crate
 #     depending.sh    a repository that depends on the library, made by README's lines
 #     misuse.sh       what must not compile
-#     cited.py        the names that the documents cite are in the sources
+#     cited.py        the names and links of the documents lead to something
 #     edit_table.py   the tables of the edits say what the edits say
+#     definitions.py  docs/DEFINITIONS.md says what the comments in specs/ say
 #     edits.py        the edits, many in one check
 #
 # The tests of the library take longest to prove, so they run in a second copy at the same time; rt ci runs in a third.
@@ -122,7 +123,7 @@ count_beside() {
 }
 
 run_stands() {
-    for step in 'sh scripts/calling.sh' 'sh scripts/derive_check.sh' 'python3 scripts/cited.py' 'python3 scripts/edit_table.py' 'sh scripts/prove.sh scroll'; do
+    for step in 'sh scripts/calling.sh' 'sh scripts/derive_check.sh' 'python3 scripts/cited.py' 'python3 scripts/edit_table.py' 'python3 scripts/definitions.py' 'sh scripts/prove.sh scroll'; do
         # shellcheck disable=SC2086 # words
         run_step $step
     done
