@@ -1,13 +1,13 @@
 #!/bin/sh
-# Compares the code and the proofs that crates/scroll/CALLING.md shows with the files that stand there, or in clients/,
-# which the gate compiles and proves, so that the two can't part:
+# Compares the code and the proofs in crates/scroll/CALLING.md with the files that they come from, in the library or in
+# clients/, which the gate compiles and proves, so that the two can't diverge:
 #
 #     scripts/calling.sh
 #
-# Above each block of Rust or of antt stands a line that begins with the file's name, as "From `src/examples/chunk.rt`" or
-# "From `clients/object_files/src/sections.rt.txt`". The parts of the block, parted by empty lines, stand in that file in
-# the same order; in a file of src/ with `crate::` in place of `scroll::`. The last line is `N passed, M failed`, which
-# counts blocks. The exit status is 0 where M is 0 and N is not.
+# Above each block of Rust or of antt is a line that begins with the file's name, such as "From `src/examples/chunk.rt`"
+# or "From `clients/object_files/src/sections.rt.txt`". The parts of the block, separated by empty lines, are in that
+# file in the same order; in a file of src/ with `crate::` in place of `scroll::`. The last line is
+# `N passed, M failed`, which counts blocks. The exit status is 0 if M is 0 and N is not.
 set -u
 
 top=$(CDPATH='' cd -- "$(dirname -- "$0")/.." && pwd) || exit 1
@@ -25,7 +25,7 @@ function load(name,    line, is_client) {
     close(name)
 }
 
-# Looks for a part of a block behind those before it.
+# Looks for a part of a block after those before it.
 function look(part,    at) {
     if (part == "" || part == "#![tactic(auto)]\n") return
     at = index(substr(text, place), "\n" part)

@@ -1,20 +1,20 @@
 #!/bin/sh
-# Runs the checks of the repository over copies of its files, and shows what each says.
+# Runs the checks of the repository over copies of its files, and shows what each prints.
 #
-#     sh scripts/check.sh             what stands: the proofs from nothing, the tests, the sessions, the clients
+#     sh scripts/check.sh             what holds: the proofs from nothing, the tests, the sessions, the clients
 #     sh scripts/check.sh edits       the bugs that the prover must refuse
 #     sh scripts/check.sh verdict     the toolchain's own verdict, rt ci, over the files without the edits
-#     sh scripts/check.sh all         what stands, and the edits
+#     sh scripts/check.sh all         what holds, and the edits
 #
 # Several of these words may be given; .ci/run gives `all verdict`. The steps are:
 #
-#     prove.sh        each crate is proved from nothing and built, its tests are proved and run, and its stored run
+#     prove.sh        for each crate: the proof from nothing, the build, the tests proved and run, and the stored run
 #     calling.sh      the code of CALLING.md is in the files that were proved
 #     derive_check.sh what derive.sh prints is in the files that were proved
-#     sessions.sh     the stored sessions, by the program that was proved
-#     cuts.sh         sessions with their buffers cut, likewise
-#     faults.sh       the sessions and the tests where memory is refused and streams fail, by what was proved
-#     clients.sh      the clients of the library, each proved and tested as a crate of its own
+#     sessions.sh     the stored sessions, run by the proved program
+#     cuts.sh         sessions with their buffers cut short, run by the proved program
+#     faults.sh       the sessions and the tests where allocations and streams fail, run by the proved programs
+#     clients.sh      the clients of the library, each proved and tested as a separate crate
 #     depending.sh    a repository that depends on the library, made by README's lines
 #     misuse.sh       what must not compile
 #     cited.py        the names and links of the documents lead to something
@@ -22,11 +22,11 @@
 #     definitions.py  docs/DEFINITIONS.md says what the comments in specs/ say
 #     edits.py        the edits, many in one check
 #
-# The tests of the library take longest to prove, so they stand in a second copy, beside the others; rt ci runs in a third.
+# The tests of the library take longest to prove, so they run in a second copy at the same time; rt ci runs in a third.
 #
-# Each step is named at the end with its counts and its time. The last line is `N passed, M failed`, the sums of the
-# counts, with `, K skipped` after it where something was left out. A step that ends without its counts, or that fails
-# without counting a failure, is one failure more. The exit status is 0 where M is 0.
+# At the end each step is named with its counts and its time. The last line is `N passed, M failed`, the sums of the
+# counts, with `, K skipped` after it if something was left out. A step that ends without its counts, or that fails
+# without counting a failure, is one more failure. The exit status is 0 if M is 0.
 set -u
 
 top=$(CDPATH='' cd -- "$(dirname -- "$0")/.." && pwd) || exit 1
@@ -44,7 +44,7 @@ done
 
 room=$(mktemp -d) || exit 1
 beside=
-# (a step ends what it started once it is ended itself)
+# (a step ends what it started when it is ended)
 trap '[ -z "$beside" ] || kill $beside 2>/dev/null; wait; rm -rf "$room"' EXIT
 trap 'exit 1' HUP INT TERM
 
@@ -58,7 +58,7 @@ wants() {
     return 1
 }
 
-# Runs a command in a copy, and prints what it says. Its status and its seconds go into the file $1.ended.
+# Runs a command in a copy, and prints its output. Its status and its seconds go into the file $1.ended.
 run_in() {
     files=$1
     tree=$2
@@ -96,7 +96,7 @@ count_step() {
     echo "check: $*: $line, $seconds s" >>"$room/steps"
 }
 
-# Runs a step in the first copy, shows what it says as it comes, and counts it.
+# Runs a step in the first copy, shows its output as it comes, and counts it.
 run_step() {
     steps=$((steps + 1))
     echo "== $*"
@@ -104,7 +104,7 @@ run_step() {
     count_step "$room/step$steps" "$@"
 }
 
-# Starts a step in the copy $2 beside the others, under the name $1.
+# Starts a step in the copy $2, in parallel, under the name $1.
 start_beside() {
     name=$1
     tree=$room/$2
@@ -113,7 +113,7 @@ start_beside() {
     beside="$beside $!"
 }
 
-# Shows and counts the step that was started beside the others under the name $1, once it has ended.
+# Shows and counts the step that was started in parallel under the name $1, once it has ended.
 count_beside() {
     name=$1
     shift
@@ -128,7 +128,7 @@ run_stands() {
         run_step $step
     done
     cp -R "$room/tree" "$room/tests" || stop "the files could not be copied"
-    # (the tests take about as long as all the others together, which are not always as many jobs)
+    # (the tests take about as long as all the others together, which don't always use as many jobs)
     all=$(count_workers)
     export WORKERS=$((all > 1 ? all - 1 : 1))
     start_beside tests tests sh scripts/prove.sh scroll tests

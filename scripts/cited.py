@@ -1,13 +1,14 @@
 #!/usr/bin/env python3
-"""Looks up the names that the documents cite in the sources, and follows their links, so that nothing they name is gone.
+"""Looks up the names that the documents cite in the sources, and follows their links, so that none is out of date.
 
     python3 scripts/cited.py
 
-A name is what stands between backticks and is a word, or words joined by `::`, such as `Pread::gread_with`; in the tables of
-LAWS.md and PROVED.md also a lemma, such as `ReadsAll-push`. Each of its words stands in the code of a crate or a client, with
-no comments, or is the name of an edit, a session, a script or a document; or it is one of the words below, of Rust or of a
-tool. CHANGELOG.md may name what is gone. A link to a file of the repository has to lead to one, and its part after `#` to a
-heading there. The last line is `N passed, M failed`, which counts documents. The exit status is 0 where M is 0 and N is not.
+A name is a word between backticks, or words joined by `::`, such as `Pread::gread_with`; in the tables of LAWS.md and
+PROVED.md it may also be a lemma, such as `ReadsAll-push`. Each of its words must be in the code of a crate or a client,
+outside of comments, or be the name of an edit, a session, a script or a document, or one of the words below, of Rust or
+of a tool. CHANGELOG.md may name what no longer exists. A link to a file of the repository must lead to one, and its part
+after `#` to a heading there. The last line is `N passed, M failed`, which counts documents. The exit status is 0 if M is
+0 and N is not.
 """
 
 import re
@@ -17,7 +18,7 @@ from typing import List, Set, Tuple
 
 TOP = Path(__file__).resolve().parents[1]
 
-# Names of Rust, of its crates and of processors, and words of docs/SESSIONS.md that stand for others.
+# Names of Rust, of its crates and of processors, and placeholders in docs/SESSIONS.md.
 FOREIGN = set("""
 I Self::Units array::try_from_fn cause collect core::mem core::result f64 memchr scroll_derive x86-64-v2
 HEX HH ORD SESSION law_7
@@ -54,7 +55,7 @@ def leads_nowhere(link: str, document: Path) -> bool:
 
 
 def words_of_sources() -> Set[str]:
-    """The words of the code, and the names of files and folders. A word with a `-` or a `◌` counts by its parts too."""
+    """Returns the words of the code, and the names of files and folders. The parts of a word with a `-` or a `◌` count too."""
     words: Set[str] = set()
     for path in TOP.rglob("*"):
         parts = path.relative_to(TOP).parts

@@ -1,19 +1,19 @@
 # shellcheck shell=sh
 # What the scripts of this folder share. They read it by `. "$top/scripts/lib.sh"`, with the top of the repository in `top`.
 
-# Ends a script that can't go on, with its counts.
+# Ends a script that can't continue, with its counts.
 stop() {
     echo "$(basename "$0" .sh): $1"
     echo "0 passed, 1 failed"
     exit 1
 }
 
-# The memory that is free, in GB.
+# Prints the free memory in GB.
 count_gigabytes() {
     awk '/^MemAvailable:/ { print int($2 / 1048576) }' /proc/meminfo
 }
 
-# How many jobs are to run side by side: as many as there are processors, or fewer, so that each has 3 GB of memory. The
+# Prints how many jobs run in parallel: as many as there are processors, or fewer, so that each has 3 GB of memory. The
 # variable WORKERS sets another number.
 count_workers() {
     processors=$(nproc)
@@ -35,7 +35,8 @@ copy_tree() {
     )
 }
 
-# Whether `rt fmt` would change a file of the crate in the folder $1: it is tried on a copy, whose differences are shown.
+# Tests whether a file of the crate in the folder $1 is in the layout of `rt fmt`: it runs on a copy, and shows the
+# differences.
 is_laid_out() {
     folder=$(mktemp -d) || return
     for part in src specs proofs; do

@@ -1,4 +1,4 @@
--- Lemmas for callers: records of numbers that stand one after another, of any widths and however many.
+-- Lemmas for callers: records of numbers, one after another, of any widths and any count.
 use Rattle.std.proofs.Common.{◌≡◌, ℕ, ◌+◌, ◌^◌, ◌<◌, ◌≤◌, ◌++◌, List, [], ◌∷◌, length, take, drop, slice_index, Fits, w8, refl, sym, ap, subst, ◌∙◌, arith, append_assoc, length-append}
 use Rattle.std.proofs.lemmas.List.{drop_at, append-nil}
 use Rattle.std.specs.Bool.{⊤}
@@ -7,7 +7,7 @@ use Rattle.scroll.specs.declared.endian.Endian.{Endian}
 use Rattle.scroll.proofs.lemmas.callers.Cursors.{length-number_bytes}
 use Rattle.scroll.proofs.lemmas.callers.RoundTrips.{number-begins, back-grow}
 
--- the fields of a record in order, each by its width in bytes and its value
+-- the fields of a record in order, each with its width in bytes and its value
 abbrev pub Fields : Type 0
 Fields = List (ℕ × ℕ)
 
@@ -16,12 +16,12 @@ abbrev pub fields_after : Endian → List ℕ → Fields → List ℕ
 fields_after order front [] = front
 fields_after order front (f ∷ fs) = fields_after order (front ++ number_bytes order f.0 f.1) fs
 
--- the place after fields that begin at a place
+-- the offset after fields that begin at an offset
 abbrev pub fields_end : ℕ → Fields → ℕ
 fields_end place [] = place
 fields_end place (f ∷ fs) = fields_end (place + f.0) fs
 
--- each field is the number that stands at its place
+-- each field is the number at its offset
 abbrev pub FieldsAt : Endian → ℕ → List ℕ → Fields → Type 0
 FieldsAt order place s [] = ⊤
 FieldsAt order place s (f ∷ fs) = (number order f.0 (drop place s) ≡ f.1) × FieldsAt order (place + f.0) s fs
@@ -52,7 +52,7 @@ again-after order front (f ∷ fs) rest fit =
       subst (λ n. FieldsAt order n (whole ++ rest) fs) place (again-after order (front ++ own) fs rest fit.1),
     )
 
--- fields that were written are read again
+-- fields that were written read back
 pub fields-again : (order : Endian) (fs : Fields) (rest : List ℕ) → FieldsFit fs → FieldsAt order 0 (fields_after order [] fs ++ rest) fs
 fields-again order fs rest fit = again-after order [] fs rest fit
 

@@ -1,4 +1,4 @@
--- Lemmas for callers: what was read is written back, and what was written is read again.
+-- Lemmas for callers: round trips. What was read is written back, and what was written is read again.
 use Rattle.std.proofs.Common.{◌≡◌, ◌≢◌, ℕ, ℤ, pos, neg_ℤ, nat_abs, ◌+ℤ◌, ◌-ℤ◌, ◌*ℤ◌, ◌≤ℤ◌, ◌<ℤ◌, ◌+◌, ◌-◌, ◌*◌, ◌/◌, ◌%◌, ◌^◌, ◌<◌, ◌≤◌, ◌++◌, ◌==◌, true, List, [], ◌∷◌, length, take, drop, get_or, slice_index, Fits, w8, refl, sym, ap, subst, ◌∙◌, inl, inr, arith, IsUtf8, append_assoc, length-append, length-take, length-drop, get_or-take}
 use Rattle.std.proofs.Math.Nat.{mod-eq_of_lt}
 use Rattle.std.proofs.Math.Seq.{take-add}
@@ -40,7 +40,7 @@ number-begins order w x rest h =
     (λ i l. get_or_append_left (number_bytes order w x) rest 0 i (omega (arith, l, len)))
     ∙ number-number_bytes order w x h
 
--- the bytes of the number that stands at a place are those that stand there
+-- the bytes of the number at an offset are the bytes there
 pub number-back : (order : Endian) (w place : ℕ) (s : List ℕ) → ((i : ℕ) → Fits w8 (slice_index s i)) → place + w ≤ length s → number_bytes order w (number order w (drop place s)) ≡ take w (drop place s)
 number-back Little w place s h room =
     let t = drop place s in
@@ -64,7 +64,7 @@ number-back Big w place s h room =
     ∙ ap (λ k. slice_index t k) twice
     ∙ sym (get_or-take w t i 0 inside))
 
--- bytes that are written back one behind the other: some more
+-- bytes that are written back one after another: some more
 pub back-next : (place n : ℕ) (s : List ℕ) {front bytes : List ℕ} → front ≡ take place s → bytes ≡ take n (drop place s) → front ++ bytes ≡ take (place + n) s
 back-next place n s {front} {bytes} before next = ap (λ l. l ++ bytes) before ∙ ap (λ l. take place s ++ l) next ∙ sym (take-add place n s)
 
@@ -75,7 +75,7 @@ back-grow order w place s front h room is = back-next place w s is (number-back 
 is-byte : (b d : ℕ) → (b == d) ≡ true → b ≡ d
 is-byte b d e = grind (arith, e)
 
--- a text that a delimiter ends: how many bytes it takes, and that these are its own and the delimiter
+-- a string that a delimiter ends: how many bytes it takes, and that these are its own and the delimiter
 pub required-size : (d : ℕ) (s text : List ℕ) (n : ℕ) → ReadsText (Required d) s text n → n ≡ length text + 1
 required-size d s text n r = let len = ap length r.front in let part = length-take (first_place d s) s in omega (arith, r.size, len, part, r.there)
 
@@ -85,7 +85,7 @@ required-back d s text n r =
     ap (λ m. take m s) r.size ∙ take_more s (first_place d s) 0 r.there
     ∙ ap (λ b. take (first_place d s) s ++ b ∷ []) byte ∙ ap (λ t. t ++ d ∷ []) (sym r.front)
 
--- the first delimiter behind bytes that are none
+-- the first delimiter, after bytes that are not the delimiter
 pub place-behind : (d : ℕ) (t rest : List ℕ) → All (λ b. b ≢ d) t → first_place d (t ++ d ∷ rest) ≡ length t
 place-behind d [] rest h = grind arith
 place-behind d (b ∷ bs) rest h =
@@ -93,7 +93,7 @@ place-behind d (b ∷ bs) rest h =
     let ih = place-behind d bs rest (All-tail (λ x. x ≢ d) b bs h) in
     grind (arith, ih, hb)
 
--- a text without the delimiter, and the delimiter behind it, are read again
+-- a string without the delimiter, followed by the delimiter, is read again
 pub required-again : (d : ℕ) (text rest : List ℕ) → All (λ b. b ≢ d) text → IsUtf8 text → ReadsText (Required d) (text ++ d ∷ rest) text (length text + 1)
 required-again d text rest h utf8 =
     let at = place-behind d text rest h in
@@ -105,7 +105,7 @@ required-again d text rest h utf8 =
       there = omega (arith, at, length-append text (d ∷ rest));
     }
 
--- values that were read one after the other are written back, where each is
+-- values that were read one after another are written back, if each is
 pub ReadsAll-back : {V : Type 0} (reads : List ℕ → V → ℕ → Type 0) (bytes : V → List ℕ) (buffer : List ℕ) → ((place : ℕ) (v : V) (n : ℕ) → ReadsAt reads buffer place v n → bytes v ≡ take n (drop place buffer)) → (from : ℕ) (vs : List V) (to : ℕ) → ReadsAll reads buffer from vs to → take from buffer ++ flat_map bytes vs ≡ take to buffer
 ReadsAll-back reads bytes buffer back from [] to h = append-nil (take from buffer) ∙ ap (λ n. take n buffer) (sym h)
 ReadsAll-back reads bytes buffer back from (v ∷ vs) to h =
@@ -113,7 +113,7 @@ ReadsAll-back reads bytes buffer back from (v ∷ vs) to h =
     ∙ ap (λ l. l ++ flat_map bytes vs) (back-next from h.0 buffer refl (back from v h.0 h.1))
     ∙ ReadsAll-back reads bytes buffer back (from + h.0) vs to h.2
 
--- values that were written one after the other are read again, where each is
+-- values that were written one after another are read again, if each is
 pub ReadsAll-again : {V : Type 0} (reads : List ℕ → V → ℕ → Type 0) (bytes : V → List ℕ) (vs : List V) → All (λ v. (rest : List ℕ) → reads (bytes v ++ rest) v (length (bytes v))) vs → (front rest : List ℕ) → ReadsAll reads (front ++ flat_map bytes vs ++ rest) (length front) vs (length (front ++ flat_map bytes vs))
 ReadsAll-again reads bytes [] again front rest = ap length (append-nil front)
 ReadsAll-again {V} reads bytes (v ∷ vs) again front rest =
@@ -132,7 +132,7 @@ ReadsAll-again {V} reads bytes (v ∷ vs) again front rest =
       subst (λ n. ReadsAll reads (front ++ (bytes v ++ others) ++ rest) n vs (length (front ++ (bytes v ++ others)))) (length-append front (bytes v)) whole,
     )
 
--- values that are written one behind the other: one more
+-- values that are written one after another: one more
 pub grow-next : {V : Type 0} (bytes : V → List ℕ) (vs : List V) (i : ℕ) (d : V) {place w : ℕ} {first a b : List ℕ} → Begins place (flat_map bytes (take i vs)) first a → i < length vs → length (bytes (get_or vs i d)) ≡ w → take place b ≡ take place a → drop place b ≡ bytes (get_or vs i d) ++ drop w (drop place a) → Begins (place + w) (flat_map bytes (take (i + 1) vs)) first b
 grow-next bytes vs i d {place} {w} {first} {a} {b} h inside size before after =
     let more : flat_map bytes (take (i + 1) vs) ≡ flat_map bytes (take i vs) ++ bytes (get_or vs i d) =
@@ -140,7 +140,7 @@ grow-next bytes vs i d {place} {w} {first} {a} {b} h inside size before after =
     ∙ ap (λ l. flat_map bytes (take i vs) ++ l) (append-nil (bytes (get_or vs i d))) in
     subst (λ l. Begins (place + w) l first b) (sym more) (grow (bytes (get_or vs i d)) h size before after)
 
--- bytes that were written from a place on: those before it stay, and these stand there
+-- bytes that were written from an offset on: those before it are unchanged, and these are there
 pub grown-at : {to place : ℕ} (n : ℕ) (bytes : List ℕ) {first now : List ℕ} → Begins to (take place first ++ bytes) first now → place ≤ length first → to ≡ place + n → (take place now ≡ take place first) × (drop place now ≡ bytes ++ drop n (drop place first))
 grown-at {to} {place} n bytes {first} {now} h room is =
     let len : length (take place first) ≡ place = length-take-le place first room in
@@ -151,17 +151,17 @@ grown-at {to} {place} n bytes {first} {now} h room is =
       ap (drop place) whole ∙ drop_at (take place first) (bytes ++ drop n (drop place first)) place len,
     )
 
--- the number that stands for a signed one is that of its bytes
+-- the number that stands for a signed number is that of its bytes
 complement-again : (m n : ℕ) → n < m → (x : ℤ) → x ≡ (if nat_lt (2 * n) m then pos n else pos n -ℤ pos m) → (if int_lt x (pos 0) then nat_abs (pos m +ℤ x) else nat_abs x) ≡ n
 complement-again m n h x is = grind (arith, ints)
 
--- the same of a signed number: its bytes are those that stand there
+-- the same for a signed number: its bytes are the bytes there
 pub signed-back : (order : Endian) (w place : ℕ) (s : List ℕ) → ((i : ℕ) → Fits w8 (slice_index s i)) → place + w ≤ length s → signed_bytes order w (signed_number order w (drop place s)) ≡ take w (drop place s)
 signed-back order w place s h room =
     ap (number_bytes order w) (complement-again (256 ^ w) (number order w (drop place s)) (number-bound order w place s h) (signed_number order w (drop place s)) refl)
     ∙ number-back order w place s h room
 
--- and those of one more, behind bytes that are written back
+-- and those of one more, after bytes that are written back
 pub signed-grow : (order : Endian) (w place : ℕ) (s front : List ℕ) → ((i : ℕ) → Fits w8 (slice_index s i)) → place + w ≤ length s → front ≡ take place s → front ++ signed_bytes order w (signed_number order w (drop place s)) ≡ take (place + w) s
 signed-grow order w place s front h room is = back-next place w s is (signed-back order w place s h room)
 
@@ -173,7 +173,7 @@ signed-begins order w x rest low high =
     (number-begins order w (if int_lt x (pos 0) then nat_abs (pos (256 ^ w) +ℤ x) else nat_abs x) rest back.0)
     ∙ back.1
 
--- each element of a list of bytes fits a byte, and so does what is read past its end
+-- each element of a list of bytes fits a byte, and so does the default that is read past its end
 byte-fits : (s : List ℕ) → All (λ b. b < 256) s → (i : ℕ) → Fits w8 (slice_index s i)
 byte-fits s h i = elim (cases_lt i (length s)) as (λ _. Fits w8 (slice_index s i)) [
   | inl l ↦ let b = All-get_or (λ x. x < 256) s i 0 l h in record { fits = omega (arith, b) }
