@@ -6,12 +6,12 @@
 # NAME is a folder of clients/; without one, all that have a file src/lib.rt.txt are tried. A client's files are copied
 # without their `.txt`. The library is proved and built in the tree itself, by `rt lib` over what its out/ keeps, and
 # its build is copied, so it isn't proved again for the clients. As many clients are tried in parallel as there are
-# workers (scripts/lib.sh).
+# workers (scripts/workers.py), and they share the jobs.
 #
 # A client passes if it has the layout of `rt fmt`, names no proofs of the library except its lemmas for callers, and
-# `rt check`, `rt check --test` and `rt test` succeed, with at least one test. It is printed with its counts: functions,
-# tests, lines that aren't empty, and seconds. The last line is `N passed, M failed`. The exit status is 0 if M is 0 and
-# N is not.
+# `rt check --test`, which proves its code and its tests, and `rt test` succeed, with at least one test. It is printed with
+# its counts: functions (those of its tests too), tests, lines that aren't empty, and seconds. The last line is
+# `N passed, M failed`. The exit status is 0 if M is 0 and N is not.
 set -u
 
 top=$(CDPATH='' cd -- "$(dirname -- "$0")/.." && pwd) || exit 1
@@ -86,9 +86,8 @@ try_client() {
         fail 'it names a proof of the library that is not for callers'
         return
     fi
-    run check || { fail 'it is not proved'; return; }
+    run check --test --jobs "$jobs" || { fail 'it is not proved, or its tests are not'; return; }
     functions=$(count_of functions)
-    run check --test || { fail 'its tests are not proved'; return; }
     tests=$(count_of tests)
     run test || { fail 'a test fails'; return; }
     if [ "${tests:-0}" -eq 0 ] || ! grep -q "^test result: ok\. $tests passed; 0 failed; 0 ignored" "$said"; then
@@ -114,6 +113,7 @@ echo "clients: the library took $(($(date +%s) - start)) s"
     set -- $(list_clients)
 }
 workers=$(count_workers)
+jobs=$((workers > $# ? workers / $# : 1))
 busy=0
 for client in "$@"; do
     try_client "$client" >"$room/$client.out" 2>&1 &

@@ -37,6 +37,7 @@ from typing import Dict, List, Optional, Set, Tuple
 
 from edit_files import FOLDERS, NAME, Bad, Edit, Function, Texts, edit_paths, read_edit
 from edit_judge import Judge, Said, parse
+from workers import count_workers
 
 TOP = Path(__file__).resolve().parents[1]
 # The number of jobs of a check.
@@ -160,12 +161,9 @@ def prepare(crates: List[Path], room: Path, workers: int) -> Optional[Gate]:
     return gate
 
 
-def count_workers() -> int:
+def count_checks() -> int:
     """Returns how many checks run in parallel."""
-    memory = re.search(r"MemAvailable:\s+(\d+)", Path("/proc/meminfo").read_text())
-    by_memory = int(memory[1]) // (3 << 20) if memory else 1
-    jobs = int(os.environ.get("WORKERS", 0)) or min(len(os.sched_getaffinity(0)), by_memory)
-    return max(1, jobs // JOBS)
+    return max(1, count_workers() // JOBS)
 
 
 def processor_seconds() -> float:
@@ -181,10 +179,10 @@ def main() -> int:
     if given.self_test:
         from edits_test import self_test
 
-        return self_test(count_workers())
+        return self_test(count_checks())
     names = given.names or sorted(it.parent.name for it in TOP.glob("crates/*/must-fail"))
     crates = [TOP / "crates" / it for it in sorted({it.partition("/")[0] for it in names})]
-    workers = count_workers()
+    workers = count_checks()
     start = time.time()
     failures: List[str] = []
     edits = [it for crate in crates for it in read_edits(crate, failures) if {it.crate, f"{it.crate}/{it.name}"} & {*names}]
