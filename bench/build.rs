@@ -1,4 +1,4 @@
-// Links the loops over the proved library, and passes on by how many bytes the code is shifted.
+// Links the loops over the proved library, and passes on the number of bytes by which the code is shifted.
 use std::env;
 
 fn main() {

@@ -24,7 +24,7 @@ def line(x1, y1, x2, y2, stroke, width=1.0, dash=""):
 
 
 def panel(height, title, parts):
-    """A white panel, readable on a dark page too."""
+    """Returns a white panel, which is readable on a dark page too."""
     return (
         f"<svg xmlns='http://www.w3.org/2000/svg' viewBox='0 0 {WIDTH} {height:.0f}' width='{WIDTH}' height='{height:.0f}' role='img' {FONT}>\n"
         f"<title>{escape(title)}</title>\n"
@@ -39,13 +39,13 @@ def colour(ratio):
 
 
 def place(ratio):
-    """Where a ratio stands in a plot, by its logarithm."""
+    """Returns the position of a ratio in a plot, by its logarithm."""
     ratio = min(max(ratio, LEAST), MOST)
     return PLOT * math.log(ratio / LEAST) / math.log(MOST / LEAST)
 
 
 def draw_row(x, y, row):
-    """A row's label, the ratios that its layouts give as a thin line, their mean as a dot, and its number."""
+    """Draws a row: its label, the ratios of its layouts as a thin line, their mean as a dot, and its number."""
     left, middle = x + LABEL, y - 3.5
     fill = colour(row.ratio)
     return [
@@ -75,7 +75,7 @@ def draw_axis(x, y):
 
 
 def ratios(rows):
-    """The chart of all ratios but those of growth, in two columns."""
+    """Returns the chart of all ratios except those of growth, in two columns."""
     groups = [(title, [row for row in rows if row.set == name]) for name, title in TITLES.items() if name != "growth"]
     groups = [(title, members) for title, members in groups if members]
     total = sum(HEAD + LINE * len(members) + 2 for _, members in groups)
@@ -101,7 +101,7 @@ SIZES = {1024 * 4**k: name for k, name in enumerate(("1 KiB", "", "16", "", "256
 
 
 def series(rows):
-    """The rows of growth by what they do: a list of a size, our time and Rust's."""
+    """Returns the rows of growth by what they do: a list of sizes, each with our time and Rust's."""
     found = {}
     for row in rows:
         if row.set == "growth":
@@ -111,7 +111,7 @@ def series(rows):
 
 
 def nice(top):
-    """The least of 1, 2, 5, 10 .. that is not below a number."""
+    """Returns the least of 1, 2, 5, 10 .. that isn't below a number."""
     power = 10 ** math.floor(math.log10(top))
     return next(power * step for step in (1, 2, 5, 10) if power * step >= top)
 
@@ -135,7 +135,7 @@ def draw_growth(x, y, name, points):
 
 
 def growth(rows):
-    """The chart of growth: a plot for each loop."""
+    """Returns the chart of growth: a plot for each loop."""
     parts = [
         text(16, 26, "Time of a byte, as the data grows from 1 KiB to 64 MiB", 15, INK, weight="bold"),
         line(500, 21, 528, 21, OURS, 2), text(534, 25, "the proved library", 10.5, INK),

@@ -1,9 +1,9 @@
-"""Makes the table and the charts of what the programs of bench/run.sh printed.
+"""Makes the table and the charts from the output of the programs of bench/run.sh.
 
     python3 draw.py RAW [FOLDER]
 
-It prints the table. With a FOLDER it writes speed.csv, speed.svg, growth.svg there, and the table between the marks of
-SPEED.md. It needs no library.
+It prints the table. With a FOLDER it writes speed.csv, speed.svg and growth.svg there, and the table between the marks
+of SPEED.md. It needs no library.
 """
 
 import datetime
@@ -19,7 +19,7 @@ BEGIN, END = "<!-- table: begin -->", "<!-- table: end -->"
 
 
 def said_by(*command):
-    """The first line that a command prints."""
+    """Returns the first line that a command prints."""
     try:
         return subprocess.run(command, capture_output=True, text=True).stdout.splitlines()[0].strip()
     except (OSError, IndexError):
@@ -45,7 +45,7 @@ def seen(number):
 
 
 def table(rows):
-    """The table in Markdown, a part for each set."""
+    """Returns the table in Markdown, a part for each set."""
     lines = [machine()]
     both, near = results.steady(rows)
     if both:

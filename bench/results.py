@@ -1,4 +1,4 @@
-"""What the programs of bench/run.sh printed, as rows: a row has the times of both sides in four layouts."""
+"""The output of the programs of bench/run.sh as rows: a row has the times of both sides in four layouts."""
 
 import csv
 import fnmatch
@@ -28,7 +28,7 @@ def mean(numbers):
 
 
 class Row:
-    """One row: for each side the best time of its forms in each layout, in nanoseconds a step."""
+    """One row: for each side the best time of its forms in each layout, in nanoseconds per step."""
 
     def __init__(self, name_of_set, name, times):
         self.set, self.name = name_of_set, name
@@ -44,7 +44,7 @@ class Row:
 
 
 def read_raw(path):
-    """The rows of a file with lines `shift,set,row,side,form,count,nanoseconds`, of which the least of each loop counts."""
+    """Returns the rows of a file with lines `shift,set,row,side,form,count,nanoseconds`; the least time of each loop counts."""
     times = {}
     with open(path, newline="") as file:
         for shift, name_of_set, name, side, form, _count, nanoseconds in csv.reader(file):
@@ -74,7 +74,7 @@ def write_csv(path, rows):
 
 
 def take_ratios_before(path, rows):
-    """Takes each row's ratio in the run before, where its table is there."""
+    """Takes each row's ratio in the previous run, if its table exists."""
     if not os.path.exists(path):
         return
     with open(path, newline="") as file:
@@ -84,7 +84,7 @@ def take_ratios_before(path, rows):
 
 
 def steady(rows):
-    """How many rows have a ratio before, and how many of these differ from it by less than a tenth."""
+    """Returns how many rows have a previous ratio, and how many of these differ from it by less than a tenth."""
     both = [row for row in rows if row.before]
     return len(both), sum(abs(row.ratio / row.before - 1) < 0.1 for row in both)
 
@@ -92,7 +92,7 @@ def steady(rows):
 def take_reasons(path, rows):
     """Gives each row that is over 1.00 the mark of its reason: the first line `MARK SET ROW..` that fits it.
 
-    A row of at most 1.05 that no line fits is marked `=`: as fast, as far as such a measurement tells.
+    A row of at most 1.05 that no line fits is marked `=`: as fast, as far as such a measurement shows.
     """
     reasons = []
     with open(path) as file:

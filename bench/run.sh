@@ -1,22 +1,22 @@
 #!/bin/sh
-# Times loops over the proved library beside the same loops in Rust: over the crate `scroll`, std's `CStr`, and a loop in
-# gimli's form for writes of LEB128.
+# Times loops over the proved library against the same loops in Rust: over the crate `scroll`, std's `CStr`, and a loop
+# in gimli's form for writes of LEB128.
 #
 #     sh bench/run.sh [SET..]
 #
-# It proves the library where that is not done yet, and the loops (bench/sets), builds them as a static library, links that with the
-# loops in Rust (bench/src) four times, with all code shifted by 0, 16, 32 and 48 bytes, and runs each program twice. With no SET
-# it takes all sets, and writes docs/speed.csv, docs/speed.svg, docs/growth.svg and the table of docs/SPEED.md. With
-# names of sets it takes these, and writes nothing into the repository: it prints the table.
+# It proves the library where necessary, and the loops (bench/sets), builds them as a static library, links that with
+# the loops in Rust (bench/src) four times, with all code shifted by 0, 16, 32 and 48 bytes, and runs each program
+# twice. Without a SET it runs all sets, and writes docs/speed.csv, docs/speed.svg, docs/growth.svg and the table of
+# docs/SPEED.md. With names of sets it runs these, prints the table, and writes nothing into the repository.
 #
 # It needs cargo, rt, a C compiler and Python 3. Variables:
 #
-#     SCROLL=FOLDER   the source of Rust's crate `scroll` 0.13.0, in place of the one in cargo's registry
-#     ROUNDS=N        how often a program runs each loop, of which the best time counts (200)
-#     ROOM=FOLDER     a folder that keeps what was built, for the next run
-#     JOBS=N          the jobs of each check, in place of rt's own choice
+#     SCROLL=FOLDER   the source of the Rust crate `scroll` 0.13.0, instead of the one in cargo's registry
+#     ROUNDS=N        how often a program runs each loop; the best time counts (200)
+#     ROOM=FOLDER     a folder that keeps the build for the next run
+#     JOBS=N          the jobs of each check, instead of rt's own choice
 #
-# The exit status is 0 where all was built and both sides agree on every sum and every byte that they write.
+# The exit status is 0 if everything was built and both sides agree on every sum and on every byte that they write.
 set -u
 export PYTHONDONTWRITEBYTECODE=1
 
@@ -38,7 +38,7 @@ need rt "the library and the loops over it are proved and built by the Rattle ki
 need cc "the files that the set files reads are made by a C compiler"
 need python3 "the table and the charts are made by a script in Python"
 
-# Floats come into the sets as soon as the library has them.
+# The sets include floats as soon as the library has them.
 has_floats() {
     grep -rqw f32 "$top/crates/scroll/src/ctx"
 }
@@ -63,7 +63,7 @@ else
     trap 'exit 1' HUP INT TERM
 fi
 
-# Runs a command, and shows the end of what it says where it fails.
+# Runs a command, and shows the end of its output if it fails.
 quietly() {
     "$@" >"$room/said" 2>&1 || {
         grep -v ': proved' "$room/said" | tail -n 20 | cut -c 1-200 >&2
@@ -71,7 +71,7 @@ quietly() {
     }
 }
 
-# The library, proved and built in the tree itself, and the loops over it as a static library in a workspace of their own.
+# Proves and builds the library in the tree itself, and the loops over it as a static library in a separate workspace.
 build_loops() {
     echo "bench: the library is proved and built" >&2
     cd "$top/crates/scroll" || exit 1
@@ -99,7 +99,7 @@ build_loops() {
     quietly rt lib
 }
 
-# The program with both sides, once for each layout.
+# Builds the program with both sides, once for each layout.
 build_programs() {
     echo "bench: cargo builds the loops in Rust, in four layouts" >&2
     side=$room/side
@@ -122,12 +122,12 @@ build_programs() {
     ! cmp -s side_0 side_16 || fail 'the code is not shifted'
 }
 
-# An object file with debugging information, for the set `files`.
+# Makes an object file with debugging information, for the set `files`.
 make_sample() {
     cd "$room" || exit 1
     cp "$here/sample.c" "$here/sample.h" "$room/" || exit 1
     flags='-g -gdwarf-5 -O2 -ffunction-sections -c sample.c -o sample.o'
-    # (gcc writes views between the lists of locations, where it is not told otherwise)
+    # (gcc writes views between the lists of locations by default)
     # shellcheck disable=SC2086 # words
     cc -gno-variable-location-views $flags 2>"$room/said" || quietly cc $flags
 }
@@ -136,7 +136,7 @@ build_loops
 build_programs
 make_sample
 
-# Twice in turn, so that no layout has a quieter time than the others.
+# Twice in turn, so that no layout runs at a quieter time than the others.
 raw=$room/raw.csv
 : >"$raw"
 status=0

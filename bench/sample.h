@@ -1,4 +1,4 @@
-/* Functions over items of the type ITEM, whose names end in the word NAMED adds. sample.c takes them once for each type. */
+/* Functions over items of the type ITEM, whose names end in the word that NAMED adds. sample.c includes them for each type. */
 
 struct NAMED(list) {
     ITEM *items;

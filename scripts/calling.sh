@@ -1,13 +1,15 @@
 #!/bin/sh
-# Compares the code and the proofs that crates/scroll/CALLING.md shows with the files that stand there, or in clients/,
-# which the gate compiles and proves, so that the two can't part:
+# Compares the code and the proofs in crates/scroll/CALLING.md and README.md with the files that they come from, in the
+# library or in clients/, which the gate compiles and proves, so that the two can't diverge:
 #
 #     scripts/calling.sh
 #
-# Above each block of Rust or of antt stands a line that begins with the file's name, as "From `src/examples/chunk.rt`" or
-# "From `clients/object_files/src/sections.rt.txt`". The parts of the block, parted by empty lines, stand in that file in
-# the same order; in a file of src/ with `crate::` in place of `scroll::`. The last line is `N passed, M failed`, which
-# counts blocks. The exit status is 0 where M is 0 and N is not.
+# Above each block of Rust or of antt is a line that begins with the file's name, such as "From `src/examples/chunk.rt`"
+# or "From `clients/object_files/src/sections.rt.txt`". The parts of the block, separated by empty lines, are in that
+# file in the same order; in a file of src/ with `crate::` in place of `scroll::`. In README.md only the blocks below such a
+# line are compared, such as "From `crates/scroll/src/pread.rt`", and lines may be broken in another way; its first example
+# is run by scripts/depending.sh. The last line is `N passed, M failed`, which counts blocks. The exit status is 0 if M is 0
+# and N is not.
 set -u
 
 top=$(CDPATH='' cd -- "$(dirname -- "$0")/.." && pwd) || exit 1
@@ -16,28 +18,42 @@ cd "$top/crates/scroll" || exit 1
 awk '
 function load(name,    line, is_client) {
     is_client = name ~ /^clients\//
-    if (is_client) name = "../../" name
+    if (name ~ /^(clients|crates)\//) name = "../../" name
     text = "\n"
     while ((getline line < name) > 0) {
         if (!is_client) sub(/^use crate::/, "use scroll::", line)
         text = text line "\n"
     }
     close(name)
+    if (is_readme) text = "\n" on_one_line(text)
 }
 
-# Looks for a part of a block behind those before it.
+function on_one_line(it) {
+    gsub(/[ \n]+/, " ", it)
+    sub(/^ /, "", it)
+    sub(/ $/, "", it)
+    return it
+}
+
+# Looks for a part of a block after those before it.
 function look(part,    at) {
     if (part == "" || part == "#![tactic(auto)]\n") return
-    at = index(substr(text, place), "\n" part)
+    at = is_readme ? index(substr(text, place), on_one_line(part)) : index(substr(text, place), "\n" part)
     if (at == 0) {
-        if (!wrong) print "CALLING.md: this is not in " file ", or not in this order:\n" part
+        if (!wrong) print document ": this is not in " file ", or not in this order:\n" part
         wrong = 1
         return
     }
     place += at + length(part) - 1
 }
 
-!code && /^From `(src|proofs|clients)\// {
+FNR == 1 {
+    document = FILENAME
+    sub(/.*\//, "", document)
+    is_readme = document == "README.md"
+    file = ""
+}
+!code && /^From `(src|proofs|clients|crates)\// {
     split($0, words, "`")
     file = words[2]
 }
@@ -48,7 +64,7 @@ function look(part,    at) {
     file = ""
     next
 }
-/^```(rust|antt)/ {
+/^```(rust|antt)/ && !(is_readme && file == "") {
     code = 1
     blocks += 1
     wrong = 0
@@ -56,7 +72,7 @@ function look(part,    at) {
     place = 1
     text = ""
     if (file == "") {
-        print "CALLING.md:" FNR ": no line names the file of this block"
+        print document ":" FNR ": no line names the file of this block"
         wrong = 1
     } else load(file)
     next
@@ -68,8 +84,8 @@ code && $0 == "" {
 }
 code { part = part $0 "\n" }
 END {
-    print "calling: " blocks + 0 " blocks of CALLING.md were compared"
+    print "calling: " blocks + 0 " blocks of CALLING.md and README.md were compared"
     print blocks - bad " passed, " bad + 0 " failed"
     exit (bad > 0 || blocks == 0)
 }
-' CALLING.md
+' CALLING.md ../../README.md

@@ -1,22 +1,24 @@
 #!/usr/bin/env python3
-"""Looks up the names that the documents cite in the sources, so that none of them is gone.
+"""Looks up the names that the documents cite in the sources, and follows their links, so that none is out of date.
 
     python3 scripts/cited.py
 
-A name is what stands between backticks and is a word, or words joined by `::`, such as `Pread::gread_with`; in the tables of
-LAWS.md and PROVED.md also a lemma, such as `ReadsAll-push`. Each of its words stands in the code of a crate or a client, with
-no comments, or is the name of an edit, a session, a script or a document; or it is one of the words below, of Rust or of a
-tool. The last line is `N passed, M failed`, which counts documents. The exit status is 0 where M is 0 and N is not.
+A name is a word between backticks, or words joined by `::`, such as `Pread::gread_with`; in the tables of LAWS.md and
+PROVED.md it may also be a lemma, such as `ReadsAll-push`. Each of its words must be in the code of a crate or a client,
+outside of comments, or be the name of an edit, a session, a script or a document, or one of the words below, of Rust or
+of a tool. CHANGELOG.md may name what no longer exists. A link to a file of the repository must lead to one, and its part
+after `#` to a heading there. The last line is `N passed, M failed`, which counts documents. The exit status is 0 if M is
+0 and N is not.
 """
 
 import re
 import sys
 from pathlib import Path
-from typing import Set
+from typing import List, Set, Tuple
 
 TOP = Path(__file__).resolve().parents[1]
 
-# Names of Rust, of its crates and of processors, and words of docs/SESSIONS.md that stand for others.
+# Names of Rust, of its crates and of processors, and placeholders in docs/SESSIONS.md.
 FOREIGN = set("""
 I Self::Units array::try_from_fn cause collect core::mem core::result f64 memchr scroll_derive x86-64-v2
 HEX HH ORD SESSION law_7
@@ -26,15 +28,34 @@ SPAN = re.compile(r"(?<!`)`([^`\n]+)`(?!`)")
 CITED = re.compile(r"(?:r#)?[A-Za-z_][\w-]*(?:::(?:[A-Za-z_]\w*|\*))*")
 WORD = re.compile(r"[^\W\d][\w-]*")
 FENCE = re.compile(r"^```.*?^```$", re.M | re.S)
+LINK = re.compile(r"\]\(([^()\s]+)\)")
+HEADING = re.compile(r"^#+ +(.*?) *$", re.M)
+HISTORY = TOP / "CHANGELOG.md"
 
 
-def documents() -> "list[Path]":
-    found = [TOP / "README.md", TOP / "CONTRIBUTING.md", *TOP.glob("docs/*.md"), *TOP.glob("clients/*.md")]
-    return sorted([*found, *TOP.glob("crates/*/CALLING.md"), *TOP.glob("crates/*/must-fail/README.md")])
+def documents() -> List[Path]:
+    folders = ("docs", "clients", "sessions", "crates/*", "crates/*/must-fail")
+    return sorted([*TOP.glob("*.md"), *(path for folder in folders for path in TOP.glob(f"{folder}/*.md"))])
+
+
+def read_prose(path: Path) -> str:
+    """The text of a document, with an empty line for each line of its code blocks."""
+    return FENCE.sub(lambda it: "\n" * it[0].count("\n"), path.read_text(encoding="utf-8"))
+
+
+def anchors(path: Path) -> Set[str]:
+    """What a link may have after `#`: a heading in lower case, with no punctuation, and with `-` for a space."""
+    return {re.sub(r"[^\w -]", "", it).lower().replace(" ", "-") for it in HEADING.findall(read_prose(path))}
+
+
+def leads_nowhere(link: str, document: Path) -> bool:
+    name, _, anchor = link.partition("#")
+    target = document.parent / name if name else document
+    return not target.exists() or (anchor != "" and anchor not in anchors(target))
 
 
 def words_of_sources() -> Set[str]:
-    """The words of the code, and the names of files and folders. A word with a `-` or a `◌` counts by its parts too."""
+    """Returns the words of the code, and the names of files and folders. The parts of a word with a `-` or a `◌` count too."""
     words: Set[str] = set()
     for path in TOP.rglob("*"):
         parts = path.relative_to(TOP).parts
@@ -57,22 +78,33 @@ def is_known(word: str, known: Set[str]) -> bool:
     return (word[0] == "_" and any(it.endswith(word) for it in known)) or (word[-1] == "_" and any(it.startswith(word) for it in known))
 
 
+def faults(document: Path, known: Set[str]) -> Tuple[int, List[str]]:
+    """How many names and links a document has, and the lines that say which of them are gone."""
+    count = 0
+    gone = []
+    for number, line in enumerate(read_prose(document).split("\n"), 1):
+        place = f"{document.relative_to(TOP)}:{number}"
+        names = [] if document == HISTORY else [it for it in SPAN.findall(line) if CITED.fullmatch(it)]
+        links = [it for it in LINK.findall(line) if "://" not in it]
+        count += len(names) + len(links)
+        gone += [
+            f"{place}: `{it}` is not in the sources"
+            for it in names
+            if it not in known and not all(is_known(part, known) for part in it.split("::"))
+        ]
+        gone += [f"{place}: the link to {it} leads nowhere" for it in links if leads_nowhere(it, document)]
+    return count, gone
+
+
 def main() -> int:
     known = words_of_sources() | FOREIGN
     passed = failed = names = 0
-    for path in documents():
-        text = FENCE.sub(lambda it: "\n" * it[0].count("\n"), path.read_text(encoding="utf-8"))
-        gone = []
-        for number, line in enumerate(text.split("\n"), 1):
-            for span in SPAN.findall(line):
-                if CITED.fullmatch(span):
-                    names += 1
-                    if span not in known and not all(is_known(it, known) for it in span.split("::")):
-                        gone.append(f"{path.relative_to(TOP)}:{number}: `{span}` is not in the sources")
+    for document in documents():
+        count, gone = faults(document, known)
         for it in gone:
             print(f"FAILED {it}")
-        passed, failed = passed + (not gone), failed + bool(gone)
-    print(f"cited: {names} names were looked up")
+        names, passed, failed = names + count, passed + (not gone), failed + bool(gone)
+    print(f"cited: {names} names and links were looked up")
     print(f"{passed} passed, {failed} failed")
     return 0 if passed and not failed else 1
 

@@ -1,16 +1,17 @@
 #!/bin/sh
-# Proves and tests the clients of the library, each as a crate of its own in a temporary folder.
+# Proves and tests the clients of the library, each as a separate crate in a temporary folder.
 #
 #     sh scripts/clients.sh [NAME..]
 #
-# NAME names a folder of clients/: all that have a file src/lib.rt.txt, where none is named. A client's files are copied
+# NAME is a folder of clients/; without one, all that have a file src/lib.rt.txt are tried. A client's files are copied
 # without their `.txt`. The library is proved and built in the tree itself, by `rt lib` over what its out/ keeps, and
-# copied as built: so it is not proved again for the clients. As many clients as there are workers (scripts/lib.sh) are tried
-# side by side.
+# its build is copied, so it isn't proved again for the clients. As many clients are tried in parallel as there are
+# workers (scripts/workers.py), and they share the jobs.
 #
-# A client passes where it stands in the layout of `rt fmt`, names no proof of the library but its lemmas for callers, and `rt check`,
-# `rt check --test` and `rt test` end well, with one test at least. It is printed with its counts: functions, tests, lines
-# that are not empty, and seconds. The last line is `N passed, M failed`. The exit status is 0 where M is 0 and N is not.
+# A client passes if it has the layout of `rt fmt`, names no proofs of the library except its lemmas for callers, and
+# `rt check --test`, which proves its code and its tests, and `rt test` succeed, with at least one test. It is printed with
+# its counts: functions (those of its tests too), tests, lines that aren't empty, and seconds. The last line is
+# `N passed, M failed`. The exit status is 0 if M is 0 and N is not.
 set -u
 
 top=$(CDPATH='' cd -- "$(dirname -- "$0")/.." && pwd) || exit 1
@@ -19,19 +20,19 @@ top=$(CDPATH='' cd -- "$(dirname -- "$0")/.." && pwd) || exit 1
 
 room=$(mktemp -d) || exit 1
 running=
-# (rt ends what it started once it is ended itself)
+# (rt ends what it started when it is ended)
 trap '[ -z "$running" ] || kill $running 2>/dev/null; wait; rm -rf "$room"' EXIT
 trap 'exit 1' HUP INT TERM
 
-# The folders of clients/ that hold a client.
+# Lists the folders of clients/ that hold a client.
 list_clients() {
     for file in "$top"/clients/*/src/lib.rt.txt; do
         [ ! -f "$file" ] || basename "${file%/src/lib.rt.txt}"
     done
 }
 
-# A workspace with the library, as it was built, and with the client. A file of the client that is no part of a crate is
-# said to be, and fails it.
+# Makes a workspace with the library's build and the client. A file of the client that isn't part of a crate is
+# reported, and fails it.
 make_workspace() {
     mkdir -p "$tree/crates" || return
     { cp "$top/HANDLES" "$tree/" && grep '^scroll:' "$top/crates.txt"; } >"$tree/crates.txt" || return
@@ -54,19 +55,19 @@ run() {
     (cd "$crate" && exec rt "$@") >"$said" 2>&1
 }
 
-# The number behind a word of the last check's last line.
+# Prints the number after a word in the last line of the last check.
 count_of() {
     sed -n "s/^logic=proved.* $1=\([0-9]*\).*/\1/p" "$said"
 }
 
-# How many lines of a folder's files are not empty, of those files that the words of `find` pick.
+# Counts the lines of a folder's files that aren't empty, in the files that the words of `find` select.
 count_lines() {
     folder=$1
     shift
     find "$folder" -type f "$@" -exec cat {} + 2>/dev/null | grep -c .
 }
 
-# Says why the client failed, with the end of what was said last.
+# Says why the client failed, with the end of the last output.
 fail() {
     echo "FAILED $name: $1"
     grep -v ': proved' "$said" | tail -n 20 | cut -c 1-200 | sed 's/^/    /'
@@ -85,9 +86,8 @@ try_client() {
         fail 'it names a proof of the library that is not for callers'
         return
     fi
-    run check || { fail 'it is not proved'; return; }
+    run check --test --jobs "$jobs" || { fail 'it is not proved, or its tests are not'; return; }
     functions=$(count_of functions)
-    run check --test || { fail 'its tests are not proved'; return; }
     tests=$(count_of tests)
     run test || { fail 'a test fails'; return; }
     if [ "${tests:-0}" -eq 0 ] || ! grep -q "^test result: ok\. $tests passed; 0 failed; 0 ignored" "$said"; then
@@ -113,6 +113,7 @@ echo "clients: the library took $(($(date +%s) - start)) s"
     set -- $(list_clients)
 }
 workers=$(count_workers)
+jobs=$((workers > $# ? workers / $# : 1))
 busy=0
 for client in "$@"; do
     try_client "$client" >"$room/$client.out" 2>&1 &

@@ -1,17 +1,17 @@
 #!/bin/sh
-# Runs stored sessions with their buffer cut: to no byte, to one byte, and so on, up to one byte less than it has.
+# Runs stored sessions with their buffer cut short: to no byte, to one byte, and so on, up to one byte less than it has.
 #
 #     sh scripts/cuts.sh [PROGRAM]
 #
-# A session sessions/SUBJECT/NAME.in is run so where NAME.cuts is there. That file has what each cut is answered, one
-# after the other, each below a line `cut to N`. Each run must end with status 0 and print a line for each
-# command and then two more, and all of them together must be that file, byte for byte.
+# A session sessions/SUBJECT/NAME.in is run if NAME.cuts exists. That file has the output for each cut, one after
+# another, each after a line `cut to N`. Each run must end with status 0 and print a line for each command and then two
+# more, and the outputs together must be that file, byte for byte.
 #
 # PROGRAM is a path, or a name that the shell finds. Without it the program is crates/scroll_run/out/scroll_run, as
 # `rt run` or `rt ci` left it.
 #
-# The last line is `N passed, M failed`, with a session's cuts counted as one. The exit status is 0 where M is 0 and N is
-# not.
+# The last line is `N passed, M failed`, where all cuts of a session count as one. The exit status is 0 if M is 0 and N
+# is not.
 set -u
 
 top=$(CDPATH='' cd -- "$(dirname -- "$0")/.." && pwd) || exit 1
@@ -37,8 +37,8 @@ fail() {
     echo "FAILED $name: $1"
 }
 
-# Runs the program on the session with each cut of its buffer, and collects what it prints. Ends with a status that is
-# not 0 at the first run that does so.
+# Runs the program on the session with each cut of its buffer, and collects its output. Ends with the first status that
+# isn't 0.
 run_cuts() {
     : >"$room/out"
     length=0
@@ -52,7 +52,7 @@ run_cuts() {
     runs=$((runs + length))
 }
 
-# Reads the session: the digits of its buffer, and the lines below.
+# Reads the session: the digits of its buffer, and the lines after it.
 read_session() {
     read -r word digits <"$session" || return
     rest=$(tail -n +2 "$session")

@@ -1,15 +1,16 @@
 #!/bin/sh
-# Makes a repository that depends on the library, by README's own lines, and proves and runs README's first example there.
+# Makes a repository that depends on the library, by README's own lines, and proves and runs README's first example in
+# it.
 #
 #     sh scripts/depending.sh
 #
-# The lines are those of README's section "Depending on it": its block of shell commands is run in an empty folder, and its
-# block of text becomes crates.txt. README's first block of Rust becomes a test of the crate `first`: each line with a value
-# behind `//` has to return that value, and each with `Err(..)` there an error.
+# The lines are those of README's section "Depending on it": its block of shell commands is run in an empty folder, and
+# its block of text becomes crates.txt. README's first block of Rust becomes a test of the crate `first`: each line with
+# a value after `//` must return that value, and each line with `Err(..)` there an error.
 #
-# The library is proved in this repository first, by `rt lib` over what its out/ keeps, and is then copied as built too, so
-# that it isn't proved twice; with FROM_NOTHING=1 it is proved in the new repository alone. The last line is
-# `N passed, M failed`, where each step counts. The exit status is 0 where M is 0 and N is not.
+# The library is proved in this repository first, by `rt lib` over what its out/ keeps, and its build is then copied
+# too, so that it isn't proved twice; with FROM_NOTHING=1 it is proved only in the new repository. The last line is
+# `N passed, M failed`, where each step counts. The exit status is 0 if M is 0 and N is not.
 set -u
 
 top=$(CDPATH='' cd -- "$(dirname -- "$0")/.." && pwd) || exit 1
@@ -21,7 +22,7 @@ mkdir "$room/own" || exit 1
 passed=0
 failed=0
 
-# Runs a step, and says what it said where it fails.
+# Runs a step, and shows its output if it fails.
 step() {
     name=$1
     shift
@@ -35,7 +36,7 @@ step() {
     fi
 }
 
-# The first block of a language in README's section on depending, or in all of README where no section is named.
+# Prints the first block of a language in README's section on depending, or in all of README if no section is named.
 block_of() {
     awk -v language="$1" -v section="$2" '
         /^## / { here = section != "" && index($0, section) > 0 }
@@ -58,7 +59,7 @@ list_crates() {
     block_of text 'Depending on it' >"$room/own/crates.txt" && grep -q '^first: scroll$' "$room/own/crates.txt"
 }
 
-# The first example as a test. The imports go before it. A comment is cut off, and what it says is asked.
+# Makes a test of the first example. The imports go before it. Each comment is removed, and what it says is tested.
 write_example() {
     mkdir -p "$room/own/crates/first/src" || return
     block_of rust '' | awk '

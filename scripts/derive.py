@@ -1,4 +1,4 @@
-"""The implementations of a struct's traits, as text. scripts/derive.sh says how it is called."""
+"""Prints the implementations of a struct's traits. scripts/derive.sh says how to call it."""
 
 from __future__ import annotations
 
@@ -11,19 +11,19 @@ from structs import NUMBERS, Array, BadInput, Field, Number, Source, Struct, Typ
 
 TRAITS = ["FromCtx", "TryFromCtx", "IntoCtx", "TryIntoCtx", "SizeWith"]
 
-# A struct of more numbers than these is refused.
+# A struct of more numbers than this is refused.
 MOST_NUMBERS = 64
 
-# The longest line of a clause before its parts stand on lines of their own.
+# The longest line of a clause before its parts are put on separate lines.
 CLAUSE_WIDTH = 110
 
-# The words that antt reserves, and that can be a field's name here.
+# The words that antt reserves and that can be the name of a field here.
 RESERVED = {
     *("data", "record", "module", "package", "open", "unfoldable", "abbrev", "axiom", "unfold", "unfolding", "ruleset"),
     *("mutual", "infix", "infixl", "infixr", "elim", "coe", "fcoe", "tcoe", "hcom", "com"),
 }
 
-# Where the names of the ghost members come from, in the order of the `use` lines.
+# The modules of the names in the ghost members, in the order of the `use` lines.
 GHOST_IMPORTS: list[tuple[str, list[str]]] = [
     ("Rattle.std.specs.Prelude", ["◌≡◌", "◌++◌", "[]", "◌∷◌", "take", "drop", "slice_index", "slice_index_or", "pos", "from_bits"]),
     ("Rattle.std.specs.Float", ["binary32", "binary64"]),
@@ -34,11 +34,11 @@ GHOST_IMPORTS: list[tuple[str, list[str]]] = [
 ]
 
 
-# --- The words of the ghost members ---
+# --- The text of the ghost members ---
 
 
 def value_at(type: Type, source: str, place: int) -> str:
-    """The value of a type at a place of a source."""
+    """Returns the value of a type at an offset of a source."""
     match type:
         case Number():
             return type.value_at(drop(place, source))
@@ -63,12 +63,12 @@ def elements_at(array: Array, source: str, place: int) -> list[str]:
 
 
 def label(field: Field) -> str:
-    """The name of a field, quoted where antt reserves it."""
+    """Returns the name of a field, quoted if antt reserves it."""
     return f"«{field.name}»" if field.name in RESERVED else field.name
 
 
 def places(struct: Struct) -> list[tuple[int, Field]]:
-    """The fields, each with its place."""
+    """Returns the fields, each with its offset."""
     place = 0
     found = []
     for field in struct.fields:
@@ -94,7 +94,7 @@ def default_of(type: Type) -> str:
 
 
 def parts_of(type: Type, code: str, value: str) -> list[Part]:
-    """The numbers of a value, in order."""
+    """Returns the numbers of a value, in order."""
     match type:
         case Number():
             return [Part(code, type.bytes_of(value))]
@@ -109,11 +109,11 @@ def parts_of(type: Type, code: str, value: str) -> list[Part]:
             return [part for field in type.fields for part in parts_of(field.type, f"{code}.{field.name}", f"{value}.{field.name}")]
 
 
-# --- Laying the blocks out ---
+# --- The layout of the blocks ---
 
 
 def record_clause(head: str, struct: Struct, tail: str) -> str:
-    """A clause that holds the struct's value, on one line where that is short."""
+    """Returns a clause that holds the struct's value, on one line if that is short."""
     line = f"{head}{value_at(struct, 's', 0)}{tail}"
     if len(line) <= CLAUSE_WIDTH:
         return line
@@ -125,7 +125,7 @@ def record_lines(struct: Struct, source: str, indent: int) -> list[str]:
 
 
 def field_lines(field: Field, source: str, place: int, indent: int) -> list[str]:
-    """A field of a record, on lines of its own."""
+    """Returns a field of a record, on separate lines."""
     head = f"{' ' * indent}{label(field)} = "
     line = f"{head}{value_at(field.type, source, place)};"
     if len(line) <= CLAUSE_WIDTH:
@@ -144,7 +144,7 @@ def field_lines(field: Field, source: str, place: int, indent: int) -> list[str]
 
 
 def bytes_clause(head: str, first: str, parts: list[Part], tail: str) -> str:
-    """A clause that holds the struct's bytes, likewise."""
+    """Returns a clause that holds the struct's bytes, on one line if that is short."""
     lists = [first + parts[0].bytes, *(part.bytes for part in parts[1:])]
     line = f"{head} {' ++ '.join(lists)}{tail}"
     if len(line) <= CLAUSE_WIDTH:
@@ -153,7 +153,7 @@ def bytes_clause(head: str, first: str, parts: list[Part], tail: str) -> str:
 
 
 def within(head: str, opening: str, items: list[str], end: str, indent: int) -> list[str]:
-    """A call, a tuple or an array, on one line where its items are short."""
+    """Returns a call, a tuple or an array, on one line if its items are short."""
     space = " " * indent
     closes = {"(": ")", "[": "]"}[opening]
     inner = ", ".join(items)
@@ -163,7 +163,7 @@ def within(head: str, opening: str, items: list[str], end: str, indent: int) -> 
 
 
 def read_expression(type: Type, place: int, indent: int) -> str:
-    """The call that reads a field."""
+    """Returns the call that reads a field."""
     if not isinstance(type, Array):
         return f"this.cread_with({place}, ctx)"
     if is_bytes(type):
@@ -229,7 +229,7 @@ def try_from_ctx(source: Source, struct: Struct) -> str:
 
 
 def write_lines(parts: list[Part]) -> list[str]:
-    """Pairs of what is written, each with what stands before it."""
+    """Returns pairs of what is written, each with what comes before it."""
     if len(parts) == 1:
         return [f"        {parts[0].code}.into_ctx(dst, ctx)"]
     lines = []
@@ -301,7 +301,7 @@ WRITERS = {"FromCtx": from_ctx, "TryFromCtx": try_from_ctx, "IntoCtx": into_ctx,
 
 
 def use_lines(blocks: list[str], traits: list[str], crate: str) -> str:
-    """The `use` lines that the blocks need."""
+    """Returns the `use` lines that the blocks need."""
     text = "\n".join(blocks)
     words = set(re.findall(r"[\w]+", text))
     signs = {"◌≡◌": "≡", "◌++◌": "++", "◌∷◌": "∷", "[]": "[]"}

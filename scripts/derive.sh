@@ -4,16 +4,17 @@
 #     sh scripts/derive.sh FILE STRUCT [TRAIT..]
 #     sh scripts/derive.sh --check FILE STRUCT [TRAIT..]
 #
-# (It takes Python 3.10.) FILE is a .rt file (or the .rt.txt of a client), and STRUCT a struct in it, with named fields or
-# with a tuple's. TRAIT is FromCtx, TryFromCtx, IntoCtx, TryIntoCtx or SizeWith: all five where none is named. A field is a
-# number, an array of numbers or of arrays whose length is a literal or a constant of FILE, or a struct of FILE for which
-# the same was printed. The fields stand one after the other, in the order of the struct, with nothing between them.
+# (It needs Python 3.10.) FILE is a .rt file (or the .rt.txt of a client), and STRUCT a struct in it, with named fields
+# or with a tuple's. TRAIT is FromCtx, TryFromCtx, IntoCtx, TryIntoCtx or SizeWith; without one, all five are printed. A
+# field is a number, an array of numbers or of arrays whose length is a literal or a constant of FILE, or a struct of
+# FILE for which the same was printed. The fields follow one another in the order of the struct, with nothing between
+# them.
 #
-# The first lines printed are the `use` lines that the rest needs; then come the blocks, laid out as `rt fmt` does. As
-# far as was tried they are proved with no proof file: up to 20 fields read, of which 5 were signed, and up to 14 numbers
-# written. With --check nothing is printed where each block stands in FILE as it would be printed.
+# The first lines printed are the `use` lines that the rest needs, followed by the blocks in the layout of `rt fmt`.
+# They were tried without a proof file, and are proved, for reads of up to 20 fields, 5 of them signed, and for writes
+# of up to 14 numbers. With --check nothing is printed if each block is in FILE as it would be printed.
 #
-# The exit status is 0, or 1 where --check finds a block that differs, or 2 with one line on standard error where FILE or
+# The exit status is 0, or 1 if --check finds a block that differs, or 2 with one line on standard error if FILE or
 # STRUCT can't be read or has a field that is none of these.
 set -u
 

@@ -1,11 +1,11 @@
 #!/bin/sh
-# Compares the implementations that scripts/derive.sh prints with those that stand in the files below, which the gate
-# proves, and tries what it has to refuse:
+# Compares the implementations that scripts/derive.sh prints with those in the files below, which the gate proves, and
+# tries input that it has to refuse:
 #
 #     sh scripts/derive_check.sh
 #
-# A refusal is one line on standard error, nothing on standard output, and status 2. The last line is `N passed, M failed`.
-# The exit status is 0 where M is 0.
+# A refusal is one line on standard error, nothing on standard output, and status 2. The last line is
+# `N passed, M failed`. The exit status is 0 if M is 0.
 set -u
 
 top=$(CDPATH='' cd -- "$(dirname -- "$0")/.." && pwd) || exit 1
@@ -26,7 +26,7 @@ count() {
     fi
 }
 
-# Whether each file has the implementations for a struct: FILE STRUCT [TRAIT..]
+# Tests whether each file has the implementations for a struct: FILE STRUCT [TRAIT..]
 while read -r line; do
     # shellcheck disable=SC2086 # words
     sh scripts/derive.sh --check $line
@@ -45,7 +45,7 @@ clients/object_files/src/header.rt.txt RawHeader FromCtx
 clients/object_files/src/sections.rt.txt Section FromCtx TryFromCtx
 END
 
-# Whether a call is refused with one line that ends in these words.
+# Tests whether a call is refused with one line that ends in these words.
 refuses() {
     words=$1
     shift

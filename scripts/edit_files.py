@@ -8,8 +8,8 @@ The folders `must-fail/` and `bugs/` of a crate hold a file BUG.edit for each bu
     bug: a write at the end of the slice is past the end
     breaks: `Pwrite::pwrite_with`, `wrote`
 
-`rt` reads the first three words, and passes over the last two. The text after `old:` stands exactly once in its file. More
-pairs of `old:` and `new:` may follow, and a further `file:` before them.
+`rt` reads the first three words, and ignores the last two. The text after `old:` occurs exactly once in its file. More
+pairs of `old:` and `new:` may follow, and another `file:` before them.
 """
 
 import re
@@ -78,13 +78,13 @@ def read_edit(path: Path) -> Edit:
 
 
 def edit_paths(crate: Path) -> List[Path]:
-    """The files of a crate's two folders, sorted by name; the tables are no edits."""
+    """Returns the files of a crate's two folders, sorted by name; the tables aren't edits."""
     found = [path for folder in FOLDERS for path in sorted((crate / folder).glob("**/*")) if path.is_file()]
     return [path for path in found if path.suffix != ".md"]
 
 
 class Texts:
-    """The files of a crate's src/, as they stand and after some edits. Each `old:` text is looked for in the file as it stands."""
+    """The files of a crate's src/, unchanged and after some edits. Each `old:` text is searched for in the unchanged file."""
 
     def __init__(self, crate: Path) -> None:
         self.crate = crate
@@ -98,7 +98,7 @@ class Texts:
         return self.before[file]
 
     def places(self, edit: Edit) -> List[Tuple[int, Pair]]:
-        """Where each pair of the edit changes its file as it stands. As for `rt`, a pair's `old:` text is looked for after the pairs before it."""
+        """Returns where each pair of the edit changes the unchanged file. As for `rt`, an `old:` text is searched for after the pairs before it."""
         texts: Dict[str, str] = {}
         found: List[Tuple[int, Pair]] = []
         for pair in edit.pairs:
@@ -112,11 +112,11 @@ class Texts:
         return found
 
     def functions(self, edit: Edit) -> Set[Function]:
-        """The functions that the edit changes, by their lines as the files stand."""
+        """Returns the functions that the edit changes, by their lines in the unchanged files."""
         return {function_at(it.file, self.load(it.file), place) for place, it in self.places(edit)}
 
     def after(self, edits: Iterable[Edit]) -> Tuple[Dict[str, str], Dict[str, Set[Function]]]:
-        """The texts of the files that the edits change, and the functions that each edit changes, by their lines in these texts."""
+        """Returns the files' texts after the edits, and the functions that each edit changes, by their lines in these texts."""
         changes = sorted((it.file, place, it, edit.name) for edit in edits for place, it in self.places(edit))
         texts: Dict[str, str] = {}
         places: List[Tuple[str, str, int]] = []
@@ -138,7 +138,7 @@ class Texts:
 
 
 def function_at(file: str, text: str, place: int) -> Function:
-    """The function around a place of a file's text, with its attributes."""
+    """Returns the function around a place in a file's text, with its attributes."""
     line = text.count("\n", 0, place) + 1
     for head in reversed(list(HEAD.finditer(text, 0, text.find("\n", place)))):
         end = re.compile(f"^{head[1]}}}", re.M).search(text, head.end())

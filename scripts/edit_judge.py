@@ -1,4 +1,4 @@
-"""Judges edits by what a check says of a copy of a crate in which they stand. scripts/edits.py says how."""
+"""Judges edits by what a check says of a copy of a crate with the edits in it. scripts/edits.py says how."""
 
 import re
 from dataclasses import dataclass, field
@@ -7,13 +7,13 @@ from typing import Dict, List, NamedTuple, Set, Tuple
 
 from edit_files import Edit, Function, Texts, function_at
 
-# How many edits a check may try.
+# The maximum number of edits in a check.
 MOST = 128
 
 MESSAGE = re.compile(r"(note: )?(?:\./)?((?:src|specs|proofs)/\S+?):(\d+):\d+: (.*)")
 VERDICT = re.compile(r"fn (\S+): (.*)")
 OPEN = re.compile(r"error\b|it is not proved that|`\w+` found no proof")
-# A proof names what is gone. (The words may stand in a line below the message's first.)
+# A proof names what no longer exists. (The words may be in a line after the message's first.)
 GONE = re.compile(r"has no field|is not in scope|has no `|was not admitted|which was rejected, was not checked")
 WAITS = re.compile(r"which (is|are) not proved|depends on")
 
@@ -25,7 +25,7 @@ class Message(NamedTuple):
 
 
 class Said(NamedTuple):
-    """What a check said: its messages, a verdict for each function, and whether the prover was reached and proved the crate."""
+    """The output of a check: its messages, a verdict for each function, and whether the prover was reached and proved the crate."""
 
     messages: List[Message]
     verdicts: List[Tuple[str, str]]
@@ -55,18 +55,18 @@ def parse(output: str) -> Said:
 
 
 def module_of(file: str) -> str:
-    """The module of a file of src/, as a path of folders; empty for a root."""
+    """Returns the module of a file of src/, as a path of folders; empty for a root."""
     module = file[len("src/") : -len(".rt")]
     return "" if module in ("lib", "main") else module
 
 
 def is_of(message: Message, function: Function) -> bool:
-    """Whether a message stands in a function, or in a proof of it."""
+    """Returns whether a message is in a function, or in a proof of it."""
     if message.file == function.file:
         return function.first <= message.line <= function.last
     folder = ["proofs", *(part for part in module_of(function.file).split("/") if part)]
     parts = message.file.split("/")[:-1]
-    # (the proofs of a closure stand below a folder fn/FUNCTION)
+    # (the proofs of a closure are in a folder fn/FUNCTION)
     is_closure = parts[len(folder) : len(folder) + 2] == ["fn", function.name]
     return parts[: len(folder)] == folder and (parts[-1] == function.name or is_closure)
 
@@ -79,7 +79,7 @@ def is_verdict_of(path: str, function: Function) -> bool:
 
 @dataclass
 class Judge:
-    """What came of each edit of a crate, and which are still to be tried, how often they were, and which by themselves."""
+    """The result of each edit of a crate; which edits are still to be tried, how often they were, and which of them alone."""
 
     crate: Path
     texts: Texts
@@ -88,7 +88,7 @@ class Judge:
     tries: Dict[str, int] = field(default_factory=dict)
 
     def batches(self, edits: List[Edit]) -> List[List[Edit]]:
-        """Parts edits into batches, in each of which a message can be of one edit alone."""
+        """Divides edits into batches so that each message of a check belongs to one edit of its batch."""
         layers: List[Tuple[List[Edit], Set[Tuple[str, ...]]]] = []
         alone = []
         for edit in sorted(edits, key=lambda it: (it.pairs[0].file, it.name)):
@@ -110,12 +110,12 @@ class Judge:
         return parted + alone
 
     def key(self, function: Function) -> Tuple[str, ...]:
-        """What the functions of a batch differ in: the name, in a file with answers for a function of that name, or the line."""
+        """Returns what the functions of a batch differ in: the name, in a file with proofs for a function of that name, or the line."""
         answers = (self.crate / "proofs" / module_of(function.file)).glob(f"**/{function.name}/*.antt")
         return (function.file, function.name, "" if any(answers) else str(function.first))
 
     def judge(self, batch: List[Edit], places: Dict[str, Set[Function]], said: Said) -> List[Edit]:
-        """Judges the edits of a batch, and returns those that are to be tried again."""
+        """Judges the edits of a batch, and returns those to be tried again."""
         again = []
         is_alone = len(batch) == 1
         unread = [it for it in batch if not said.is_read and self.own(places[it.name], said)]
@@ -144,7 +144,7 @@ class Judge:
         return again
 
     def accept(self, edit: Edit, names: Set[str], what: str) -> None:
-        """Takes an edit for refused in one of these functions, if its line `breaks:` names it."""
+        """Accepts an edit as refused in one of these functions, if its line `breaks:` names the function."""
         if any(re.search(rf"\b{re.escape(it)}\b", edit.breaks) for it in names):
             self.refused[edit.name] = what
         else:

@@ -4,7 +4,7 @@
     python3 scripts/edit_table.py          compares: each table must say what the edits say
     python3 scripts/edit_table.py write    writes the tables
 
-The last line is `N passed, M failed`, which counts crates. The exit status is 0 where M is 0 and N is not.
+The last line is `N passed, M failed`, which counts crates. The exit status is 0 if M is 0 and N is not.
 """
 
 import sys

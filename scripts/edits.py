@@ -1,24 +1,23 @@
 #!/usr/bin/env python3
-"""Tries the edits of the crates: bugs in code, each of which the prover must refuse in the function in which it stands.
+"""Tries the edits of the crates: bugs in code, each of which the prover must refuse in the function that has it.
 
     python3 scripts/edits.py [--self-test] [CRATE|CRATE/EDIT..]
 
-All edits are tried, or those of the crates that are named and those that are named themselves. scripts/edit_files.py says
-what an edit is.
+It tries all edits, or the named edits and those of the named crates. scripts/edit_files.py says what an edit is.
 
-A check of a crate says of each function whether it is proved. So one check tries a batch of edits, each in a function of its
-own, in a copy of the crate with what the tree's own checks kept. An edit
+A check of a crate says of each function whether it is proved. So one check tries a batch of edits, each in a different
+function, in a copy of the crate with what the tree's own checks kept. An edit
 
-- is refused where the prover leaves a goal of its function open, or rejects an answer to one (proofs/../FUNCTION/);
-- fails where that happens only because a proof names what the edit took away;
-- goes into a later check where its function is not refused and only calls one that another edit broke;
-- is tried by itself where its function is proved, or where the check can't read it. Then it passes where another function
-  is refused by a proper note, and the edit's line `breaks:` names that function; else it fails.
+- is refused if the prover leaves a goal of its function open, or rejects an answer to one (proofs/../FUNCTION/);
+- fails if that happens only because a proof names what the edit removed;
+- goes into a later check if its function isn't refused and only calls one that another edit broke;
+- is tried alone if its function is proved, or if the check can't read it. It then passes if another function is refused
+  by a proper note, and the edit's line `breaks:` names that function; otherwise it fails.
 
-A check has two jobs. As many checks run side by side as there are pairs of processors, or fewer, so that each has 6 GB of
+A check has two jobs. As many checks run in parallel as there are pairs of processors, or fewer, so that each has 6 GB of
 memory. The variable WORKERS sets another number of jobs. `--self-test` tries the script itself (scripts/edits_test.py).
 
-The last line is `N passed, M failed`. The exit status is 0 where M is 0 and N is not.
+The last line is `N passed, M failed`. The exit status is 0 if M is 0 and N is not.
 """
 
 import argparse
@@ -38,15 +37,16 @@ from typing import Dict, List, Optional, Set, Tuple
 
 from edit_files import FOLDERS, NAME, Bad, Edit, Function, Texts, edit_paths, read_edit
 from edit_judge import Judge, Said, parse
+from workers import count_workers
 
 TOP = Path(__file__).resolve().parents[1]
-# The jobs of a check.
+# The number of jobs of a check.
 JOBS = 2
 
 
 @dataclass
 class Gate:
-    """The copies in which edits are tried. `base` holds the tree, with what its checks kept."""
+    """The copies in which edits are tried. `base` holds the tree with what its checks kept."""
 
     room: Path
     base: Path
@@ -55,7 +55,7 @@ class Gate:
     is_ended: bool = False
 
     def run_rt(self, folder: Path, *words: str) -> Tuple[int, str]:
-        """Runs `rt` in a folder, and returns its status and what it says."""
+        """Runs `rt` in a folder, and returns its status and its output."""
         if self.is_ended:
             raise InterruptedError
         how = {"stdin": subprocess.DEVNULL, "stdout": subprocess.PIPE, "stderr": subprocess.STDOUT}
@@ -75,7 +75,7 @@ class Gate:
         os._exit(1)
 
     def copy(self, crate: str, to: Path) -> None:
-        """Copies a crate with what its checks kept, and the libraries of the repository as they were built."""
+        """Copies a crate with what its checks kept, and the builds of the repository's libraries."""
         for name in ("crates.txt", "HANDLES"):
             to.mkdir(exist_ok=True)
             shutil.copy(self.base / name, to / name)
@@ -84,7 +84,7 @@ class Gate:
             shutil.copytree(folder, to / "crates" / folder.name, ignore=shutil.ignore_patterns(*left_out))
 
     def check(self, judge: Judge, batch: List[Edit]) -> Tuple[Dict[str, Set[Function]], Said, float]:
-        """Checks a copy of the crate with the edits of a batch put in."""
+        """Checks a copy of the crate with the edits of a batch applied."""
         start = time.time()
         self.count += 1
         tree = self.room / f"batch{self.count}"
@@ -101,7 +101,7 @@ class Gate:
 
 
 def read_edits(crate: Path, failures: List[str]) -> List[Edit]:
-    """The edits of a crate. A file that is none, or that can't be put in, is a failure."""
+    """Returns the edits of a crate. A file that isn't an edit, or can't be applied, is a failure."""
     edits: List[Edit] = []
     texts = Texts(crate)
     for path in edit_paths(crate):
@@ -121,7 +121,7 @@ def read_edits(crate: Path, failures: List[str]) -> List[Edit]:
 
 
 def try_all(gate: Gate, judges: Dict[str, Judge], edits: List[Edit], workers: int) -> None:
-    """Tries all edits, in as many checks side by side as there are workers, until each is judged."""
+    """Tries all edits, in as many parallel checks as there are workers, until each is judged."""
     running: "Dict[Future[Tuple[Dict[str, Set[Function]], Said, float]], List[Edit]]" = {}
     with ThreadPoolExecutor(workers) as pool:
 
@@ -140,7 +140,7 @@ def try_all(gate: Gate, judges: Dict[str, Judge], edits: List[Edit], workers: in
                 again += left
                 names = f" ({batch[0].name})" if len(batch) == 1 else f", {len(left)} to be tried again"
                 print(f"edits: {batch[0].crate}: a check of {len(batch)}{names}, {seconds:.0f} s", flush=True)
-            # (what waited is gathered, so that it is tried in few checks)
+            # (edits that wait are collected, so that few checks try them)
             if again and (not running or len(running) < workers):
                 more, again = again, []
                 submit(more)
@@ -161,12 +161,9 @@ def prepare(crates: List[Path], room: Path, workers: int) -> Optional[Gate]:
     return gate
 
 
-def count_workers() -> int:
-    """How many checks run side by side."""
-    memory = re.search(r"MemAvailable:\s+(\d+)", Path("/proc/meminfo").read_text())
-    by_memory = int(memory[1]) // (3 << 20) if memory else 1
-    jobs = int(os.environ.get("WORKERS", 0)) or min(len(os.sched_getaffinity(0)), by_memory)
-    return max(1, jobs // JOBS)
+def count_checks() -> int:
+    """Returns how many checks run in parallel."""
+    return max(1, count_workers() // JOBS)
 
 
 def processor_seconds() -> float:
@@ -182,10 +179,10 @@ def main() -> int:
     if given.self_test:
         from edits_test import self_test
 
-        return self_test(count_workers())
+        return self_test(count_checks())
     names = given.names or sorted(it.parent.name for it in TOP.glob("crates/*/must-fail"))
     crates = [TOP / "crates" / it for it in sorted({it.partition("/")[0] for it in names})]
-    workers = count_workers()
+    workers = count_checks()
     start = time.time()
     failures: List[str] = []
     edits = [it for crate in crates for it in read_edits(crate, failures) if {it.crate, f"{it.crate}/{it.name}"} & {*names}]

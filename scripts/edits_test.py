@@ -1,4 +1,4 @@
-"""Tries the judge of scripts/edits.py on the crate in scripts/judge/: bugs that must be refused, and edits that must fail."""
+"""Tests the judge of scripts/edits.py on the crate in scripts/judge/: bugs that must be refused, and edits that must fail."""
 
 import shutil
 import tempfile
@@ -10,7 +10,7 @@ from edit_files import Edit, Texts, edit_paths, read_edit
 from edit_judge import Judge
 from edits import TOP, Gate, processor_seconds, try_all
 
-# What must come of each edit: a word of the reason why it fails, or nothing where it is refused.
+# The expected result of each edit: a word of the reason why it fails, or nothing if it is refused.
 WANTED = {
     "half_is_a_third": "",
     "half_is_a_quarter": "",
@@ -24,7 +24,7 @@ WANTED = {
 
 
 def make_base(room: Path) -> Gate:
-    """A tree with the crate `judged`, each of whose files stands in scripts/judge/ with `.txt` after its name."""
+    """Makes a tree with the crate `judged`, whose files are in scripts/judge/ with `.txt` after their names."""
     gate = Gate(room, room / "base")
     crate = gate.base / "crates" / "judged"
     for path in sorted((TOP / "scripts" / "judge").glob("**/*")):

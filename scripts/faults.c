@@ -1,15 +1,15 @@
-/* Stands in for malloc, realloc, read and write of the C library in a program that is started with this file, compiled
-   as a shared library, in LD_PRELOAD. The environment says what goes wrong:
+/* Replaces malloc, realloc, read and write of the C library in a program that is started with this file, compiled as a
+   shared library, in LD_PRELOAD. The environment says what fails:
 
-       FAULT_MEMORY=N   the Nth call for memory is refused
-       FAULT_GONE=N     each call for memory from the Nth on is refused
+       FAULT_MEMORY=N   the Nth allocation fails
+       FAULT_GONE=N     each allocation from the Nth on fails
        FAULT_READ=N     the Nth read of standard input fails
        FAULT_WRITE=N    the Nth write of standard output fails
        FAULT_READS=N    the first N reads of standard input are interrupted
        FAULT_WRITES=N   the first N writes of standard output are interrupted
-       FAULT_PIECES=1   a read and a write move one byte at most
+       FAULT_PIECES=1   a read and a write move at most one byte
 
-   N counts from 1. At the first call that goes wrong a byte is written to descriptor 3, where that is open. */
+   N counts from 1. At the first call that fails a byte is written to descriptor 3, if that is open. */
 #define _GNU_SOURCE
 #include <errno.h>
 #include <stdlib.h>
@@ -29,7 +29,7 @@ static long number_of(const char *name) {
     return text ? atol(text) : 0;
 }
 
-/* Runs before main. What the C library itself asks for before that is given, and not counted. */
+/* Runs before main. What the C library itself allocates before that succeeds, and isn't counted. */
 __attribute__((constructor)) static void read_environment(void) {
     input.failing = number_of("FAULT_READ");
     input.interrupted = number_of("FAULT_READS");
@@ -41,7 +41,7 @@ __attribute__((constructor)) static void read_environment(void) {
     requests = 0;
 }
 
-/* Says why a call goes wrong, and tells the first one that does. */
+/* Sets the error of a call that fails, and reports the first one. */
 static int fails(int error) {
     static int is_told;
     if (!is_told)
@@ -64,7 +64,7 @@ void *realloc(void *old, size_t size) {
     return has_no_memory() ? NULL : __libc_realloc(old, size);
 }
 
-/* Whether the stream's next call goes wrong. */
+/* Returns whether the stream's next call fails. */
 static int is_stopped(struct stream *stream) {
     stream->calls += 1;
     if (stream->calls <= stream->interrupted)

@@ -1,32 +1,31 @@
 #!/bin/sh
-# Runs the proved program on each stored session where memory is refused and where its streams fail, and each proved
-# test of a library where memory is refused. scripts/faults.c stands in for malloc, realloc, read and write of the C
-# library.
+# Runs the proved program on each stored session with failing allocations and with failing streams, and each proved test
+# of a library with failing allocations. scripts/faults.c replaces malloc, realloc, read and write of the C library.
 #
 #     sh scripts/faults.sh
 #
-# The program is crates/scroll_run/out/scroll_run, and the tests are crates/NAME/out/NAME_tests, as rt ci leaves them, or
-# rt run and rt test.
+# The program is crates/scroll_run/out/scroll_run, and the tests are crates/NAME/out/NAME_tests, as rt ci leaves them,
+# or rt run and rt test.
 #
-# | memory is refused at one call, or from one on | status 3 and the one line `out of memory` |
-# | a read fails; input is a folder, or closed    | status 4, and nothing is printed |
-# | a write fails; output is closed, or full      | status 4, and a front of the output |
-# | reads and writes move one byte                | as ever |
-# | the first reads and writes are interrupted    | as ever |
-# | each read, or each write, is interrupted      | status 4, and nothing is printed |
-# | memory is refused to a test                   | the test passes, or ends with the error of want of memory |
+# | one allocation fails, or all from one on       | status 3 and the one line `out of memory` |
+# | a read fails; input is a folder, or closed     | status 4, and nothing is printed |
+# | a write fails; output is closed, or full       | status 4, and some first bytes of the output |
+# | reads and writes move one byte                 | as usual |
+# | the first reads and writes are interrupted     | as usual |
+# | each read, or each write, is interrupted       | status 4, and nothing is printed |
+# | an allocation of a test fails                  | the test passes, or ends with the error of an allocation failure |
 #
-# Memory is refused at the first call for it, then at the second, and so on until a run asks for no more; so for reads
-# and writes. A session, or a test, passes where all its runs are so. Without a C compiler only the folder and the
-# closed and full streams are tried, and the rest is one check left out. The last line is `N passed, M failed`, with
-# `, 1 skipped` behind it where that was so. The exit status is 0 where M is 0 and N is not.
+# The first allocation fails, then the second, and so on until a run allocates no more; likewise for reads and writes. A
+# session, or a test, passes if all its runs are as in this table. Without a C compiler only the folder and the closed
+# and full streams are tried, and the rest is one skipped check. The last line is `N passed, M failed`, with
+# `, 1 skipped` after it in that case. The exit status is 0 if M is 0 and N is not.
 set -u
 
 top=$(CDPATH='' cd -- "$(dirname -- "$0")/.." && pwd) || exit 1
 sessions=$top/sessions
 program=$top/crates/scroll_run/out/scroll_run
 
-# How many of the first calls fail in turn where a read and a write move one byte.
+# How many of the first calls fail in turn if a read and a write move one byte.
 first_calls=8
 
 room=$(mktemp -d) || exit 1
@@ -51,9 +50,9 @@ compile_library() {
     done
 }
 
-# Runs a command with these faults, words such as FAULT_READ=2, on the input and output that the shell has. Then
-# `status` is its exit status. A program that a bug keeps from ending is ended after a minute of work. Once a run of a
-# session or a test was not as it should be, the rest are left out.
+# Runs a command with these faults, words such as FAULT_READ=2, on the shell's own input and output. Then `status` is
+# its exit status. A program that a bug keeps from ending is ended after one minute of processor time. Once a run of a
+# session or a test has gone wrong, the rest of them are left out.
 run_with() {
     [ -n "$is_well" ] || return
     faults=$1
@@ -71,23 +70,23 @@ run_with() {
     runs=$((runs + 1))
 }
 
-# Runs the session with these faults, in the folder of its own, `work`.
+# Runs the session with these faults, in its own folder `work`.
 try() {
     run_with "$1" "$program" <"$sessions/$name.in" >"$work/out" 2>&1
 }
 
-# Whether a call went wrong in the last run.
+# Tests whether a call failed in the last run.
 is_met() {
     [ -s "$work/met" ]
 }
 
-# Says that the last run was not as it should be, once for each session or test.
+# Says that the last run went wrong, once for each session or test.
 complain() {
     [ -n "$is_well" ] && echo "FAILED $name: $1: $2" && sed 's/^/    /' "$work/out" | head -n 4 | cut -c 1-160
     is_well=
 }
 
-# Wants a status and an output of the last run, which $1 describes.
+# Expects a status and an output of the last run, which $1 describes.
 want() {
     if [ "$status" -ne "$2" ]; then
         complain "$1" "the exit status is $status, and $2 is wanted"
@@ -96,7 +95,7 @@ want() {
     fi
 }
 
-# The exit status of the session where nothing goes wrong.
+# Prints the exit status of the session without faults.
 usual_status() {
     if [ -f "$sessions/$name.status" ]; then
         cat "$sessions/$name.status"
@@ -109,14 +108,14 @@ want_as_ever() {
     want "$1" "$(usual_status)" "$sessions/$name.out"
 }
 
-# Wants status 4 and a front of the output.
+# Expects status 4 and some first bytes of the output.
 want_front() {
     head -c "$(wc -c <"$work/out")" "$sessions/$name.out" >"$work/front"
     want "$1" 4 "$work/front"
     cmp -s "$sessions/$name.out" "$work/out" && complain "$1" "the whole output was written"
 }
 
-# Wants that a fault comes to the session, so that no run passes because nothing went wrong.
+# Expects that the session meets a fault, so that no run passes because nothing failed.
 want_met() {
     is_met || complain "$1" "no call went wrong: the program doesn't make it by the C library"
 }
@@ -190,7 +189,7 @@ try_interruptions() {
     want 'each write is interrupted' 4 "$room/nothing"
 }
 
-# What needs no C file: standard input a folder or closed, standard output closed or full.
+# Tries what needs no C file: standard input a folder or closed, standard output closed or full.
 try_descriptors() {
     run_with '' "$program" <"$sessions" >"$work/out" 2>&1
     want 'standard input is a folder' 4 "$room/nothing"
@@ -211,7 +210,7 @@ try_session() {
     try_interruptions
 }
 
-# Runs one test of a crate, with each call for memory refused in turn. A test that asks for no memory passes as it is.
+# Runs one test of a crate, with each allocation failing in turn. A test that doesn't allocate passes unchanged.
 try_test() {
     number=1
     while [ -n "$is_well" ]; do
@@ -253,7 +252,8 @@ list_libraries() {
     done
 }
 
-# One line for each session, the longest first, and for each test: `session` or the name of the crate, and the name.
+# Prints one line for each session, the longest first, and for each test: `session` or the name of the crate, and the
+# name.
 list_all() {
     # shellcheck disable=SC2012 # the names are words
     (cd "$sessions" && ls -S -- */*.in) | sed -n 's/^\(.*\)\.in$/session \1/p'

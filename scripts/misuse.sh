@@ -1,14 +1,14 @@
 #!/bin/sh
-# Tries what must not compile: a borrowed value that was read from a buffer is used after a write to the buffer, or when
-# the buffer is gone.
+# Tries what must not compile: a borrowed value that was read from a buffer is used after a write to the buffer, or
+# after the buffer is dropped.
 #
 #     sh scripts/misuse.sh
 #
 # Each scripts/misuse/NAME.txt is a module of the library. The lines that end in `// misuse: CODE` are the misuse. In a
-# copy of the library the modules are first proved without these lines. With them, each module must be refused by the
-# error CODE for each of them, and there must be no other error: so a refusal can't be for another reason.
+# copy of the library the modules are first proved without these lines. With them, each module must have the error CODE
+# for each of them and no other error, so a refusal can't have another reason.
 #
-# The last line is `N passed, M failed`, with each module counted as one. The exit status is 0 where M is 0 and N is not.
+# The last line is `N passed, M failed`, where each module counts as one. The exit status is 0 if M is 0 and N is not.
 set -u
 
 top=$(CDPATH='' cd -- "$(dirname -- "$0")/.." && pwd) || exit 1
@@ -20,13 +20,13 @@ room=$(mktemp -d) || exit 1
 trap 'rm -rf "$room"' EXIT
 trap 'exit 1' HUP INT TERM
 
-# Ends the script, and shows the end of what the last check said.
+# Ends the script, and shows the end of the last check's output.
 stop_check() {
     grep -v ': proved$' "$room/said" | tail -n 20 | cut -c 1-200 | sed 's/^/    /'
     stop "$1"
 }
 
-# Copies the library, with what its checks kept and with the modules behind its own.
+# Copies the library, with what its checks kept and with the modules after its own.
 copy_library() {
     mkdir "$room/crates" || return
     grep '^scroll:' "$top/crates.txt" >"$room/crates.txt" || return
@@ -47,7 +47,7 @@ check() {
     (cd "$room/crates/scroll" && rt check "$@") >"$room/said" 2>&1
 }
 
-# The codes of a module's errors, and of the misuse that it marks.
+# Lists the codes of a module's errors, and of the misuse that it marks.
 list_errors() {
     sed -n "s/^src\/$1\.rt:[0-9]*:[0-9]*: error\[\([a-z0-9-]*\)\].*/\1/p" "$room/said" | sort
 }

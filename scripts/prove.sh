@@ -4,12 +4,12 @@
 #     sh scripts/prove.sh CRATE         its code, and a program's stored run
 #     sh scripts/prove.sh CRATE tests   its tests, which are proved and run
 #
-# What earlier checks kept in the crate's out/ is taken; scripts/check.sh starts with none. A check gets as many jobs as
-# there are workers (scripts/lib.sh).
+# It uses what earlier checks kept in the crate's out/; scripts/check.sh starts with nothing. A check gets as many jobs
+# as there are workers (scripts/lib.sh).
 #
-# These count as one each: the layout of `rt fmt`; the proof; a library, built for those above it, or a program, whose
-# output for the crate's file `stdin` is its file `stdout`; the proof of the tests; the tests, none of which is ignored.
-# The last line is `N passed, M failed`. The exit status is 0 where M is 0 and N is not.
+# These count as one each: the layout of `rt fmt`; the proof; a library, built for those that use it, or a program,
+# whose output for the crate's file `stdin` is its file `stdout`; the proof of the tests; the tests, none of which is
+# ignored. The last line is `N passed, M failed`. The exit status is 0 if M is 0 and N is not.
 set -u
 
 top=$(CDPATH='' cd -- "$(dirname -- "$0")/.." && pwd) || exit 1
@@ -27,7 +27,7 @@ jobs=$(count_workers)
 passed=0
 failed=0
 
-# Counts a command, and shows the end of what it says where it fails.
+# Counts a command, and shows the end of its output if it fails.
 count() {
     what=$1
     shift
@@ -47,8 +47,8 @@ run_rt() {
     (cd "$crate" && exec rt "$@" </dev/null)
 }
 
-# Proves the code, and wants no word in the last line for what HANDLES doesn't allow, for C functions of its own, or for a
-# contract that says nothing: these are the words that rt ci refuses.
+# Proves the code. It fails if the last line mentions what HANDLES doesn't allow, C functions of the crate's own, or a
+# contract that says nothing, as rt ci does.
 prove() {
     run_rt check --jobs "$jobs" && ! grep '^logic=proved' "$room/said" |
         grep -E ' (main|foreign|hides|partial|bugs|may-abort|may-wait|may-serve)='

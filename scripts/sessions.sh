@@ -1,34 +1,34 @@
 #!/bin/sh
-# Replays the stored sessions. Each sessions/SUBJECT/NAME.in is the standard input of one run of the program, whose
-# standard output must be NAME.out, byte for byte, and whose exit status must be the number in NAME.status, or 0 where
-# there is no such file.
+# Replays the stored sessions. Each sessions/SUBJECT/NAME.in is the standard input of one run of the program. Its
+# standard output must be NAME.out, byte for byte, and its exit status must be the number in NAME.status, or 0 if there
+# is no such file.
 #
 #     sh scripts/sessions.sh [PROGRAM]
 #     sh scripts/sessions.sh --index
 #
 # PROGRAM is a path, or a name that the shell finds. Without it the program is crates/scroll_run/out/scroll_run, as
-# `rt run` or `rt ci` left it; where it is missing, or older than a file that it is made of, `rt run` first proves and
+# `rt run` or `rt ci` left it; if it is missing, or older than a file that it is made of, `rt run` first proves and
 # builds it. With `--index` nothing is replayed: the index, sessions/README.md, is written from the names.
 #
 # Each session is one check, and so is the index. A file that belongs to no session is a failure. The last line is
-# `N passed, M failed`. The exit status is 0 where M is 0 and a session was replayed.
+# `N passed, M failed`. The exit status is 0 if M is 0 and a session was replayed.
 set -u
 
-# (the same order of names everywhere)
+# (the same order of names on every machine)
 LC_ALL=C
 export LC_ALL
 
 top=$(CDPATH='' cd -- "$(dirname -- "$0")/.." && pwd) || exit 1
 sessions=$top/sessions
 
-# Ends where there is nothing to replay, or nothing to replay it with.
+# Ends if there is nothing to replay, or no program to replay it with.
 stop() {
     echo "sessions: $1"
     echo "0 passed, 1 failed"
     exit 1
 }
 
-# Whether the proved program is there, and no file that it is made of is newer.
+# Tests whether the proved program exists, and no file that it is made of is newer.
 is_current() {
     [ -x "$program" ] || return 1
     set -- -name '*.rt' -o -name '*.antt' -o -name crates.txt
@@ -36,7 +36,8 @@ is_current() {
     [ -z "$newer" ]
 }
 
-# Proves and builds the program, and runs it on the shortest good session, so that the run itself ends with status 0.
+# Proves and builds the program, and runs it on the shortest session that succeeds, so that the run itself ends with
+# status 0.
 make_program() {
     echo "sessions: rt run proves and builds the program"
     printf 'buffer -\ncursor 0\n' | (cd "$top/crates/scroll_run" && rt run) >&2
@@ -63,7 +64,7 @@ if [ $# -gt 0 ]; then
     program=$1
 else
     program=$top/crates/scroll_run/out/scroll_run
-    # (a program that was built, and then ended badly, is replayed all the same: its differences say more)
+    # (a program that was built and then failed is replayed anyway: its differences say more)
     is_current || make_program || is_current || stop "rt run did not prove and build crates/scroll_run"
 fi
 command -v "$program" >/dev/null || stop "there is no program $program"
@@ -78,7 +79,7 @@ fail() {
     echo "FAILED $name: $1"
 }
 
-# The first lines in which what is there differs from what is wanted, with long ones cut.
+# Prints the first lines in which the output differs from the expected one, with long lines shortened.
 show_difference() {
     diff "$1" "$2" >"$room/difference"
     sed -n 's/^< /    wanted:  /p' "$room/difference" | head -n 3 | cut -c 1-160
@@ -107,7 +108,7 @@ replay() {
     fi
 }
 
-# Says which files belong to no session. A status of 0 goes without its file.
+# Says which files belong to no session. A status of 0 has no file.
 check_files() {
     for file in "$sessions"/*/*; do
         name=${file#"$sessions"/}

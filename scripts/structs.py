@@ -45,7 +45,7 @@ NUMBERS: dict[str, Number] = {
 
 
 class BadInput(Exception):
-    """What can't be done, with the file and the line."""
+    """What isn't supported, with the file and the line."""
 
 
 @dataclass(frozen=True)
@@ -81,13 +81,13 @@ def width_of(type: Type) -> int:
 
 
 def blank_comments(text: str) -> str:
-    """The text with its comments and literal strings blanked; every line stays where it is."""
+    """Returns the text with its comments and literal strings blanked, and the lines unchanged in number."""
     pattern = re.compile(r"""//[^\n]*|/\*.*?\*/|"(?:\\.|[^"\\])*"|'(?:\\.|[^'\\])'""", re.S)
     return pattern.sub(lambda found: re.sub(r"[^\n]", " ", found[0]), text)
 
 
 def split_top(text: str) -> list[tuple[int, str]]:
-    """The parts of a text between commas outside brackets, each with its place."""
+    """Returns the parts of a text between commas outside brackets, each with its place."""
     parts: list[tuple[int, str]] = []
     depth = start = 0
     for place, char in enumerate(text):
@@ -103,7 +103,7 @@ def split_top(text: str) -> list[tuple[int, str]]:
 
 
 def closing(text: str, start: int) -> int:
-    """The place of the bracket that closes the one at `start`."""
+    """Returns the place of the bracket that closes the one at `start`."""
     pairs = {"(": ")", "{": "}", "[": "]"}
     depth = 0
     for place in range(start, len(text)):
@@ -135,7 +135,7 @@ class Source:
         raise BadInput(f"{self.path}:{line}: {message}")
 
     def result_of(self, type: str) -> str:
-        """A result that is refused by the crate's error: the file has the crate's `Result`, or else that of std."""
+        """Returns a result type with the crate's error: by the crate's `Result` if the file has it, or else by that of std."""
         is_ours = re.search(r"\buse\s+(?:scroll|crate)::(?:error::)?(?:\{[^}]*\bResult\b|Result\b)", self.code)
         return f"Result<{type}>" if is_ours or "Result<" not in self.code else f"Result<{type}, Error>"
 
@@ -201,7 +201,7 @@ class Source:
 
 
 def kind_of(text: str) -> str:
-    """What a field is that can't be done."""
+    """Returns what kind of field isn't supported."""
     text = " ".join(text.split())
     name = re.split(r"\W", text, maxsplit=1)[0]
     if text.startswith("&"):

@@ -1,4 +1,4 @@
-//! Numbers where the caller has made sure of room.
+//! Numbers where the caller ensures that there is room.
 
 use crate::inputs::{SIZE, bytes};
 use crate::timing::{Bench, ours, reading, rust};

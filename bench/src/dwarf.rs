@@ -1,6 +1,6 @@
-//! Takes the numbers in LEB128 out of an object file that a C compiler wrote with `-g`, as they stand there.
+//! Extracts the numbers in LEB128, as they are, from an object file that a C compiler wrote with `-g`.
 
-/// The texts of the numbers in LEB128 of a file, one after the other.
+/// The encodings of the numbers in LEB128 of a file, one after another.
 #[derive(Default)]
 pub struct Numbers {
     /// Those of `.debug_abbrev`: codes, tags, attributes and forms.
@@ -28,7 +28,7 @@ pub fn section<'f>(file: &'f [u8], wanted: &str) -> Option<&'f [u8]> {
     None
 }
 
-/// All numbers of the file's sections, as far as each of them follows DWARF 5.
+/// Returns all numbers of the file's sections, as far as each of them follows DWARF 5.
 pub fn numbers(file: &[u8]) -> Numbers {
     let mut found = Numbers::default();
     let part = |name| section(file, name).unwrap_or(&[]);
@@ -58,7 +58,8 @@ impl<'s> Cursor<'s> {
         word(self.skip(width)?, 0, width)
     }
 
-    // A number in LEB128, whose text is added to `out`. Its value is right where it is unsigned.
+    // Reads a number in LEB128, and appends its encoding to `out`. The value returned is right if the number is
+    // unsigned.
     fn leb(&mut self, out: &mut Vec<u8>) -> Option<u64> {
         let len = self.rest.iter().position(|b| *b < 0x80)? + 1;
         let text = self.skip(len)?;
@@ -129,7 +130,7 @@ fn lines(cursor: &mut Cursor, found: &mut Numbers) -> Option<()> {
             unit.skip(2)?;
         }
         let header = unit.number(4)?;
-        // What stands before the table of the operations' operands: five bytes, and its own length with one more.
+        // The bytes before the table of the operations' operands: five bytes, and its own length with one more.
         let header = &mut Cursor { rest: unit.skip(header)? };
         header.skip(5)?;
         let base = header.number(1)?;

@@ -30,7 +30,7 @@ macro_rules! copies {
     };
 }
 
-// Reads by both calls of the crate.
+// Reads with both calls of the crate.
 macro_rules! sums {
     ($number:ty, $value:ty) => {{
         #[inline(never)]
@@ -55,7 +55,8 @@ macro_rules! sums {
     }};
 }
 
-// A read of the crate, and a write by a loop, since the crate has none. The texts are the shortest, as compilers write them.
+// A read of the crate, and a write by a loop, since the crate has none. The encodings are the shortest, as compilers
+// write them.
 macro_rules! copying {
     ($form:literal, $number:ty, $value:ty, $put:ident) => {{
         #[inline(never)]
@@ -145,7 +146,7 @@ fn section(file: &[u8], offset: &mut usize, names: usize, order: Endian) -> scro
     Ok(sum.wrapping_add(align).wrapping_add(entry).wrapping_add(small).wrapping_add(text.len() as u64))
 }
 
-// The same texts again and again, up to the size of the other inputs.
+// Repeats the same encodings up to the size of the other inputs.
 fn repeated(texts: &[u8]) -> Vec<u8> {
     texts.iter().copied().cycle().take(texts.len() * SIZE.div_ceil(texts.len().max(1))).collect()
 }

@@ -1,4 +1,4 @@
-//! Floats, read and written.
+//! Floats that are read and written.
 
 use crate::inputs::{Random, SIZE, bytes};
 use crate::timing::{Bench, Form, ours, reading, rust, writing};
@@ -102,7 +102,7 @@ fn scan(source: &[u8]) -> u64 {
     rises
 }
 
-// Floats between 0 and 1, in either order: none is a NaN, at offsets in steps of eight too.
+// Returns floats between 0 and 1 in either order. None is a NaN, even at offsets in steps of eight.
 fn floats(width: usize, big: bool) -> Vec<u8> {
     let mut random = Random::new();
     let mut out = Vec::new();

@@ -1,9 +1,9 @@
-//! Writes of numbers in LEB128, which the crate hasn't: a loop in the form of gimli's (a group at a time, and the test
-//! whether more follow after the shift), and one that tests before it shifts. Each tests for room at each byte.
+//! Writes of numbers in LEB128, which the crate doesn't have: a loop in gimli's form (one group at a time; after the
+//! shift it tests whether more follow), and one that tests before it shifts. Both check for room at each byte.
 
 pub struct Full;
 
-/// The unsigned number's shortest text, at the front of `target`: its length.
+/// Writes the shortest encoding of an unsigned number to the front of `target`, and returns its length.
 #[inline(always)]
 pub fn put_uleb(target: &mut [u8], mut number: u64) -> Result<usize, Full> {
     let mut len = 0;
@@ -21,7 +21,7 @@ pub fn put_uleb(target: &mut [u8], mut number: u64) -> Result<usize, Full> {
     }
 }
 
-/// The same, with the test first.
+/// The same, with the test before the shift.
 #[inline(always)]
 pub fn put_uleb_tested(target: &mut [u8], mut number: u64) -> Result<usize, Full> {
     let mut len = 0;
@@ -34,13 +34,13 @@ pub fn put_uleb_tested(target: &mut [u8], mut number: u64) -> Result<usize, Full
     Ok(len + 1)
 }
 
-/// The signed number's shortest text, at the front of `target`: its length.
+/// Writes the shortest encoding of a signed number to the front of `target`, and returns its length.
 #[inline(always)]
 pub fn put_sleb(target: &mut [u8], mut number: i64) -> Result<usize, Full> {
     let mut len = 0;
     loop {
         let mut byte = number as u8;
-        // The sign bit of the group stays, to be compared with the rest.
+        // Keeps the sign bit of the group, to be compared with the rest.
         number >>= 6;
         let done = number == 0 || number == -1;
         if done {
@@ -57,7 +57,7 @@ pub fn put_sleb(target: &mut [u8], mut number: i64) -> Result<usize, Full> {
     }
 }
 
-/// The same, with the test first.
+/// The same, with the test before the shift.
 #[inline(always)]
 pub fn put_sleb_tested(target: &mut [u8], mut number: i64) -> Result<usize, Full> {
     let mut len = 0;

@@ -1,4 +1,4 @@
-//! The time of a byte, as the source or the target grows from 1 KiB to 64 MiB.
+//! The time per byte, as the source or the target grows from 1 KiB to 64 MiB.
 
 use crate::inputs::{Letters, Lengths, Random, bytes, push_text, push_uleb};
 use crate::timing::{Bench, Form, Job, ours, reading, rust, writing};
@@ -82,7 +82,7 @@ fn put_for(target: &mut [u8]) -> u64 {
     offset as u64
 }
 
-// Times the forms over a front of the job's bytes that grows by four.
+// Times the forms over a front of the job's bytes that grows by a factor of four.
 fn grow(bench: &mut Bench, name: &str, input: &[u8], output: &mut [u8], forms: &[Form]) {
     let mut len = LEAST;
     while len <= GREATEST {

@@ -1,9 +1,9 @@
-//! What is read and written: the same in each run.
+//! What is read and written, which is the same in every run.
 
-/// How many bytes most loops work on.
+/// The number of bytes that most loops work on.
 pub const SIZE: usize = 1 << 16;
 
-/// Numbers that look random, and are the same in each run (xorshift).
+/// Numbers that look random, and are the same in every run (xorshift).
 pub struct Random(u64);
 
 impl Random {
@@ -18,32 +18,32 @@ impl Random {
         self.0
     }
 
-    /// A number below `bound`.
+    /// Returns a number below `bound`.
     pub fn below(&mut self, bound: u64) -> u64 {
         (self.next() >> 16) % bound
     }
 }
 
-/// Bytes of all values.
+/// Returns bytes of all values.
 pub fn bytes(len: usize) -> Vec<u8> {
     let mut random = Random::new();
     (0..len).map(|_| random.next() as u8).collect()
 }
 
-/// What letters a text has.
+/// Which characters a string has.
 #[derive(Clone, Copy, PartialEq)]
 pub enum Letters {
-    /// Those of ASCII alone.
+    /// Only ASCII.
     Ascii,
-    /// One character in thirty is none of ASCII's.
+    /// One character in thirty isn't ASCII.
     Few,
-    /// One character in three is none of ASCII's.
+    /// One character in three isn't ASCII.
     Third,
-    /// None is of ASCII.
+    /// No character is ASCII.
     Chinese,
 }
 
-/// Adds a text of `len` bytes.
+/// Appends a string of `len` bytes.
 pub fn push_text(out: &mut Vec<u8>, len: usize, letters: Letters, random: &mut Random) {
     let end = out.len() + len;
     while out.len() < end {
@@ -65,7 +65,7 @@ pub fn push_text(out: &mut Vec<u8>, len: usize, letters: Letters, random: &mut R
     }
 }
 
-/// The unsigned number's shortest text.
+/// Appends the shortest encoding of an unsigned number.
 pub fn push_uleb(out: &mut Vec<u8>, mut number: u64) {
     while number >= 0x80 {
         out.push(number as u8 | 0x80);
@@ -74,7 +74,7 @@ pub fn push_uleb(out: &mut Vec<u8>, mut number: u64) {
     out.push(number as u8);
 }
 
-/// The signed number's shortest text.
+/// Appends the shortest encoding of a signed number.
 pub fn push_sleb(out: &mut Vec<u8>, mut number: i64) {
     while !(-64..64).contains(&number) {
         out.push(number as u8 | 0x80);
@@ -83,14 +83,14 @@ pub fn push_sleb(out: &mut Vec<u8>, mut number: i64) {
     out.push(number as u8 & 0x7f);
 }
 
-/// How long the texts of numbers in LEB128 are.
+/// The lengths of the encodings of numbers in LEB128.
 #[derive(Clone, Copy)]
 pub enum Lengths {
     /// All of this length.
     All(u32),
-    /// One to ten, each as often.
+    /// One to ten, equally often.
     Mixed,
-    /// Nine of ten have one byte, and the others three.
+    /// Nine out of ten have one byte, and the others three.
     MostlyOne,
     /// Of a hundred 75 have one byte, 17 two, 5 three, and 3 five.
     Real,
@@ -133,13 +133,13 @@ impl Lengths {
         }
     }
 
-    /// A number whose shortest text has such a length.
+    /// Returns a number whose shortest encoding has such a length.
     pub fn unsigned(self, random: &mut Random) -> u64 {
         let bits = (7 * self.pick(random)).min(64);
         (random.next() | 1 << 63) >> (64 - bits)
     }
 
-    /// The same, of either sign.
+    /// The same, with either sign.
     pub fn signed(self, random: &mut Random) -> i64 {
         let bits = (7 * self.pick(random)).min(64);
         let positive = ((random.next() | 1 << 62) & !(1 << 63)) >> (64 - bits);

@@ -1,4 +1,4 @@
-//! Numbers in LEB128 that are read, by how long their texts are.
+//! Numbers in LEB128 that are read, by the lengths of their encodings.
 
 use crate::inputs::{LENGTHS, Lengths, Random, SIZE, push_sleb, push_uleb};
 use crate::timing::{Bench, Form, ours, reading, rust};

@@ -1,4 +1,4 @@
-//! Numbers in LEB128 that are written, each as its shortest text, by how long that is.
+//! Numbers in LEB128 that are written in their shortest encodings, by the lengths of these.
 
 use crate::gimli_form::{put_sleb, put_sleb_tested, put_uleb, put_uleb_tested};
 use crate::inputs::{LENGTHS, Random};

@@ -1,9 +1,9 @@
-//! Times loops over the proved library and the same loops in Rust, one row after the other, and prints for each form of a
-//! row its best time: `set,row,side,form,count,nanoseconds`, with the nanoseconds of one of the `count` steps.
+//! Times loops over the proved library and the same loops in Rust, row by row, and prints the best time of each form of
+//! a row: `set,row,side,form,count,nanoseconds`, with the nanoseconds of one of the `count` steps.
 //!
-//! Where the forms of a row disagree on what they return or write, it says so, and the exit status is 1.
+//! If the forms of a row disagree on what they return or write, it says so, and the exit status is 1.
 
-// (a set alone uses a part of these)
+// (a single set uses only a part of these)
 #[allow(dead_code)]
 mod inputs;
 #[allow(dead_code)]
@@ -36,7 +36,7 @@ mod texts;
 #[cfg(feature = "writes")]
 mod writes;
 
-// All code comes after these bytes, so it is shifted by them.
+// All code comes after these bytes, so they shift it.
 std::arch::global_asm!(
     ".pushsection .text.code_shift,\"ax\",@progbits",
     ".globl code_shift",
@@ -49,7 +49,7 @@ unsafe extern "C" {
     fn code_shift();
 }
 
-// The loops over the library ask for no memory.
+// The loops over the library allocate no memory.
 #[unsafe(no_mangle)]
 extern "C" fn rattle_alloc() {
     std::process::abort()

@@ -1,4 +1,4 @@
-//! Byte slices and arrays, read and written.
+//! Byte slices and arrays that are read and written.
 
 use crate::inputs::{Random, SIZE, bytes};
 use crate::timing::{Bench, Job, ours, reading, rust, writing};

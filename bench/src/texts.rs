@@ -1,4 +1,4 @@
-//! Texts by where they end, of several lengths and letters.
+//! Strings, by where they end, of several lengths and alphabets.
 
 use crate::inputs::{Letters, Random, SIZE, push_text};
 use crate::timing::{Bench, Form, ours, reading, rust};
@@ -74,7 +74,7 @@ fn of_length_for(source: &[u8]) -> u64 {
     total
 }
 
-// Texts of `low` bytes and up to `spread - 1` more, each with a zero after it or with its length before it.
+// Returns strings of `low` bytes and up to `spread - 1` more, each with a zero after it or with its length before it.
 fn texts(low: u64, spread: u64, letters: Letters, length_first: bool) -> (Vec<u8>, u64) {
     let mut random = Random::new();
     let mut out = Vec::new();
@@ -114,7 +114,7 @@ pub fn all(bench: &mut Bench) {
         let (source, count) = texts(low, spread, letters, false);
         let [a, b] = sums!(|_| 0);
         let [c, d] = sums!(|delimiter| delimiter);
-        // With the delimiter known and at run time: the crate searches either way byte by byte.
+        // With the delimiter known at compile time and at run time: the crate searches byte by byte either way.
         bench.row("texts", row, count, &mut reading(&source), &[form(), a, b, c, d]);
     };
     row("0 to 7 bytes", 0, 8, Letters::Ascii, nul);

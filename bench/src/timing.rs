@@ -13,7 +13,7 @@ pub struct Job<'j> {
     pub delimiter: u8,
 }
 
-/// A loop: it returns a sum, and may write to the output.
+/// A loop, which returns a sum, and may write to the output.
 pub type Loop = fn(&mut Job) -> u64;
 
 /// Whose loop it is.
@@ -23,7 +23,7 @@ pub enum Side {
     Rust,
 }
 
-/// A loop, and what it is called in the table.
+/// A loop, and its name in the table.
 pub struct Form {
     pub side: Side,
     pub name: &'static str,
@@ -38,13 +38,13 @@ pub fn rust(name: &'static str, run: Loop) -> Form {
     Form { side: Side::Rust, name, run }
 }
 
-/// Times rows, and prints them as they come.
+/// Times rows, and prints each when it is done.
 pub struct Bench {
     rounds: u32,
     differs: bool,
 }
 
-// A row takes at most this long, however many rounds are wanted.
+// A row takes at most this long, whatever the number of rounds.
 const MOST: Duration = Duration::from_millis(800);
 
 impl Bench {
@@ -54,7 +54,7 @@ impl Bench {
         Bench { rounds: rounds.unwrap_or(200), differs: false }
     }
 
-    /// Whether the forms of some row disagreed.
+    /// Returns whether the forms of some row disagreed.
     pub fn differs(&self) -> bool {
         self.differs
     }
@@ -85,7 +85,7 @@ impl Bench {
         }
     }
 
-    // Runs each form once over a clear output, and compares what it returned and wrote.
+    // Runs each form once over a cleared output, and compares what it returned and wrote.
     fn compare(&mut self, set: &str, row: &str, job: &mut Job, forms: &[Form]) {
         let mut first = None;
         for form in forms {
@@ -108,12 +108,12 @@ fn digest(bytes: &[u8]) -> u64 {
     bytes.iter().fold(0xcbf2_9ce4_8422_2325, |hash, b| (hash ^ u64::from(*b)).wrapping_mul(0x100_0000_01b3))
 }
 
-/// A job that reads alone.
+/// Returns a job that only reads.
 pub fn reading(input: &[u8]) -> Job<'_> {
     Job { input, numbers: &[], output: &mut [], little: true, delimiter: 0 }
 }
 
-/// A job that writes alone.
+/// Returns a job that only writes.
 pub fn writing(output: &mut [u8]) -> Job<'_> {
     Job { input: &[], numbers: &[], output, little: true, delimiter: 0 }
 }

@@ -1,4 +1,4 @@
-//! Numbers that are written at a cursor, at offsets, and where the caller has made sure of room.
+//! Numbers that are written at a cursor, at offsets, and where the caller ensures that there is room.
 
 use crate::inputs::{SIZE, bytes};
 use crate::timing::{Bench, ours, rust, writing};
@@ -20,7 +20,7 @@ unsafe extern "C" {
     fn rt_cwrite_u32_be(target: *mut u8, len: usize) -> u64;
 }
 
-// Numbers one after the other, in both forms of the loop.
+// Numbers one after another, in both forms of the loop.
 macro_rules! puts {
     ($number:ty, $order:expr) => {{
         #[inline(never)]

@@ -1,11 +1,11 @@
--- What errors print, and errors that hold a message.
+-- Errors. These words are for the errors that contracts name, and for what an error prints.
 use Rattle.std.specs.Prelude.{◌≡◌, ℕ, ◌++◌, List, codes, Option, Some, None}
 use Rattle.std.specs.Fmt.{decimal}
 use Rattle.std.specs.String.{string_bytes}
 use Rattle.scroll.specs.declared.error.Error.{Error}
 use Rattle.scroll.specs.declared.error.Error.TheVariants.{TooBig, BadOffset, BadInput, Custom, IO, NoMemory}
 
--- the line of an error; that of a stream's fault is the fault's own, which is not told
+-- `line_of e`: the line that an error prints, byte for byte; the contracts leave open what a stream's error prints:
 abbrev pub line_of : Error → Option (List ℕ)
 line_of (TooBig size len) = Some (codes "type is too big (" ++ decimal size ++ codes ") for " ++ decimal len)
 line_of (BadOffset offset) = Some (codes "bad offset " ++ decimal offset)
@@ -14,15 +14,16 @@ line_of (Custom text) = Some (string_bytes text)
 line_of (IO fault) = None
 line_of NoMemory = Some (codes "out of memory")
 
--- the error for a place past the end
+-- the error of an offset past the end: `BadOffset` with that offset
 abbrev pub IsBadOffset : ℕ → Error → Type 0
 IsBadOffset place e = e ≡ BadOffset place
 
--- the error for a place past the end, as another error type takes it up by its `From`
+-- the same error, as another error type converts it by its `From`: `from_gives` holds of `BadOffset place` and `e`
 abbrev pub PastEnd : {E : Type 0} → (Error → E → Type 0) → ℕ → E → Type 0
 PastEnd from_gives place e = from_gives (BadOffset place) e
 
--- a `BadInput` of this size and with this message. A message is compared by its bytes, since it is borrowed and has an address.
+-- `IsBadInput e n text`: the error is `BadInput` with the size `n` and a message of the bytes `text`. A message is
+-- borrowed and has an address, so it is compared by its bytes.
 abbrev pub IsBadInput : Error → ℕ → List ℕ → Type 0
 IsBadInput (BadInput size msg) n text = (size ≡ n) × (msg.now ≡ text)
 IsBadInput e n text = ⊥

@@ -1,18 +1,21 @@
--- Types whose values fit in memory: they do at every type of which there is a value.
+-- Types that fit in memory. A value of a type takes fewer than 2^63 bytes wherever there is such a value. A function
+-- that is generic over the type and the length of an array can't know that, so there a contract says what an array
+-- refuses under a condition: the type that holds the elements meanwhile fits. For a known type the condition is an
+-- inequality between two numbers, which the prover decides.
 use Rattle.std.specs.Borrow.{RattleType, unit}
 use Rattle.std.specs.Mem.{FitsInMemory}
 use Rattle.std.specs.contracts.array.IntoIter as items
 use Rattle.std.specs.contracts.option.Option as option
 use Rattle.arrayvec.specs.contracts.array_vec.ArrayVec as vec
 
--- an optional value of the type fits in memory
+-- an optional value of the type `X` takes fewer than 2^63 bytes
 abbrev pub OptionFits : RattleType → Type 0
 OptionFits X = FitsInMemory (option.the_row X)
 
--- the places for an array's elements while it is read
+-- the same of the vector that holds the elements while an array is read
 abbrev pub SlotsFit : RattleType → RattleType → Type 0
 SlotsFit T N = OptionFits (vec.the_row (option.the_row T) N unit)
 
--- the elements of an array while it is written
+-- the same of the iterator that holds the elements while an array is written
 abbrev pub ItemsFit : RattleType → RattleType → Type 0
 ItemsFit T N = OptionFits (items.the_row T N)

@@ -1,4 +1,4 @@
--- Words of the laws.
+-- Words of the laws. The laws themselves are in docs/LAWS.md.
 use Rattle.std.specs.Prelude.{◌≡◌, ◌≤◌, ◌<◌, ◌+◌, ℕ, ◌++◌, List, [], ◌∷◌, length, take, Result, Ok, Err, MatchResult}
 use Rattle.std.specs.List.{Any, flat_map}
 use Rattle.scroll.specs.Arrays.{Nested, WritesArray, LeavesArray}
@@ -11,30 +11,32 @@ use Rattle.scroll.specs.declared.error.Error.TheVariants.{BadInput}
 use Rattle.scroll.specs.declared.runner.Answer.{Answer}
 use Rattle.scroll.specs.declared.runner.Command.{Command}
 
--- the piece covers the place
+-- the offset `i` is that of one of the bytes of the piece `p`
 abbrev pub Covers : Piece → ℕ → Type 0
 Covers p i = (p.0 ≤ i) × (i < p.0 + length p.1)
 
--- no place is covered by a piece of each
+-- no offset is covered by a piece of `ps` and by one of `qs`
 abbrev pub Apart : List Piece → List Piece → Type 0
 Apart ps qs = (i : ℕ) → Any (λ p. Covers p i) ps → Any (λ q. Covers q i) qs → ⊥
 
--- the history of a list of commands that runs over a buffer, whatever the first cursor
+-- `history` is that of a run of the commands over the buffer `first`, from some cursor
 pub record IsHistory (first : List ℕ) (commands : List Command) (history : List Piece) : Type 0 where
   pub from : ℕ
   pub to : ℕ
   pub answers : List Answer
   pub run : Run first [] from commands answers history to
 
--- the piece is in the history, and no later one covers a place of it
+-- the piece `p` is in the history, and no later piece covers an offset of it
 pub record WrittenLast (history : List Piece) (p : Piece) : Type 0 where
   pub before : List Piece
   pub after : List Piece
   pub split : history ≡ before ++ p ∷ after
   pub apart : Apart (p ∷ []) after
 
--- an array of arrays, written, refused, and its leaves: those of the innermost elements, in order. The lengths are those of
--- `Nested`; with no length, one element.
+-- `WritesNested writes counts`, `LeavesNested writes refuses counts`, `leaves_nested leaves counts`: how an array of
+-- arrays is written, what a refused one leaves, and its leaves, those of the innermost elements in order: with no
+-- length `writes`, `refuses` and `leaves`, and else `WritesArray`, `LeavesArray` and the leaves of each element, over
+-- the same for the other lengths. The lengths are those of `Nested`.
 abbrev pub WritesNested : {V : Type 0} → (V → List ℕ → List ℕ → ℕ → Type 0) → (counts : List ℕ) → Nested V counts → List ℕ → List ℕ → ℕ → Type 0
 WritesNested writes [] = writes
 WritesNested writes (count ∷ counts) = WritesArray (WritesNested writes counts)
@@ -47,40 +49,43 @@ abbrev pub leaves_nested : {V : Type 0} → (V → List (List ℕ)) → (counts 
 leaves_nested leaves [] = leaves
 leaves_nested leaves (count ∷ counts) = flat_map (leaves_nested leaves counts)
 
--- a read that fits its source is the same on every source that is as long and begins with the same bytes
+-- what reads as a value, with a size of at most the length of the source, reads so on every source that is at least as
+-- long and begins with as many of the same bytes
 abbrev pub IsLocal : {V : Type 0} → (List ℕ → V → ℕ → Type 0) → Type 0
 IsLocal {V} reads =
     (s t : List ℕ) (v : V) (n : ℕ) → reads s v n → n ≤ length s → length s ≤ length t → take n t ≡ take n s → reads t v n
 
--- the size is at most one more than the source's length
+-- each size is at most one more than the length of the source
 abbrev pub IsBounded : {V : Type 0} → (List ℕ → V → ℕ → Type 0) → Type 0
 IsBounded {V} reads = (s : List ℕ) (v : V) (n : ℕ) → reads s v n → n ≤ length s + 1
 
--- the size is at most the source's length
+-- each size is at most the length of the source
 abbrev pub IsWithin : {V : Type 0} → (List ℕ → V → ℕ → Type 0) → Type 0
 IsWithin {V} reads = (s : List ℕ) (v : V) (n : ℕ) → reads s v n → n ≤ length s
 
--- errors that say the same: a message is compared by its bytes, and not by where they stand in memory
+-- `SameError d e`: the errors are equal, or both are `BadInput` with equal sizes and messages of the same bytes,
+-- wherever these are in memory
 abbrev pub SameError : Error → Error → Type 0
 SameError (BadInput size msg) (BadInput size' msg') = (size ≡ size') × (msg.now ≡ msg'.now)
 SameError d e = d ≡ e
 
--- answers that say the same
+-- `SameAnswer q r`: both results are the same value with the same size, or both are errors that say the same, by
+-- `SameError`
 abbrev pub SameAnswer : {V : Type 0} → Result (V × ℕ) Error → Result (V × ℕ) Error → Type 0
 SameAnswer (Ok x) (Ok y) = x ≡ y
 SameAnswer (Err d) (Err e) = SameError d e
 SameAnswer q r = ⊥
 
--- the answer is allowed
+-- `r` is a value and a size of which `reads` holds, or an error of which `refuses` holds
 abbrev pub Allows : {V : Type 0} → (V → ℕ → Type 0) → (Error → Type 0) → Result (V × ℕ) Error → Type 0
 Allows reads refuses r = MatchResult r (λ x. reads x.0 x.1) (λ e. refuses e)
 
--- exactly one answer is allowed
+-- some result is allowed, and each that is allowed is the same, by `SameAnswer`
 pub record AllowsOne {V : Type 0} (reads : V → ℕ → Type 0) (refuses : Error → Type 0) : Type 0 where
   pub answer : Result (V × ℕ) Error
   pub allowed : Allows reads refuses answer
   pub only : (q : Result (V × ℕ) Error) → Allows reads refuses q → SameAnswer q answer
 
--- exactly one answer is allowed at each place of each buffer
+-- the same of a read at each offset of each buffer, with `BadOffset` past the end
 abbrev pub AllowsOneAtEach : {V : Type 0} → (List ℕ → V → ℕ → Type 0) → (List ℕ → Error → Type 0) → Type 0
 AllowsOneAtEach reads refuses = (b : List ℕ) (o : ℕ) → AllowsOne (ReadsAt reads b o) (RefusesAt refuses IsBadOffset b o)

@@ -1,33 +1,33 @@
--- Numbers in LEB128 that are written: the spelling of value and count.
+-- Writes in LEB128. A number is written by its spelling, in as many bytes as its `Counted` says.
 use Rattle.std.specs.Prelude.{ℕ, ◌+◌, ◌*◌, ◌%◌, ◌^◌, ◌≤◌, List, ℤ, pos, negsuc}
 use Rattle.scroll.specs.Bytes.{WritesFront}
 use Rattle.scroll.specs.Leb128.{Counted}
 use Rattle.scroll.specs.Spelling.{spelling, unsigned_form}
 
--- the text of a number, unsigned or signed, of the length that it holds
+-- the spelling of the number: the one leaf of a `Uleb128`, of a `Sleb128`
 abbrev pub uleb_text : Counted ℕ → List ℕ
 uleb_text x = spelling x.value x.count
 
 abbrev pub sleb_text : Counted ℤ → List ℕ
 sleb_text x = spelling (unsigned_form x.value x.count) x.count
 
--- that text, written to the front of a target
+-- the spelling is written over the start of a target: `WritesFront`; a shorter target is refused by `LeavesShort`
 abbrev pub WritesUleb : Counted ℕ → List ℕ → List ℕ → ℕ → Type 0
 WritesUleb x = WritesFront x.count (uleb_text x)
 
 abbrev pub WritesSleb : Counted ℤ → List ℕ → List ℕ → ℕ → Type 0
 WritesSleb x = WritesFront x.count (sleb_text x)
 
--- the least of the counts that a number can be spelled with
+-- `spelled` holds of `n`, and of no number below it
 pub record IsLeast (spelled : ℕ → Type 0) (n : ℕ) : Type 0 where
   pub has : spelled n
   pub least : (m : ℕ) → spelled m → n ≤ m
 
--- a signed number without its sign: v, or -1 - v where v is below zero
+-- `turned_round v`: a signed number without its sign: `v`, or `-1 - v` where `v` is negative
 abbrev pub turned_round : ℤ → ℕ
 turned_round (pos v) = v
 turned_round (negsuc v) = v
 
--- the number whose first nine groups are those of a word, and whose tenth group is given
+-- the number whose first nine groups are those of `low`, and whose tenth group is `tenth`
 abbrev pub ten_groups : ℕ → ℕ → ℕ
 ten_groups low tenth = tenth * 2 ^ 63 + low % 2 ^ 63

@@ -1,18 +1,25 @@
--- The definitions that the contracts cite, in an order to read them in.
+-- The library. Numbers are unbounded integers, lists are finite, and indices and offsets count from 0. A *place* in a
+-- name is an offset or an index.
+--
+-- A word that begins with a capital is a statement, which holds of its parameters or does not; any other word is a
+-- value. A statement of several parts names them: where `h` proves it, `h.size` proves the part `size`.
+--
+-- None of these words retraces the code. The code shifts, copies and overwrites one array; the definitions have sums of
+-- powers, lists by index, and a history of pieces in which nothing is overwritten.
 pub mod Bytes
-pub mod Exact
 pub mod Numbers
 pub mod Floats
 pub mod Errors
+pub mod Reads
+pub mod Writes
 pub mod Texts
 pub mod Search
 pub mod CStrings
 pub mod CStringTexts
-pub mod Reads
-pub mod Writes
 pub mod Zeros
-pub mod Fits
 pub mod Arrays
+pub mod Exact
+pub mod Fits
 pub mod History
 pub mod Leaves
 pub mod Streams
@@ -20,9 +27,9 @@ pub mod Leb128
 pub mod LebRefusals
 pub mod Spelling
 pub mod LebWrites
-pub mod Spans
 pub mod Loads
+pub mod Spans
 pub mod Runs
 pub mod Laws
--- No definitions: lemmas that the implementations cite in the laws of their traits, which may cite specs/ alone.
+-- Lemmas, and no definitions: the implementations cite them for the laws of their traits, which may cite specs/ alone.
 pub mod lemmas

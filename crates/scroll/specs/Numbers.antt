@@ -1,41 +1,47 @@
--- Numbers as bytes, in either order.
+-- Numbers as bytes. The byte order is `Little`, with the lowest byte first, or `Big`, with the highest first. That
+-- `number_bytes` is the only list of bytes that reads as the number is the law `laws::number_reads_back`: its clauses
+-- `unsigned` and `only`, and for `signed_bytes` `signed` and `only_signed`.
 use Rattle.std.specs.Prelude.{ℕ, ◌*◌, ◌^◌, ◌-◌, ◌/◌, ◌%◌, List, slice_index, ℤ, pos, ◌-ℤ◌, ◌+ℤ◌, nat_abs, int_lt, nat_lt, if◌then◌else◌}
 use Rattle.scroll.specs.Bytes.{sum_below, list_below, ReadsFront, WritesFront}
 use Rattle.scroll.specs.declared.endian.Endian.{Endian}
 use Rattle.scroll.specs.declared.endian.Endian.TheVariants.{Little, Big}
 
--- the number in the first w bytes of s: the sum of each byte times a power of 256
+-- `number order w s`: the number in the first `w` bytes of `s`. In the order `Little` it is the sum of `s[i] * 256^i`
+-- over the indices `i` below `w`, and in the order `Big` the sum of `s[i] * 256^(w - 1 - i)`.
 abbrev pub number : Endian → ℕ → List ℕ → ℕ
 number Little w s = sum_below (λ i. slice_index s i * 256 ^ i) w
 number Big w s = sum_below (λ i. slice_index s i * 256 ^ (w - 1 - i)) w
 
--- the signed number in the first w bytes of s, in two's complement: the number, less 256 ^ w where it is at least
--- half of that
+-- the signed number in the first `w` bytes of `s`, in two's complement: `number order w s`, less `256^w` where it is at
+-- least half of `256^w`
 abbrev pub signed_number : Endian → ℕ → List ℕ → ℤ
 signed_number order w s =
     if nat_lt (2 * number order w s) (256 ^ w) then pos (number order w s) else pos (number order w s) -ℤ pos (256 ^ w)
 
--- the w bytes of a number: its digits to the base 256
+-- `number_bytes order w x`: the `w` lowest digits of `x` to the base 256, `x / 256^i mod 256` for the `i` below `w`.
+-- The lowest comes first in the order `Little`, and the highest in the order `Big`.
 abbrev pub number_bytes : Endian → ℕ → ℕ → List ℕ
 number_bytes Little w x = list_below (λ i. x / 256 ^ i % 256) w
 number_bytes Big w x = list_below (λ i. x / 256 ^ (w - 1 - i) % 256) w
 
--- the number that stands for a signed one in two's complement of w bytes: it, plus 256 ^ w where it is below zero
+-- `x` in two's complement of `w` bytes, as an unsigned number: `x`, or `x + 256^w` where `x` is negative
 abbrev pub twos_complement : ℕ → ℤ → ℕ
 twos_complement w x = if int_lt x (pos 0) then nat_abs (pos (256 ^ w) +ℤ x) else nat_abs x
 
--- the w bytes of a signed number, in two's complement
+-- the `w` bytes of `x` in two's complement: those of `twos_complement w x`
 abbrev pub signed_bytes : Endian → ℕ → ℤ → List ℕ
 signed_bytes order w x = number_bytes order w (twos_complement w x)
 
--- a number of width w that is read from the front of a source
+-- a number of `w` bytes, unsigned or signed, is read from the start of a source: `ReadsFront w` with `number order w`,
+-- with `signed_number order w`
 abbrev pub ReadsNumber : ℕ → Endian → List ℕ → ℕ → ℕ → Type 0
 ReadsNumber w order = ReadsFront w (number order w)
 
 abbrev pub ReadsSigned : ℕ → Endian → List ℕ → ℤ → ℕ → Type 0
 ReadsSigned w order = ReadsFront w (signed_number order w)
 
--- a number of width w that is written to the front of a target
+-- a number of `w` bytes, unsigned or signed, is written over the start of a target: `WritesFront w` with
+-- `number_bytes order w x`, with `signed_bytes order w x`
 abbrev pub WritesNumber : ℕ → Endian → ℕ → List ℕ → List ℕ → ℕ → Type 0
 WritesNumber w order x = WritesFront w (number_bytes order w x)
 

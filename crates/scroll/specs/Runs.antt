@@ -1,4 +1,5 @@
--- What a list of commands answers over a buffer, and what it leaves.
+-- Runs of commands. These words say what each command of a list returns over one buffer, and what the list leaves: they
+-- are the contract of `runner::run`.
 use Rattle.std.specs.Prelude.{◌≡◌, ◌<◌, ℕ, ◌+◌, ◌++◌, Bool, true, false, List, [], ◌∷◌, length, take, map, Ok, Err, ⊤}
 use Rattle.std.specs.String.{string_bytes}
 use Rattle.scroll.specs.Arrays.{ReadsArray, RefusesArray}
@@ -32,7 +33,7 @@ use Rattle.scroll.specs.declared.runner.Value.TheVariants as value
 use Rattle.scroll.specs.declared.runner.Width.{Width}
 use Rattle.scroll.specs.declared.runner.Width.TheVariants as width
 
--- how many bytes a number of a width has
+-- `bytes_in w`: how many bytes a number of the width has
 abbrev pub bytes_in : Width → ℕ
 bytes_in width.U8 = 1
 bytes_in width.I8 = 1
@@ -45,7 +46,7 @@ bytes_in width.I64 = 8
 bytes_in width.U128 = 16
 bytes_in width.I128 = 16
 
--- whether a number of a width has a sign
+-- `is_signed w`: whether a number of the width is signed
 abbrev pub is_signed : Width → Bool
 is_signed width.I8 = true
 is_signed width.I16 = true
@@ -54,13 +55,14 @@ is_signed width.I64 = true
 is_signed width.I128 = true
 is_signed w = false
 
--- a number with a sign or without, and its size
+-- `ReadsWide sign w order source x n`: a number of `w` bytes is read, signed where `sign` is true and else unsigned
 abbrev pub ReadsWide : Bool → ℕ → Endian → List ℕ → Value → ℕ → Type 0
 ReadsWide false w order source (value.Unsigned x) n = ReadsNumber w order source x n
 ReadsWide true w order source (value.Signed x) n = ReadsSigned w order source x n
 ReadsWide sign w order source x n = ⊥
 
--- the value and the size that a kind reads; texts and slices are compared by their bytes
+-- `Reads what source x n`: a value is read as the relation of its type says. Texts, slices and C strings are compared
+-- by their bytes.
 abbrev pub Reads : Kind → List ℕ → Value → ℕ → Type 0
 Reads (kind.Number w order) source x n = ReadsWide (is_signed w) (bytes_in w) order source x n
 Reads (kind.Text ctx) source (value.Text text) n = ReadsText ctx source (string_bytes text) n
@@ -75,7 +77,7 @@ Reads (kind.Textx2 ctx) source (value.Textx2 a b) n =
     ReadsArray (ReadsText ctx) 2 source (string_bytes a ∷ string_bytes b ∷ []) n
 Reads what source x n = ⊥
 
--- the error that a kind refuses with
+-- `Refuses what source e`: a value is refused as the relation of its type says
 abbrev pub Refuses : Kind → List ℕ → Error → Type 0
 Refuses (kind.Number w order) source e = RefusesShort (bytes_in w) source e
 Refuses (kind.Text ctx) source e = RefusesText ctx source e
@@ -88,7 +90,8 @@ Refuses (kind.U8x0 order) source e = RefusesArray (ReadsNumber 1 order) (Refuses
 Refuses (kind.U16x3 order) source e = RefusesArray (ReadsNumber 2 order) (RefusesShort 2) IsBadOffset 3 source e
 Refuses (kind.Textx2 ctx) source e = RefusesArray (ReadsText ctx) (RefusesText ctx) IsBadOffset 2 source e
 
--- the leaves of what is written
+-- `leaves_of x`: the leaves of what is written: the bytes of each number, of a text, of each slice, of a C string with
+-- its zero, and the encoding of a number in LEB128, `uleb_text` or `sleb_text`
 abbrev pub leaves_of : Put → List (List ℕ)
 leaves_of (put.U8 x order) = number_bytes order 1 x ∷ []
 leaves_of (put.I8 x order) = signed_bytes order 1 x ∷ []
@@ -108,38 +111,39 @@ leaves_of (put.Sleb x) = sleb_text x ∷ []
 leaves_of (put.U16x3 xs order) = map (number_bytes order 2) xs
 leaves_of (put.Bytesx2 first second) = first.now ∷ second.now ∷ []
 
--- where a command acts
+-- `place_of at cursor`: the offset at which a command acts: its own, or the cursor
 abbrev pub place_of : Place → ℕ → ℕ
 place_of (place.At offset) cursor = offset
 place_of place.Cursor cursor = cursor
 
--- the cursor after an accepted command of this size
+-- `moved at cursor size`: the cursor after a command of this size succeeded: advanced by the size where the command
+-- acts at the cursor, and else unchanged
 abbrev pub moved : Place → ℕ → ℕ → ℕ
 moved (place.At offset) cursor size = cursor
 moved place.Cursor cursor size = cursor + size
 
--- a value that is read where a command acts, and the cursor after it
+-- a value is read at the offset at which a command acts, `ReadsAt`, and `after` is the cursor after it
 abbrev pub ReadsHere : {V : Type 0} → (List ℕ → V → ℕ → Type 0) → List ℕ → ℕ → Place → V → ℕ → Type 0
 ReadsHere reads buffer cursor at x after =
     (n : ℕ) × ReadsAt reads buffer (place_of at cursor) x n × (after ≡ moved at cursor n)
 
--- a refusal where a command acts, which leaves the cursor
+-- a read is refused at the offset at which a command acts, `RefusesAt`, and the cursor is unchanged
 abbrev pub RefusesHere : {E : Type 0} → (List ℕ → E → Type 0) → (ℕ → E → Type 0) → List ℕ → ℕ → Place → E → ℕ → Type 0
 RefusesHere refuses past_end buffer cursor at e after =
     RefusesAt refuses past_end buffer (place_of at cursor) e × (after ≡ cursor)
 
--- a fact of a refusal; of want of memory, which is no refusal, it says nothing
+-- `UnlessNoMemory fact e`: `fact` holds of the error, unless it is `NoMemory`
 abbrev pub UnlessNoMemory : (Error → Type 0) → Error → Type 0
 UnlessNoMemory fact NoMemory = ⊤
 UnlessNoMemory fact e = fact e
 
--- the answer of a read of this kind, and the cursor after it
+-- `ReadStep buffer cursor at what a after`: the result `a` of one read, and the cursor `after` it
 abbrev pub ReadStep : List ℕ → ℕ → Place → Kind → Answer → ℕ → Type 0
 ReadStep buffer cursor at what (answer.Read x) after = ReadsHere (Reads what) buffer cursor at x after
 ReadStep buffer cursor at what (answer.Refused e) after = RefusesHere (Refuses what) IsBadOffset buffer cursor at e after
 ReadStep buffer cursor at what (answer.Wrote n) after = ⊥
 
--- the answer of a write of these leaves, and the cursor after it
+-- `WriteStep buffer cursor at leaves a after`: the result `a` of one write of these leaves, and the cursor `after` it
 abbrev pub WriteStep : List ℕ → ℕ → Place → List (List ℕ) → Answer → ℕ → Type 0
 WriteStep buffer cursor at leaves (answer.Wrote n) after =
     AnswersLeaves (length buffer) (place_of at cursor) leaves (Ok n) × (after ≡ moved at cursor n)
@@ -147,21 +151,23 @@ WriteStep buffer cursor at leaves (answer.Refused e) after =
     AnswersLeaves (length buffer) (place_of at cursor) leaves (Err e) × (after ≡ cursor)
 WriteStep buffer cursor at leaves (answer.Read x) after = ⊥
 
--- one command over the buffer that is seen: its answer, the pieces that it puts there, and the cursor after it
+-- `Step buffer cursor c a written after`: one command over the buffer that is seen: its result `a`, the pieces that it
+-- writes, and the cursor `after` it
 abbrev pub Step : List ℕ → ℕ → Command → Answer → List Piece → ℕ → Type 0
 Step buffer cursor (command.Read at what) a written after = ReadStep buffer cursor at what a after × (written ≡ [])
 Step buffer cursor (command.Write at x) a written after =
     WriteStep buffer cursor at (leaves_of x) a after
     × (written ≡ pieces (length buffer) (place_of at cursor) (leaves_of x))
 
--- one command from the buffer `old`, which leaves the buffer `new`
+-- one command over the buffer `old`, which leaves the buffer `new`
 pub record IsStep (old new : List ℕ) (cursor : ℕ) (c : Command) (a : Answer) (after : ℕ) : Type 0 where
   pub written : List Piece
   pub step : Step old cursor c a written after
   pub bytes : new ≡ seen old written
 
--- commands one after the other, each over the buffer that is seen after the history so far, with an answer for each;
--- `whole` is the history after the last, and `after` the cursor
+-- `Run first history cursor commands answers whole after`: the commands run one after another, each over what is seen
+-- of `first` after the history so far, and `answers` has the result of each. The pieces of each write are appended to
+-- the history, also those of a write that fails; `whole` is the history at the end, and `after` the cursor.
 abbrev pub Run : List ℕ → List Piece → ℕ → List Command → List Answer → List Piece → ℕ → Type 0
 Run first history cursor [] [] whole after = (whole ≡ history) × (after ≡ cursor)
 Run first history cursor (c ∷ cs) (a ∷ rest) whole after =
@@ -170,8 +176,8 @@ Run first history cursor (c ∷ cs) (a ∷ rest) whole after =
 Run first history cursor [] (a ∷ rest) whole after = ⊥
 Run first history cursor (c ∷ cs) [] whole after = ⊥
 
--- a run of commands from the buffer `first` and the cursor `from`: it appends an answer for each command, in order, the
--- buffer is the one seen after its history, and the cursor is where the last command left it
+-- a run from the buffer `first` and the cursor `from`: its results are appended to `old` in order, `buffer` is what is
+-- seen after its history, and `to` is the cursor after it
 pub record IsRun (first buffer : List ℕ) (from to : ℕ) (commands : List Command) (old new : List Answer) : Type 0 where
   pub answers : List Answer
   pub history : List Piece

@@ -1,21 +1,22 @@
--- Bytes between two places of a buffer: read there, written there, or written as far as there is room.
+-- Bytes between two offsets. These words are for callers that read or write one value after another.
 use Rattle.std.specs.Prelude.{◌≡◌, ℕ, ◌+◌, ◌-◌, ◌<◌, ◌≤◌, ◌++◌, List, length, take, drop}
 use Rattle.scroll.specs.declared.error.Error.{Error}
 use Rattle.scroll.specs.declared.error.Error.TheVariants.{TooBig}
 
--- the bytes between two places are a text
+-- the bytes of the buffer between the offsets `from` and `to` are `text`
 pub record Stands (text buffer : List ℕ) (from to : ℕ) : Type 0 where
   pub inside : to ≤ length buffer
   pub size : to ≡ from + length text
   pub is : drop from buffer ≡ text ++ drop to buffer
 
--- a text is written between two places, and all other bytes stay
+-- `text` is written between the offsets `from` and `to`, and all other bytes are unchanged
 pub record Puts (text old new : List ℕ) (from to : ℕ) : Type 0 where
   pub inside : to ≤ length old
   pub size : to ≡ from + length text
   pub is : new ≡ take from old ++ (text ++ drop to old)
 
--- the front of a text is written, and the part behind it does not fit
+-- a prefix of `text` is written from the offset `from` on, and the next part is refused: it has more bytes than are
+-- left, and the error is `TooBig` with its length and the number of bytes left
 pub record PutsFront (text old new : List ℕ) (from : ℕ) (e : Error) : Type 0 where
   pub front : List ℕ
   pub part : List ℕ

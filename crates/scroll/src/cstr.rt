@@ -1,7 +1,7 @@
-//! C strings: texts of bytes other than zero that end with a zero byte.
+//! C strings: bytes other than zero, followed by a zero byte.
 //!
-//! A [`CStr`] borrows one, a [`CString`] owns one. Each holds exactly one zero byte, at the end: that is a fact of the type,
-//! and no call asks for it.
+//! A [`CStr`] borrows a C string, a [`CString`] owns one. Both hold exactly one zero byte, at the end. Their types
+//! ensure this, so no call requires it.
 //!
 //! ```rust
 //! let text = CStr::from_bytes_until_nul(b"on\0off\0").ok_or("no zero")?;
@@ -21,10 +21,10 @@ use std::result;
 
 mod of_std;
 
-/// A borrowed C string.
+/// A borrowed C string. It is read and written in the context `()`, and its size counts the zero.
 #[derive(Clone, Copy, Debug)]
 pub struct CStr<'a> {
-    // The text, and the zero behind it.
+    // The text and the zero after it.
     bytes: &'a [u8],
     ghost one_zero: { IsCString bytes.now },
 }
@@ -32,8 +32,8 @@ pub struct CStr<'a> {
 impl<'a> CStr<'a> {
     ghost use Rattle.scroll.specs.CStringTexts.{c_str_text};
 
-    /// The C string at the front of `bytes`: its first bytes up to and with the first zero. `None` is answered exactly where
-    /// there is no zero.
+    /// Returns the C string at the front of `bytes`: the bytes up to and including the first zero. It borrows `bytes`.
+    /// Returns `None` exactly where `bytes` contains no zero.
     #[inline(always)]
     pub fn from_bytes_until_nul(bytes: &'a [u8]) -> Option<CStr<'a>>
         ensures found { OnSome result (first_place 0 bytes.now < length bytes.now) }
@@ -50,7 +50,7 @@ impl<'a> CStr<'a> {
         })
     }
 
-    /// The text, without the zero.
+    /// Returns the text without the zero.
     #[inline]
     pub fn to_bytes(self) -> &'a [u8]
         ensures text { result.now ≡ c_str_text self.entry }
@@ -59,7 +59,7 @@ impl<'a> CStr<'a> {
         &self.bytes[..self.bytes.len() - 1]
     }
 
-    /// The text, and the zero behind it.
+    /// Returns the text with the zero after it.
     #[inline]
     pub fn to_bytes_with_nul(self) -> &'a [u8]
         ensures text { result.now ≡ c_str_text self.entry ++ 0 ∷ [] }
@@ -76,7 +76,7 @@ impl<'a> PartialEq for CStr<'a> {
 
     ghost laws = { on_per c_str_text (partial_equiv_from_equiv nat_list_eq_equiv) };
 
-    /// Whether the two hold the same bytes.
+    /// Returns whether both hold the same bytes.
     fn eq(&self, other: &CStr<'a>) -> bool
         ensures answer { result ≡ pointwise nat_eq (c_str_text self.now) (c_str_text other.now) }
         ensures same { IsTrue result ↔ (c_str_text self.now ≡ c_str_text other.now) }
@@ -91,10 +91,11 @@ impl<'a> Eq for CStr<'a> {
     ghost laws = { on_equiv c_str_text nat_list_eq_equiv };
 }
 
-/// A C string that owns its memory.
+/// A C string that owns its memory. It is read in a context `&Global`, the allocator, and written in the context `()`;
+/// its size counts the zero.
 #[derive(Debug, Drop)]
 pub struct CString {
-    // The text, and the zero behind it.
+    // The text and the zero after it.
     bytes: Vec<u8>,
     ghost one_zero: { IsCString bytes.items },
 }
@@ -102,10 +103,11 @@ pub struct CString {
 impl CString {
     ghost use Rattle.scroll.specs.CStringTexts.{c_str_text, c_string_text};
 
-    /// A C string of this text, to which a zero is added.
+    /// Copies `text` and appends a zero.
     ///
-    /// A text that has a zero is refused by [`Error::BadInput`], with the place of its first zero for a size and the message
-    /// `nul byte in text`. That is tested before memory is asked for; want of memory is [`Error::NoMemory`].
+    /// A text that contains a zero returns [`Error::BadInput`] with the message `nul byte in text`, whose `size` is the
+    /// offset of its first zero; this is checked before memory is allocated. An allocation failure returns
+    /// [`Error::NoMemory`].
     pub fn new(alloc: Global, text: &[u8]) -> Result<CString>
         ensures text { IfOk result (λ s. c_string_text s ≡ text.now) }
         ensures no_zero { OnOk result (first_place 0 text.now ≡ length text.now) }
@@ -124,14 +126,14 @@ impl CString {
         }
     }
 
-    /// The same C string, borrowed.
+    /// Borrows this as a [`CStr`].
     pub fn as_c_str(&self) -> CStr<'_>
         ensures { c_str_text result ≡ c_string_text self.now }
     {
         CStr { bytes: &self.bytes }
     }
 
-    /// The text, without the zero.
+    /// Returns the text without the zero.
     pub fn as_bytes(&self) -> &[u8]
         ensures text { result.now ≡ c_string_text self.now }
         ensures no_zero { first_place 0 result.now ≡ length result.now }
@@ -139,7 +141,7 @@ impl CString {
         self.as_c_str().to_bytes()
     }
 
-    /// The text, and the zero behind it.
+    /// Returns the text with the zero after it.
     pub fn as_bytes_with_nul(&self) -> &[u8]
         ensures text { result.now ≡ c_string_text self.now ++ 0 ∷ [] }
         ensures one_zero { IsCString result.now }
@@ -148,7 +150,7 @@ impl CString {
     }
 }
 
-// A text, and a zero behind it. Memory for both is asked for once.
+// Copies a text and appends a zero, with one allocation.
 fn with_zero(alloc: Global, text: &[u8]) -> result::Result<Vec<u8>, AllocError>
     ensures held { IfOk result (λ bytes. bytes.items ≡ text.now ++ 0 ∷ []) }
 {

@@ -1,7 +1,7 @@
 //! Contexts, and the traits of types that are read and written in one.
 //!
-//! A context says how the bytes of a value are to be taken: in which byte order, up to which byte, how many of them. Each
-//! call is given its context; the calls without `_with` in their name take the context type's default.
+//! A context says how the bytes of a value are interpreted: in which byte order, up to which delimiter, or how many of
+//! them. A call whose name ends in `_with` takes the context; the others use the default of the context's type.
 ghost use Rattle.std.specs.Prelude.{◌≡◌, ℕ, ◌+◌, ◌^◌, ◌≤◌, ◌<◌, List, length, drop, IfOk, IfErr};
 
 mod arrays;
@@ -21,92 +21,98 @@ pub use zeros::{Zeros, padding};
 
 /// A type that can be read from bytes in a context.
 ///
-/// An implementation says by `reads` which values and sizes it may give, and by `refuses` which errors. What a caller
-/// generic over the type knows of a read is what these two say, and that the size in bytes is at most one more than the
-/// source has.
+/// An implementation says by `reads` which values and sizes a read may return, and by `refuses` which errors. A caller
+/// that is generic over the type knows these two of a read, and that its size is at most one byte more than the source
+/// has.
 pub trait TryFromCtx<'a, Ctx: Copy>: Sized {
-    /// What the type refuses with.
+    /// The error of a read.
     type Error;
 
-    // Holds of a context, a source, and each value and size that may be given for them.
+    // Holds of a context, a source, and each value and size that a read of them may return.
     ghost reads: { Ctx → List ℕ → Self → ℕ → Type 0 };
 
-    // Holds of a context, a source, and each error that may be given for them.
+    // Holds of a context, a source, and each error that a read of them may return.
     ghost refuses: { Ctx → List ℕ → Self.Error → Type 0 };
 
-    /// The value at the front of `from`, and how many bytes it takes.
+    /// Reads a value at the front of `from` in the context `ctx`, and returns it with its size in bytes.
+    ///
+    /// Returns the type's error where `from` doesn't begin with a value.
     fn try_from_ctx(from: &'a [u8], ctx: Ctx) -> Result<(Self, usize), Self::Error>
         ensures read { IfOk result (λ read. reads ctx from.now read.0 read.1) }
         ensures refused { IfErr result (λ e. refuses ctx from.now e) };
 
-    // The size is at most one more than the source has bytes.
+    // The size is at most one more than the length of the source.
     ghost reads_bounded: { (ctx : Ctx) (source : List ℕ) (x : Self) (n : ℕ) → reads ctx source x n → n ≤ length source + 1 };
 }
 
 /// A type that can be written to bytes in a context.
 ///
-/// An implementation says by `writes` which target and size it may leave, and by `refuses` which target goes with which
-/// error. What a caller generic over the type knows of a write is what these two say, that the size in bytes is at most
-/// that of the target, and that the bytes from the size on stay.
+/// An implementation says by `writes` which target and size a write may leave, and by `refuses` which target and error.
+/// A caller that is generic over the type knows these two of a write, that its size is at most the length of the
+/// target, and that the bytes after the first `size` are unchanged.
 pub trait TryIntoCtx<Ctx: Copy>: Sized {
-    /// What the type refuses with.
+    /// The error of a write.
     type Error;
 
-    // Holds of a context, a value, a target before and after, and each size that may be answered for them.
+    // Holds of a context, a value, a target before and after, and each size that a write may return for them.
     ghost writes: { Ctx → Self → List ℕ → List ℕ → ℕ → Type 0 };
 
-    // Holds of a context, a value, a target before and after, and each error that may be answered for them.
+    // Holds of a context, a value, a target before and after, and each error that a write may return for them.
     ghost refuses: { Ctx → Self → List ℕ → List ℕ → Self.Error → Type 0 };
 
-    /// Writes the value to the front of `dst`, and answers how many bytes it took.
+    /// Writes the value to the front of `dst` in the context `ctx`, and returns its size in bytes.
+    ///
+    /// Returns the type's error where the value can't be written whole; the type says what is then in `dst`.
     fn try_into_ctx(self, dst: &mut [u8], ctx: Ctx) -> Result<usize, Self::Error>
         ensures wrote { IfOk result (λ n. writes ctx self dst.old dst.new n) }
         ensures refused { IfErr result (λ e. refuses ctx self dst.old dst.new e) };
 
-    // The size is at most that of the target.
+    // The size is at most the length of the target.
     ghost writes_bounded: { (ctx : Ctx) (x : Self) (old new : List ℕ) (n : ℕ) → writes ctx x old new n → n ≤ length old };
 
-    // The bytes behind what was written stay.
+    // The bytes after those that were written are unchanged.
     ghost writes_keeps: { (ctx : Ctx) (x : Self) (old new : List ℕ) (n : ℕ) → writes ctx x old new n → drop n new ≡ drop n old };
 }
 
-/// A type that can be made from enough bytes in a context, with no refusal.
+/// A type that can be read infallibly from enough bytes in a context.
 pub trait FromCtx<Ctx: Copy>: Sized {
-    // How many bytes are needed.
+    // The number of bytes that a source must have.
     ghost need: { Ctx → ℕ };
 
-    // Holds of a context, a source of that many bytes or more, and each value that may be made of it.
+    // Holds of a context, a source of at least that many bytes, and each value that may be made of it.
     ghost makes: { Ctx → List ℕ → Self → Type 0 };
 
-    /// The value at the front of `this`, which has the bytes that the type needs.
+    /// Returns the value at the front of `this` in the context `ctx`. `this` has at least as many bytes as the type
+    /// needs.
     fn from_ctx(this: &[u8], ctx: Ctx) -> Self
         requires { need ctx ≤ length this.now }
         ensures { makes ctx this.now result };
 }
 
-/// A type that can be written to enough bytes in a context, with no refusal.
+/// A type that can be written infallibly to enough bytes in a context.
 pub trait IntoCtx<Ctx: Copy>: Sized {
-    // How many bytes are needed.
+    // The number of bytes that a target must have.
     ghost need: { Ctx → ℕ };
 
-    // Holds of a context, a value, and a target of that many bytes or more before and after.
+    // Holds of a context, a value, and a target of at least that many bytes before and after.
     ghost leaves: { Ctx → Self → List ℕ → List ℕ → Type 0 };
 
-    /// Writes the value to the front of `dst`, which has the bytes that the type needs.
+    /// Writes the value to the front of `dst` in the context `ctx`. `dst` has at least as many bytes as the type needs;
+    /// those after them are unchanged.
     fn into_ctx(self, dst: &mut [u8], ctx: Ctx)
         requires { need ctx ≤ length dst.old }
         ensures { leaves ctx self dst.old dst.new };
 
-    // The bytes behind those that are needed stay.
+    // The bytes after those that the type needs are unchanged.
     ghost leaves_keeps: { (ctx : Ctx) (x : Self) (old new : List ℕ) → leaves ctx x old new → drop (need ctx) new ≡ drop (need ctx) old };
 }
 
-/// A type whose size in a context is known before there is a value.
+/// A type whose size in a context is the same for all values.
 pub trait SizeWith<Ctx> {
-    // How many bytes a value takes.
+    // The size of a value in bytes.
     ghost size: { Ctx → ℕ };
 
-    /// How many bytes a value takes in this context.
+    /// Returns the size of a value in bytes in the context `ctx`.
     ///
     /// ```rust
     /// assert_eq!(rt; u64::size_with(&LE), 8);
@@ -116,17 +122,17 @@ pub trait SizeWith<Ctx> {
         ensures { result ≡ size ctx.now };
 }
 
-/// A type whose values have a size in a context.
+/// A type whose values have a size in a context, which may differ from value to value.
 ///
 /// ```rust
 /// let bytes: [u8; 4] = [0xde, 0xad, 0xbe, 0xef];
 /// assert_eq!(rt; bytes.measure_with(&LE), 4);
 /// ```
 pub trait MeasureWith<Ctx> {
-    // How many bytes a value has.
+    // The size of a value in bytes.
     ghost measure: { Ctx → Self → ℕ };
 
-    /// How many bytes the value has in this context.
+    /// Returns the size of the value in bytes in the context `ctx`.
     fn measure_with(&self, ctx: &Ctx) -> usize
         ensures { result ≡ measure ctx.now self.now };
 }

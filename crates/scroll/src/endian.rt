@@ -7,16 +7,16 @@ ghost use Rattle.scroll.specs.declared.endian.Endian.TheVariants.{Little, Big};
 /// The default is the machine's own order, [`NATIVE`].
 #[derive(Clone, Copy, Debug, PartialEq, Eq)]
 pub enum Endian {
-    /// The lowest byte stands first.
+    /// The lowest byte comes first.
     Little,
-    /// The highest byte stands first.
+    /// The highest byte comes first.
     Big,
 }
 
-/// Little-endian: the lowest byte stands first.
+/// Little-endian: the lowest byte comes first.
 pub const LE: Endian = Endian::Little;
 
-/// Big-endian: the highest byte stands first.
+/// Big-endian: the highest byte comes first.
 pub const BE: Endian = Endian::Big;
 
 /// The byte order of network protocols, which is big-endian.
@@ -36,21 +36,21 @@ impl Default for Endian {
 impl From<bool> for Endian {
     ghost from_gives = { λ little order. order ≡ (if little then Little else Big) };
 
-    /// The little-endian order for `true`, the big-endian one for `false`.
+    /// Returns [`LE`] for `true` and [`BE`] for `false`.
     fn from(little_endian: bool) -> Endian {
         if little_endian { LE } else { BE }
     }
 }
 
 impl Endian {
-    /// The byte order of network protocols, [`NETWORK`].
+    /// Returns the byte order of network protocols, [`NETWORK`].
     pub fn network() -> Endian
         ensures { result ≡ Big }
     {
         NETWORK
     }
 
-    /// Whether this is the little-endian order.
+    /// Returns whether this is the little-endian order.
     pub fn is_little(&self) -> bool
         ensures { IsTrue result ↔ (self.now ≡ Little) }
     {

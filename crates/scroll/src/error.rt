@@ -1,35 +1,36 @@
-// What is refused.
+// The errors of reads and writes.
 ghost use Rattle.std.specs.Prelude.{◌≡◌, ◌≤◌, ◌<◌, OnOk, IfErr};
 ghost use Rattle.scroll.specs.declared.error.Error.TheVariants.{IO, TooBig};
 
 use std::{fmt, io, result};
 
-/// Why a read or a write was refused.
+/// Why a read or a write failed.
 ///
-/// No error takes memory, [`Custom`](Error::Custom) aside, whose text its maker allocates.
+/// No error allocates memory except [`Custom`](Error::Custom), whose creator allocates its text.
 #[derive(Debug, Drop)]
 pub enum Error {
-    /// A type of `size` bytes was asked of, or for, only `len` bytes.
+    /// A value of `size` bytes doesn't fit the `len` bytes of the source or of the target.
     TooBig { size: usize, len: usize },
-    /// An offset in bytes that lies past the end.
+    /// This offset, in bytes, is past the end.
     BadOffset(usize),
-    /// Bytes that spell no value, and why. What `size` counts is said by the type that was read.
+    /// The bytes are not a valid value; `msg` says why. The type that was read says what `size` counts.
     BadInput { size: usize, msg: &'static str },
-    /// What a type of one's own says.
+    /// A message of a caller's own type.
     Custom(String),
-    /// A fault of a stream.
+    /// An error of a stream.
     IO(io::Error),
-    /// There was no memory for the answer.
+    /// An allocation failed.
     NoMemory,
 }
 
-/// What a call answers that refuses by [`Error`].
+/// The result of a call whose error is [`Error`].
 pub type Result<T> = result::Result<T, Error>;
 
-/// Returns whether `len` bytes are enough for a value of `size` bytes: fewer are [`Error::TooBig`] with these two numbers.
+/// Checks that `len` bytes are enough for a value of `size` bytes. Returns [`Error::TooBig`] with the two numbers where
+/// they are not.
 ///
-/// A reader or a writer that tests once that there is room can then use [`Cread`](crate::Cread) and
-/// [`Cwrite`](crate::Cwrite), whose calls return no error.
+/// After one such check, a reader or a writer can use [`Cread`](crate::Cread) and [`Cwrite`](crate::Cwrite), whose
+/// calls return no error.
 ///
 /// ```rust
 /// check_room(8, file.len())?;
@@ -69,7 +70,7 @@ impl std::error::Error for Error {}
 impl From<io::Error> for Error {
     ghost from_gives = { λ fault e. e ≡ IO fault };
 
-    /// The fault, as [`Error::IO`].
+    /// Wraps the error of a stream as [`Error::IO`].
     fn from(fault: io::Error) -> Error {
         Error::IO(fault)
     }

@@ -1,4 +1,4 @@
-// Callers of the crate, as its documents show them.
+// Callers of the crate, as the documents show them.
 mod bar;
 mod borrowed_array;
 mod chunk;

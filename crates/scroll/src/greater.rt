@@ -1,4 +1,4 @@
-// Reads and writes where the caller has made sure of room.
+// Reads and writes where the caller ensures that there is room.
 ghost use Rattle.std.specs.Prelude.{◌≡◌, ℕ, ◌+◌, ◌≤◌, List, length, take, drop};
 ghost use Rattle.scroll.specs.Reads.{ByDefault};
 
@@ -6,12 +6,13 @@ use crate::ctx::{FromCtx, IntoCtx};
 use crate::slice;
 use crate::source::Source;
 
-/// Reads values of any type that implements [`FromCtx`] from a byte slice, with no refusal.
+/// Infallible reads from a byte slice, of any type that implements [`FromCtx`].
 ///
-/// An offset counts bytes from the start of the slice. The caller makes sure of room: the offset and the bytes that the
-/// type needs are together at most the slice's length. [`Pread`](crate::Pread) tests it, and refuses.
+/// Offsets are in bytes, from the start of the slice. The caller ensures that the offset plus the number of bytes that
+/// the type needs is at most the length of the slice. [`Pread`](crate::Pread) checks this instead, and returns an
+/// error.
 pub trait Cread<Ctx: Copy>: Source {
-    /// Reads a value at `offset` in the default context, which for numbers is the machine's byte order.
+    /// Reads a value of type `N` at `offset` in the default context, which for numbers is the machine's byte order.
     ///
     /// ```rust
     /// let bytes: [u8; 12] = [1, 0, 0, 0, 0, 0, 0, 0, 0xef, 0xbe, 0, 0];
@@ -27,7 +28,7 @@ pub trait Cread<Ctx: Copy>: Source {
         ensures { ByDefault Ctx.is_default (λ ctx.
             N.makes ctx (drop offset (Self.bytes self)) result) };
 
-    /// Reads a value at `offset` in the context `ctx`.
+    /// Reads a value of type `N` at `offset` in the context `ctx`.
     ///
     /// ```rust
     /// let bytes: [u8; 12] = [0x7f, 255, 255, 255, 255, 255, 255, 255, 0xef, 0xbe, 0xad, 0xde];
@@ -53,16 +54,16 @@ impl<'a, Ctx: Copy> Cread<Ctx> for &'a [u8] {
     }
 }
 
-/// Writes values of any type that implements [`IntoCtx`] to a byte slice, with no refusal.
+/// Infallible writes to a byte slice, of any type that implements [`IntoCtx`].
 ///
-/// An offset counts bytes from the start of the slice. The caller makes sure of room: the offset and the bytes that the
-/// type needs are together at most the slice's length. The bytes before the offset stay, and so do those behind the bytes
-/// that the type needs. [`Pwrite`](crate::Pwrite) tests the room, and refuses.
+/// Offsets are in bytes, from the start of the slice. The caller ensures that the offset plus the number of bytes that
+/// the type needs is at most the length of the slice. The bytes before the offset, and those after the bytes that the
+/// type needs, are unchanged. [`Pwrite`](crate::Pwrite) checks the room instead, and returns an error.
 pub trait Cwrite<Ctx: Copy> {
     // The bytes of the target.
     ghost target: { Self → List ℕ };
 
-    // Holds where two values stand for the same target.
+    // Holds of two values that stand for the same target.
     ghost same_target: { Self → Self → Type 0 };
 
     /// Writes `n` at `offset` in the default context, which for numbers is the machine's byte order.

@@ -1,7 +1,7 @@
-//! Laws of the definitions that the contracts cite. Each function here changes nothing: its contract is the law, and its
-//! proof is the law's. All have an empty body but [`size_is_that_of_reads_and_writes`] and
-//! [`sizes_of_floats_are_those_of_reads_and_writes`], which return the sizes of which their laws speak. Each is named by
-//! what it says, and has the law's number as a second name where it has one.
+//! Laws of the definitions that the contracts use. The functions here change nothing: the contract of each is a law,
+//! and its proof is the proof of the law. All bodies are empty, except those of [`size_is_that_of_reads_and_writes`]
+//! and [`sizes_of_floats_are_those_of_reads_and_writes`], which return the sizes that their laws speak of. The name of
+//! each function says its law; a law that has a number has it as a second name.
 
 mod c_strings;
 mod constants;

@@ -1,13 +1,13 @@
-//! Numbers in LEB128, as DWARF and WebAssembly have them: seven bits a byte, the lowest first.
+//! Numbers in LEB128, as DWARF and WebAssembly have them: seven bits per byte, the lowest first.
 //!
-//! A byte below 128 ends an encoding, and the low seven bits of each byte are the groups of the number. An encoding has one
-//! to ten bytes, and a number has one of each length from its shortest to ten: the longer ones are padded, and they are read
-//! as well. A number that was read is written in as many bytes as it had, and any other in its shortest encoding.
+//! A byte below 128 ends an encoding, and the low seven bits of each byte are the groups of the number. An encoding has
+//! one to ten bytes. A number has one encoding of each length from its shortest up to ten; the longer ones are padded,
+//! and they are read as well. A number that was read is written with as many bytes as it had; any other number is
+//! written in its shortest encoding.
 //!
-//! [`Uleb128`] and [`Sleb128`] are read by the calls of [`Pread`](crate::Pread) and written by those of
-//! [`Pwrite`](crate::Pwrite), in the context `()`. The functions of this
-//! module read the same from a slice ([`plain_uleb`], [`plain_sleb`]), from eight bytes ([`uleb_block`], [`sleb_block`]) and
-//! from a source whose loads are counted ([`uleb_loads`], [`sleb_loads`]).
+//! [`Pread`](crate::Pread) reads [`Uleb128`] and [`Sleb128`], and [`Pwrite`](crate::Pwrite) writes them, in the context
+//! `()`. The functions of this module read the same numbers from a slice ([`plain_uleb`], [`plain_sleb`]), from eight
+//! bytes ([`uleb_block`], [`sleb_block`]) and from a source that counts its loads ([`uleb_loads`], [`sleb_loads`]).
 mod block;
 mod by_loads;
 mod plain;
@@ -22,5 +22,5 @@ pub use plain::{plain_sleb, plain_uleb};
 pub use signed::Sleb128;
 pub use unsigned::Uleb128;
 
-// The refusal of a source that ends before its encoding does.
+// The error of a truncated source, which ends before its encoding does.
 const TRUNCATED: Error = Error::TooBig { size: 1, len: 0 };

@@ -1,4 +1,4 @@
-// Values from readers and to writers.
+// Values read from readers and written to writers.
 ghost use Rattle.std.specs.Prelude.{ℕ, ◌≤◌, replicate, IfOk, OnOk};
 ghost use Rattle.scroll.specs.Reads.{ByDefault};
 ghost use Rattle.scroll.specs.Streams.{TakesValue, AppendsValue};
@@ -9,13 +9,14 @@ use std::io::{Read, Write};
 
 /// Reads values of any type that implements [`FromCtx`] and [`SizeWith`] from a reader.
 ///
-/// It is there for every reader. A read takes the type's size in bytes and no byte more, also where the type needs fewer.
-/// The caller makes sure that the type needs at most its size, and that its size is at most 256 bytes; a number does.
+/// Every reader implements it. A read takes exactly as many bytes as the type's size, even if the type needs fewer. The
+/// caller ensures that the type needs at most its size, and that its size is at most 256 bytes; both hold of every
+/// number.
 ///
-/// An error is the reader's own, or one of kind `UnexpectedEof` where the reader ends too early. A call that is interrupted
-/// is made again. After an error it is not known how many bytes were taken.
+/// An error is the reader's own, or one of kind `UnexpectedEof` where the reader ends too early. An interrupted call is
+/// repeated. After an error, the number of bytes taken is not specified.
 pub trait IOread<Ctx: Copy>: Read {
-    /// Reads a value in the default context, which for numbers is the machine's byte order.
+    /// Reads a value of type `N` in the default context, which for numbers is the machine's byte order.
     ///
     /// ```rust
     /// let mut source = [0xef, 0xbe].as_slice();
@@ -34,7 +35,7 @@ pub trait IOread<Ctx: Copy>: Read {
         self.ioread_with(Ctx::default())
     }
 
-    /// Reads a value in the context `ctx`.
+    /// Reads a value of type `N` in the context `ctx`.
     ///
     /// ```rust
     /// let mut source = [0xef, 0xbe, 0xb0, 0xb0, 0xfe, 0xed, 0xde, 0xad].as_slice();
@@ -64,13 +65,14 @@ impl<Ctx: Copy, R: Read> IOread<Ctx> for R {}
 
 /// Writes values of any type that implements [`IntoCtx`] and [`SizeWith`] to a writer.
 ///
-/// It is there for every writer. A write appends as many bytes as the type's size says: what the value leaves in so many
-/// zeros. The caller makes sure that the type needs at most its size, and that its size is at most 256 bytes; a number does.
+/// Every writer implements it. A write appends exactly as many bytes as the type's size: what the value leaves in that
+/// many zeros. The caller ensures that the type needs at most its size, and that its size is at most 256 bytes; both
+/// hold of every number.
 ///
-/// An error is the writer's own, or one of kind `WriteZero` where the writer takes no more bytes. A call that is interrupted
-/// is made again. After an error it is not known how many bytes were appended. Nothing is flushed.
+/// An error is the writer's own, or one of kind `WriteZero` where the writer takes no more bytes. An interrupted call
+/// is repeated. After an error, the number of bytes appended is not specified. The writer is not flushed.
 pub trait IOwrite<Ctx: Copy>: Write {
-    /// Writes `n` in the default context, which for numbers is the machine's byte order.
+    /// Appends `n` in the default context, which for numbers is the machine's byte order.
     ///
     /// ```rust
     /// let mut target = Vec::new(rt.alloc());
@@ -90,7 +92,7 @@ pub trait IOwrite<Ctx: Copy>: Write {
         self.iowrite_with(n, Ctx::default())
     }
 
-    /// Writes `n` in the context `ctx`.
+    /// Appends `n` in the context `ctx`.
     ///
     /// ```rust
     /// let mut bytes = [0u8; 10];

@@ -1,5 +1,5 @@
-//! Typed values, read from byte slices and written there, each call with a context such as a byte order: after the crate
-//! `scroll` 0.13.0.
+//! Reads typed values from byte slices and writes them there, each in a context such as a byte order. The crate follows
+//! the Rust crate `scroll` 0.13.0.
 //!
 //! ```rust
 //! use scroll::{BE, LE, Pread, Pwrite};
@@ -15,11 +15,11 @@
 //! assert_eq!(rt; bytes, [0xde, 0xff, 0xfe, 0xef]);
 //! ```
 //!
-//! [`Pread`] and [`Pwrite`] test for room, and refuse by an error where there is none. [`Cread`] and [`Cwrite`] have no
-//! refusals: the caller makes sure of room, and the prover checks it. What can be read and written are the types that
-//! implement the traits of [`ctx`]: the ten whole numbers, `f32` and `f64`, texts, byte slices, C strings, numbers in LEB128, arrays, and
-//! types of one's own. [`runner`] answers lists of such reads and writes, and [`laws`] has laws of the definitions that all
-//! contracts cite.
+//! [`Pread`] and [`Pwrite`] check that there is room, and return an error where there is none. [`Cread`] and [`Cwrite`]
+//! return no error: the caller ensures that there is room, and the prover checks it. Any type that implements the
+//! traits of [`ctx`] can be read and written: the ten integer types, `f32` and `f64`, strings, byte slices, C strings,
+//! numbers in LEB128, arrays, and your own types. [`runner`] runs lists of such reads and writes, and [`laws`] states
+//! laws of the definitions that the contracts use.
 #![tactic(auto)]
 
 pub mod cstr;

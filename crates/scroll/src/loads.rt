@@ -1,13 +1,13 @@
-// A source whose loads are counted.
+// A source that counts its loads.
 ghost use Rattle.std.specs.Prelude.{◌≡◌, ◌+◌, ◌^◌, ◌<◌, ◌≤◌, length, take, slice_get, IfSome, IfNone};
 ghost use Rattle.scroll.specs.Loads.{Loading};
 
 use std::marker::Model;
 
-/// A source that gives its bytes by counted loads alone.
+/// A source whose bytes are read only by counted loads.
 ///
-/// [`uleb_loads`](crate::uleb_loads) and [`sleb_loads`](crate::sleb_loads) read from it, and say how many
-/// loads they make at most.
+/// [`uleb_loads`](crate::uleb_loads) and [`sleb_loads`](crate::sleb_loads) read from it, and their contracts bound the
+/// number of loads.
 ///
 /// ```rust
 /// let bytes: [u8; 3] = [0x82, 0x01, 0xff];
@@ -29,7 +29,7 @@ impl<'a> Model for Loads<'a> {
 }
 
 impl<'a> Loads<'a> {
-    /// The source `src`, from which no load was made.
+    /// Returns the source `src` with no loads counted.
     #[inline]
     pub fn new(src: &'a [u8]) -> Loads<'a>
         ensures { result ≡ record { bytes = src.now; made = 0 } }
@@ -37,7 +37,7 @@ impl<'a> Loads<'a> {
         Loads { src, made: 0 }
     }
 
-    /// How many bytes the source has. This is no load.
+    /// Returns the length of the source in bytes. This is not a load.
     #[inline]
     pub fn len(&self) -> usize
         ensures { result ≡ length self.now.bytes }
@@ -45,7 +45,7 @@ impl<'a> Loads<'a> {
         self.src.len()
     }
 
-    /// How many loads were made.
+    /// Returns how many loads were made.
     #[inline]
     pub fn made(&self) -> usize
         ensures { result ≡ self.now.made }
@@ -53,7 +53,7 @@ impl<'a> Loads<'a> {
         self.made
     }
 
-    /// Loads the first eight bytes at once, or nothing where there are fewer. Either is counted.
+    /// Loads the first eight bytes at once. Returns `None` where there are fewer. Both count as one load.
     #[inline]
     pub fn word(&mut self) -> Option<[u8; 8]>
         requires { self.old.made < 2 ^ 63 }
@@ -66,7 +66,7 @@ impl<'a> Loads<'a> {
         self.src.first_chunk::<8>().copied()
     }
 
-    /// Loads the byte at place `i`, or nothing where the source has no such place. Either is counted.
+    /// Loads the byte at offset `i`. Returns `None` where `i` is out of bounds. Both count as one load.
     #[inline]
     pub fn byte(&mut self, i: usize) -> Option<u8>
         requires { self.old.made < 2 ^ 63 }
@@ -77,7 +77,7 @@ impl<'a> Loads<'a> {
         self.src.get(i).copied()
     }
 
-    // One more load was made.
+    // Counts one load.
     #[inline]
     fn count(&mut self)
         requires { self.old.made < 2 ^ 63 }

@@ -1,17 +1,19 @@
-// Errors with the place where they came.
+// Errors with the offset at which they occurred.
 ghost use Rattle.std.specs.Prelude.{◌≡◌, IfOk, IfErr, Ok, Err};
 
 use crate::error::Error;
 use std::result::Result;
 
-/// An error, and the offset in bytes at which it came.
+/// An error, and the offset in bytes at which it occurred.
 #[derive(Debug, Drop)]
 pub struct At<E> {
+    /// The offset in bytes.
     pub offset: usize,
+    /// The error that occurred there.
     pub error: E,
 }
 
-/// The error alone.
+/// Drops the offset.
 impl From<At<Error>> for Error {
     ghost from_gives = { λ located e. e ≡ located.error };
 
@@ -20,18 +22,18 @@ impl From<At<Error>> for Error {
     }
 }
 
-/// Says where an error came: `file.gread_with(&mut offset, LE).at(offset)?`.
+/// Adds an offset to an error: `file.gread_with(&mut offset, LE).at(offset)?`.
 pub trait LocateError<T, E>: Sized {
-    // Holds of what has a value, and the value.
+    // Holds of a result and its value.
     ghost has_value: { Self → T → Type 0 };
 
-    // Holds of what has an error, and the error.
+    // Holds of a result and its error.
     ghost has_error: { Self → E → Type 0 };
 
-    /// Returns the value, or the error with the offset.
+    /// Returns the value, or the error together with `offset`.
     ///
-    /// A read or a write at a cursor leaves the cursor unchanged where it returns an error, so the cursor is then the offset
-    /// at which the value should have stood:
+    /// A read or a write that fails leaves its cursor unchanged, so the cursor is then the offset at which the value
+    /// should start:
     ///
     /// ```rust
     /// let section: Section = file.gread_with(&mut offset, LE).at(offset)?;

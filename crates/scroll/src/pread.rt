@@ -1,4 +1,4 @@
-// Reads at a place, and with a cursor.
+// Reads at an offset and at a cursor.
 ghost use Rattle.std.specs.Prelude.{◌≡◌, ℕ, List, IfOk, IfErr, OnOk, OnErr};
 ghost use Rattle.scroll.specs.Reads.{ReadsSome, ReadsBetween, ReadsAll, RefusesAt, StopsAt, ByDefault};
 ghost use Rattle.scroll.specs.Errors.{PastEnd};
@@ -8,14 +8,14 @@ use crate::source::{ReadFrom, Source};
 
 /// Reads values of any type that implements [`TryFromCtx`](crate::ctx::TryFromCtx) from a byte slice.
 ///
-/// An offset counts bytes from the start of the slice. One past its end is refused by `E::from(Error::BadOffset(offset))`,
-/// which for `E = Error` is that error itself; one at its end reads the empty source. Every other refusal is the type's
-/// own.
+/// Offsets and sizes are in bytes, and an offset counts from the start of the slice. An offset past the end returns
+/// `E::from(Error::BadOffset(offset))`, which for `E = Error` is that error itself; an offset at the end reads an empty
+/// source. Every other error is the type's own.
 pub trait Pread<'a, Ctx: Copy, E>: Source {
-    // Holds of a place past the end and each error that may be given for it.
+    // Holds of an offset past the end and each error that may be returned for it.
     ghost past_end: { ℕ → E → Type 0 };
 
-    /// Reads a value at `offset` in the default context, which for numbers is the machine's byte order.
+    /// Reads a value of type `N` at `offset` in the default context, which for numbers is the machine's byte order.
     ///
     /// ```rust
     /// let bytes = [0x7fu8; 1];
@@ -30,7 +30,7 @@ pub trait Pread<'a, Ctx: Copy, E>: Source {
         ensures refused { IfErr result (λ e. ByDefault Ctx.is_default (λ ctx.
             RefusesAt (N.refuses ctx) past_end (Self.bytes self) offset e)) };
 
-    /// Reads a value at `offset` in the context `ctx`.
+    /// Reads a value of type `N` at `offset` in the context `ctx`.
     ///
     /// ```rust
     /// let bytes: [u8; 2] = [0xde, 0xad];
@@ -42,7 +42,8 @@ pub trait Pread<'a, Ctx: Copy, E>: Source {
         ensures refused { IfErr result
             (RefusesAt (N.refuses ctx) past_end (Self.bytes self) offset) };
 
-    /// Reads a value at `offset` in the default context, and moves `offset` by its size. On an error `offset` stays.
+    /// Reads a value of type `N` at the cursor `offset` in the default context, and advances the cursor by the value's
+    /// size. On an error the cursor is unchanged.
     ///
     /// ```rust
     /// let bytes = [0x7fu8; 1];
@@ -60,7 +61,8 @@ pub trait Pread<'a, Ctx: Copy, E>: Source {
             RefusesAt (N.refuses ctx) past_end (Self.bytes self) offset.old e)) }
         ensures stays { OnErr result (offset.new ≡ offset.old) };
 
-    /// Reads a value at `offset` in the context `ctx`, and moves `offset` by its size. On an error `offset` stays.
+    /// Reads a value of type `N` at the cursor `offset` in the context `ctx`, and advances the cursor by the value's
+    /// size. On an error the cursor is unchanged.
     ///
     /// ```rust
     /// let bytes: [u8; 2] = [0xde, 0xad];
@@ -80,8 +82,9 @@ pub trait Pread<'a, Ctx: Copy, E>: Source {
             (RefusesAt (N.refuses ctx) past_end (Self.bytes self) offset.old) }
         ensures stays { OnErr result (offset.new ≡ offset.old) };
 
-    /// Reads as many values as `inout` has elements, one after the other from `offset`, in the default context, and moves
-    /// `offset` behind the last. On an error it is as with [`gread_inout_with`](Pread::gread_inout_with).
+    /// Fills `inout` with values that are read one after another from the cursor `offset` in the default context, and
+    /// advances the cursor past the last one. An error leaves what [`gread_inout_with`](Pread::gread_inout_with)
+    /// leaves.
     ///
     /// ```rust
     /// let bytes: [u8; 2] = [0x48, 0x49];
@@ -104,11 +107,11 @@ pub trait Pread<'a, Ctx: Copy, E>: Source {
             ByDefault Ctx.is_default (λ ctx. StopsAt (N.reads ctx) (N.refuses ctx) past_end
             (Self.bytes self) offset.old offset.new inout.old inout.new e)) };
 
-    /// Reads as many values as `inout` has elements, one after the other from `offset`, in the context `ctx`, and moves
-    /// `offset` behind the last.
+    /// Fills `inout` with values that are read one after another from the cursor `offset` in the context `ctx`, and
+    /// advances the cursor past the last one.
     ///
-    /// On an error the elements already read stand, the others are as before, and `offset` stands behind the last that was
-    /// read, or where it was if none was. With no element the call succeeds at any offset.
+    /// On an error the elements already read have their new values, the others are unchanged, and the cursor is where
+    /// the value that failed starts. An empty `inout` succeeds at any offset.
     ///
     /// ```rust
     /// let bytes: [u8; 2] = [0x48, 0x49];

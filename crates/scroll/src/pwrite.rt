@@ -1,4 +1,4 @@
-// Writes at a place, and with a cursor.
+// Writes at an offset and at a cursor.
 ghost use Rattle.std.specs.Prelude.{◌≡◌, ℕ, ◌+◌, List, length, IfOk, IfErr, OnErr};
 ghost use Rattle.scroll.specs.Reads.{ByDefault};
 ghost use Rattle.scroll.specs.Writes.{WritesAt, RefusesWriteAt};
@@ -10,22 +10,22 @@ use crate::slice;
 
 /// Writes values of any type that implements [`TryIntoCtx`] to a byte slice.
 ///
-/// An offset counts bytes from the start of the slice. One past its end is refused by `E::from(Error::BadOffset(offset))`,
-/// which for `E = Error` is that error itself, and then nothing changes; one at its end writes to the empty target. Every
-/// other refusal is the type's own, which says what it leaves. The bytes before the offset always stay, and so does the
-/// slice's length.
+/// Offsets and sizes are in bytes, and an offset counts from the start of the slice. An offset past the end returns
+/// `E::from(Error::BadOffset(offset))`, which for `E = Error` is that error itself, and leaves the slice unchanged; an
+/// offset at the end writes to an empty target. Every other error is the type's own, and the type says what it leaves.
+/// The bytes before the offset and the length of the slice are always unchanged.
 pub trait Pwrite<Ctx: Copy, E> {
     // The bytes of the target.
     ghost target: { Self → List ℕ };
 
-    // Holds where two values stand for the same target.
+    // Holds of two values that stand for the same target.
     ghost same_target: { Self → Self → Type 0 };
 
-    // Holds of a place past the end and each error that may be given for it.
+    // Holds of an offset past the end and each error that may be returned for it.
     ghost past_end: { ℕ → E → Type 0 };
 
-    /// Writes `n` at `offset` in the default context, which for numbers is the machine's byte order, and answers its size in
-    /// bytes.
+    /// Writes `n` at `offset` in the default context, which for numbers is the machine's byte order, and returns its
+    /// size in bytes.
     ///
     /// ```rust
     /// let mut bytes = [0u8; 8];
@@ -47,7 +47,7 @@ pub trait Pwrite<Ctx: Copy, E> {
         ensures len { length (target self.new) ≡ length (target self.old) }
         ensures same { same_target self.old self.new };
 
-    /// Writes `n` at `offset` in the context `ctx`, and answers its size in bytes.
+    /// Writes `n` at `offset` in the context `ctx`, and returns its size in bytes.
     ///
     /// ```rust
     /// let mut bytes = [0u8; 8];
@@ -68,8 +68,8 @@ pub trait Pwrite<Ctx: Copy, E> {
         ensures len { length (target self.new) ≡ length (target self.old) }
         ensures same { same_target self.old self.new };
 
-    /// Writes `n` at `offset` in the default context, answers its size in bytes, and moves `offset` by it. On an error
-    /// `offset` stays.
+    /// Writes `n` at the cursor `offset` in the default context, advances the cursor by the size of `n` in bytes, and
+    /// returns that size. On an error the cursor is unchanged.
     ///
     /// ```rust
     /// let mut bytes = [0u8; 8];
@@ -94,8 +94,8 @@ pub trait Pwrite<Ctx: Copy, E> {
         ensures len { length (target self.new) ≡ length (target self.old) }
         ensures same { same_target self.old self.new };
 
-    /// Writes `n` at `offset` in the context `ctx`, answers its size in bytes, and moves `offset` by it. On an error
-    /// `offset` stays.
+    /// Writes `n` at the cursor `offset` in the context `ctx`, advances the cursor by the size of `n` in bytes, and
+    /// returns that size. On an error the cursor is unchanged.
     ///
     /// ```rust
     /// let mut bytes = [0u8; 8];

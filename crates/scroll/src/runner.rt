@@ -1,7 +1,7 @@
 //! Lists of commands over one buffer and one cursor.
 //!
-//! [`run`] answers each command in turn. What it answers and leaves is stated whole in its contract, over the history of
-//! what was written.
+//! [`run`] runs the commands in turn, and returns an [`Answer`] for each. Its contract states all results and all that
+//! it leaves, over the history of what was written.
 ghost use Rattle.std.specs.Prelude.{◌≡◌, OnOk, OnErr, IfOk, IfErr};
 ghost use Rattle.scroll.specs.Runs.{IsStep, IsRun, IsFrontRun};
 ghost use Rattle.scroll.specs.declared.error.Error.TheVariants.{NoMemory};
@@ -16,12 +16,12 @@ use std::alloc::Global;
 mod read;
 mod write;
 
-/// Where a command acts.
+/// Where a command reads or writes.
 #[derive(Clone, Copy, Debug)]
 pub enum Place {
     /// At an offset in bytes from the start of the buffer.
     At(usize),
-    /// At the cursor, which an accepted command then moves by the size of what it read or wrote.
+    /// At the cursor. A command that succeeds advances it by the size of what it read or wrote.
     Cursor,
 }
 
@@ -55,23 +55,23 @@ pub enum Width {
 pub enum Kind {
     /// A number of a type, in a byte order.
     Number(Width, Endian),
-    /// A text in a context.
+    /// A string in a context.
     Text(StrCtx),
     /// A byte slice of this many bytes.
     Bytes(usize),
     /// A borrowed C string.
     CStr,
-    /// An owned C string, which is answered as a borrowed one is.
+    /// An owned C string, whose answer is that of a borrowed one.
     CString,
     /// An unsigned number in LEB128.
     Uleb,
     /// A signed number in LEB128.
     Sleb,
-    /// An array of no bytes.
+    /// An array of no numbers, of type `u8`.
     U8x0(Endian),
-    /// An array of three numbers.
+    /// An array of three numbers of type `u16`.
     U16x3(Endian),
-    /// An array of two texts.
+    /// An array of two strings.
     Textx2(StrCtx),
 }
 
@@ -98,7 +98,7 @@ pub enum Put<'c> {
     U128(u128, Endian),
     /// A signed number of 128 bits, in a byte order.
     I128(i128, Endian),
-    /// A text, with no delimiter after it.
+    /// A string, without a delimiter after it.
     Text(&'c str),
     /// A byte slice.
     Bytes(&'c [u8]),
@@ -130,43 +130,44 @@ pub enum Value {
     Unsigned(u128),
     /// A signed number of any width.
     Signed(i128),
-    /// A text, copied.
+    /// A string, copied.
     Text(String),
     /// The bytes of a slice, copied.
     Bytes(Vec<u8>),
     /// The bytes of a C string before its zero, copied.
     CStr(Vec<u8>),
-    /// An unsigned number, with the size of its text.
+    /// An unsigned number in LEB128, with the length of its encoding.
     Uleb(Uleb128),
-    /// A signed number, with the size of its text.
+    /// A signed number in LEB128, with the length of its encoding.
     Sleb(Sleb128),
     /// No bytes.
     U8x0,
     /// Three numbers.
     U16x3([u16; 3]),
-    /// Two texts, copied.
+    /// Two strings, copied.
     Textx2(String, String),
 }
 
-/// What a command is answered with.
+/// The result of a command.
 #[derive(Debug, Drop)]
 pub enum Answer {
     /// The value that was read.
     Read(Value),
     /// The size in bytes of what was written.
     Wrote(usize),
-    /// Why the command was refused: never by `NoMemory`, `Custom` or `IO`.
+    /// The error of the command, which is never `NoMemory`, `Custom` or `IO`.
     Refused(Error),
 }
 
-/// Runs each command over the buffer as the commands before it left it, and appends an answer for each to `answers`.
+/// Runs the commands in turn, each over the buffer as the ones before it left it, and appends an answer for each to
+/// `answers`.
 ///
-/// A refused command is answered by its refusal, and the next one runs. A place of `Place::At` counts bytes from the start
-/// of the buffer, and no command of such a place moves the cursor.
+/// A command that fails appends its error, and the next one runs. The offset of `Place::At` counts bytes from the start
+/// of the buffer, and a command at such a place leaves the cursor unchanged.
 ///
-/// The one error is [`Error::NoMemory`]. Then the answers of the first commands, fewer than all, stand appended, and the
-/// buffer and the cursor are as these left them: room for an answer is taken before its command runs, and what a read copies
-/// is copied before the cursor moves.
+/// The only error is [`Error::NoMemory`]. The answers of some first commands, but not of all, are then appended, and
+/// the buffer and the cursor are as these commands left them: memory for an answer is reserved before its command runs,
+/// and what a read copies is copied before the cursor moves.
 pub fn run(
     alloc: Global,
     buffer: &mut [u8],
@@ -189,7 +190,7 @@ pub fn run(
     Ok(())
 }
 
-// Answers one command. Where memory is refused, nothing has changed.
+// Runs one command. On an allocation failure nothing has changed.
 fn step(
     alloc: Global,
     buffer: &mut [u8],

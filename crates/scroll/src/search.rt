@@ -1,4 +1,4 @@
-// The first place of a byte: 32 bytes at a time, then eight at a time, and the last ones each by itself.
+// The search for a byte: 32 bytes at a time, then eight at a time, and the last ones one by one.
 ghost use Rattle.std.specs.Prelude.{◌≡◌, ◌≤◌, length};
 ghost use Rattle.std.specs.List.{position_or_len};
 ghost use Rattle.scroll.specs.Texts.{first_place};
@@ -10,7 +10,7 @@ mod text;
 use crate::search::stops::{At, AtOrNotAscii, Stops};
 pub(crate) use crate::search::text::text_before;
 
-/// The first place of the delimiter, or the length of the source where there is none.
+/// Returns the offset of the first delimiter, or the length of the source if there is none.
 #[inline(always)]
 pub(crate) fn first_place(delimiter: u8, source: &[u8]) -> usize
     ensures { result ≡ first_place delimiter source.now }
@@ -18,7 +18,8 @@ pub(crate) fn first_place(delimiter: u8, source: &[u8]) -> usize
     first_by_vectors(At(delimiter), source)
 }
 
-/// The first place of the delimiter or of a byte that is not ASCII, or the length of the source where there is neither.
+/// Returns the offset of the first byte that is the delimiter or isn't ASCII, or the length of the source if there is
+/// none.
 #[inline(always)]
 pub(crate) fn first_stop(delimiter: u8, source: &[u8]) -> usize
     ensures place { result ≡ position_or_len (is_stop delimiter) source.now }
@@ -27,7 +28,7 @@ pub(crate) fn first_stop(delimiter: u8, source: &[u8]) -> usize
     first_by_vectors(AtOrNotAscii(delimiter), source)
 }
 
-// The first stop, or the length of the source where there is none: 32 bytes at a time.
+// Returns the offset of the first stop, or the length of the source if there is none. Searches 32 bytes at a time.
 #[inline(always)]
 fn first_by_vectors<S: Stops>(at: S, source: &[u8]) -> usize
     ensures place { result ≡ position_or_len (S.stops at) source.now }
@@ -42,7 +43,8 @@ fn first_by_vectors<S: Stops>(at: S, source: &[u8]) -> usize
     blocks.len() * 32 + first_by_words(at, tail)
 }
 
-// The first stop, or the length of the source where there is none: eight bytes at a time, and the last ones each by itself.
+// Returns the offset of the first stop, or the length of the source if there is none. Searches eight bytes at a time,
+// and the last ones one by one.
 #[inline(always)]
 fn first_by_words<S: Stops>(at: S, source: &[u8]) -> usize
     ensures place { result ≡ position_or_len (S.stops at) source.now }

@@ -1,8 +1,8 @@
-//! Writes to a slice that was lent: the calls of [`Pwrite`](crate::Pwrite) and [`Cwrite`](crate::Cwrite) as functions on
-//! the slice itself.
+//! The calls of [`Pwrite`](crate::Pwrite) and [`Cwrite`](crate::Cwrite) as functions on a borrowed slice.
 //!
-//! The traits are implemented for `&mut [u8]`, so their calls take a reference to that reference, and a caller whose own
-//! contract says what the slice then holds can't use them on a parameter. These functions take the slice:
+//! The traits are implemented for `&mut [u8]`, so their methods take a reference to that reference. A function whose
+//! contract says what a parameter of type `&mut [u8]` holds afterwards can't call them on that parameter. These
+//! functions take the slice itself:
 //!
 //! ```rust
 //! use scroll::{BE, slice};
@@ -14,9 +14,10 @@
 //! assert_eq!(rt; *offset, 6);
 //! ```
 //!
-//! An offset counts bytes from the start of the slice. One past its end is refused by `E::from(Error::BadOffset(offset))`,
-//! and then nothing changes; one at its end writes to the empty target. Every other refusal is the type's own, which says
-//! what it leaves. The bytes before the offset always stay.
+//! Offsets and sizes are in bytes, and an offset counts from the start of the slice. An offset past the end returns
+//! `E::from(Error::BadOffset(offset))` and leaves the slice unchanged; an offset at the end writes to an empty target.
+//! Every other error is the type's own, and the type says what it leaves. The bytes before the offset are always
+//! unchanged.
 ghost use Rattle.std.specs.Prelude.{◌≡◌, ◌+◌, ◌≤◌, length, take, drop, IfOk, IfErr, OnErr};
 ghost use Rattle.scroll.specs.Reads.{ByDefault};
 ghost use Rattle.scroll.specs.Writes.{WritesAt, RefusesWriteAt};
@@ -25,8 +26,8 @@ ghost use Rattle.scroll.specs.Errors.{PastEnd};
 use crate::ctx::{IntoCtx, TryIntoCtx};
 use crate::error::Error;
 
-/// Writes `n` at `offset` in the default context, which for numbers is the machine's byte order, and answers its size in
-/// bytes.
+/// Writes `n` at `offset` in the default context, which for numbers is the machine's byte order, and returns its size
+/// in bytes.
 ///
 /// ```rust
 /// let mut bytes = [0u8; 8];
@@ -47,7 +48,7 @@ pub fn pwrite<Ctx: Copy + Default, E: From<Error>, N: TryIntoCtx<Ctx, Error = E>
     pwrite_with(dst, n, offset, Ctx::default())
 }
 
-/// Writes `n` at `offset` in the context `ctx`, and answers its size in bytes.
+/// Writes `n` at `offset` in the context `ctx`, and returns its size in bytes.
 ///
 /// ```rust
 /// let mut bytes = [0u8; 8];
@@ -71,8 +72,8 @@ pub fn pwrite_with<Ctx: Copy, E: From<Error>, N: TryIntoCtx<Ctx, Error = E> + Dr
     n.try_into_ctx(&mut dst[offset..], ctx)
 }
 
-/// Writes `n` at `offset` in the default context, answers its size in bytes, and moves `offset` by it. On an error
-/// `offset` stays.
+/// Writes `n` at the cursor `offset` in the default context, advances the cursor by the size of `n` in bytes, and
+/// returns that size. On an error the cursor is unchanged.
 ///
 /// ```rust
 /// let mut bytes = [0u8; 8];
@@ -96,8 +97,8 @@ pub fn gwrite<Ctx: Copy + Default, E: From<Error>, N: TryIntoCtx<Ctx, Error = E>
     gwrite_with(dst, n, offset, Ctx::default())
 }
 
-/// Writes `n` at `offset` in the context `ctx`, answers its size in bytes, and moves `offset` by it. On an error
-/// `offset` stays.
+/// Writes `n` at the cursor `offset` in the context `ctx`, advances the cursor by the size of `n` in bytes, and returns
+/// that size. On an error the cursor is unchanged.
 ///
 /// ```rust
 /// let mut bytes = [0u8; 8];
@@ -125,7 +126,7 @@ pub fn gwrite_with<Ctx: Copy, E: From<Error>, N: TryIntoCtx<Ctx, Error = E> + Dr
     Ok(size)
 }
 
-/// Writes `n` at `offset` in the default context, with no refusal: the caller makes sure of room.
+/// Writes `n` at `offset` in the default context. This can't fail: the caller ensures that there is room.
 ///
 /// ```rust
 /// let mut bytes = [0u8; 12];
@@ -143,7 +144,7 @@ pub fn cwrite<Ctx: Copy + Default, N: IntoCtx<Ctx>>(dst: &mut [u8], n: N, offset
     cwrite_with(dst, n, offset, Ctx::default())
 }
 
-/// Writes `n` at `offset` in the context `ctx`, with no refusal: the caller makes sure of room.
+/// Writes `n` at `offset` in the context `ctx`. This can't fail: the caller ensures that there is room.
 ///
 /// ```rust
 /// let mut bytes = [0u8; 16];

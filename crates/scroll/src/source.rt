@@ -1,4 +1,4 @@
-// What is read from, and what can be read from it.
+// Sources of bytes, and what can be read from them.
 ghost use Rattle.std.specs.Prelude.{ℕ, ◌+◌, ◌≤◌, List, length, IfOk, IfErr};
 
 use crate::ctx::TryFromCtx;
@@ -13,26 +13,27 @@ impl<'a> Source for &'a [u8] {
     ghost bytes = { λ source. source.now };
 }
 
-/// What can be read from a source `S`: each type that implements [`TryFromCtx`], and no other.
+/// A type that can be read from a source `S`: each type that implements [`TryFromCtx`], and no other.
 ///
-/// The bound stands in the place of `TryFromCtx<'a, Ctx>` in the methods of [`Pread`](crate::Pread), whose bounds cannot
-/// name the trait's lifetime. Implement `TryFromCtx`; this trait then comes by itself.
+/// The methods of [`Pread`](crate::Pread) use this bound in place of `TryFromCtx<'a, Ctx>`, since their bounds can't
+/// name the trait's lifetime. Implement `TryFromCtx` for a type of your own; it then implements this trait too.
 pub trait ReadFrom<S: Source, Ctx: Copy>: Sized {
-    /// What the type refuses with.
+    /// The error of a read.
     type Error;
 
-    // Holds of a context, a source, and each value and size that may be given for them.
+    // Holds of a context, a source, and each value and size that a read of them may return.
     ghost reads: { Ctx → List ℕ → Self → ℕ → Type 0 };
 
-    // Holds of a context, a source, and each error that may be given for them.
+    // Holds of a context, a source, and each error that a read of them may return.
     ghost refuses: { Ctx → List ℕ → Self.Error → Type 0 };
 
-    /// The value at the front of `from`, and how many bytes it takes.
+    /// Reads a value at the front of `from` in the context `ctx`, and returns it with its size in bytes, or the type's
+    /// error.
     fn read_from(from: S, ctx: Ctx) -> Result<(Self, usize), Self::Error>
         ensures read { IfOk result (λ read. reads ctx (S.bytes from) read.0 read.1) }
         ensures refused { IfErr result (λ e. refuses ctx (S.bytes from) e) };
 
-    // The size is at most one more than the source has bytes.
+    // The size is at most one more than the length of the source.
     ghost reads_bounded: { (ctx : Ctx) (source : List ℕ) (x : Self) (n : ℕ) → reads ctx source x n → n ≤ length source + 1 };
 }
 

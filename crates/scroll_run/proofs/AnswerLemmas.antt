@@ -4,7 +4,7 @@ use Rattle.std.proofs.lemmas.List.{take_more}
 use Rattle.scroll.specs.declared.runner.Answer.{Answer}
 use Rattle.scroll_run.specs.Answers.{IsAnswerLine, AreAnswerLines}
 
--- one line more, for one more answer
+-- one more line, for one more answer
 pub AreAnswerLines-more : (answers : List Answer) (text : List ℕ) (a : Answer) (line : List ℕ) → AreAnswerLines answers text → IsAnswerLine a line → AreAnswerLines (answers ++ a ∷ []) (text ++ line)
 AreAnswerLines-more [] text a line h s = (line, [], ap (λ t. t ++ line) h ∙ sym (append-nil line), s, refl)
 AreAnswerLines-more (b ∷ more) text a line h s =

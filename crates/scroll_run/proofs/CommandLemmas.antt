@@ -1,4 +1,4 @@
--- Lemmas on what stands behind a first word.
+-- Lemmas on the words after a first word.
 use Rattle.std.proofs.Common.{◌≡◌, ◌<◌, ◌^◌, Bor, map, ◌+◌, ◌*◌, ◌++◌, ℕ, ℤ, List, [], ◌∷◌, length, take, get_or, if◌then◌else◌, ◌==◌, arith, refl, sym, ap, subst, ◌∙◌, Option, Some, None, Result, Ok, Err}
 use Rattle.std.proofs.lemmas.List.{take_more}
 use Rattle.std.proofs.lemmas.Slice.Zip.{all_zipped_more}
@@ -29,7 +29,7 @@ abbrev by_code : {X : Type 0} → (X → List ℕ) → List X → X → ℕ → 
 by_code word [] other k = other
 by_code word (x ∷ xs) other k = if k == code (word x) then x else by_code word xs other k
 
--- where each is found by its own word, no two have one word
+-- if each is found by its own word, no two have the same word
 same_word : {X : Type 0} (word : X → List ℕ) (xs : List X) (other : X) → ((x : X) → by_code word xs other (code (word x)) ≡ x) → (m n : X) → word m ≡ word n → m ≡ n
 same_word word xs other found m n e = sym (found m) ∙ ap (λ w. by_code word xs other (code w)) e ∙ found n
 
@@ -62,7 +62,7 @@ named name.U16x3 = refl
 named name.Textx2 = refl
 named name.Bytesx2 = refl
 
--- no two names have one word
+-- no two names have the same word
 pub same_name : (m n : Name) → name_word m ≡ name_word n → m ≡ n
 same_name = same_word name_word names name.Text named
 
@@ -75,11 +75,11 @@ verbed verb.Gread = refl
 verbed verb.Pwrite = refl
 verbed verb.Gwrite = refl
 
--- no two verbs have one word
+-- no two verbs have the same word
 same_verb : (v w : Verb) → verb_word v ≡ verb_word w → v ≡ w
 same_verb = same_word verb_word verbs verb.Pread verbed
 
--- lists with one first word and one rest
+-- lists with the same first word and the same rest
 heads : (texts : List (List ℕ)) (a b : List ℕ) (more rest : List (List ℕ)) → texts ≡ a ∷ more → texts ≡ b ∷ rest → b ≡ a
 heads texts a b more rest e f = cc
 
@@ -132,7 +132,7 @@ same_offset texts more rest m n h s = let e = h.1 in let f = s.1 in let x = h.2.
 same_rest : (texts more rest : List (List ℕ)) (m n : ℕ) → SpellsOffset texts m more → SpellsOffset texts n rest → rest ≡ more
 same_rest texts more rest m n h s = let e = h.1 in let f = s.1 in cc
 
--- a command behind an offset
+-- a command after an offset
 pub command_by_offset : (IsSpelled : ℕ → List (List ℕ) → Command → Type 0) (found : Option CommandLine) (texts : List (List ℕ)) (n : ℕ) (rest : List (List ℕ)) → SpellsOffset texts n rest
     → FindsCommand (IsSpelled n rest) found
     → FindsCommand (λ c. (offset : ℕ) × (more : List (List ℕ)) × SpellsOffset texts offset more × IsSpelled offset more c) found
@@ -162,13 +162,13 @@ same_bytes word a b h s = grind (arith, common_steps)
 pub one_bytes : (texts : List (List ℕ)) (a b : List ℕ) → SpellLastBytes texts a → SpellLastBytes texts b → a ≡ b
 one_bytes texts a b h s = same_bytes h.0 a b h.2 (subst (λ w. SpellsBytes w b) (heads texts h.0 s.0 [] [] h.1 s.1) s.2)
 
--- one word, by its place
+-- one word, by its index
 pub one_word : (words : List (Bor (List ℕ))) (d : Bor (List ℕ)) → length words ≡ 1 → map (λ w. w.now) words ≡ (get_or words 0 d).now ∷ []
 one_word [] d e = absurd (omega arith)
 one_word (w ∷ []) d e = refl
 one_word (w ∷ v ∷ more) d e = absurd (omega arith)
 
--- four words, by their places
+-- four words, by their indices
 pub four_words : (words : List (Bor (List ℕ))) (d : Bor (List ℕ)) → length words ≡ 4
     → map (λ w. w.now) words ≡ (get_or words 0 d).now ∷ (get_or words 1 d).now ∷ (get_or words 2 d).now ∷ (get_or words 3 d).now ∷ []
 four_words [] d e = absurd (omega arith)
@@ -189,7 +189,7 @@ each_of_three texts a b c d e p s =
     let order : a ≡ order_word s.0 = cc in
     (s.0, s.4, s.5, s.6, order, rw first at s.8, rw second at s.9, rw third at s.10)
 
--- four words of which the first is that of a byte order
+-- four words, the first of which is that of a byte order
 pub behind_order : (texts : List (List ℕ)) (a o b c d : List ℕ) → texts ≡ a ∷ b ∷ c ∷ d ∷ [] → a ≡ o → texts ≡ o ∷ b ∷ c ∷ d ∷ []
 behind_order texts a o b c d e h = e ∙ ap (λ w. w ∷ b ∷ c ∷ d ∷ []) h
 

@@ -1,11 +1,11 @@
--- Why there is no input.
+-- Failed input. A call of the reader that was interrupted is made again.
 use Rattle.std.specs.Prelude.{◌≢◌, ⊤}
 use Rattle.std.specs.IoError.{error_kind}
 use Rattle.std.specs.declared.io.ErrorKind.TheVariants as kind
 use Rattle.scroll_run.specs.declared.input.ReadError.{ReadError}
 use Rattle.scroll_run.specs.declared.input.ReadError.TheVariants.{NoMemory, Io}
 
--- an interrupted call is never told
+-- `IsTold e`: the error is out of memory, or an error of the reader other than that of an interrupted call
 abbrev pub IsTold : ReadError → Type 0
 IsTold NoMemory = ⊤
 IsTold (Io e) = error_kind e ≢ kind.Interrupted

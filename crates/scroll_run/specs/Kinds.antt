@@ -1,4 +1,4 @@
--- What is read, as words spell it.
+-- What is read. The words of a command name it, after the offset where there is one.
 use Rattle.std.specs.Prelude.{◌≡◌, ◌^◌, ℕ, List, [], ◌∷◌, codes}
 use Rattle.scroll.specs.declared.ctx.str_ctx.StrCtx.{StrCtx}
 use Rattle.scroll.specs.declared.ctx.str_ctx.StrCtx.TheVariants as context
@@ -11,42 +11,44 @@ use Rattle.scroll_run.specs.declared.kinds.End.TheVariants as end
 use Rattle.scroll_run.specs.declared.words.Name.{Name}
 use Rattle.scroll_run.specs.declared.words.Name.TheVariants as name
 
--- words that are one word, which is a number of 64 bits
+-- there is one word, which spells a number of 64 bits
 abbrev pub SpellLastNumber : List (List ℕ) → ℕ → Type 0
 SpellLastNumber words n = (word : List ℕ) × (words ≡ word ∷ []) × SpellsNumber (2 ^ 64) word n
 
--- words that are one word, which is a byte
+-- there is one word, which spells one byte
 abbrev pub SpellLastByte : List (List ℕ) → ℕ → Type 0
 SpellLastByte words byte = (word : List ℕ) × (words ≡ word ∷ []) × SpellsByte word byte
 
--- words that are one word, which is a byte order
+-- there is one word, that of a byte order
 abbrev pub SpellLastOrder : List (List ℕ) → Endian → Type 0
 SpellLastOrder words order = words ≡ order_word order ∷ []
 
--- words that are two words, a byte and a number of 64 bits
+-- there are two words, which spell a byte and a number of 64 bits
 abbrev pub SpellLastLimit : List (List ℕ) → ℕ → ℕ → Type 0
 SpellLastLimit words byte n =
     (first second : List ℕ) × (words ≡ first ∷ second ∷ []) × SpellsByte first byte × SpellsNumber (2 ^ 64) second n
 
--- the word of an end of texts
+-- `end_word e`: the word that says where a text ends:
 abbrev pub end_word : End → List ℕ
 end_word end.Delimiter = codes "delim"
 end_word end.Until = codes "until"
 end_word end.Length = codes "len"
 end_word end.Required = codes "required"
 
--- the words behind the word of an end spell the rest of it
+-- `SpellEndRest e words ctx`: the words after that one spell the rest of the context: the delimiter, the delimiter and
+-- a limit, or a length
 abbrev pub SpellEndRest : End → List (List ℕ) → StrCtx → Type 0
 SpellEndRest end.Delimiter words ctx = (d : ℕ) × SpellLastByte words d × (ctx ≡ context.Delimiter d)
 SpellEndRest end.Until words ctx = (d limit : ℕ) × SpellLastLimit words d limit × (ctx ≡ context.DelimiterUntil d limit)
 SpellEndRest end.Length words ctx = (n : ℕ) × SpellLastNumber words n × (ctx ≡ context.Length n)
 SpellEndRest end.Required words ctx = (d : ℕ) × SpellLastByte words d × (ctx ≡ context.Required d)
 
--- words spell where a text ends
+-- the words spell where a text ends
 abbrev pub SpellEnd : List (List ℕ) → StrCtx → Type 0
 SpellEnd words ctx = (e : End) × (rest : List (List ℕ)) × (words ≡ end_word e ∷ rest) × SpellEndRest e rest ctx
 
--- the words behind the word of what is read spell the rest of it
+-- `SpellKindRest n words what`: the words after the first one spell the rest of what is read, by what the first one
+-- names: a byte order, where a text ends, a length, or nothing
 abbrev pub SpellKindRest : Name → List (List ℕ) → Kind → Type 0
 SpellKindRest (name.Number w) words what = (order : Endian) × SpellLastOrder words order × (what ≡ kind.Number w order)
 SpellKindRest name.Text words what = (ctx : StrCtx) × SpellEnd words ctx × (what ≡ kind.Text ctx)
@@ -60,7 +62,7 @@ SpellKindRest name.U16x3 words what = (order : Endian) × SpellLastOrder words o
 SpellKindRest name.Textx2 words what = (ctx : StrCtx) × SpellEnd words ctx × (what ≡ kind.Textx2 ctx)
 SpellKindRest name.Bytesx2 words what = ⊥
 
--- words spell what is read
+-- the words spell what is read
 abbrev pub SpellsKind : List (List ℕ) → Kind → Type 0
 SpellsKind words what =
     (n : Name) × (rest : List (List ℕ)) × (words ≡ name_word n ∷ rest) × SpellKindRest n rest what

@@ -1,4 +1,4 @@
--- What the lines of an input spell.
+-- Lines. The first line of an input spells the buffer, the second the cursor, and each further line a command.
 use Rattle.std.specs.Prelude.{◌≡◌, ◌<◌, ◌+◌, ◌-◌, ◌^◌, ◌++◌, ◌==◌, ⊤, ℕ, zero, suc, List, [], ◌∷◌, length, slice_index, slice_index_or, take, codes, if◌then◌else◌}
 use Rattle.std.specs.List.{slice_split, AllZip}
 use Rattle.scroll.specs.declared.runner.Command.{Command}
@@ -8,35 +8,36 @@ use Rattle.scroll_run.specs.declared.commands.CommandLine.{CommandLine}
 use Rattle.scroll_run.specs.declared.lines.Stop.{Stop}
 use Rattle.scroll_run.specs.declared.lines.Stop.TheVariants.{BadLine, NoMemory}
 
--- an input without a line feed at its end
+-- the input without a line feed at its end
 abbrev pub without_feed : List ℕ → List ℕ
 without_feed input = if slice_index input (length input - 1) == 10 then take (length input - 1) input else input
 
--- the lines of an input: what stands before, between and after its line feeds, of which one at its end ends the last line
+-- what is before, between and after the line feeds of an input, of which the last one counts only where something
+-- follows it
 abbrev pub lines_of : List ℕ → List (List ℕ)
 lines_of input = slice_split (λ b. b == 10) (without_feed input)
 
--- a line spells the first buffer
+-- the line is `buffer ` and a word that spells the bytes
 abbrev pub SpellsBuffer : List ℕ → List ℕ → Type 0
 SpellsBuffer line bytes = (word : List ℕ) × (line ≡ codes "buffer " ++ word) × SpellsBytes word bytes
 
--- a line spells the first cursor
+-- the line is `cursor ` and a word that spells a number of 64 bits
 abbrev pub SpellsCursor : List ℕ → ℕ → Type 0
 SpellsCursor line n = (word : List ℕ) × (line ≡ codes "cursor " ++ word) × SpellsNumber (2 ^ 64) word n
 
--- lines spell commands, one each
+-- the lines spell the commands, one each
 abbrev pub SpellCommands : List (List ℕ) → List Command → Type 0
 SpellCommands lines commands = AllZip (λ line c. SpellsCommand (words_of line) c) lines commands
 
--- whatever command borrows from what is held of a line is the one that the line spells
+-- every command that borrows from `x` is spelled by the line
 abbrev pub SpellsHeld : List ℕ → CommandLine → Type 0
 SpellsHeld line x = (c : Command) → IsCommandOf x c → SpellsCommand (words_of line) c
 
--- lines spell what is held of them, one each
+-- the same of all lines, with what is held of each
 abbrev pub SpellHeld : List (List ℕ) → List CommandLine → Type 0
 SpellHeld lines held = AllZip SpellsHeld lines held
 
--- lines spell a script: a buffer, a cursor and commands
+-- the lines spell the buffer, the cursor and the commands
 pub record SpellScript (lines : List (List ℕ)) (buffer : List ℕ) (cursor : ℕ) (commands : List Command) : Type 0 where
   pub first : List ℕ
   pub second : List ℕ
@@ -46,32 +47,32 @@ pub record SpellScript (lines : List (List ℕ)) (buffer : List ℕ) (cursor : �
   pub cursor_is : SpellsCursor second cursor
   pub commands_are : SpellCommands rest commands
 
--- a line spells some command
+-- the line spells some command
 abbrev pub IsCommand : List ℕ → Type 0
 IsCommand line = (c : Command) × SpellsCommand (words_of line) c
 
--- a line, counted from 0, spells something
+-- `IsGoodLine i line`: as line `i`, counted from 0, the line spells something: a buffer, a cursor, or a command
 abbrev pub IsGoodLine : ℕ → List ℕ → Type 0
 IsGoodLine zero line = (bytes : List ℕ) × SpellsBuffer line bytes
 IsGoodLine (suc zero) line = (n : ℕ) × SpellsCursor line n
 IsGoodLine (suc (suc i)) line = IsCommand line
 
--- there is a line at this place, counted from 0, and it spells something
+-- there is a line `i`, counted from 0, and it spells something
 abbrev pub HasGoodLine : List (List ℕ) → ℕ → Type 0
 HasGoodLine lines i = (i < length lines) × IsGoodLine i (slice_index_or lines i [])
 
--- the line at this place, counted from 1, is the first that is missing or spells nothing
+-- line `k`, counted from 1, is the first that is missing where it has to be there, or that spells nothing
 pub record IsFirstBadLine (lines : List (List ℕ)) (k : ℕ) : Type 0 where
   pub counted : 0 < k
   pub good : (i : ℕ) → i + 1 < k → HasGoodLine lines i
   pub bad : ¬ (HasGoodLine lines (k - 1))
 
--- why the lines of an input are not run
+-- `Stops lines stop`: why the lines are not run: the first bad line, or out of memory
 abbrev pub Stops : List (List ℕ) → Stop → Type 0
 Stops lines (BadLine k) = IsFirstBadLine lines k
 Stops lines NoMemory = ⊤
 
--- why the lines of commands, which begin at the third line, are not run
+-- `StopsCommands lines stop`: the same of the lines of the commands, which begin at line 3
 abbrev pub StopsCommands : List (List ℕ) → Stop → Type 0
 StopsCommands lines (BadLine k) =
     (i : ℕ) × (k ≡ i + 3) × (i < length lines)

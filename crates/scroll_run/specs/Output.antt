@@ -1,8 +1,8 @@
--- What is written.
+-- Output. A writer may tell which bytes it holds; where it doesn't, nothing is specified of them.
 use Rattle.std.specs.Prelude.{ℕ, List, take}
 use Rattle.std.specs.declared.option.Option.{Option}
 use Rattle.std.specs.Io.KnownBytes.{Appends}
 
--- known bytes grow by the first of bs, or by all of them
+-- the bytes that a writer holds have grown by a prefix of `bs`: by none, some or all of its bytes
 abbrev pub AppendsFront : Option (List ℕ) → Option (List ℕ) → List ℕ → Type 0
 AppendsFront old new bs = (n : ℕ) × Appends old new (take n bs)

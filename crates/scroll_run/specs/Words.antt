@@ -1,4 +1,4 @@
--- What the words of a line spell.
+-- Words. A line is split at its spaces, and each word spells a number, some bytes or a name.
 use Rattle.std.specs.Prelude.{◌≡◌, ◌≢◌, ◌<◌, ◌+◌, ◌++◌, ◌⊎◌, ℕ, ℤ, pos, neg_ℤ, List, [], ◌∷◌, length, Ok, codes, ◌==◌}
 use Rattle.std.specs.List.{slice_split}
 use Rattle.std.specs.Str.Parse.{IsNumeral, digits_value}
@@ -10,30 +10,29 @@ use Rattle.scroll.specs.declared.runner.Width.TheVariants as width
 use Rattle.scroll_run.specs.declared.words.Name.{Name}
 use Rattle.scroll_run.specs.declared.words.Name.TheVariants as name
 
--- the words of a line: what stands before, between and after its spaces
+-- what is before, between and after the spaces of a line
 abbrev pub words_of : List ℕ → List (List ℕ)
 words_of line = slice_split (λ b. b == 32) line
 
--- a word of digits spells their value, where it is below the limit
+-- the word is one decimal digit or more, with the value `x`, which is below the limit
 abbrev pub SpellsNumber : ℕ → List ℕ → ℕ → Type 0
 SpellsNumber limit word x = IsNumeral 10 word × (digits_value 10 word < limit) × (x ≡ digits_value 10 word)
 
--- a word spells a signed number: digits below half spell their value, and a minus and digits up to half the value below
--- zero
+-- the word spells a signed number: digits below `half` their value, and `-` and digits up to `half` the negative of it
 abbrev pub SpellsSigned : ℕ → List ℕ → ℤ → Type 0
 SpellsSigned half word x =
     ((n : ℕ) × SpellsNumber half word n × (x ≡ pos n))
     ⊎ ((digits : List ℕ) × (n : ℕ) × (word ≡ codes "-" ++ digits) × SpellsNumber (half + 1) digits n × (x ≡ neg_ℤ (pos n)))
 
--- a word spells bytes: none by `-`, or each by two hexadecimal digits of either case
+-- `-` spells no bytes, and an even number of hexadecimal digits of either case, two or more, spells a byte for each two
 abbrev pub SpellsBytes : List ℕ → List ℕ → Type 0
 SpellsBytes word bytes = ((word ≡ codes "-") × (bytes ≡ [])) ⊎ ((0 < length word) × (decode_of word ≡ Ok bytes))
 
--- a word spells one byte by two hexadecimal digits of either case
+-- two hexadecimal digits of either case spell one byte
 abbrev pub SpellsByte : List ℕ → ℕ → Type 0
 SpellsByte word byte = decode_sized word 1 ≡ Ok (byte ∷ [])
 
--- the word of a type of number
+-- `width_word w`: the word of a number type, such as `u16`
 abbrev pub width_word : Width → List ℕ
 width_word width.U8 = codes "u8"
 width_word width.I8 = codes "i8"
@@ -46,12 +45,12 @@ width_word width.I64 = codes "i64"
 width_word width.U128 = codes "u128"
 width_word width.I128 = codes "i128"
 
--- the word of a byte order
+-- `order_word order`: the word of a byte order: `le` for `Little`, and `be` for `Big`
 abbrev pub order_word : Endian → List ℕ
 order_word Little = codes "le"
 order_word Big = codes "be"
 
--- the word of what is read or written
+-- `name_word n`: the word of what is read or written:
 abbrev pub name_word : Name → List ℕ
 name_word (name.Number w) = width_word w
 name_word name.Text = codes "str"
@@ -65,7 +64,7 @@ name_word name.U16x3 = codes "u16x3"
 name_word name.Textx2 = codes "strx2"
 name_word name.Bytesx2 = codes "bytesx2"
 
--- the word names nothing that is read or written, but perhaps one number
+-- the word is none of those that name what is read or written, except perhaps that of a number type
 abbrev pub NamesNoOther : List ℕ → Type 0
 NamesNoOther word =
     (word ≢ codes "str") × (word ≢ codes "strx2") × (word ≢ codes "bytes") × (word ≢ codes "bytesx2") × (word ≢ codes "cstr")

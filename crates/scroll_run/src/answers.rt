@@ -5,7 +5,7 @@ ghost use Rattle.scroll_run.specs.Answers.{IsAnswerLine, Prints, hex_text, value
 use scroll::runner::{Answer, Value};
 use std::alloc::{AllocError, Global};
 
-/// A line for each answer, then the buffer and the cursor.
+/// Returns a line for each answer, then one for the buffer and one for the cursor.
 pub fn print_answers(
     alloc: Global,
     answers: &[Answer],
@@ -81,7 +81,7 @@ fn print_value(alloc: Global, text: &mut String, value: &Value) -> Result<(), Al
     }
 }
 
-// The bytes in hexadecimal, or `-` for none.
+// Returns the bytes in hexadecimal, or `-` if there are none.
 fn print_bytes(alloc: Global, bytes: &[u8]) -> Result<String, AllocError>
     ensures { IfOk result (λ text. string_bytes text ≡ hex_text bytes.now) }
 {

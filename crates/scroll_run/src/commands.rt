@@ -1,4 +1,4 @@
-//! The lines of commands.
+//! The lines that hold commands.
 ghost use Rattle.std.specs.Prelude.{◌≡◌, ℕ, List, IfOk, MatchOption, map};
 ghost use Rattle.scroll.specs.declared.runner.Command.{Command};
 ghost use Rattle.scroll_run.specs.Commands.{AreCommandsOf, FindsCommand, IsCommandOf, SpellsCommand, SpellsOffset, SpellsRead, SpellsRest, SpellsWrite, verb_word};
@@ -14,9 +14,9 @@ use std::alloc::{AllocError, Global};
 /// A command, with the bytes that its line holds.
 #[derive(Drop)]
 pub enum CommandLine {
-    /// A read of a kind at a place.
+    /// Reads a kind at a place.
     Read(Place, Kind),
-    /// A write at a place.
+    /// Writes at a place.
     Write(Place, OwnedPut),
 }
 
@@ -34,7 +34,7 @@ enum Verb {
 }
 
 impl CommandLine {
-    /// The command of the line.
+    /// Returns the command of the line, which borrows from it.
     pub fn command(&self) -> Command<'_>
         ensures { IsCommandOf self.now result }
     {
@@ -45,20 +45,20 @@ impl CommandLine {
     }
 }
 
-/// The command of each line.
+/// Returns the command of each line.
 pub fn borrow_commands(alloc: Global, lines: &[CommandLine]) -> Result<Vec<Command<'_>>, AllocError>
     ensures { IfOk result (λ commands. AreCommandsOf lines.now commands.items) }
 {
     let mut commands = Vec::with_capacity(alloc, lines.len())?;
     for line in lines {
-        // (the prover does not take a command as an argument of `push`, which can fail)
+        // (the prover doesn't take a command as an argument of `push`, which can fail)
         commands.reserve(1)?;
         commands.push_reserved(line.command());
     }
     Ok(commands)
 }
 
-/// The command that a line spells. `None` is for a bad line.
+/// Returns the command that a line spells, or `None` for a bad line. The only error is an allocation failure.
 pub fn parse_command(alloc: Global, line: &[u8]) -> Result<Option<CommandLine>, AllocError>
     ensures { IfOk result (FindsCommand (SpellsCommand (words_of line.now))) }
 {
@@ -66,7 +66,7 @@ pub fn parse_command(alloc: Global, line: &[u8]) -> Result<Option<CommandLine>, 
     parse_words(alloc, &words)
 }
 
-// The command that words spell.
+// Returns the command that the words spell.
 fn parse_words(alloc: Global, words: &[&[u8]]) -> Result<Option<CommandLine>, AllocError>
     ensures { let texts = map (λ word. word.now) words.now in
         IfOk result (FindsCommand (SpellsCommand texts)) }
@@ -80,7 +80,7 @@ fn parse_words(alloc: Global, words: &[&[u8]]) -> Result<Option<CommandLine>, Al
     }
 }
 
-// The command of a verb that the words behind it spell.
+// Returns the command of a verb and the words after it.
 fn parse_rest(alloc: Global, verb: Verb, words: &[&[u8]]) -> Result<Option<CommandLine>, AllocError>
     ensures { let texts = map (λ word. word.now) words.now in
         IfOk result (FindsCommand (SpellsRest verb texts)) }
@@ -99,7 +99,7 @@ fn parse_rest(alloc: Global, verb: Verb, words: &[&[u8]]) -> Result<Option<Comma
     }
 }
 
-// The verb that a word is.
+// Returns the verb that a word spells.
 fn parse_verb(word: &[u8]) -> Option<Verb>
     ensures { MatchOption result ((verb : Verb) → ¬ (word.now ≡ verb_word verb)) (λ verb.
         word.now ≡ verb_word verb) }
@@ -113,7 +113,7 @@ fn parse_verb(word: &[u8]) -> Option<Verb>
     }
 }
 
-// The offset that the first of the words spells, and the words behind it.
+// Returns the offset that the first word spells, and the words after it.
 fn parse_offset<'w, 'a>(words: &'w [&'a [u8]]) -> Option<(usize, &'w [&'a [u8]])>
     ensures { let texts = map (λ word. word.now) words.now in
         MatchOption result ((offset : ℕ) (rest : List (List ℕ))
@@ -124,7 +124,7 @@ fn parse_offset<'w, 'a>(words: &'w [&'a [u8]]) -> Option<(usize, &'w [&'a [u8]])
     Some((parse_usize(word)?, rest))
 }
 
-// The read at a place that words spell.
+// Returns the read at a place that the words spell.
 fn parse_read(place: Place, words: &[&[u8]]) -> Option<CommandLine>
     ensures { let texts = map (λ word. word.now) words.now in
         FindsCommand (SpellsRead place texts) result }
@@ -132,7 +132,7 @@ fn parse_read(place: Place, words: &[&[u8]]) -> Option<CommandLine>
     Some(CommandLine::Read(place, parse_kind(words)?))
 }
 
-// The write at a place that words spell.
+// Returns the write at a place that the words spell.
 fn parse_write(
     alloc: Global,
     place: Place,

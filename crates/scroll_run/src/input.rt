@@ -8,21 +8,21 @@ use std::alloc::{AllocError, Global};
 use std::io;
 use std::io::{ErrorKind, Read};
 
-/// The most bytes that are read: one more than an input may have.
+/// The maximum number of bytes that are read: one more than an input may have.
 pub const MOST_READ: usize = 65_537;
 
-// How often the reader is asked.
+// The maximum number of calls of the reader.
 const MOST_CALLS: usize = 131_072;
 
-// How many bytes the reader is asked for at once.
+// The number of bytes that one call of the reader asks for.
 const CHUNK: usize = 4096;
 
-/// Why there is no input.
+/// Why reading the input failed.
 #[derive(Debug, Drop)]
 pub enum ReadError {
     /// There was no memory for the bytes.
     NoMemory,
-    /// What the reader answered, or that it was asked too often.
+    /// The error of the reader, or too many calls.
     Io(io::Error),
 }
 
@@ -34,9 +34,9 @@ impl From<AllocError> for ReadError {
     }
 }
 
-/// The input up to its end, or its first [`MOST_READ`] bytes.
+/// Reads the input up to its end, but at most its first [`MOST_READ`] bytes.
 ///
-/// A call of the reader that was interrupted is made again. After too many calls the error is one of kind `Other`.
+/// An interrupted call of the reader is repeated. After too many calls, it returns an error of kind `Other`.
 pub fn read_input<R: Read>(alloc: Global, input: &mut R) -> Result<Vec<u8>, ReadError>
     ensures bound { IfOk result (λ bytes. vec_len bytes ≤ 65537) }
     ensures taken { IfOk result (λ bytes.

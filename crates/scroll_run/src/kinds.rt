@@ -1,4 +1,4 @@
-//! What is read, as the words of a line spell it.
+//! The kinds of values that are read, as the words of a line spell them.
 ghost use Rattle.std.specs.Prelude.{◌≡◌, ℕ, List, [], ◌∷◌, MatchOption, map};
 ghost use Rattle.scroll.specs.declared.ctx.str_ctx.StrCtx.{StrCtx};
 ghost use Rattle.scroll.specs.declared.endian.Endian.{Endian};
@@ -11,20 +11,20 @@ use scroll::Endian;
 use scroll::ctx::StrCtx;
 use scroll::runner::Kind;
 
-// Where texts end, as a word names it.
+// Where a string ends, as a word names it.
 #[derive(Clone, Copy)]
 enum End {
-    // Before a delimiter.
+    // At a delimiter.
     Delimiter,
-    // Before a delimiter, and at a limit.
+    // At a delimiter or a limit.
     Until,
     // At a length.
     Length,
-    // Before a delimiter that has to be there.
+    // At a delimiter that the source must contain.
     Required,
 }
 
-/// The kind that words spell.
+/// Returns the kind that the words spell.
 pub fn parse_kind(words: &[&[u8]]) -> Option<Kind>
     ensures { let texts = map (λ word. word.now) words.now in
         MatchOption result ((kind : Kind) → ¬ (SpellsKind texts kind)) (SpellsKind texts) }
@@ -33,7 +33,7 @@ pub fn parse_kind(words: &[&[u8]]) -> Option<Kind>
     parse_kind_rest(parse_name(word)?, rest)
 }
 
-// The kind of a name that the words behind it spell.
+// Returns the kind of a name and the words after it.
 fn parse_kind_rest(name: Name, words: &[&[u8]]) -> Option<Kind>
     ensures { let texts = map (λ word. word.now) words.now in MatchOption result ((kind : Kind)
         → ¬ (SpellKindRest name texts kind)) (SpellKindRest name texts) }
@@ -53,7 +53,7 @@ fn parse_kind_rest(name: Name, words: &[&[u8]]) -> Option<Kind>
     }
 }
 
-// Where a text ends, as words spell it.
+// Returns where a string ends, as the words spell it.
 fn parse_end(words: &[&[u8]]) -> Option<StrCtx>
     ensures { let texts = map (λ word. word.now) words.now in
         MatchOption result ((ctx : StrCtx) → ¬ (SpellEnd texts ctx)) (SpellEnd texts) }
@@ -62,7 +62,7 @@ fn parse_end(words: &[&[u8]]) -> Option<StrCtx>
     parse_end_rest(parse_end_word(word)?, rest)
 }
 
-// Where a text ends, by the words behind the word of an end.
+// Returns where a string ends, from the words after the first.
 fn parse_end_rest(end: End, words: &[&[u8]]) -> Option<StrCtx>
     ensures { let texts = map (λ word. word.now) words.now in MatchOption result ((ctx : StrCtx)
         → ¬ (SpellEndRest end texts ctx)) (SpellEndRest end texts) }
@@ -78,7 +78,7 @@ fn parse_end_rest(end: End, words: &[&[u8]]) -> Option<StrCtx>
     }
 }
 
-// The end of texts that a word is.
+// Returns the end that a word names.
 fn parse_end_word(word: &[u8]) -> Option<End>
     ensures { MatchOption result ((end : End) → ¬ (word.now ≡ end_word end)) (λ end.
         word.now ≡ end_word end) }
@@ -92,7 +92,7 @@ fn parse_end_word(word: &[u8]) -> Option<End>
     }
 }
 
-// The number that the one word spells.
+// Returns the number that the only word spells.
 fn parse_last_usize(words: &[&[u8]]) -> Option<usize>
     ensures { let texts = map (λ word. word.now) words.now in
         MatchOption result ((n : ℕ) → ¬ (SpellLastNumber texts n)) (SpellLastNumber texts) }
@@ -103,7 +103,7 @@ fn parse_last_usize(words: &[&[u8]]) -> Option<usize>
     }
 }
 
-// The byte that the one word spells.
+// Returns the byte that the only word spells.
 fn parse_last_byte(words: &[&[u8]]) -> Option<u8>
     ensures { let texts = map (λ word. word.now) words.now in
         MatchOption result ((byte : ℕ) → ¬ (SpellLastByte texts byte)) (SpellLastByte texts) }
@@ -114,7 +114,7 @@ fn parse_last_byte(words: &[&[u8]]) -> Option<u8>
     }
 }
 
-// The byte order that the one word names.
+// Returns the byte order that the only word names.
 fn parse_last_order(words: &[&[u8]]) -> Option<Endian>
     ensures { let texts = map (λ word. word.now) words.now in MatchOption result ((order : Endian)
         → ¬ (SpellLastOrder texts order)) (SpellLastOrder texts) }
@@ -125,7 +125,7 @@ fn parse_last_order(words: &[&[u8]]) -> Option<Endian>
     }
 }
 
-// The byte and the number that the two words spell.
+// Returns the byte and the number that the two words spell.
 fn parse_last_limit(words: &[&[u8]]) -> Option<(u8, usize)>
     ensures { let texts = map (λ word. word.now) words.now in MatchOption result ((byte n : ℕ)
         → ¬ (SpellLastLimit texts byte n)) (λ p. SpellLastLimit texts p.0 p.1) }

@@ -9,7 +9,7 @@ use crate::commands::{CommandLine, parse_command};
 use crate::words::{parse_bytes, parse_usize, split};
 use std::alloc::{AllocError, AllocFailed, Global};
 
-/// Why the lines of an input are not run.
+/// Why an input isn't run.
 #[derive(Clone, Copy, Debug)]
 pub enum Stop {
     /// The first bad line, counted from 1.
@@ -34,18 +34,18 @@ impl<T: Drop> From<AllocFailed<T>> for Stop {
     }
 }
 
-/// What the lines of an input say.
+/// What the lines of an input spell.
 #[derive(Drop)]
 pub struct Script {
-    /// The first buffer.
+    /// The buffer before the first command.
     pub buffer: Vec<u8>,
-    /// The first cursor.
+    /// The cursor before the first command.
     pub cursor: usize,
     /// The commands, in order.
     pub commands: Vec<CommandLine>,
 }
 
-/// What the lines of an input say, each up to its line feed, which the last one need not have.
+/// Returns what the lines of an input spell. A line feed ends each line; the last line may lack it.
 pub fn parse_script(alloc: Global, input: &[u8]) -> Result<Script, Stop>
     ensures { MatchResult result (λ script. (commands : List Command)
         → AreCommandsOf script.commands.items commands
@@ -56,7 +56,7 @@ pub fn parse_script(alloc: Global, input: &[u8]) -> Result<Script, Stop>
     parse_lines(alloc, &lines)
 }
 
-// The input without a line feed at its end.
+// Returns the input without a line feed at its end.
 fn without_last_feed(input: &[u8]) -> &[u8]
     ensures { result.now ≡ without_feed input.now }
 {
@@ -66,7 +66,7 @@ fn without_last_feed(input: &[u8]) -> &[u8]
     }
 }
 
-// What lines say.
+// Returns what the lines spell.
 fn parse_lines(alloc: Global, lines: &[&[u8]]) -> Result<Script, Stop>
     ensures { let texts = map (λ line. line.now) lines.now in
         MatchResult result (λ script. (commands : List Command)
@@ -93,7 +93,7 @@ fn parse_lines(alloc: Global, lines: &[&[u8]]) -> Result<Script, Stop>
     })
 }
 
-// The bytes of a `buffer` line. `None` is for a bad line.
+// Returns the bytes of a `buffer` line, or `None` for a bad line.
 fn parse_buffer(alloc: Global, line: &[u8]) -> Result<Option<Vec<u8>>, AllocError>
     ensures { IfOk result (λ found. MatchOption found ((bytes : List ℕ)
         → ¬ (SpellsBuffer line.now bytes)) (λ bytes. SpellsBuffer line.now bytes.items)) }
@@ -104,14 +104,14 @@ fn parse_buffer(alloc: Global, line: &[u8]) -> Result<Option<Vec<u8>>, AllocErro
     }
 }
 
-// The number of a `cursor` line. `None` is for a bad line.
+// Returns the number of a `cursor` line, or `None` for a bad line.
 fn parse_cursor(line: &[u8]) -> Option<usize>
     ensures { MatchOption result ((n : ℕ) → ¬ (SpellsCursor line.now n)) (SpellsCursor line.now) }
 {
     parse_usize(line.strip_prefix(b"cursor ")?)
 }
 
-// The commands of lines that begin at the third line.
+// Returns the commands of the lines from the third on.
 fn parse_commands(alloc: Global, lines: &[&[u8]]) -> Result<Vec<CommandLine>, Stop>
     ensures { let texts = map (λ line. line.now) lines.now in
         MatchResult result (λ held. SpellHeld texts held.items) (StopsCommands texts) }

@@ -1,4 +1,4 @@
-//! What is written.
+//! Writes of the output.
 ghost use Rattle.std.specs.Prelude.{◌≡◌, ◌≢◌, OnOk, OnErr, IfErr};
 ghost use Rattle.std.specs.Io.KnownBytes.{Appends, Keeps};
 ghost use Rattle.std.specs.IoError.{error_kind};
@@ -7,12 +7,12 @@ ghost use Rattle.scroll_run.specs.Output.{AppendsFront};
 use std::io;
 use std::io::{ErrorKind, Write};
 
-// How often the writer is asked beyond once a byte, and how often it is asked to flush.
+// The maximum number of calls of the writer beyond one per byte, and the maximum number of flushes.
 const MORE_CALLS: usize = 131_072;
 
-/// Writes all the bytes, and flushes the writer.
+/// Writes all bytes, and flushes the writer.
 ///
-/// A call of the writer that was interrupted is made again. After too many calls the error is one of kind `Other`.
+/// An interrupted call of the writer is repeated. After too many calls, it returns an error of kind `Other`.
 pub fn write_output<W: Write>(output: &mut W, bytes: &[u8]) -> io::Result<()>
     ensures written { OnOk result (Appends (W.contents output.old)
         (W.contents output.new) bytes.now) }
@@ -23,7 +23,7 @@ pub fn write_output<W: Write>(output: &mut W, bytes: &[u8]) -> io::Result<()>
     flush(output)
 }
 
-// Writes all the bytes.
+// Writes all bytes.
 fn write_all<W: Write>(output: &mut W, bytes: &[u8]) -> io::Result<()>
     ensures written { OnOk result (Appends (W.contents output.old)
         (W.contents output.new) bytes.now) }

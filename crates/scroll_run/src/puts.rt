@@ -1,4 +1,4 @@
-//! What is written, as the words of a line spell it.
+//! The values that are written, as the words of a line spell them.
 ghost use Rattle.std.specs.Prelude.{◌≡◌, ◌^◌, ℕ, ℤ, List, IfOk, MatchOption, map};
 ghost use Rattle.scroll.specs.declared.runner.Put.{Put};
 ghost use Rattle.scroll_run.specs.Kinds.{SpellLastNumber};
@@ -12,12 +12,12 @@ use scroll::runner::{Put, Width};
 use scroll::{Endian, Error, Sleb128, Uleb128};
 use std::alloc::{AllocError, Global};
 
-/// What a line writes, with the bytes that it holds.
+/// The value that a line writes, with the bytes that it holds.
 #[derive(Drop)]
 pub enum OwnedPut {
-    /// What borrows nothing.
+    /// A value that borrows nothing.
     Plain(Put<'static>),
-    /// A text.
+    /// A string.
     Text(String),
     /// A slice of bytes.
     Bytes(Vec<u8>),
@@ -28,7 +28,7 @@ pub enum OwnedPut {
 }
 
 impl OwnedPut {
-    /// What is written, as a command has it.
+    /// Returns the value as a command has it.
     pub fn put(&self) -> Put<'_>
         ensures { IsPutOf self.now result }
     {
@@ -42,8 +42,8 @@ impl OwnedPut {
     }
 }
 
-// A copy of what borrows nothing, part by part: the prover does not copy it as a whole from behind a reference, since it may
-// hold a number in LEB128.
+// Copies a value that borrows nothing, part by part: the prover doesn't copy it as a whole from a reference, since it
+// may hold a number in LEB128.
 fn copied(put: &Put<'static>) -> Put<'static>
     ensures { result ≡ put.now }
 {
@@ -68,7 +68,7 @@ fn copied(put: &Put<'static>) -> Put<'static>
     }
 }
 
-/// What is written, as words spell it.
+/// Returns the value that the words spell, or `None` where they spell none. The only error is an allocation failure.
 pub fn parse_put(alloc: Global, words: &[&[u8]]) -> Result<Option<OwnedPut>, AllocError>
     ensures { let texts = map (λ word. word.now) words.now in
         IfOk result (FindsPut (SpellsPut texts)) }
@@ -82,7 +82,7 @@ pub fn parse_put(alloc: Global, words: &[&[u8]]) -> Result<Option<OwnedPut>, All
     }
 }
 
-// What is written under a name, as the words behind it spell it.
+// Returns the value of a name and the words after it.
 fn parse_put_rest(
     alloc: Global,
     name: Name,
@@ -104,7 +104,7 @@ fn parse_put_rest(
     }
 }
 
-// A number of a type: a byte order and a value.
+// Returns the number of a type that a byte order and a value spell.
 fn parse_number_words(width: Width, words: &[&[u8]]) -> Option<OwnedPut>
     ensures { let texts = map (λ word. word.now) words.now in
         FindsPut (SpellOrderedNumber width texts) result }
@@ -112,14 +112,14 @@ fn parse_number_words(width: Width, words: &[&[u8]]) -> Option<OwnedPut>
     let [order, value] = words else {
         return None;
     };
-    // (the prover does not take `?` on what may hold a number in LEB128)
+    // (the prover doesn't take `?` on what may hold a number in LEB128)
     match parse_number_put(width, parse_order(order)?, value) {
         Some(put) => Some(OwnedPut::Plain(put)),
         None => None,
     }
 }
 
-// The number of a width that a word spells.
+// Returns the number of a width that a word spells.
 fn parse_number_put(width: Width, order: Endian, word: &[u8]) -> Option<Put<'static>>
     ensures { MatchOption result ((put : Put)
         → ¬ (SpellsValue width order word.now put)) (SpellsValue width order word.now) }
@@ -138,7 +138,7 @@ fn parse_number_put(width: Width, order: Endian, word: &[u8]) -> Option<Put<'sta
     }
 }
 
-// The bytes that the one word spells.
+// Returns the bytes that the only word spells.
 fn parse_last_bytes(alloc: Global, words: &[&[u8]]) -> Result<Option<Vec<u8>>, AllocError>
     ensures { let texts = map (λ word. word.now) words.now in
         IfOk result (λ found. MatchOption found ((bytes : List ℕ)
@@ -150,7 +150,7 @@ fn parse_last_bytes(alloc: Global, words: &[&[u8]]) -> Result<Option<Vec<u8>>, A
     }
 }
 
-// A text.
+// Returns the string that the words spell.
 fn parse_text(alloc: Global, words: &[&[u8]]) -> Result<Option<OwnedPut>, AllocError>
     ensures { let texts = map (λ word. word.now) words.now in
         IfOk result (FindsPut (SpellPutRest name.Text texts)) }
@@ -164,7 +164,7 @@ fn parse_text(alloc: Global, words: &[&[u8]]) -> Result<Option<OwnedPut>, AllocE
     }
 }
 
-// A slice of bytes.
+// Returns the slice that the words spell.
 fn parse_slice(alloc: Global, words: &[&[u8]]) -> Result<Option<OwnedPut>, AllocError>
     ensures { let texts = map (λ word. word.now) words.now in
         IfOk result (FindsPut (SpellPutRest name.Bytes texts)) }
@@ -175,7 +175,7 @@ fn parse_slice(alloc: Global, words: &[&[u8]]) -> Result<Option<OwnedPut>, Alloc
     }
 }
 
-// A C string, by its text.
+// Returns the C string whose text the words spell.
 fn parse_c_string(alloc: Global, words: &[&[u8]]) -> Result<Option<OwnedPut>, AllocError>
     ensures { let texts = map (λ word. word.now) words.now in
         IfOk result (FindsPut (SpellPutRest name.CStr texts)) }
@@ -190,7 +190,7 @@ fn parse_c_string(alloc: Global, words: &[&[u8]]) -> Result<Option<OwnedPut>, Al
     }
 }
 
-// A number in LEB128, with its shortest text.
+// Returns the number in LEB128, with its shortest encoding.
 fn parse_uleb(words: &[&[u8]]) -> Option<OwnedPut>
     ensures { let texts = map (λ word. word.now) words.now in
         FindsPut (SpellPutRest name.Uleb texts) result }
@@ -199,7 +199,7 @@ fn parse_uleb(words: &[&[u8]]) -> Option<OwnedPut>
     Some(OwnedPut::Plain(Put::Uleb(Uleb128::shortest(value))))
 }
 
-// A signed number in LEB128, with its shortest text.
+// Returns the signed number in LEB128, with its shortest encoding.
 fn parse_sleb(words: &[&[u8]]) -> Option<OwnedPut>
     ensures { let texts = map (λ word. word.now) words.now in
         FindsPut (SpellPutRest name.Sleb texts) result }
@@ -208,7 +208,7 @@ fn parse_sleb(words: &[&[u8]]) -> Option<OwnedPut>
     Some(OwnedPut::Plain(Put::Sleb(Sleb128::shortest(value))))
 }
 
-// The number of 64 bits that the one word spells.
+// Returns the number of 64 bits that the only word spells.
 fn parse_last_u64(words: &[&[u8]]) -> Option<u64>
     ensures { let texts = map (λ word. word.now) words.now in
         MatchOption result ((x : ℕ) → ¬ (SpellLastNumber texts x)) (SpellLastNumber texts) }
@@ -219,7 +219,7 @@ fn parse_last_u64(words: &[&[u8]]) -> Option<u64>
     }
 }
 
-// The number of 64 bits that a word spells.
+// Returns the number of 64 bits that a word spells.
 fn parse_u64(word: &[u8]) -> Option<u64>
     ensures { MatchOption result ((x : ℕ)
         → ¬ (SpellsNumber (2 ^ 64) word.now x)) (SpellsNumber (2 ^ 64) word.now) }
@@ -227,7 +227,7 @@ fn parse_u64(word: &[u8]) -> Option<u64>
     u64::try_from(parse_number(word)?).ok()
 }
 
-// The signed number of 64 bits that the one word spells.
+// Returns the signed number of 64 bits that the only word spells.
 fn parse_last_i64(words: &[&[u8]]) -> Option<i64>
     ensures { let texts = map (λ word. word.now) words.now in
         MatchOption result ((x : ℤ) → ¬ (SpellLastSigned texts x)) (SpellLastSigned texts) }
@@ -238,7 +238,7 @@ fn parse_last_i64(words: &[&[u8]]) -> Option<i64>
     }
 }
 
-// The signed number of 64 bits that a word spells.
+// Returns the signed number of 64 bits that a word spells.
 fn parse_i64(word: &[u8]) -> Option<i64>
     ensures { MatchOption result ((x : ℤ)
         → ¬ (SpellsSigned (2 ^ 63) word.now x)) (SpellsSigned (2 ^ 63) word.now) }
@@ -246,7 +246,7 @@ fn parse_i64(word: &[u8]) -> Option<i64>
     i64::try_from(parse_signed(word)?).ok()
 }
 
-// Three numbers of 16 bits: a byte order and the values.
+// Returns the three numbers of 16 bits that a byte order and three values spell.
 fn parse_three(words: &[&[u8]]) -> Option<OwnedPut>
     ensures { let texts = map (λ word. word.now) words.now in FindsPut (SpellThree texts) result }
 {
@@ -260,7 +260,7 @@ fn parse_three(words: &[&[u8]]) -> Option<OwnedPut>
     Some(OwnedPut::Plain(Put::U16x3([first, second, third], order)))
 }
 
-// The number of 16 bits that a word spells.
+// Returns the number of 16 bits that a word spells.
 fn parse_u16(word: &[u8]) -> Option<u16>
     ensures { MatchOption result ((x : ℕ)
         → ¬ (SpellsNumber (2 ^ 16) word.now x)) (SpellsNumber (2 ^ 16) word.now) }
@@ -268,7 +268,7 @@ fn parse_u16(word: &[u8]) -> Option<u16>
     u16::try_from(parse_number(word)?).ok()
 }
 
-// Two slices of bytes.
+// Returns the two slices that the words spell.
 fn parse_two(alloc: Global, words: &[&[u8]]) -> Result<Option<OwnedPut>, AllocError>
     ensures { let texts = map (λ word. word.now) words.now in
         IfOk result (FindsPut (SpellPutRest name.Bytesx2 texts)) }

@@ -14,7 +14,7 @@ use std::alloc::{AllocError, Global};
 use std::io;
 use std::io::{ErrorKind, Read, Write};
 
-// The statuses that a session answers.
+// The statuses that a session returns.
 const ANSWERED: u8 = 0;
 
 const BAD_INPUT: u8 = 2;
@@ -28,10 +28,9 @@ struct Outcome {
     status: u8,
 }
 
-/// Runs the session that the reader gives, and writes what it answers.
+/// Runs the session that the reader gives, writes its output, and returns its status.
 ///
-/// The answer is the session's status. An error is one of the reader or of the writer; then nothing was written, or only the
-/// first bytes of what the input is answered with.
+/// An error is one of the reader or of the writer. Nothing was then written, or only some first bytes of the output.
 pub fn session<R: Read, W: Write>(alloc: Global, input: &mut R, output: &mut W) -> io::Result<u8>
     ensures answered { IfOk result (λ status. (text : List ℕ)
         × Appends (W.contents output.old) (W.contents output.new) text
@@ -57,7 +56,7 @@ pub fn session<R: Read, W: Write>(alloc: Global, input: &mut R, output: &mut W) 
     }
 }
 
-// What an input is answered with.
+// Returns the output and the status for an input.
 fn answer_input(alloc: Global, input: &[u8]) -> Result<Outcome, AllocError>
     ensures { IfOk result (λ outcome.
         AnswersInput input.now (string_bytes outcome.text) outcome.status) }
@@ -81,7 +80,7 @@ fn answer_input(alloc: Global, input: &[u8]) -> Result<Outcome, AllocError>
     }
 }
 
-// Runs the commands of a script, and prints what they answer and leave.
+// Runs the commands of a script, and prints what they return and leave.
 fn run_script(alloc: Global, script: Script) -> Result<String, AllocError>
     ensures { IfOk result (λ text. RunsScript script (string_bytes text)) }
 {

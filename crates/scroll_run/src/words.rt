@@ -13,16 +13,16 @@ use scroll::runner::Width;
 use std::alloc::{AllocError, Global};
 use std::str;
 
-/// What is read or written, as a word names it.
+/// The type of a value that is read or written, as a word names it.
 #[derive(Clone, Copy)]
 pub enum Name {
     /// A number of a type.
     Number(Width),
-    /// A text.
+    /// A string.
     Text,
     /// A slice of bytes.
     Bytes,
-    /// A C string, which is borrowed where it is read.
+    /// A C string; a read borrows it.
     CStr,
     /// A C string that owns its memory.
     CString,
@@ -34,13 +34,13 @@ pub enum Name {
     U8x0,
     /// An array of three `u16`.
     U16x3,
-    /// An array of two texts.
+    /// An array of two strings.
     Textx2,
     /// An array of two slices of bytes.
     Bytesx2,
 }
 
-/// The parts of a text before, between and after its separators.
+/// Returns the parts of a text before, between and after its separators.
 pub fn split(alloc: Global, text: &[u8], separator: u8) -> Result<Vec<&[u8]>, AllocError>
     ensures { IfOk result (λ parts.
         map (λ part. part.now) parts.items ≡ slice_split (λ b. b == separator) text.now) }
@@ -52,12 +52,12 @@ pub fn split(alloc: Global, text: &[u8], separator: u8) -> Result<Vec<&[u8]>, Al
     Ok(parts)
 }
 
-/// The number that a word of digits spells, where it is below 2^128.
+/// Returns the number that a word of digits spells, if it is below 2^128.
 pub fn parse_number(word: &[u8]) -> Option<u128>
     ensures { SomeIff result (IsNumeral 10 word.now
         × (digits_value 10 word.now < 2 ^ 128)) (digits_value 10 word.now) }
 {
-    // (std takes a plus before the digits, too)
+    // (std also accepts a plus before the digits)
     if *word.first()? == b'+' {
         return None;
     }
@@ -67,7 +67,7 @@ pub fn parse_number(word: &[u8]) -> Option<u128>
     text.parse().ok()
 }
 
-/// The number that digits, with or without a minus before them, spell, where it is in the range of `i128`.
+/// Returns the number that digits spell, after a minus or not, if it is in the range of `i128`.
 pub fn parse_signed(word: &[u8]) -> Option<i128>
     ensures { MatchOption result ((x : ℤ)
         → ¬ (SpellsSigned (2 ^ 127) word.now x)) (SpellsSigned (2 ^ 127) word.now) }
@@ -78,7 +78,7 @@ pub fn parse_signed(word: &[u8]) -> Option<i128>
     }
 }
 
-/// The number that a word of digits spells, where it is below 2^64.
+/// Returns the number that a word of digits spells, if it is below 2^64.
 pub fn parse_usize(word: &[u8]) -> Option<usize>
     ensures { SomeIff result (IsNumeral 10 word.now
         × (digits_value 10 word.now < 2 ^ 64)) (digits_value 10 word.now) }
@@ -86,7 +86,8 @@ pub fn parse_usize(word: &[u8]) -> Option<usize>
     usize::try_from(parse_number(word)?).ok()
 }
 
-/// The bytes that a word spells: none by `-`, or each by two hexadecimal digits of either case.
+/// Returns the bytes that a word spells: `-` for none, or two hexadecimal digits of either case for each byte. Returns
+/// `None` for any other word. The only error is an allocation failure.
 pub fn parse_bytes(alloc: Global, word: &[u8]) -> Result<Option<Vec<u8>>, AllocError>
     ensures { IfOk result (λ found. MatchOption found ((bytes : List ℕ)
         → ¬ (SpellsBytes word.now bytes)) (λ bytes. SpellsBytes word.now bytes.items)) }
@@ -104,7 +105,7 @@ pub fn parse_bytes(alloc: Global, word: &[u8]) -> Result<Option<Vec<u8>>, AllocE
     }
 }
 
-/// The byte that two hexadecimal digits of either case spell.
+/// Returns the byte that two hexadecimal digits of either case spell.
 pub fn parse_byte(word: &[u8]) -> Option<u8>
     ensures { MatchOption result ((byte : ℕ) → ¬ (SpellsByte word.now byte)) (SpellsByte word.now) }
 {
@@ -112,7 +113,7 @@ pub fn parse_byte(word: &[u8]) -> Option<u8>
     Some(bytes[0])
 }
 
-/// What a word names.
+/// Returns what a word names.
 pub fn parse_name(word: &[u8]) -> Option<Name>
     ensures { MatchOption result ((name : Name) → ¬ (word.now ≡ name_word name)) (λ name.
         word.now ≡ name_word name) }
@@ -123,7 +124,7 @@ pub fn parse_name(word: &[u8]) -> Option<Name>
     }
 }
 
-// What a word names, where that is not one number.
+// Returns what a word names if that isn't one number.
 fn parse_other_name(word: &[u8]) -> Option<Name>
     ensures { MatchOption result (NamesNoOther word.now) (λ name. word.now ≡ name_word name) }
 {
@@ -142,7 +143,7 @@ fn parse_other_name(word: &[u8]) -> Option<Name>
     }
 }
 
-/// The type of a number that a word names.
+/// Returns the number type that a word names.
 pub fn parse_width(word: &[u8]) -> Option<Width>
     ensures { MatchOption result ((width : Width) → ¬ (word.now ≡ width_word width)) (λ width.
         word.now ≡ width_word width) }
@@ -162,7 +163,7 @@ pub fn parse_width(word: &[u8]) -> Option<Width>
     }
 }
 
-/// The byte order that a word names.
+/// Returns the byte order that a word names.
 pub fn parse_order(word: &[u8]) -> Option<Endian>
     ensures { MatchOption result ((order : Endian) → ¬ (word.now ≡ order_word order)) (λ order.
         word.now ≡ order_word order) }

@@ -1,5 +1,5 @@
--- What a write leaves unchanged: the bytes after those that were written.
--- The implementations cite these lemmas in the laws that their traits ask for. They are proved, and promise nothing.
+-- Bytes that a write leaves unchanged: those after the ones that it wrote. The implementations cite these lemmas for
+-- the laws of their traits. They are proved, and promise nothing.
 use Rattle.std.proofs.Common.{◌≡◌, ℕ, ℤ, max, ◌+◌, ◌*◌, ◌-◌, ◌/◌, ◌%◌, ◌^◌, ◌≤◌, ◌++◌, List, [], ◌∷◌, length, take, drop, length-take, refl, sym, ap, ◌∙◌, arith}
 use Rattle.std.proofs.Math.Nat.{mul-suc}
 use Rattle.std.proofs.lemmas.Grind.{common_steps}
@@ -16,7 +16,7 @@ use Rattle.scroll.specs.Spelling.{spelled_byte, spelling, unsigned_form}
 use Rattle.scroll.specs.declared.endian.Endian.{Endian}
 use Rattle.scroll.specs.declared.endian.Endian.TheVariants.{Little, Big}
 
--- there are w bytes
+-- there are `w` bytes
 pub length-number_bytes : (order : Endian) (w x : ℕ) → length (number_bytes order w x) ≡ w
 length-number_bytes Little w x = length-map-range_with_len (λ i. x / 256 ^ i % 256) 0 w
 length-number_bytes Big w x = length-map-range_with_len (λ i. x / 256 ^ (w - 1 - i) % 256) 0 w
@@ -24,7 +24,7 @@ length-number_bytes Big w x = length-map-range_with_len (λ i. x / 256 ^ (w - 1 
 pub length-signed_bytes : (order : Endian) (w : ℕ) (x : ℤ) → length (signed_bytes order w x) ≡ w
 length-signed_bytes order w x = length-number_bytes order w _
 
--- bytes that were written at the front leave those behind them
+-- bytes that are written at the start leave the bytes after them unchanged
 pub drop-front : (w : ℕ) (bytes old new : List ℕ) → length bytes ≡ w → new ≡ bytes ++ drop w old → drop w new ≡ drop w old
 drop-front w bytes old new len is = grind (arith, common_steps)
 
@@ -37,17 +37,17 @@ signed_bytes-keeps w order x old new is = drop-front w (signed_bytes order w x) 
 pub WritesNumber-keeps : (w : ℕ) (order : Endian) (x : ℕ) (old new : List ℕ) (n : ℕ) → WritesNumber w order x old new n → drop n new ≡ drop n old
 WritesNumber-keeps w order x old new n h = rw h.size (number_bytes-keeps w order x old new h.after)
 
--- the bytes behind those that were written stay
+-- `WritesFront` leaves the bytes after those that it writes unchanged
 pub WritesFront-keeps : (bytes old new : List ℕ) (n : ℕ) → WritesFront (length bytes) bytes old new n → drop n new ≡ drop n old
 WritesFront-keeps bytes old new n h = let after = h.after in let size = h.size in grind (arith, common_steps)
 
--- lists that are the same from a place on are so from a later place on
+-- lists that are equal from an index on are equal from every later index on
 pub drop-same : {X : Type 0} (n k : ℕ) (xs ys : List X) → n ≤ k → drop n xs ≡ drop n ys → drop k xs ≡ drop k ys
 drop-same n k xs ys le e =
     let at : n + (k - n) ≡ k = omega (arith, le) in
     rw (← at, ← drop-drop (k - n) n xs, ← drop-drop (k - n) n ys, e) refl
 
--- writes one after the other leave what stands behind the last
+-- writes one after another leave the bytes after the last of them unchanged
 WritesAll-keeps : {V : Type 0} (writes : V → List ℕ → List ℕ → ℕ → Type 0) → ((x : V) (old new : List ℕ) (n : ℕ) → writes x old new n → drop n new ≡ drop n old) → (old : List ℕ) (from : ℕ) (vs : List V) (new : List ℕ) (to : ℕ) → WritesAll writes old from vs new to → (from ≤ to) × (drop to new ≡ drop to old)
 WritesAll-keeps writes keeps old from [] new to h = (omega (arith, h.1), ap (drop to) h.0)
 WritesAll-keeps writes keeps old from (v ∷ vs) new to h =
@@ -59,7 +59,7 @@ WritesAll-keeps writes keeps old from (v ∷ vs) new to h =
 pub WritesArray-keeps : {V : Type 0} (writes : V → List ℕ → List ℕ → ℕ → Type 0) → ((x : V) (old new : List ℕ) (n : ℕ) → writes x old new n → drop n new ≡ drop n old) → (vs : List V) (old new : List ℕ) (n : ℕ) → WritesArray writes vs old new n → drop n new ≡ drop n old
 WritesArray-keeps writes keeps vs old new n h = (WritesAll-keeps writes keeps old 0 vs new n h).1
 
--- a text of n bytes has n bytes
+-- a spelling in `n` bytes has `n` bytes
 pub length-spelling : (v n : ℕ) → length (spelling v n) ≡ n
 length-spelling v n = length-map-range_with_len (spelled_byte v n) 0 n
 
@@ -72,7 +72,7 @@ WritesUleb-keeps x old new n h = spelling-keeps x.value x.count old new n h
 pub WritesSleb-keeps : (x : Counted ℤ) (old new : List ℕ) (n : ℕ) → WritesSleb x old new n → drop n new ≡ drop n old
 WritesSleb-keeps x old new n h = spelling-keeps (unsigned_form x.value x.count) x.count old new n h
 
--- values that are put one after another leave what stands after the last
+-- values that are put one after another leave the bytes after the last of them unchanged
 LeavesAll-keeps : {V : Type 0} (width need : ℕ) (leaves : V → List ℕ → List ℕ → Type 0) → ((x : V) (old new : List ℕ) → leaves x old new → drop need new ≡ drop need old) → (end : ℕ) (old : List ℕ) (from : ℕ) (vs : List V) (new : List ℕ) → from + max width need * length vs ≤ end → LeavesAll width leaves old from vs new → drop end new ≡ drop end old
 LeavesAll-keeps width need leaves keeps end old from [] new le h = ap (drop end) h
 LeavesAll-keeps width need leaves keeps end old from (v ∷ vs) new le h =
@@ -86,7 +86,7 @@ pub FillsArray-keeps : {V : Type 0} (width need : ℕ) (leaves : V → List ℕ 
 FillsArray-keeps width need leaves keeps count vs old new h =
     LeavesAll-keeps width need leaves keeps (max width need * count) old 0 vs new (rw h.len (omega arith)) h.each
 
--- the first n bytes of a slice, or all where it has fewer
+-- the first `n` bytes of a slice, or all of a shorter one
 pub slice-keeps : (n : ℕ) (slice old new : List ℕ) → new ≡ take n slice ++ drop (length (take n slice)) old → drop n new ≡ drop n old
 slice-keeps n slice old new is =
     drop-same (length (take n slice)) n new old (omega (arith, length-take n slice)) (drop-front (length (take n slice)) (take n slice) old new refl is)

@@ -1,5 +1,5 @@
--- Pairs: how many bytes there are, and that those after them are unchanged.
--- The implementations cite these lemmas in the laws that their traits ask for. They are proved, and promise nothing.
+-- Pairs: how many bytes there are, and that the bytes after them are unchanged. The implementations cite these lemmas
+-- for the laws of their traits. They are proved, and promise nothing.
 use Rattle.std.proofs.Common.{◌≡◌, ℕ, ◌+◌, ◌++◌, List, length, drop, arith, length-append}
 use Rattle.scroll.specs.lemmas.Frames.{drop-front}
 

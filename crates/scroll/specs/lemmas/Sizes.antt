@@ -1,5 +1,5 @@
--- Sizes: what is read ends at most one byte after its source, what is written within its target.
--- The implementations cite these lemmas in the laws that their traits ask for. They are proved, and promise nothing.
+-- Sizes: a read ends at most one byte past the end of its source, and a write within its target. The implementations
+-- cite these lemmas for the laws of their traits. They are proved, and promise nothing.
 use Rattle.std.proofs.Common.{ℕ, ◌+◌, ◌≤◌, ◌==◌, not, List, [], ◌∷◌, length, drop, arith, length-drop}
 use Rattle.std.proofs.lemmas.List.Sums.{prefix_len-le-length}
 use Rattle.scroll.specs.Arrays.{ReadsArray, WritesAll, WritesArray}
@@ -9,22 +9,22 @@ use Rattle.scroll.specs.Texts.{first_place, ReadsText}
 use Rattle.scroll.specs.declared.ctx.str_ctx.StrCtx.{StrCtx}
 use Rattle.scroll.specs.declared.ctx.str_ctx.StrCtx.TheVariants.{Delimiter, DelimiterUntil, Length, Required}
 
--- the first place is within the bytes
+-- the first place is at most the length
 pub first_place-le : (d : ℕ) (s : List ℕ) → first_place d s ≤ length s
 first_place-le d s = prefix_len-le-length (λ b. not (b == d)) s
 
--- the size of a text is at most one more than the source has bytes
+-- the size of a text is at most one more than the length of the source
 pub ReadsText-bounded : (ctx : StrCtx) (source text : List ℕ) (n : ℕ) → ReadsText ctx source text n → n ≤ length source + 1
 ReadsText-bounded (Delimiter d) source text n h = let within = first_place-le d source in omega (arith, h.size)
 ReadsText-bounded (DelimiterUntil d limit) source text n h = let within = first_place-le d source in omega (arith, h.size)
 ReadsText-bounded (Length len) source text n h = omega (arith, h.size, h.room)
 ReadsText-bounded (Required d) source text n h = omega (arith, h.size, h.there)
 
--- and so is the size of a C string
+-- so is the size of a C string
 pub ReadsCString-bounded : (source text : List ℕ) (n : ℕ) → ReadsCString source text n → n ≤ length source + 1
 ReadsCString-bounded source text n h = omega (arith, h.found, h.size)
 
--- reads one after the other end at most one byte behind the end
+-- reads one after another end at most one byte past the end
 ReadsAll-bounded : {V : Type 0} (reads : List ℕ → V → ℕ → Type 0) → ((s : List ℕ) (x : V) (n : ℕ) → reads s x n → n ≤ length s + 1) → (s : List ℕ) (from : ℕ) (vs : List V) (to : ℕ) → from ≤ length s + 1 → ReadsAll reads s from vs to → to ≤ length s + 1
 ReadsAll-bounded reads bound s from [] to le h = omega (arith, le, h)
 ReadsAll-bounded reads bound s from (v ∷ vs) to le h =
@@ -35,7 +35,7 @@ ReadsAll-bounded reads bound s from (v ∷ vs) to le h =
 pub ReadsArray-bounded : {V : Type 0} (reads : List ℕ → V → ℕ → Type 0) → ((s : List ℕ) (x : V) (n : ℕ) → reads s x n → n ≤ length s + 1) → (count : ℕ) (s : List ℕ) (vs : List V) (n : ℕ) → ReadsArray reads count s vs n → n ≤ length s + 1
 ReadsArray-bounded reads bound count s vs n h = ReadsAll-bounded reads bound s 0 vs n (omega arith) h.each
 
--- writes one after the other end within the target
+-- writes one after another end within the target
 WritesAll-bounded : {V : Type 0} (writes : V → List ℕ → List ℕ → ℕ → Type 0) → ((x : V) (old new : List ℕ) (n : ℕ) → writes x old new n → n ≤ length old) → (old : List ℕ) (from : ℕ) (vs : List V) (new : List ℕ) (to : ℕ) → from ≤ length old → WritesAll writes old from vs new to → to ≤ length old
 WritesAll-bounded writes bound old from [] new to le h = omega (arith, le, h.1)
 WritesAll-bounded writes bound old from (v ∷ vs) new to le h =

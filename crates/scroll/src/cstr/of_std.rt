@@ -1,4 +1,4 @@
-// The C strings of the crate made of those of std, and back. No byte is copied, and no memory is asked for.
+// Conversions between the C strings of the crate and those of std. They neither copy bytes nor allocate memory.
 ghost use Rattle.std.specs.Prelude.{◌≡◌};
 ghost use Rattle.std.specs.CStr.{c_str_bytes, c_string_bytes};
 ghost use Rattle.scroll.specs.CStringTexts.{c_str_text, c_string_text};
@@ -9,7 +9,7 @@ use std::ffi;
 impl<'a> From<ffi::CStr<'a>> for CStr<'a> {
     ghost from_gives = { λ s text. c_str_text text ≡ c_str_bytes s };
 
-    /// The same bytes, borrowed.
+    /// Borrows the same bytes.
     fn from(s: ffi::CStr<'a>) -> CStr<'a> {
         CStr {
             bytes: s.to_bytes_with_nul(),
@@ -20,7 +20,7 @@ impl<'a> From<ffi::CStr<'a>> for CStr<'a> {
 impl<'a> From<CStr<'a>> for ffi::CStr<'a> {
     ghost from_gives = { λ s text. c_str_bytes text ≡ c_str_text s };
 
-    /// The same bytes, borrowed.
+    /// Borrows the same bytes.
     fn from(s: CStr<'a>) -> ffi::CStr<'a> {
         unsafe { ffi::CStr::from_bytes_with_nul_unchecked(s.bytes) }
     }
@@ -29,7 +29,7 @@ impl<'a> From<CStr<'a>> for ffi::CStr<'a> {
 impl From<ffi::CString> for CString {
     ghost from_gives = { λ s text. c_string_text text ≡ c_string_bytes s };
 
-    /// The same bytes, in the same memory.
+    /// Takes over the memory, with the same bytes.
     fn from(s: ffi::CString) -> CString {
         CString {
             bytes: s.into_bytes_with_nul(),
@@ -40,7 +40,7 @@ impl From<ffi::CString> for CString {
 impl From<CString> for ffi::CString {
     ghost from_gives = { λ s text. c_string_bytes text ≡ c_string_text s };
 
-    /// The same bytes, in the same memory.
+    /// Takes over the memory, with the same bytes.
     fn from(s: CString) -> ffi::CString {
         unsafe { ffi::CString::from_vec_with_nul_unchecked(s.bytes) }
     }

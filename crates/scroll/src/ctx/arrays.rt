@@ -1,4 +1,4 @@
-// Arrays of what can be read or written, in the elements' context.
+// Arrays of values that can be read or written, in the context of the elements.
 ghost use Rattle.std.specs.Prelude.{◌≡◌, ℕ, ◌+◌, ◌*◌, ◌<◌, ◌≤◌, List, length, drop, map, max, Some, None, IfOk, IfErr, IsTrue, slice_index_or, slice_set};
 ghost use Rattle.std.specs.Mem.{FitsInMemory};
 ghost use Rattle.scroll.specs.Fits.{OptionFits, SlotsFit, ItemsFit};
@@ -14,7 +14,7 @@ use crate::pread::Pread;
 use arrayvec::ArrayVec;
 use std::{array, mem, result};
 
-// Whether a value of type `X` fits in memory, as it does wherever there is one.
+// Whether a value of type `X` fits in memory, as every value that exists does.
 fn fits<X>() -> bool
     ensures fits { IsTrue result → FitsInMemory X.row }
     ensures too_big { OptionFits X.row → IsTrue result }
@@ -27,11 +27,11 @@ fn fits<X>() -> bool
     }
 }
 
-/// Whether an array of `N` values of type `T` fits in memory, together with what holds its elements while it is read and
-/// while it is written. It does wherever there is such an array, and the compiler knows it.
+/// Returns whether an array of `N` values of type `T` fits in memory, together with the storage for its elements while
+/// it is read and while it is written. It does wherever such an array exists, and the compiler knows the result.
 ///
-/// A caller that is generic over `T` or `N` may test it, or ask it of its own caller by `requires`: what an array refuses
-/// is said under this condition. At a type that is known the prover has it.
+/// A caller that is generic over `T` or `N` may test this, or require it of its own caller: the contracts of arrays
+/// state their errors under this condition. For a concrete type the prover knows that it holds.
 pub fn array_fits<T, const N: usize>() -> bool
     ensures read { IsTrue result → SlotsFit T.row N.row }
     ensures written { IsTrue result → ItemsFit T.row N.row }
@@ -39,7 +39,7 @@ pub fn array_fits<T, const N: usize>() -> bool
     fits::<Option<ArrayVec<Option<T>, N>>>() && fits::<Option<array::IntoIter<T, N>>>()
 }
 
-// The element at `index`, in whose place `None` is left.
+// Takes the element at `index` and leaves `None` in its place.
 fn take_slot<T: Drop, const N: usize>(slots: &mut ArrayVec<Option<T>, N>, index: usize) -> T
     requires { (x : T) × (slice_index_or slots.old.items index None ≡ Some x) }
     ensures value { slice_index_or slots.old.items index None ≡ Some result }
@@ -51,7 +51,7 @@ fn take_slot<T: Drop, const N: usize>(slots: &mut ArrayVec<Option<T>, N>, index:
     }
 }
 
-// The elements of a full vector of options, as an array.
+// Unwraps a full vector of options into an array.
 fn unwrap_slots<T: Drop, const N: usize>(mut slots: ArrayVec<Option<T>, N>) -> [T; N]
     requires { (xs : List T) × (slots.items ≡ map (λ x. Some x) xs) × (length xs ≡ N) }
     ensures { slots.items ≡ map (λ x. Some x) result }
@@ -65,7 +65,7 @@ fn unwrap_slots<T: Drop, const N: usize>(mut slots: ArrayVec<Option<T>, N>) -> [
     )
 }
 
-// Writes an element behind those before it, and answers its size.
+// Writes an element at `offset`, after the elements before it, and returns its size.
 fn write_next<Ctx: Copy, T: TryIntoCtx<Ctx, Error = Error> + Drop>(
     value: T,
     dst: &mut [u8],
@@ -80,12 +80,12 @@ fn write_next<Ctx: Copy, T: TryIntoCtx<Ctx, Error = Error> + Drop>(
     value.try_into_ctx(&mut dst[offset..], ctx)
 }
 
-/// Elements one after the other from the start of the source. An element that would start past the end is refused by
-/// `E::from(Error::BadOffset(offset))`, where the offset counts from the array's own start; any other refusal is that of
-/// the first element that is refused.
+/// Reads the elements one after another from the start of the source. An element that would start past the end returns
+/// `E::from(Error::BadOffset(offset))`, where the offset counts from the start of the array; every other error is that
+/// of the first element that fails. The contract states the errors of arrays that fit in memory: see [`array_fits`].
 ///
-/// An array of values that borrow is taken out of a call's result by a function that is handed to `map`: neither `?` nor a
-/// `match` on such a result is covered by the borrow checker's part of a proof today.
+/// Take an array of borrowed values out of a result by a function that is passed to `map`: the borrow checker's part of
+/// a proof doesn't cover `?` or `match` on such a result today.
 ///
 /// ```rust
 /// fn take_apart<'a>(names: [&'a str; 2]) -> (&'a str, &'a str) {
@@ -124,6 +124,8 @@ impl<
     }
 }
 
+/// Writes the elements one after another from the start of the target. The error is that of the first element that
+/// fails; the elements before it are then written.
 impl<Ctx: Copy, T: TryIntoCtx<Ctx, Error = Error> + Drop, const N: usize> TryIntoCtx<Ctx>
     for [T; N] {
     type Error = Error;
@@ -152,8 +154,8 @@ impl<Ctx: Copy, T: TryIntoCtx<Ctx, Error = Error> + Drop, const N: usize> TryInt
     }
 }
 
-/// The elements one after another, each as many bytes after the one before it as [`SizeWith`] says. An array of numbers needs
-/// as many bytes as its elements have.
+/// Reads the elements one after another, each [`SizeWith`] bytes after the one before it. An array of numbers needs as
+/// many bytes as its elements have together.
 impl<Ctx: Copy, T: FromCtx<Ctx> + SizeWith<Ctx>, const N: usize> FromCtx<Ctx> for [T; N] {
     ghost need = { λ ctx. max (T.size ctx) (T.need ctx) * N };
 
@@ -170,7 +172,7 @@ impl<Ctx: Copy, T: FromCtx<Ctx> + SizeWith<Ctx>, const N: usize> FromCtx<Ctx> fo
     }
 }
 
-// The element at an index of so many.
+// Reads the element at `index` of `count`.
 #[inline(always)]
 fn element<Ctx: Copy, T: FromCtx<Ctx> + SizeWith<Ctx>>(
     this: &[u8],
@@ -184,7 +186,7 @@ fn element<Ctx: Copy, T: FromCtx<Ctx> + SizeWith<Ctx>>(
     T::from_ctx(&this[T::size_with(&ctx) * index..], ctx)
 }
 
-/// The elements one after another, each as many bytes after the one before it as [`SizeWith`] says.
+/// Writes the elements one after another, each [`SizeWith`] bytes after the one before it.
 impl<Ctx: Copy, T: IntoCtx<Ctx> + SizeWith<Ctx> + Copy, const N: usize> IntoCtx<Ctx> for [T; N] {
     ghost need = { λ ctx. max (T.size ctx) (T.need ctx) * N };
 
@@ -214,6 +216,7 @@ fn put_element<Ctx: Copy, T: IntoCtx<Ctx> + SizeWith<Ctx>>(
     value.into_ctx(&mut dst[T::size_with(&ctx) * index..], ctx)
 }
 
+/// The size of an array is `N` times the size of an element.
 impl<Ctx, T: SizeWith<Ctx>, const N: usize> SizeWith<Ctx> for [T; N] {
     ghost size = { λ ctx. T.size ctx * N };
 

@@ -8,9 +8,10 @@ ghost use Rattle.scroll.specs.lemmas.Frames.{WritesFront-keeps, slice-keeps};
 use crate::ctx::{IntoCtx, TryFromCtx, TryIntoCtx};
 use crate::error::{Error, Result, check_room};
 
-/// The first bytes of the source, as many as the context says. Nothing is copied: the slice borrows the source.
+/// Reads as many bytes as the context says. This is zero-copy: the slice borrows the source.
 ///
-/// The default context is 0, which reads the empty slice. A shorter source is [`Error::TooBig`].
+/// The default context is 0, which reads the empty slice. A shorter source returns [`Error::TooBig`] with the length in
+/// the context and that of the source.
 impl<'a> TryFromCtx<'a, usize> for &'a [u8] {
     type Error = Error;
 
@@ -26,7 +27,8 @@ impl<'a> TryFromCtx<'a, usize> for &'a [u8] {
     }
 }
 
-/// The bytes of a slice, with no length. A shorter target is [`Error::TooBig`], and stays.
+/// Writes the bytes of the slice, without a length. A shorter target returns [`Error::TooBig`] with the lengths of the
+/// slice and of the target, and is unchanged.
 impl<'s> TryIntoCtx<()> for &'s [u8] {
     type Error = Error;
 
@@ -45,8 +47,9 @@ impl<'s> TryIntoCtx<()> for &'s [u8] {
     }
 }
 
-/// The first bytes of the slice, as many as the context says, or all of them where it has fewer: so `dst` needs that many, and
-/// a slice of just that length is written whole. The bytes after those that are written are unchanged.
+/// Writes the first bytes of the slice, as many as the context says, or all of them if it has fewer. `dst` needs as
+/// many bytes as the context says, so in the context of its own length a slice is written whole. The bytes after those
+/// that are written are unchanged.
 impl<'s> IntoCtx<usize> for &'s [u8] {
     ghost need = { λ n. n };
 

@@ -1,4 +1,4 @@
-// C strings, borrowed and owned.
+// C strings, borrowed and owned, read and written.
 ghost use Rattle.std.specs.Prelude.{◌≡◌, ◌++◌, [], ◌∷◌, length, OnOk, IfErr};
 ghost use Rattle.std.proofs.Common.{rules};
 ghost use Rattle.scroll.specs.Bytes.{WritesFront, LeavesShort};
@@ -21,8 +21,8 @@ impl<'a> TryFromCtx<'a, ()> for CStr<'a> {
 
     ghost reads_bounded = { λ _ source s. ReadsCString-bounded source (c_str_text s) };
 
-    /// The text before the first zero of `from`; the size in bytes counts the zero. A source without a zero is refused by
-    /// [`Error::BadInput`], with the size 0.
+    /// Reads up to the first zero of `from`, zero-copy; the size in bytes counts the zero. A source without a zero
+    /// returns [`Error::BadInput`] with the size 0.
     #[inline(always)]
     fn try_from_ctx(from: &'a [u8], _ctx: ()) -> Result<(CStr<'a>, usize)> {
         match CStr::from_bytes_until_nul(from) {
@@ -44,8 +44,9 @@ impl<'a, 'm> TryFromCtx<'a, &'m Global> for CString {
 
     ghost reads_bounded = { λ _ source s. ReadsCString-bounded source (c_string_text s) };
 
-    /// The text before the first zero of `from`, copied; the size in bytes counts the zero. A source without a zero is
-    /// refused by [`Error::BadInput`], with the size 0, before memory is asked for; want of memory is [`Error::NoMemory`].
+    /// Copies the text before the first zero of `from`; the size in bytes counts the zero. A source without a zero
+    /// returns [`Error::BadInput`] with the size 0, before memory is allocated. An allocation failure returns
+    /// [`Error::NoMemory`].
     fn try_from_ctx(from: &'a [u8], ctx: &'m Global) -> Result<(CString, usize)> {
         let (text, size) = CStr::try_from_ctx(from, ())?;
         let text = CString::new(*ctx, text.to_bytes())?;
@@ -64,7 +65,7 @@ impl<'s> TryIntoCtx<()> for CStr<'s> {
 
     ghost writes_keeps = { λ _ s. WritesFront-keeps (c_str_text s ++ 0 ∷ []) };
 
-    /// Writes the text and its zero. A target that is too short is refused by [`Error::TooBig`], and stays.
+    /// Writes the text and its zero. A shorter target returns [`Error::TooBig`], and is unchanged.
     fn try_into_ctx(self, dst: &mut [u8], _ctx: ()) -> Result<usize> {
         self.to_bytes_with_nul().try_into_ctx(dst, ())
     }
@@ -81,7 +82,7 @@ impl TryIntoCtx<()> for CString {
 
     ghost writes_keeps = { λ _ s. WritesFront-keeps (c_string_text s ++ 0 ∷ []) };
 
-    /// Writes the text and its zero. A target that is too short is refused by [`Error::TooBig`], and stays.
+    /// Writes the text and its zero. A shorter target returns [`Error::TooBig`], and is unchanged.
     fn try_into_ctx(self, dst: &mut [u8], _ctx: ()) -> Result<usize> {
         self.as_c_str().try_into_ctx(dst, ())
     }

@@ -1,4 +1,4 @@
-// Numbers. A type says its width, its value and its bytes, and the implementations of all traits stand on that.
+// Numbers. A type says its width, its value and its bytes; all traits are implemented in terms of these.
 ghost use Rattle.std.specs.Prelude.{◌≡◌, ◌≤◌, ◌++◌, ℕ, List, length, take, drop};
 ghost use Rattle.std.proofs.Common.{rules};
 ghost use Rattle.std.specs.Int.{w64, to_le_bytes};
@@ -15,30 +15,30 @@ mod floats;
 mod signed;
 mod unsigned;
 
-/// What is written as the bytes of a number: the number, or a reference to it.
+/// A type that is written as the bytes of a number: a number, or a reference to one.
 pub trait Written: Copy {
-    // How many bytes it has.
+    // How many bytes are written.
     ghost width: { ℕ };
 
     // The number below 256 ^ width whose bytes are written.
     ghost code: { Self → ℕ };
 
-    /// How many bytes it has.
+    /// Returns how many bytes are written.
     fn width() -> usize
         ensures { result ≡ width };
 
-    /// Writes it to the front of `dst`.
+    /// Writes the bytes to the front of `dst`, which has room for them.
     fn write_front(self, dst: &mut [u8], order: Endian)
         requires { width ≤ length dst.old }
         ensures { dst.new ≡ number_bytes order width (code self) ++ drop width dst.old };
 }
 
-/// A number of a fixed width: a whole number, or a float, which is written as the whole number of its bits.
+/// A number of a fixed width: an integer, or a float, which is written as the integer of its bits.
 pub trait Number: Written {
     // The number at the front of a source.
     ghost value: { Endian → List ℕ → Self };
 
-    /// The number at the front of `from`.
+    /// Returns the number at the front of `from`, which has enough bytes.
     fn read_front(from: &[u8], order: Endian) -> Self
         requires { Self.width ≤ length from.now }
         ensures { result ≡ value order from.now };
@@ -68,6 +68,8 @@ impl<N: Number> FromCtx<Endian> for N {
     }
 }
 
+/// Reads a number in a byte order. A source with fewer bytes than the type has returns [`Error::TooBig`] with both
+/// lengths.
 impl<'a, N: Number> TryFromCtx<'a, Endian> for N {
     type Error = Error;
 
@@ -95,6 +97,8 @@ impl<N: Written> IntoCtx<Endian> for N {
     }
 }
 
+/// Writes a number in a byte order. A target with fewer bytes than the type has returns [`Error::TooBig`] with both
+/// lengths, and is unchanged.
 impl<N: Written> TryIntoCtx<Endian> for N {
     type Error = Error;
 
@@ -129,7 +133,7 @@ impl<N: Number> SizeWith<()> for N {
     }
 }
 
-// The bytes at the front of a source.
+// Returns the bytes at the front of a source.
 #[inline]
 fn front<const WIDTH: usize>(from: &[u8]) -> [u8; WIDTH]
     requires { WIDTH ≤ length from.now }
@@ -138,7 +142,7 @@ fn front<const WIDTH: usize>(from: &[u8]) -> [u8; WIDTH]
     *from.first_chunk().unwrap()
 }
 
-// Puts a number's bytes to the front of a target.
+// Writes the bytes of a number to the front of a target.
 #[inline]
 fn put_front<const WIDTH: usize>(dst: &mut [u8], bytes: [u8; WIDTH])
     requires { WIDTH ≤ length dst.old }
@@ -147,8 +151,8 @@ fn put_front<const WIDTH: usize>(dst: &mut [u8], bytes: [u8; WIDTH])
     dst[..WIDTH].copy_from_slice(&bytes);
 }
 
-// Puts the bytes of a number of sixteen to the front of a target, by two halves. All sixteen at once are gathered byte by
-// byte, which takes ten times as long.
+// Writes the bytes of a number of sixteen bytes to the front of a target, in two halves. Writing all sixteen at once
+// would gather them byte by byte, which takes ten times as long.
 #[inline]
 fn put_sixteen(dst: &mut [u8], number: u128, order: Endian)
     requires { 16 ≤ length dst.old }
@@ -162,7 +166,7 @@ fn put_sixteen(dst: &mut [u8], number: u128, order: Endian)
     }
 }
 
-// Puts the bytes of two numbers to the front of a target, each from its lowest on.
+// Writes the bytes of two numbers to the front of a target, each little-endian.
 #[inline]
 fn put_halves(dst: &mut [u8], first: u64, second: u64)
     requires { 16 ≤ length dst.old }

@@ -1,5 +1,5 @@
-// Pairs of what is written as a fixed number of bytes, so that the fields of a struct are written in one call, which says
-// what bytes they are: `((self.tag, self.channels), self.rate)` for three fields.
+// Pairs of types that are written as a fixed number of bytes. They let one call write all fields of a struct, with a
+// contract that says what bytes they are: `((self.tag, self.channels), self.rate)` for three fields.
 ghost use Rattle.std.specs.Prelude.{◌≡◌, ◌≤◌, ◌<◌, ◌+◌, ◌^◌, ◌++◌, ℕ, List, length, take, drop};
 ghost use Rattle.scroll.specs.lemmas.Pairs.{length-both, both-keep};
 ghost use Rattle.scroll.specs.declared.endian.Endian.{Endian};
@@ -9,23 +9,23 @@ use crate::endian::Endian;
 
 mod numbers;
 
-/// What is written as a fixed number of bytes: a number, or a pair of such, the second after the first.
+/// A type that is written as a fixed number of bytes: a number, or a pair of such types, the second after the first.
 ///
-/// Each number type has an implementation of its own. With one for every `N: Written` beside that for pairs the compiler
-/// would try both at each pair in a pair, and gives up at thirteen.
+/// Each number type has its own implementation. With one for every `N: Written` next to the one for pairs, the compiler
+/// would try both at each nested pair, and give up at thirteen.
 pub trait Fields: Copy {
-    // How many bytes it has.
+    // How many bytes are written.
     ghost width: { ℕ };
 
-    // Its bytes in a byte order.
+    // The bytes of a value in a byte order.
     ghost bytes: { Endian → Self → List ℕ };
 
-    /// How many bytes it has.
+    /// Returns how many bytes are written.
     fn width() -> usize
         requires { width < 2 ^ 64 }
         ensures { result ≡ width };
 
-    /// Writes it to the front of `dst`.
+    /// Writes the bytes to the front of `dst`, which has room for them.
     fn write_fields(self, dst: &mut [u8], order: Endian)
         requires { width ≤ length dst.old }
         ensures { dst.new ≡ bytes order self ++ drop width dst.old };
@@ -52,7 +52,7 @@ impl<A: Fields, B: Fields> Fields for (A, B) {
     }
 }
 
-// Writes the second of a pair, after the `offset` bytes of the first.
+// Writes the second value of a pair, after the `offset` bytes of the first.
 #[inline(always)]
 fn write_behind<B: Fields>(fields: B, dst: &mut [u8], offset: usize, order: Endian)
     requires { offset + B.width ≤ length dst.old }
@@ -62,6 +62,7 @@ fn write_behind<B: Fields>(fields: B, dst: &mut [u8], offset: usize, order: Endi
     fields.write_fields(&mut dst[offset..], order)
 }
 
+/// Writes the first value of the pair and, after it, the second.
 impl<A: Fields, B: Fields> IntoCtx<Endian> for (A, B) {
     ghost need = { λ _. A.width + B.width };
 

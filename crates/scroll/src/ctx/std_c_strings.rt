@@ -1,4 +1,4 @@
-// The C strings of std, read and written as those of the crate are.
+// The C strings of std, read and written like those of the crate.
 ghost use Rattle.std.specs.Prelude.{◌++◌, [], ◌∷◌, length};
 ghost use Rattle.std.specs.CStr.{c_str_bytes, c_string_bytes};
 ghost use Rattle.std.proofs.Common.{rules};
@@ -22,7 +22,7 @@ impl<'a> TryFromCtx<'a, ()> for CStr<'a> {
 
     ghost reads_bounded = { λ _ source s. ReadsCString-bounded source (c_str_bytes s) };
 
-    /// As [`cstr::CStr`] is read.
+    /// Reads like [`cstr::CStr`].
     #[inline(always)]
     fn try_from_ctx(from: &'a [u8], _ctx: ()) -> Result<(CStr<'a>, usize)> {
         let (text, size) = cstr::CStr::try_from_ctx(from, ())?;
@@ -39,7 +39,7 @@ impl<'a, 'm> TryFromCtx<'a, &'m Global> for CString {
 
     ghost reads_bounded = { λ _ source s. ReadsCString-bounded source (c_string_bytes s) };
 
-    /// As [`cstr::CString`] is read.
+    /// Reads like [`cstr::CString`].
     fn try_from_ctx(from: &'a [u8], ctx: &'m Global) -> Result<(CString, usize)> {
         let (text, size) = cstr::CString::try_from_ctx(from, ctx)?;
         Ok((CString::from(text), size))
@@ -57,7 +57,7 @@ impl<'s> TryIntoCtx<()> for CStr<'s> {
 
     ghost writes_keeps = { λ _ s. WritesFront-keeps (c_str_bytes s ++ 0 ∷ []) };
 
-    /// As [`cstr::CStr`] is written.
+    /// Writes like [`cstr::CStr`].
     fn try_into_ctx(self, dst: &mut [u8], _ctx: ()) -> Result<usize> {
         cstr::CStr::from(self).try_into_ctx(dst, ())
     }
@@ -74,7 +74,7 @@ impl TryIntoCtx<()> for CString {
 
     ghost writes_keeps = { λ _ s. WritesFront-keeps (c_string_bytes s ++ 0 ∷ []) };
 
-    /// As [`cstr::CString`] is written.
+    /// Writes like [`cstr::CString`].
     fn try_into_ctx(self, dst: &mut [u8], _ctx: ()) -> Result<usize> {
         self.as_c_str().try_into_ctx(dst, ())
     }

@@ -1,9 +1,9 @@
-// Where a text ends.
+// Where a string ends.
 ghost use Rattle.std.specs.Prelude.{◌≡◌, ◌↔◌, IsTrue};
 ghost use Rattle.scroll.specs.Texts.{delimiter_len};
 ghost use Rattle.scroll.specs.declared.ctx.str_ctx.StrCtx.TheVariants.{Delimiter};
 
-/// The byte 0, which ends a text in C.
+/// The zero byte, which ends a string in C.
 pub const NULL: u8 = 0;
 
 /// A space.
@@ -15,18 +15,18 @@ pub const RET: u8 = 0x0a;
 /// A tab.
 pub const TAB: u8 = 0x09;
 
-/// The context in which a text is read: where it ends. It plays no part in writing.
+/// The context in which a string is read: where it ends. Writing doesn't use it.
 ///
 /// The default is `Delimiter(NULL)`.
 #[derive(Clone, Copy, Debug)]
 pub enum StrCtx {
-    /// Up to the first of these bytes, or to the end of the source where there is none.
+    /// Up to the first byte of this value, or to the end of the source if there is none.
     Delimiter(u8),
-    /// Up to the first of these bytes, and at most this many bytes.
+    /// Up to the first byte of this value within this many bytes, or else this many bytes.
     DelimiterUntil(u8, usize),
     /// This many bytes.
     Length(usize),
-    /// Up to the first of these bytes, which has to stand in the source.
+    /// Up to the first byte of this value, which the source must contain.
     Required(u8),
 }
 
@@ -39,7 +39,7 @@ impl Default for StrCtx {
 }
 
 impl StrCtx {
-    /// How many bytes are counted behind a text: 1 for a delimiter, and 0 for `Length`.
+    /// Returns how many bytes the size of a string counts after the text: 1 for a delimiter, and 0 for `Length`.
     pub fn len(&self) -> usize
         ensures { result ≡ delimiter_len self.now }
     {
@@ -49,7 +49,7 @@ impl StrCtx {
         }
     }
 
-    /// Whether no byte is counted behind a text, which is true of `Length` alone.
+    /// Returns whether the size of a string counts no byte after the text, which holds of `Length` alone.
     pub fn is_empty(&self) -> bool
         ensures { IsTrue result ↔ (delimiter_len self.now ≡ 0) }
     {

@@ -1,4 +1,4 @@
-// Texts.
+// Strings.
 ghost use Rattle.std.specs.Prelude.{◌≡◌, ℕ, ◌+◌, ◌≤◌, List, length, take, codes, ◌<◌, ◌⊎◌, IfOk, IfErr, OnOk, OnErr, IfSome, IfNone, IsUtf8};
 ghost use Rattle.scroll.specs.Errors.{IsBadInput};
 ghost use Rattle.std.proofs.Common.{rules};
@@ -11,12 +11,15 @@ use crate::ctx::{StrCtx, TryFromCtx, TryIntoCtx};
 use crate::error::{Error, Result, check_room};
 use crate::search::{first_place, text_before};
 
-/// A text, by where it ends. Nothing is copied: the text borrows the source.
+/// Reads a string up to where the context ends it. This is zero-copy: the string borrows the source.
 ///
-/// The text is what stands before the delimiter, the limit or the length. With a delimiter its size is one byte more than
-/// the text has, whether or not a delimiter stands there, and past the end of the source too. A limit or a length beyond
-/// the source is [`Error::TooBig`], even where a delimiter stands earlier. A text that isn't UTF-8 is [`Error::BadInput`],
-/// whose `size` is the number of bytes of the whole source; so is, before that, a source without a delimiter that has to be there.
+/// The string is what comes before the delimiter, the limit or the length. In a context with a delimiter the size is
+/// one byte more than the string has, even if no delimiter follows, and even past the end of the source.
+///
+/// A limit or a length beyond the source returns [`Error::TooBig`], even if a delimiter comes earlier. A source without
+/// the delimiter of `Required` returns [`Error::BadInput`] with the message `missing delimiter`, and bytes that aren't
+/// UTF-8 return [`Error::BadInput`] with the message `invalid utf8`; the `size` of both is the length of the whole
+/// source.
 impl<'a> TryFromCtx<'a, StrCtx> for &'a str {
     type Error = Error;
 
@@ -38,7 +41,7 @@ impl<'a> TryFromCtx<'a, StrCtx> for &'a str {
     }
 }
 
-// The text, if it is one: nothing where it is no UTF-8. A limit and a length are tested before the search.
+// Returns the string, or `None` where the bytes aren't UTF-8. A limit and a length are checked before the search.
 #[inline(always)]
 #[tactic(auto, using(crate::proofs::lemmas::texts::TextLemmas::first_places))]
 fn text_in(from: &[u8], ctx: StrCtx) -> Result<Option<&str>>
@@ -67,7 +70,8 @@ fn text_in(from: &[u8], ctx: StrCtx) -> Result<Option<&str>>
     }
 }
 
-// The text before a delimiter that has to stand in the source, which is tested before UTF-8.
+// Returns the string before a delimiter that the source must contain. A missing delimiter is found before UTF-8 is
+// checked.
 #[inline(always)]
 fn required_text(delimiter: u8, from: &[u8]) -> Result<Option<&str>>
     ensures there { OnOk result (first_place delimiter from.now < length from.now) }
@@ -96,7 +100,8 @@ fn required_text(delimiter: u8, from: &[u8]) -> Result<Option<&str>>
     Ok(found)
 }
 
-/// The bytes of a text, with no delimiter and no length. A shorter target is [`Error::TooBig`], and stays.
+/// Writes the bytes of the string, without a delimiter or a length. A shorter target returns [`Error::TooBig`] with the
+/// lengths of the string and of the target, and is unchanged.
 impl<'t> TryIntoCtx<()> for &'t str {
     type Error = Error;
 

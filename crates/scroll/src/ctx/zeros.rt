@@ -1,4 +1,4 @@
-// Zeros, as padding.
+// Zero bytes, such as padding.
 ghost use Rattle.std.specs.Prelude.{◌≡◌, ◌≢◌, ℕ, ◌≤◌, ◌<◌, ◌++◌, length, drop, slice_index, IfSome, IfNone};
 ghost use Rattle.std.proofs.Common.{rules};
 ghost use Rattle.scroll.specs.Bytes.{WritesFront, LeavesShort};
@@ -9,11 +9,12 @@ use crate::ctx::{IntoCtx, TryFromCtx, TryIntoCtx};
 use crate::error::{Error, Result, check_room};
 use crate::slice;
 
-/// Bytes that are all zero, as many as the context says: padding, or what a format reserves.
+/// Bytes that are all zero, as many as the context says: padding, or what a format reserves. The default context is 0.
 ///
-/// A read returns [`Error::TooBig`] where the source has fewer bytes, and else [`Error::BadInput`] with the message
-/// `padding is not zero` where one of them isn't zero: its `size` is the place of the first such byte, counted from the
-/// first. A write puts zeros. [`padding`] says how many bytes stand before the next multiple of a size.
+/// A read returns [`Error::TooBig`] where the source is shorter. Otherwise it returns [`Error::BadInput`] with the
+/// message `padding is not zero` where a byte isn't zero; its `size` is the offset of the first such byte from the
+/// start of the zeros. A write writes zeros, or returns [`Error::TooBig`] where the target is shorter, and leaves it
+/// unchanged. [`padding`] says how many bytes there are before the next multiple of a size.
 ///
 /// ```rust
 /// file.gread_with::<Zeros>(&mut offset, padding(offset, 8))?;
@@ -21,8 +22,8 @@ use crate::slice;
 #[derive(Clone, Copy, Debug, PartialEq, Eq)]
 pub struct Zeros;
 
-/// Returns how many bytes stand between an offset and the next multiple of `multiple`: none where the offset is a multiple,
-/// and where `multiple` is zero.
+/// Returns how many bytes there are between an offset and the next multiple of `multiple`: 0 if the offset is a
+/// multiple, and 0 if `multiple` is 0.
 ///
 /// ```rust
 /// assert_eq!(rt; padding(62, 8), 2);
@@ -38,7 +39,7 @@ pub fn padding(offset: usize, multiple: usize) -> usize
     (multiple - offset % multiple) % multiple
 }
 
-// The place of the first byte that isn't zero.
+// Returns the offset of the first byte that isn't zero.
 fn first_nonzero(bytes: &[u8]) -> Option<usize>
     ensures found { IfSome result (λ place. (place < length bytes.now)
         × (slice_index bytes.now place ≢ 0) × ((i : ℕ) → i < place → slice_index bytes.now i ≡ 0)) }

@@ -1,4 +1,4 @@
-// Two numbers that are read and written where the caller has made sure of room. No proof file has a word on them.
+// Two numbers that are read and written where the caller ensures that there is room. Nothing here needs a proof file.
 ghost use Rattle.std.specs.Prelude.{◌≡◌, ◌++◌, drop};
 ghost use Rattle.std.proofs.Common.{rules};
 ghost use Rattle.scroll.specs.Numbers.{number, signed_number, number_bytes, signed_bytes};

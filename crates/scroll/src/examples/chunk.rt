@@ -1,12 +1,12 @@
-// The header of a chunk, read and written. No proof file has a word on these functions.
+// The header of a chunk, read and written. Nothing here needs a proof file.
 ghost use Rattle.std.specs.Prelude.{◌≡◌, ◌+◌, ◌≤◌, ◌++◌, length, drop, IfOk, OnOk, IsOk};
 ghost use Rattle.scroll.specs.Numbers.{number, number_bytes};
 ghost use Rattle.scroll.specs.declared.endian.Endian.TheVariants.{Big};
 
 use crate::{BE, Pread, Result, slice};
 
-/// The length that a chunk's header gives. The header is a kind in 16 bits and a length in 32, both big-endian. The
-/// offset then stands behind the header.
+/// Returns the length in a chunk's header, and advances the offset past the header, which is a kind in 16 bits and a
+/// length in 32, both big-endian.
 pub fn read_length(file: &[u8], offset: &mut usize) -> Result<u32>
     ensures value { IfOk result (λ len. len ≡ number Big 4 (drop (offset.old + 2) file.now)) }
     ensures moves { OnOk result (offset.new ≡ offset.old + 6) }
@@ -16,7 +16,7 @@ pub fn read_length(file: &[u8], offset: &mut usize) -> Result<u32>
     file.gread_with(offset, BE)
 }
 
-/// Writes a chunk's header, and answers its size.
+/// Writes a chunk's header, and returns its size in bytes.
 pub fn write_header(file: &mut [u8], kind: u16, len: u32) -> Result<usize>
     ensures header { OnOk result (file.new ≡ (number_bytes Big 2 kind ++ number_bytes Big 4 len) ++ drop 6 file.old) }
     ensures size { IfOk result (λ size. size ≡ 6) }

@@ -1,4 +1,4 @@
-// A number of one's own, which is refused with a text of its own. Its context is a byte order, and the allocator for the
+// A caller's own number type, which fails with a text of its own. Its context is a byte order and the allocator for the
 // text.
 ghost use Rattle.std.specs.Prelude.{◌≡◌, ◌≤◌, ◌<◌, length, codes, Some, ◌⊎◌};
 ghost use Rattle.std.proofs.Common.{rules};
@@ -14,7 +14,7 @@ use std::alloc::Global;
 #[derive(Clone, Copy, Debug)]
 struct Foo(u16);
 
-// The refusal, or that there was no memory for its text.
+// The error of the type, or `NoMemory` where its text can't be allocated.
 fn whatever(alloc: Global) -> Error
     ensures { (line_of result ≡ Some (codes "whatever")) ⊎ (result ≡ NoMemory) }
 {
@@ -61,8 +61,8 @@ impl<'g> TryIntoCtx<(Endian, &'g Global)> for Foo {
     }
 }
 
-// The text that a call was refused with, and none where it succeeded. Any other error, and want of memory for the text
-// too, is handed out, and ends the test.
+// Returns the text of a call's error, or `None` where the call succeeded. Any other error, out of memory included, is
+// returned as an error and ends the test.
 fn text_of<T: Drop>(answer: Result<T>) -> Result<Option<String>> {
     match answer {
         Err(Error::Custom(text)) => Ok(Some(text)),

@@ -3,9 +3,9 @@ ghost use Rattle.std.specs.Prelude.{◌≡◌, ◌≤◌, ◌+◌};
 
 use crate::{LE, slice};
 
-/// Writes an entry's size and its two names to two buffers that hold the same bytes: to the first the size before the
-/// names, to the second the names before the size. A field that has no room is left out, or what fits of it is written;
-/// both buffers then hold the same bytes again.
+/// Writes an entry's size and its two names to two buffers that hold the same bytes: the size first to one, and the
+/// names first to the other. A field without room is left out, or written in part; both buffers then hold the same
+/// bytes again.
 pub fn write_both_ways(
     first: &mut [u8],
     second: &mut [u8],

@@ -1,4 +1,4 @@
-// A number of one's own, with an error of one's own that is made of every error of the crate.
+// A caller's own number type, whose error is made from any error of the crate.
 ghost use Rattle.std.specs.Prelude.{◌≡◌, ◌≤◌, ◌<◌, ⊤, List, ℕ, length, codes, Some};
 ghost use Rattle.std.proofs.Common.{rules};
 ghost use Rattle.scroll.specs.Numbers.{ReadsNumber};

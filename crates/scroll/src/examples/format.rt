@@ -1,5 +1,5 @@
-// A struct of numbers in a byte order that is chosen at run time, and the same as a type of one's own. No proof file has
-// a word on these functions.
+// A struct of numbers in a byte order that is chosen at run time, read field by field, and as a type with
+// implementations of the traits. Nothing here needs a proof file.
 ghost use Rattle.std.specs.Prelude.{◌≡◌, ◌≤◌, ◌++◌, length, drop, IfOk, IsOk, OnOk};
 ghost use Rattle.std.proofs.Common.{rules};
 ghost use Rattle.scroll.specs.Bytes.{ReadsFront, RefusesShort, WritesFront, LeavesShort};
@@ -8,7 +8,7 @@ ghost use Rattle.scroll.specs.Numbers.{number, number_bytes};
 use crate::ctx::{FromCtx, IntoCtx, SizeWith, TryFromCtx, TryIntoCtx};
 use crate::{Cread, Endian, Error, Result, check_room, slice};
 
-/// How sound is kept.
+/// How sound is stored.
 #[derive(Clone, Copy, Debug)]
 pub struct Format {
     pub tag: u16,
@@ -18,12 +18,13 @@ pub struct Format {
 
 const SIZE: usize = 8;
 
-/// The format at the start of a file.
+/// Returns the format at the start of a file.
 pub fn read_format(file: &[u8], order: Endian) -> Result<Format>
     ensures tag { IfOk result (λ format. format.tag ≡ number order 2 file.now) }
     ensures channels { IfOk result (λ format. format.channels ≡ number order 2 (drop 2 file.now)) }
     ensures rate { IfOk result (λ format. format.rate ≡ number order 4 (drop 4 file.now)) }
     ensures room { 8 ≤ length file.now → IsOk result }
+    ensures short { OnOk result (8 ≤ length file.now) }
 {
     check_room(SIZE, file.len())?;
     Ok(Format {
@@ -116,7 +117,7 @@ impl SizeWith<Endian> for Format {
     }
 }
 
-/// Writes two formats, one behind the other.
+/// Writes two formats, one after the other.
 pub fn write_two(file: &mut [u8], first: Format, second: Format, order: Endian) -> Result<usize>
     ensures size { IfOk result (λ size. size ≡ 16) }
     ensures others { OnOk result (drop 16 file.new ≡ drop 16 file.old) }

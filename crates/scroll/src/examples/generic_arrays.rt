@@ -1,4 +1,4 @@
-// Callers that are generic over the elements of an array, and over how many there are.
+// Callers that are generic over the elements of an array and over its length.
 ghost use Rattle.std.specs.Prelude.{IfOk, IfErr, IfSome, IsSome};
 ghost use Rattle.scroll.specs.Arrays.{ReadsArray, RefusesArray};
 ghost use Rattle.scroll.specs.Fits.{SlotsFit};
@@ -9,7 +9,7 @@ ghost use Rattle.scroll.specs.declared.error.Error.TheVariants.{BadOffset};
 use crate::ctx::{TryFromCtx, array_fits};
 use crate::{Endian, Error, LE, Pread};
 
-/// The first `N` values of a file, little-endian.
+/// Returns the first `N` values of a file, little-endian.
 pub fn first_values<
     'a,
     E: From<Error>,
@@ -23,7 +23,7 @@ pub fn first_values<
     file.pread_with(0, LE)
 }
 
-/// The same with nothing asked of the caller: nothing, where so many values don't fit in memory.
+/// The same without a requirement on the caller: returns `None` where that many values don't fit in memory.
 pub fn try_first_values<
     'a,
     E: From<Error>,

@@ -1,4 +1,4 @@
-// A number and a name whose length stands before it, in a context of one's own. No proof file has a word on it.
+// A number and a name that its length precedes, in a caller's own context. Nothing here needs a proof file.
 ghost use Rattle.std.specs.Prelude.{◌≡◌, ◌≤◌, ◌+◌, length, drop, ◌⊎◌};
 ghost use Rattle.std.proofs.Common.{rules};
 ghost use Rattle.scroll.specs.Bytes.{RefusesShort};
@@ -22,11 +22,11 @@ struct Data<'a> {
 impl<'a> TryFromCtx<'a, Context> for Data<'a> {
     type Error = Error;
 
-    // The number, the length in two bytes, and the name of that length.
+    // The number, the length in two bytes, and a name of that length.
     ghost reads = { λ ctx source x n. let len = number ctx.0 2 (drop 4 source) in
         (6 ≤ length source) × (x.id ≡ number ctx.0 4 source) × ReadsText (Length len) (drop 6 source) x.name.now len × (n ≡ 6 + len) };
 
-    // The first of the three that is refused.
+    // The error of the first of the three that fails.
     ghost refuses = { λ ctx source e. RefusesShort 4 source e
         ⊎ (((4 ≤ length source) × RefusesShort 2 (drop 4 source) e)
         ⊎ ((6 ≤ length source) × RefusesText (Length (number ctx.0 2 (drop 4 source))) (drop 6 source) e)) };

@@ -9,7 +9,7 @@ ghost use Rattle.scroll.specs.lemmas.Frames.{LeavesExactly-keeps, WritesExactly-
 use crate::ctx::{FromCtx, IntoCtx, TryFromCtx, TryIntoCtx};
 use crate::{Cread, Endian, Error, Result, check_room, slice};
 
-/// What names an object in a store: its kind, and a digest of its bytes.
+/// The name of an object in a store: its kind, and a digest of its bytes.
 #[derive(Clone, Copy, Debug)]
 pub struct ObjectId {
     pub kind: u32,

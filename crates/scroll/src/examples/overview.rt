@@ -1,4 +1,4 @@
-// The first example of the README, with its answers, and the first ones of the documentation of Rust's crate.
+// The first example of the README, with its results, and the first examples in the documentation of the Rust crate.
 use crate::ctx::{SPACE, StrCtx};
 use crate::{BE, Error, LE, Pread, Pwrite, Result};
 

@@ -1,4 +1,4 @@
-// A reader with an error of its own. No proof file has a word on it.
+// A reader with its own error. Nothing here needs a proof file.
 ghost use Rattle.std.specs.Prelude.{◌≡◌, ◌≤◌, length, drop, IfOk, IsOk};
 ghost use Rattle.scroll.specs.Numbers.{number};
 ghost use Rattle.scroll.specs.declared.endian.Endian.TheVariants.{Big};
@@ -9,9 +9,9 @@ use crate::{BE, Error, Pread};
 /// Why there is no version.
 #[derive(Debug, Drop)]
 pub enum HeaderError {
-    /// The file does not begin with the magic number.
+    /// The file doesn't begin with the magic number.
     BadMagic(u32),
-    /// The file ends too early.
+    /// The file is truncated.
     Cut(Error),
 }
 
@@ -23,7 +23,7 @@ impl From<Error> for HeaderError {
     }
 }
 
-/// The version of a file, behind its magic number.
+/// Returns the version of a file, which follows its magic number.
 pub fn read_version(file: &[u8]) -> Result<u16, HeaderError>
     ensures read { IfOk result (λ version. version ≡ number Big 2 (drop 4 file.now)) }
     ensures magic { IfOk result (λ _. number Big 4 file.now ≡ 2135247942) }

@@ -1,4 +1,4 @@
-// A type of one's own, with an error of its own, read and written by the traits' contracts alone.
+// A caller's own type with its own error, read and written by the contracts of the traits alone.
 ghost use Rattle.std.specs.Prelude.{◌≡◌, ◌≤◌, ◌<◌, ◌++◌, [], ◌∷◌, length, drop, slice_index, ◌⊎◌};
 ghost use Rattle.std.proofs.Common.{rules};
 ghost use Rattle.std.proofs.lemmas.Grind.{common_steps};
@@ -23,7 +23,7 @@ impl From<Error> for VersionError {
     }
 }
 
-// A version: its major number, which is not 0, and its minor number.
+// A version: its major number, which isn't 0, and its minor number.
 #[derive(Clone, Copy, Debug)]
 struct Version {
     major: u8,
@@ -80,7 +80,7 @@ impl TryIntoCtx<()> for Version {
     }
 }
 
-// Reads a value of any type at a place, and writes it at another.
+// Reads a value of any type at one offset, and writes it at another.
 fn copy_value<'a, Ctx: Copy, E: From<Error>, N>(
     from: &'a [u8],
     mut to: &mut [u8],

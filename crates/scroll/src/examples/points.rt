@@ -1,4 +1,4 @@
-// Points of three coordinates, read as arrays. No proof file has a word on these functions.
+// Points of three coordinates, read as arrays. Nothing here needs a proof file.
 ghost use Rattle.std.specs.Prelude.{◌≡◌, IfOk, IfErr, OnErr};
 ghost use Rattle.scroll.specs.Arrays.{ReadsArray, RefusesArray};
 ghost use Rattle.scroll.specs.Bytes.{RefusesShort};
@@ -26,7 +26,7 @@ pub fn read_line(file: &[u8], offset: &mut usize) -> Result<[[u16; 3]; 2]>
     file.gread_with(offset, LE)
 }
 
-/// The greatest coordinate of the point at an offset.
+/// Returns the greatest coordinate of the point at an offset.
 pub fn greatest(file: &[u8], offset: usize) -> Result<u16> {
     let point: [u16; 3] = file.pread_with(offset, LE)?;
     let [x, y, z] = point;

@@ -1,4 +1,4 @@
-// Three numbers, read and written one after the other.
+// Three numbers, read and written one after another.
 ghost use Rattle.std.specs.Prelude.{◌≡◌, ◌≤◌, ◌<◌, ◌-◌, ◌++◌, length, drop, ◌⊎◌};
 ghost use Rattle.std.proofs.Common.{rules};
 ghost use Rattle.scroll.specs.Bytes.{RefusesShort, WritesFront, LeavesShort};
@@ -40,7 +40,7 @@ impl TryIntoCtx<Endian> for Data {
 
     ghost writes = { λ order x. WritesFront 7 (number_bytes order 4 x.one ++ number_bytes order 2 x.two ++ number_bytes order 1 x.three) };
 
-    // The numbers before the one that is refused stand written.
+    // The numbers before the one that fails are written.
     ghost refuses = { λ order x old new e. LeavesShort 4 old new e
         ⊎ (((4 ≤ length old) × (length old < 6) × (new ≡ number_bytes order 4 x.one ++ drop 4 old) × (e ≡ TooBig 2 (length old - 4)))
         ⊎ ((length old ≡ 6) × (new ≡ number_bytes order 4 x.one ++ number_bytes order 2 x.two) × (e ≡ TooBig 1 0))) };

@@ -1,4 +1,4 @@
-// A name in the default context, and then a number. No proof file has a word on it.
+// A name in the default context, and then a number. Nothing here needs a proof file.
 ghost use Rattle.std.specs.Prelude.{◌≡◌, ◌≤◌, ◌+◌, length, take, drop, ◌⊎◌, IsUtf8};
 ghost use Rattle.std.proofs.Common.{rules};
 ghost use Rattle.scroll.specs.Bytes.{RefusesShort};
@@ -20,12 +20,12 @@ struct Data<'a> {
 impl<'a> TryFromCtx<'a, Endian> for Data<'a> {
     type Error = Error;
 
-    // The name up to a zero, and the number behind that.
+    // The name up to a zero, and the number after that.
     ghost reads = { λ order source x n. let behind = first_place 0 source + 1 in
         ReadsText (Delimiter 0) source x.name.now behind × (behind + 4 ≤ length source)
         × (x.id ≡ number order 4 (drop behind source)) × (n ≡ behind + 4) };
 
-    // The name, or else the number, which may start past the end.
+    // The error of the name, or else that of the number, which may start past the end.
     ghost refuses = { λ _ source e. RefusesText (Delimiter 0) source e
         ⊎ (IsUtf8 (take (first_place 0 source) source) × RefusesAt (λ s. RefusesShort 4 s) IsBadOffset source (first_place 0 source + 1) e) };
 

@@ -1,4 +1,4 @@
-// A signed number that is copied byte for byte, and reads back.
+// A signed number that is copied byte for byte and reads back.
 ghost use Rattle.std.specs.Prelude.{◌≡◌, take, OnOk, IfOk};
 ghost use Rattle.scroll.specs.Numbers.{signed_number};
 ghost use Rattle.scroll.specs.declared.endian.Endian.TheVariants.{Big};

@@ -1,5 +1,5 @@
-// Three numbers whose width is told by the context, and a name and a value, each behind its length. The numbers have to
-// rise, and the error is of one's own.
+// Three numbers whose width the context says, and a name and a value, each after its length. The numbers must ascend,
+// and the error is the caller's own.
 ghost use Rattle.std.specs.Prelude.{◌≡◌, ℕ, ◌≤◌, ◌<◌, ◌+◌, ◌*◌, [], ◌∷◌, length, take, drop, ◌⊎◌, IfOk, IfErr, IsUtf8};
 ghost use Rattle.std.proofs.Common.{rules};
 ghost use Rattle.std.proofs.lemmas.Grind.{common_steps};
@@ -39,7 +39,7 @@ struct Data<'b> {
 
 #[derive(Debug, Drop)]
 enum DataError {
-    // The fields don't rise.
+    // The fields don't ascend.
     BadFieldMatchup,
     Scroll(Error),
 }
@@ -52,7 +52,7 @@ impl From<Error> for DataError {
     }
 }
 
-// The three fields at the start of a source, and how many bytes they take.
+// Reads the three fields at the start of a source, and returns them with their size in bytes.
 fn read_fields(from: &[u8], ctx: Context) -> Result<([u64; 3], usize)>
     ensures room { IfOk result (λ x. let w : ℕ = elim ctx.fieldsize [ U32 ↦ 4 | U64 ↦ 8 ] in (3 * w ≤ length from.now) × (x.1 ≡ 3 * w)) }
     ensures fields { IfOk result (λ x. let w : ℕ = elim ctx.fieldsize [ U32 ↦ 4 | U64 ↦ 8 ] in
@@ -78,7 +78,7 @@ fn read_fields(from: &[u8], ctx: Context) -> Result<([u64; 3], usize)>
     }
 }
 
-// The name at an offset, behind its length.
+// Reads the name at an offset, after its length.
 fn read_name<'b>(from: &'b [u8], offset: &mut usize, order: Endian) -> Result<&'b str>
     requires { offset.old ≤ length from.now }
     ensures read { IfOk result (λ name. let len = number order 2 (drop offset.old from.now) in
@@ -90,7 +90,7 @@ fn read_name<'b>(from: &'b [u8], offset: &mut usize, order: Endian) -> Result<&'
     from.gread_with(offset, StrCtx::Length(len as usize))
 }
 
-// The value at an offset, behind its length.
+// Reads the value at an offset, after its length.
 fn read_value<'b>(from: &'b [u8], offset: &mut usize, order: Endian) -> Result<&'b [u8]>
     requires { offset.old ≤ length from.now }
     ensures read { IfOk result (λ value. let len = number order 2 (drop offset.old from.now) in
@@ -116,7 +116,7 @@ impl<'b> TryFromCtx<'b, Context> for Data<'b> {
         × (value_at + 2 ≤ length source) × ReadsSlice value_len (drop (value_at + 2) source) x.value.now value_len
         × (n ≡ value_at + 2 + value_len) };
 
-    // The first that is refused; and where none is, the fields that don't rise.
+    // The error of the first that fails, or else that the fields don't ascend.
     ghost refuses = { λ ctx source e.
         let w : ℕ = elim ctx.fieldsize [ U32 ↦ 4 | U64 ↦ 8 ] in
         let name_len = number ctx.endianess 2 (drop (3 * w) source) in

@@ -1,4 +1,4 @@
-// A measurement, read from a reader and written to a writer. No proof file has a word on these functions.
+// A measurement, read from a reader and written to a writer. Nothing here needs a proof file.
 ghost use Rattle.std.specs.Prelude.{◌≡◌, ◌++◌, take, drop, IfOk, OnOk};
 ghost use Rattle.scroll.specs.Numbers.{number, number_bytes};
 ghost use Rattle.scroll.specs.declared.endian.Endian.TheVariants.{Big};
@@ -7,8 +7,7 @@ use crate::{BE, IOread, IOwrite};
 use std::io;
 use std::test::Fail;
 
-/// The next measurement of a log: a station in 16 bits and a value in 32, both big-endian. The source then stands behind
-/// it.
+/// Reads the next measurement of a log: a station in 16 bits and a value in 32, both big-endian.
 pub fn read_measurement(source: &mut &[u8]) -> io::Result<(u16, u32)>
     ensures station { IfOk result (λ m. m.0 ≡ number Big 2 (take 2 source.old.now)) }
     ensures value { IfOk result (λ m. m.1 ≡ number Big 4 (take 4 (drop 2 source.old.now))) }

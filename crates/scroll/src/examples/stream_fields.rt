@@ -1,4 +1,4 @@
-// Two numbers over streams: each by itself, and both as a type of one's own.
+// Two numbers over streams, each alone, and both as one type.
 ghost use Rattle.std.specs.Prelude.{◌≡◌, ◌≤◌, ◌++◌, length, take, drop, IfOk, OnOk};
 ghost use Rattle.std.proofs.Common.{rules};
 ghost use Rattle.scroll.specs.Numbers.{number, signed_number, number_bytes, signed_bytes};
@@ -48,7 +48,7 @@ impl SizeWith<Endian> for Foo {
     }
 }
 
-// The next twelve bytes of a source.
+// Reads the next twelve bytes of a source.
 fn read_foo(source: &mut &[u8], order: Endian) -> io::Result<Foo>
     ensures foo { IfOk result (λ x. x.foo ≡ signed_number order 8 (take 12 source.old.now)) }
     ensures bar { IfOk result (λ x. x.bar ≡ number order 4 (drop 8 (take 12 source.old.now))) }

@@ -1,4 +1,4 @@
-// A number that is read from a source of exactly its two bytes, with an error of one's own.
+// A number that is read from a source of exactly two bytes, with the caller's own error.
 ghost use Rattle.std.specs.Prelude.{◌≡◌, ◌≤◌, ◌<◌, length, ◌⊎◌};
 ghost use Rattle.std.proofs.Common.{rules};
 ghost use Rattle.scroll.specs.lemmas.Frames.{WritesNumber-keeps};

@@ -4,8 +4,8 @@ ghost use Rattle.std.specs.List.{All};
 ghost use Rattle.scroll.specs.Bytes.{WritesFront};
 ghost use Rattle.scroll.specs.CStrings.{ReadsCString};
 
-/// A C string that was read holds no zero before its end. Written where it fits, it gives back the bytes that it was
-/// read from.
+/// A C string that was read contains no zero before its end. Written where it fits, it gives back the bytes from which
+/// it was read.
 pub fn c_string_has_one_zero()
     ensures no_zero { (source text : List ℕ) (n : ℕ) → ReadsCString source text n
         → All (λ b. b ≢ 0) text }

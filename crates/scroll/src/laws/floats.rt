@@ -9,9 +9,9 @@ use crate::ctx::SizeWith;
 use crate::endian::Endian;
 
 /// A float that was written in a byte order reads back in that order as the same float, a NaN as a NaN, and the bytes
-/// outside its width are unchanged. A float that was read and is no NaN is written back byte for byte.
+/// outside its width are unchanged. A float other than a NaN that was read is written back byte for byte.
 ///
-/// The float that is written is one that its format holds, as `binary32` holds every `f32`, and `binary64` every `f64`.
+/// The format holds the float that is written: `binary32` holds every `f32`, and `binary64` every `f64`.
 pub fn float_reads_back()
     ensures again { (f : Format) (order : Endian) (x : Float) (old new : List ℕ) (n : ℕ) → T (fits f x)
         → WritesFloat f order x old new n → ReadsFloat f order new x (float_width f) }
@@ -22,7 +22,7 @@ pub fn float_reads_back()
         → (m ≡ n) × (new ≡ take n source ++ drop n old) }
 {}
 
-/// The sizes of `f32` and `f64`, by [`SizeWith`], are the sizes of each read and of each write of such a float.
+/// The sizes of `f32` and `f64` by [`SizeWith`] are the sizes of every read and of every write of such a float.
 pub fn sizes_of_floats_are_those_of_reads_and_writes(order: &Endian) -> (usize, usize)
     ensures reads_f32 { (s : List ℕ) (x : Float) (n : ℕ) → ReadsFloat binary32 order.now s x n
         → n ≡ result.0 }

@@ -23,10 +23,10 @@ ghost use Rattle.scroll.specs.declared.runner.Command.{Command};
 use crate::ctx::TryIntoCtx;
 use crate::error::Error;
 
-/// After any list of commands, what was written reads back at its place until one of its bytes is written again.
+/// After any list of commands, what was written reads back at its offset until one of its bytes is written again.
 ///
-/// A leaf of a write is a piece of the history, also where a later leaf of the same array was refused. No leaf of a write
-/// touches another of it.
+/// Each leaf of a write is a piece of the history, even if a later leaf of the same array failed. The leaves of a write
+/// don't overlap.
 pub fn what_was_written_stands()
     ensures bytes { (first : List ℕ) (commands : List Command) (history : List Piece) → IsHistory first commands history
         → (o : ℕ) (t : List ℕ) → WrittenLast history (o, t)
@@ -51,8 +51,8 @@ pub fn what_was_written_stands()
         → pieces len o leaves ≡ before ++ p ∷ after → Apart (p ∷ []) after }
 {}
 
-/// Two writes whose pieces cover no common place may be exchanged: the buffer is the same, and so are both answers,
-/// refusals too.
+/// Two writes whose pieces don't overlap may be exchanged: they leave the same buffer, and both return the same, errors
+/// included.
 pub fn writes_apart_may_be_exchanged()
     ensures { (old mid new : List ℕ) (place place' : ℕ) (leaves leaves' : List (List ℕ)) (r r' : Result ℕ Error)
         → Apart (pieces (length old) place leaves) (pieces (length old) place' leaves')
@@ -60,9 +60,9 @@ pub fn writes_apart_may_be_exchanged()
         → (mid' : List ℕ) × WritesLeaves old place' leaves' mid' r' × WritesLeaves mid' place leaves new r }
 {}
 
-/// What is written is a list of leaves, each of them bytes that are written whole or not at all. A number, a float, bytes
-/// as they are, a C string and a number in LEB128 are one leaf. Arrays of them, nested to any depth, have the leaves of the
-/// innermost elements, in order: `counts` has the lengths, from the outermost on.
+/// What is written is a list of leaves, each of them bytes that are written whole or not at all. A number, a float, a
+/// slice or a string, a C string and a number in LEB128 are one leaf. Arrays of them, nested to any depth, have the
+/// leaves of the innermost elements in order: `counts` has the lengths, from the outermost.
 pub fn writes_have_leaves()
     ensures number { (w : ℕ) (order : Endian)
         → HasLeaves (λ x. number_bytes order w x ∷ []) (WritesNumber w order) (λ _. LeavesShort w) }
@@ -92,15 +92,15 @@ pub fn writes_have_leaves()
         → HasLeaves (leaves_nested (λ x. sleb_text x ∷ []) counts) (WritesNested WritesSleb counts) (LeavesNested WritesSleb (λ x. LeavesShort x.count) counts) }
 {}
 
-/// An array has the leaves of its elements, in order. So arrays of arrays have those of the innermost elements.
+/// An array has the leaves of its elements in order. So an array of arrays has those of the innermost elements.
 pub fn array_has_leaves<Ctx: Copy, T: TryIntoCtx<Ctx, Error = Error>>()
     ensures { (ctx : Ctx) (leaves : T → List (List ℕ)) → HasLeaves leaves (T.writes ctx) (T.refuses ctx)
         → HasLeaves (flat_map leaves) (WritesArray (T.writes ctx)) (LeavesArray (T.writes ctx) (T.refuses ctx)) }
 {}
 
-/// A call that writes at a place, of `Pwrite` or of `slice`, writes the leaves of the value there: what it leaves and what
-/// it returns, an error too, is what `WritesLeaves` says of them. The two premises are the call's clauses `wrote` and
-/// `refused`.
+/// A call of `Pwrite` or of `slice` that writes at an offset writes the leaves of the value there: `WritesLeaves` says
+/// what it leaves and what it returns, errors included. The two premises are the clauses `wrote` and `refused` of the
+/// call.
 pub fn write_is_of_its_leaves<Ctx: Copy, T: TryIntoCtx<Ctx, Error = Error>>()
     ensures { (ctx : Ctx) (leaves : T → List (List ℕ)) → HasLeaves leaves (T.writes ctx) (T.refuses ctx)
         → (x : T) (old new : List ℕ) (place : ℕ) (r : Result ℕ Error)

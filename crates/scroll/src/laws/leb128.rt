@@ -1,11 +1,12 @@
-// Laws of texts in LEB128.
+// Laws of LEB128 encodings.
 ghost use Rattle.std.specs.Prelude.{◌≡◌, ◌<◌, ◌≤◌, ◌++◌, ◌↔◌, ℕ, ℤ, List, length, take, drop, All};
 ghost use Rattle.scroll.specs.Leb128.{Counted, ReadsUleb, ReadsSleb, ReadsCountedUleb, ReadsCountedSleb};
 ghost use Rattle.scroll.specs.Spelling.{BeginsWith, BeginsWithSigned, HasSpelling, HasSignedSpelling, spelling, unsigned_form};
 ghost use Rattle.scroll.specs.LebWrites.{WritesUleb, WritesSleb};
 
-/// A read of an unsigned number gives a value and a size exactly where the source begins with the spelling of that value
-/// in that many bytes. A value has a spelling of each length from its shortest to ten, and no spelling begins another.
+/// A read of an unsigned number returns a value and a size exactly where the source begins with the encoding of that
+/// value in that many bytes. A value has one encoding of each length from its shortest to ten, and no encoding is a
+/// prefix of another.
 pub fn unsigned_reads_are_spellings()
     ensures reads { (source : List ℕ) (x n : ℕ) → All (λ b. b < 256) source
         → ReadsUleb source x n ↔ BeginsWith source x n }
@@ -14,8 +15,9 @@ pub fn unsigned_reads_are_spellings()
         → spelling x m ++ after_x ≡ spelling y n ++ after_y → (x ≡ y) × (m ≡ n) }
 {}
 
-/// A read of a signed number gives a value and a size exactly where the source begins with the spelling of that value in
-/// that many bytes. A value has a spelling of each length from its shortest to ten, and no spelling begins another.
+/// A read of a signed number returns a value and a size exactly where the source begins with the encoding of that value
+/// in that many bytes. A value has one encoding of each length from its shortest to ten, and no encoding is a prefix of
+/// another.
 pub fn signed_reads_are_spellings()
     ensures reads { (source : List ℕ) (x : ℤ) (n : ℕ) → All (λ b. b < 256) source
         → ReadsSleb source x n ↔ BeginsWithSigned source x n }
@@ -25,7 +27,7 @@ pub fn signed_reads_are_spellings()
         → spelling (unsigned_form x m) m ++ after_x ≡ spelling (unsigned_form y n) n ++ after_y → (x ≡ y) × (m ≡ n) }
 {}
 
-/// A read of a number in LEB128 has a size of one to ten bytes, all of them in the source.
+/// A number in LEB128 that was read has a size of one to ten bytes, all of them in the source.
 pub fn leb128_reads_have_one_to_ten_bytes()
     ensures unsigned { (source : List ℕ) (x n : ℕ) → ReadsUleb source x n → (1 ≤ n) × (n ≤ 10)
         × (n ≤ length source) }
@@ -33,8 +35,9 @@ pub fn leb128_reads_have_one_to_ten_bytes()
         × (n ≤ length source) }
 {}
 
-/// An unsigned number in LEB128 that was read is written back byte for byte. One that was written is read again with the
-/// same value and size, whatever bytes follow, and every source that reads so begins with the bytes that were written.
+/// Round trips: an unsigned number in LEB128 that was read is written back byte for byte. One that was written reads
+/// back with the same value and size, whatever bytes follow, and every source that reads as it begins with the bytes
+/// that were written.
 pub fn unsigned_texts_are_kept()
     ensures back { (source old new : List ℕ) (x : Counted ℕ) (m n : ℕ) → All (λ b. b < 256) source → ReadsCountedUleb source x n
         → WritesUleb x old new m → (m ≡ n) × (new ≡ take n source ++ drop n old) }
@@ -44,7 +47,7 @@ pub fn unsigned_texts_are_kept()
         → WritesUleb x old new m → take m source ≡ take m new }
 {}
 
-/// The same of signed numbers.
+/// The same for signed numbers.
 pub fn signed_texts_are_kept()
     ensures back { (source old new : List ℕ) (x : Counted ℤ) (m n : ℕ) → All (λ b. b < 256) source → ReadsCountedSleb source x n
         → WritesSleb x old new m → (m ≡ n) × (new ≡ take n source ++ drop n old) }

@@ -10,15 +10,16 @@ use crate::ctx::SizeWith;
 use crate::endian::Endian;
 use crate::runner::Width;
 
-/// The big-endian number of some bytes is the little-endian number of the bytes in reverse.
+/// The big-endian number of some bytes is the little-endian number of the reversed bytes.
 pub fn big_endian_is_little_endian_reversed()
     ensures { (s : List ℕ) → number Big (length s) s ≡ number Little (length s) (reverse s) }
 {}
 
-/// A number that was written in a byte order reads back equal in that order, and the bytes outside its width stay.
+/// A number that was written in a byte order reads back equal in that order, and the bytes outside its width are
+/// unchanged.
 ///
-/// The number is in the range of its width: below 256 to the power of `w`, and for a signed one from minus half of that
-/// to below half of it. Its bytes are the only ones, of that many, that read as the number.
+/// The number is in the range of its width: below 256 to the power of `w`, and for a signed number from minus half of
+/// that to below half of it. No other bytes of that length read as the number.
 pub fn number_reads_back()
     ensures unsigned { (w : ℕ) (order : Endian) (x : ℕ) (old new : List ℕ) (n : ℕ) → x < 256 ^ w
         → WritesNumber w order x old new n → ReadsNumber w order new x w }
@@ -35,7 +36,7 @@ pub fn number_reads_back()
         → ReadsSigned w order s x w → s ≡ signed_bytes order w x }
 {}
 
-/// The size of a number type, by [`SizeWith`], is the size of each read and of each write of such a number.
+/// The size of a number type by [`SizeWith`] is the size of every read and of every write of such a number.
 pub fn size_is_that_of_reads_and_writes(width: Width, order: &Endian) -> usize
     ensures reads { (s : List ℕ) (x n : ℕ) → ReadsNumber (bytes_in width) order.now s x n
         → n ≡ result }

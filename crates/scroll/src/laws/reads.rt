@@ -18,8 +18,8 @@ ghost use Rattle.scroll.specs.declared.endian.Endian.{Endian};
 use crate::ctx::TryFromCtx;
 use crate::error::Error;
 
-/// A read that fits its source has the same value and size on every source that is at least as long and begins with the
-/// bytes that were read.
+/// A read that ends within its source returns the same value and size for every source that is at least as long and
+/// begins with the bytes that were read.
 pub fn read_depends_on_its_bytes()
     ensures number { (w : ℕ) (order : Endian) → IsLocal (ReadsNumber w order) }
     ensures signed { (w : ℕ) (order : Endian) → IsLocal (ReadsSigned w order) }
@@ -31,13 +31,13 @@ pub fn read_depends_on_its_bytes()
     ensures sleb { IsLocal ReadsSleb }
 {}
 
-/// The same of an array, where it holds of its elements.
+/// The same for an array, if it holds for the elements.
 pub fn array_depends_on_its_bytes<'a, Ctx: Copy, T: TryFromCtx<'a, Ctx>>()
     ensures { (ctx : Ctx) (count : ℕ) → IsLocal (T.reads ctx)
         → IsLocal (ReadsArray (T.reads ctx) count) }
 {}
 
-/// The size of a read is at most the length of its source, and for a text whose delimiter is absent it may be one more.
+/// The size of a read is at most the length of its source. A string whose delimiter is missing may be one byte longer.
 pub fn read_size_is_bounded()
     ensures number { (w : ℕ) (order : Endian) → IsWithin (ReadsNumber w order) }
     ensures signed { (w : ℕ) (order : Endian) → IsWithin (ReadsSigned w order) }
@@ -50,8 +50,8 @@ pub fn read_size_is_bounded()
     ensures sleb { IsWithin ReadsSleb }
 {}
 
-/// The size of an array that was read is at most one more than the length of its source, and at most that length where
-/// this holds of its elements.
+/// The size of an array that was read is at most one byte more than the length of its source. It is at most that length
+/// if this holds for the elements.
 pub fn array_size_is_bounded<'a, Ctx: Copy, T: TryFromCtx<'a, Ctx>>()
     ensures bounded { (ctx : Ctx) (count : ℕ) → IsBounded (T.reads ctx)
         → IsBounded (ReadsArray (T.reads ctx) count) }
@@ -59,9 +59,9 @@ pub fn array_size_is_bounded<'a, Ctx: Copy, T: TryFromCtx<'a, Ctx>>()
         → IsWithin (ReadsArray (T.reads ctx) count) }
 {}
 
-/// Exactly one answer is allowed at each place of each buffer, so a read at an offset answers what a read with a cursor
-/// there answers. So it is of arrays of each length, of arrays of such arrays, and so on: `counts` has the lengths, from the
-/// outermost on.
+/// A read at an offset has exactly one result, a value with its size or an error, so a read at an offset and a read
+/// with a cursor there return the same. This holds for arrays too, nested to any depth: `counts` has the lengths, from
+/// the outermost.
 pub fn place_has_one_answer()
     ensures number { (w : ℕ) (order : Endian)
         → AllowsOneAtEach (ReadsNumber w order) (RefusesShort w) }
@@ -92,7 +92,7 @@ pub fn place_has_one_answer()
         → AllowsOneAtEach (ReadsNested ReadsCountedSleb counts) (RefusesNested ReadsCountedSleb RefusesSleb IsBadOffset counts) }
 {}
 
-/// The same of an array of values of any type whose errors are those of the crate, where it holds of the values.
+/// The same for an array of any type whose error is [`Error`], if it holds for the elements.
 pub fn array_has_one_answer<'a, Ctx: Copy, T: TryFromCtx<'a, Ctx, Error = Error>>()
     ensures { (ctx : Ctx) (count : ℕ) → AllowsOneAtEach (T.reads ctx) (T.refuses ctx)
         → AllowsOneAtEach (ReadsArray (T.reads ctx) count) (RefusesArray (T.reads ctx) (T.refuses ctx) IsBadOffset count) }

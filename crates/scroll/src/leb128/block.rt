@@ -1,4 +1,4 @@
-// LEB128 encodings within one word of eight bytes.
+// LEB128 encodings within a word of eight bytes.
 ghost use Rattle.std.specs.Prelude.{◌≡◌, ◌-◌, ◌<◌, ◌≤◌, ◌*◌, ◌^◌, nat_lt, pos, ◌-ℤ◌, if◌then◌else◌, IfSome, IfNone, MatchOption};
 ghost use Rattle.std.specs.Int.{w64, to_le_bytes};
 ghost use Rattle.scroll.specs.Leb128.{end_of, groups_value, EndsInBlock, EndsInSignedBlock};
@@ -6,8 +6,8 @@ ghost use Rattle.scroll.specs.Leb128.{end_of, groups_value, EndsInBlock, EndsInS
 // The low seven bits of each byte.
 const GROUPS: u64 = 0x7f7f_7f7f_7f7f_7f7f;
 
-/// The value and the size of the unsigned encoding that starts at the first of eight bytes, or `None` where none of them ends
-/// it.
+/// Returns the value of the unsigned encoding that starts at the first of eight bytes, and its size in bytes. Returns
+/// `None` where none of the eight bytes ends it.
 #[inline(always)]
 pub fn uleb_block(b: [u8; 8]) -> Option<(u64, usize)>
     ensures read { IfSome result (λ read. EndsInBlock b read.0 read.1) }
@@ -16,7 +16,8 @@ pub fn uleb_block(b: [u8; 8]) -> Option<(u64, usize)>
     groups_in(u64::from_le_bytes(b))
 }
 
-/// The value and the size of the signed encoding that starts at the first of eight bytes, or `None` where none of them ends it.
+/// Returns the value of the signed encoding that starts at the first of eight bytes, and its size in bytes. Returns
+/// `None` where none of the eight bytes ends it.
 #[inline(always)]
 pub fn sleb_block(b: [u8; 8]) -> Option<(i64, usize)>
     ensures read { IfSome result (λ read. EndsInSignedBlock b read.0 read.1) }
@@ -25,7 +26,7 @@ pub fn sleb_block(b: [u8; 8]) -> Option<(i64, usize)>
     signed_in(u64::from_le_bytes(b))
 }
 
-// All eight groups of eight bytes, as one number.
+// Returns all eight groups of eight bytes as one number.
 #[inline(always)]
 pub(crate) fn block_groups(b: [u8; 8]) -> u64
     ensures { result ≡ groups_value b 8 }
@@ -33,13 +34,13 @@ pub(crate) fn block_groups(b: [u8; 8]) -> u64
     gathered(u64::from_le_bytes(b))
 }
 
-// The groups up to the end of the encoding, as one number, and how many there are.
+// Returns the groups up to the end of the encoding as one number, and how many there are.
 #[inline(always)]
 fn groups_in(word: u64) -> Option<(u64, usize)>
     ensures { MatchOption result (8 ≤ end_of (to_le_bytes w64 word)) (λ read.
         EndsInBlock (to_le_bytes w64 word) read.0 read.1) }
 {
-    // Most encodings have one byte or two: a branch that is guessed takes less time than a count that is waited for.
+    // Most encodings have one or two bytes: a predicted branch takes less time than waiting for a count.
     if word & 0x80 == 0 {
         return Some((word & 0x7f, 1));
     }
@@ -49,13 +50,13 @@ fn groups_in(word: u64) -> Option<(u64, usize)>
     counted_groups(word)
 }
 
-// The signed number that these groups are, and how many there are.
+// Returns the signed number that the groups encode, and how many groups there are.
 #[inline(always)]
 fn signed_in(word: u64) -> Option<(i64, usize)>
     ensures { MatchOption result (8 ≤ end_of (to_le_bytes w64 word)) (λ read.
         EndsInSignedBlock (to_le_bytes w64 word) read.0 read.1) }
 {
-    // A shift by a constant is one step, and one by a count is three.
+    // A shift by a constant takes one step, and a shift by a count takes three.
     if word & 0x80 == 0 {
         return Some((sign_extend(word & 0x7f, 1), 1));
     }
@@ -66,7 +67,7 @@ fn signed_in(word: u64) -> Option<(i64, usize)>
     Some((sign_extend(groups, count), count))
 }
 
-// The groups up to the end, whose place is counted.
+// Returns the groups up to the end, whose offset is computed.
 #[inline(always)]
 fn counted_groups(word: u64) -> Option<(u64, usize)>
     ensures { MatchOption result (8 ≤ end_of (to_le_bytes w64 word)) (λ read.
@@ -76,13 +77,13 @@ fn counted_groups(word: u64) -> Option<(u64, usize)>
     if filled == u64::MAX {
         return None;
     }
-    // The carry goes up to the first high bit that was clear, which is set now, with all bits below it clear.
+    // The carry goes up to the first high bit that was clear. It sets that bit and clears all bits below it.
     let carried = filled + 1;
     let count = (carried << 1).trailing_zeros() as usize / 8;
     Some((gathered(word & !carried), count))
 }
 
-// The low seven bits of the eight bytes, side by side: in pairs first, then in fours.
+// Returns the low seven bits of the eight bytes next to each other: combined in pairs first, then in fours.
 #[inline(always)]
 fn gathered(word: u64) -> u64
     ensures { result ≡ groups_value (to_le_bytes w64 word) 8 }
@@ -94,8 +95,8 @@ fn gathered(word: u64) -> u64
     fours & 0x0000_0000_0fff_ffff | (fours & 0x0fff_ffff_0000_0000) >> 4
 }
 
-// Sign-extends the number that `count` groups are. The sign bit of the last group is turned over, and then taken away: where
-// it was set, that is the power of 128 less. One shift by a count, and no branch.
+// Sign-extends the number that `count` groups are. Flips the sign bit of the last group and then subtracts it: where it
+// was set, this subtracts the power of 128. One shift by a count, and no branch.
 #[inline(always)]
 pub(crate) fn sign_extend(groups: u64, count: usize) -> i64
     requires some { 1 ≤ count }

@@ -1,4 +1,4 @@
-// LEB128 by counted loads, of which the first takes eight bytes at once.
+// LEB128 by counted loads, the first of which takes eight bytes at once.
 ghost use Rattle.std.specs.Prelude.{◌≡◌, ◌-◌, ◌<◌, ◌≤◌, ◌^◌, length, IfOk, IfErr};
 ghost use Rattle.scroll.specs.Leb128.{end_of, groups_value, ReadsUleb, ReadsSleb, ReadsGroups};
 ghost use Rattle.scroll.specs.LebRefusals.{RefusesUleb, RefusesSleb, RefusesCut};
@@ -9,8 +9,8 @@ use super::block::{block_groups, sign_extend, sleb_block, uleb_block};
 use crate::error::{Error, Result};
 use crate::loads::Loads;
 
-/// The value and the size of the unsigned number at the front of a source, by at most three loads, or by a load for each
-/// byte where the source has fewer than eight.
+/// Reads the unsigned number at the front of a source, and returns its value and its size in bytes. It makes at most
+/// three loads, or one load per byte if the source has fewer than eight bytes.
 ///
 /// It returns what a read of a [`Uleb128`](super::Uleb128) returns, errors included.
 #[inline(always)]
@@ -40,8 +40,8 @@ pub fn uleb_loads(src: &mut Loads<'_>) -> Result<(u64, usize)>
     }
 }
 
-/// The value and the size of the signed number at the front of a source, by at most three loads, or by a load for each byte
-/// where the source has fewer than eight.
+/// Reads the signed number at the front of a source, and returns its value and its size in bytes. It makes at most
+/// three loads, or one load per byte if the source has fewer than eight bytes.
 ///
 /// It returns what a read of a [`Sleb128`](super::Sleb128) returns, errors included.
 #[inline(always)]
@@ -64,7 +64,7 @@ pub fn sleb_loads(src: &mut Loads<'_>) -> Result<(i64, usize)>
     let (groups, tenth) = nine_groups(src, block_groups(block))?;
     match tenth {
         None => Ok((sign_extend(groups, 9), 9)),
-        // Each bit of the tenth byte is the sign.
+        // All bits of the tenth byte are the sign.
         Some(tenth) if tenth == (tenth & 1) * 0x7f => {
             Ok(((groups | u64::from(tenth) << 63).cast_signed(), 10))
         }
@@ -75,8 +75,8 @@ pub fn sleb_loads(src: &mut Loads<'_>) -> Result<(i64, usize)>
     }
 }
 
-// The groups of the first nine bytes, of which `low` has the first eight, and the tenth byte where the ninth does not end
-// the encoding.
+// Returns the groups of the first nine bytes, of which `low` has the first eight, and the tenth byte if the ninth
+// doesn't end the encoding.
 #[inline(always)]
 fn nine_groups(src: &mut Loads<'_>, low: u64) -> Result<(u64, Option<u8>)>
     requires few { src.old.made < 2 ^ 63 - 2 }
@@ -99,7 +99,7 @@ fn nine_groups(src: &mut Loads<'_>, low: u64) -> Result<(u64, Option<u8>)>
     }
 }
 
-// The groups of a source of fewer than eight bytes, byte by byte.
+// Reads the groups of a source of fewer than eight bytes, byte by byte.
 #[inline(always)]
 fn short_groups(src: &mut Loads<'_>) -> Result<(u64, usize)>
     requires few { src.old.made < 2 ^ 62 }
@@ -109,7 +109,7 @@ fn short_groups(src: &mut Loads<'_>) -> Result<(u64, usize)>
     ensures loads { Loaded src.old src.new (length src.old.bytes) }
 {
     let mut groups: u64 = 0;
-    // A constant number of rounds, which can be unrolled: then a caller's source need not lie in memory.
+    // The number of rounds is constant, so the loop can be unrolled: then a caller's source need not be in memory.
     for i in 0..7 {
         if i == src.len() {
             return Err(TRUNCATED);

@@ -7,7 +7,7 @@ use super::TRUNCATED;
 use super::block::sign_extend;
 use crate::error::{Error, Result};
 
-/// The value and the size of the unsigned number at the front of `src`, which is read byte by byte.
+/// Reads the unsigned number at the front of `src`, byte by byte, and returns its value and its size in bytes.
 ///
 /// It returns what a read of a [`Uleb128`](super::Uleb128) returns, errors included.
 #[inline(always)]
@@ -35,7 +35,7 @@ pub fn plain_uleb(src: &[u8]) -> Result<(u64, usize)>
     }
 }
 
-/// The value and the size of the signed number at the front of `src`, which is read byte by byte.
+/// Reads the signed number at the front of `src`, byte by byte, and returns its value and its size in bytes.
 ///
 /// It returns what a read of a [`Sleb128`](super::Sleb128) returns, errors included.
 #[inline(always)]
@@ -54,7 +54,7 @@ pub fn plain_sleb(src: &[u8]) -> Result<(i64, usize)>
         }
     }
     match src.get(9) {
-        // Each bit of the tenth byte is the sign.
+        // All bits of the tenth byte are the sign.
         Some(&tenth) if tenth == (tenth & 1) * 0x7f => {
             Ok(((groups | u64::from(tenth) << 63).cast_signed(), 10))
         }

@@ -20,12 +20,14 @@ use crate::loads::Loads;
 use crate::pread::Pread;
 use std::marker::Model;
 
-/// A signed number in LEB128, and how many bytes its encoding has.
+/// A signed number in LEB128, with the length of its encoding in bytes.
 ///
-/// The groups of the encoding are in two's complement: the value is below zero where the second highest bit of the last byte
-/// is set. It is read and written in the context `()`. A truncated source, which ends before its encoding does and within
-/// the first ten bytes, is refused by `TooBig { size: 1, len: 0 }`; an encoding of more than ten bytes, or of a value that
-/// no `i64` has, by `BadInput { size, msg: "failed to parse" }`, whose `size` is the length of the source.
+/// The groups of the encoding are in two's complement: the value is negative if the second highest bit of the last byte
+/// is set.
+///
+/// It is read and written in the context `()`. A truncated source, which ends before its encoding does and within the
+/// first ten bytes, returns `TooBig { size: 1, len: 0 }`. An encoding of more than ten bytes, or of a value that
+/// doesn't fit an `i64`, returns `BadInput { size, msg: "failed to parse" }`, whose `size` is the length of the source.
 ///
 /// ```rust
 /// let bytes: [u8; 3] = [0xff, 0x7e, 0x00];
@@ -50,7 +52,7 @@ impl Model for Sleb128 {
 }
 
 impl Sleb128 {
-    /// The number with its shortest encoding.
+    /// Returns the number with its shortest encoding.
     ///
     /// ```rust
     /// let mut bytes = [0u8; 2];
@@ -69,7 +71,7 @@ impl Sleb128 {
         }
     }
 
-    /// How many bytes the encoding has: from one to ten.
+    /// Returns the length of the encoding in bytes, from one to ten.
     #[inline(always)]
     pub fn size(&self) -> usize
         ensures size { result ≡ self.now.count }
@@ -78,9 +80,10 @@ impl Sleb128 {
         self.count
     }
 
-    /// Reads a number at `offset`, and moves `offset` past its encoding. On an error `offset` is unchanged.
+    /// Reads the value at the cursor `offset`, and advances the cursor past its encoding. On an error the cursor is
+    /// unchanged.
     ///
-    /// It refuses as a read of a [`Sleb128`] does, and an offset past the end by `BadOffset(offset)`.
+    /// The errors are those of a read of a [`Sleb128`], and `BadOffset(offset)` for an offset past the end.
     ///
     /// ```rust
     /// let bytes: [u8; 1] = [0x40];
@@ -99,7 +102,7 @@ impl Sleb128 {
     }
 }
 
-/// Two numbers are equal where their values are equal and their encodings have as many bytes.
+/// Two numbers are equal if their values are equal and their encodings have the same length.
 impl PartialEq for Sleb128 {
     ghost eq = { counted_eq int_eq };
 
@@ -115,7 +118,7 @@ impl PartialEq for Sleb128 {
 }
 
 impl AsRef<i64> for Sleb128 {
-    /// The value.
+    /// Borrows the value.
     #[inline(always)]
     fn as_ref(&self) -> &i64
         ensures value { result.now ≡ self.now.value }
@@ -127,7 +130,7 @@ impl AsRef<i64> for Sleb128 {
 impl From<Sleb128> for i64 {
     ghost from_gives = { λ number x. x ≡ number.value };
 
-    /// The value.
+    /// Returns the value.
     #[inline(always)]
     fn from(number: Sleb128) -> i64 {
         number.value
@@ -161,11 +164,11 @@ impl TryIntoCtx<()> for Sleb128 {
 
     ghost writes_keeps = { λ _. WritesSleb-keeps };
 
-    /// Writes the encoding of the number that has as many bytes as the number says, and returns how many these are.
+    /// Writes the encoding of the number that has [`size`](Sleb128::size) bytes, and returns that size.
     ///
-    /// The target then reads as this number, and every source that reads so begins with the bytes that were written. A
-    /// shorter target is refused by `TooBig { size, len }`, with the sizes of the encoding and of the target, and is
-    /// unchanged.
+    /// The target then reads as this number, and every source that reads as this number starts with the bytes that were
+    /// written. A shorter target returns `TooBig { size, len }`, with the lengths of the encoding and of the target,
+    /// and is unchanged.
     #[inline(always)]
     fn try_into_ctx(self, dst: &mut [u8], _ctx: ()) -> Result<usize>
         ensures wrote { IfOk result (WritesSleb self dst.old dst.new) }

@@ -19,11 +19,11 @@ use crate::loads::Loads;
 use crate::pread::Pread;
 use std::marker::Model;
 
-/// An unsigned number in LEB128, and how many bytes its encoding has.
+/// An unsigned number in LEB128, with the length of its encoding in bytes.
 ///
-/// It is read and written in the context `()`. A truncated source, which ends before its encoding does and within the first
-/// ten bytes, is refused by `TooBig { size: 1, len: 0 }`; an encoding of more than ten bytes, or of a value that no `u64`
-/// has, by `BadInput { size, msg: "failed to parse" }`, whose `size` is the length of the source.
+/// It is read and written in the context `()`. A truncated source, which ends before its encoding does and within the
+/// first ten bytes, returns `TooBig { size: 1, len: 0 }`. An encoding of more than ten bytes, or of a value that
+/// doesn't fit a `u64`, returns `BadInput { size, msg: "failed to parse" }`, whose `size` is the length of the source.
 ///
 /// ```rust
 /// let bytes: [u8; 3] = [0x82, 0x01, 0xff];
@@ -48,7 +48,7 @@ impl Model for Uleb128 {
 }
 
 impl Uleb128 {
-    /// The number with its shortest encoding.
+    /// Returns the number with its shortest encoding.
     ///
     /// ```rust
     /// let mut bytes = [0u8; 2];
@@ -67,7 +67,7 @@ impl Uleb128 {
         }
     }
 
-    /// How many bytes the encoding has: from one to ten.
+    /// Returns the length of the encoding in bytes, from one to ten.
     #[inline(always)]
     pub fn size(&self) -> usize
         ensures size { result ≡ self.now.count }
@@ -76,9 +76,10 @@ impl Uleb128 {
         self.count
     }
 
-    /// Reads a number at `offset`, and moves `offset` past its encoding. On an error `offset` is unchanged.
+    /// Reads the value at the cursor `offset`, and advances the cursor past its encoding. On an error the cursor is
+    /// unchanged.
     ///
-    /// It refuses as a read of a [`Uleb128`] does, and an offset past the end by `BadOffset(offset)`.
+    /// The errors are those of a read of a [`Uleb128`], and `BadOffset(offset)` for an offset past the end.
     ///
     /// ```rust
     /// let bytes: [u8; 2] = [0x82, 0x01];
@@ -97,7 +98,7 @@ impl Uleb128 {
     }
 }
 
-/// Two numbers are equal where their values are equal and their encodings have as many bytes.
+/// Two numbers are equal if their values are equal and their encodings have the same length.
 impl PartialEq for Uleb128 {
     ghost eq = { counted_eq ◌==◌ };
 
@@ -113,7 +114,7 @@ impl PartialEq for Uleb128 {
 }
 
 impl AsRef<u64> for Uleb128 {
-    /// The value.
+    /// Borrows the value.
     #[inline(always)]
     fn as_ref(&self) -> &u64
         ensures value { result.now ≡ self.now.value }
@@ -125,7 +126,7 @@ impl AsRef<u64> for Uleb128 {
 impl From<Uleb128> for u64 {
     ghost from_gives = { λ number x. x ≡ number.value };
 
-    /// The value.
+    /// Returns the value.
     #[inline(always)]
     fn from(number: Uleb128) -> u64 {
         number.value
@@ -159,11 +160,11 @@ impl TryIntoCtx<()> for Uleb128 {
 
     ghost writes_keeps = { λ _. WritesUleb-keeps };
 
-    /// Writes the encoding of the number that has as many bytes as the number says, and returns how many these are.
+    /// Writes the encoding of the number that has [`size`](Uleb128::size) bytes, and returns that size.
     ///
-    /// The target then reads as this number, and every source that reads so begins with the bytes that were written. A
-    /// shorter target is refused by `TooBig { size, len }`, with the sizes of the encoding and of the target, and is
-    /// unchanged.
+    /// The target then reads as this number, and every source that reads as this number starts with the bytes that were
+    /// written. A shorter target returns `TooBig { size, len }`, with the lengths of the encoding and of the target,
+    /// and is unchanged.
     #[inline(always)]
     fn try_into_ctx(self, dst: &mut [u8], _ctx: ()) -> Result<usize>
         ensures wrote { IfOk result (WritesUleb self dst.old dst.new) }

@@ -1,4 +1,4 @@
-// LEB128 encodings that are written.
+// Writes of LEB128 encodings.
 ghost use Rattle.std.specs.Prelude.{◌≡◌, ℕ, ◌+◌, ◌-◌, ◌*◌, ◌/◌, ◌%◌, ◌^◌, ◌<◌, ◌≤◌, ◌++◌, length, drop, slice_index, IfOk, IfErr};
 ghost use Rattle.scroll.specs.Bytes.{sum_below, WritesFront, LeavesShort};
 ghost use Rattle.scroll.specs.Spelling.{spelling, spelled_byte, unsigned_form, HoldsGroups, HasSpelling, HasSignedSpelling};
@@ -6,7 +6,7 @@ ghost use Rattle.scroll.specs.LebWrites.{ten_groups, turned_round, IsLeast};
 
 use crate::error::{Error, Result};
 
-// The least count of groups that hold `value`.
+// Returns the least number of groups that hold `value`.
 #[inline(always)]
 pub(crate) fn shortest_count(value: u64) -> usize
     ensures { IsLeast (HoldsGroups value) result }
@@ -19,18 +19,17 @@ pub(crate) fn shortest_count(value: u64) -> usize
     }
 }
 
-// The same, by the place of the highest digit.
+// The same, from the position of the highest digit.
 #[inline(always)]
 fn count_by_place(value: u64) -> usize
     ensures { IsLeast (HoldsGroups value) result }
 {
-    // The place of the highest digit set. Seven places make a group: for places up to 63 this is place / 7 + 1.
+    // The position of the highest set bit. Seven positions make a group: for positions up to 63 this is place / 7 + 1.
     let place = 63 - (value | 1).leading_zeros() as usize;
     (place * 9 + 73) / 64
 }
 
-// A number without its sign: its digits, turned round where it is below zero. The number takes as many groups as twice
-// that.
+// Returns the bits of a number, inverted if it is negative. A signed number takes as many groups as twice the result.
 #[inline(always)]
 pub(crate) fn turned(value: i64) -> u64
     ensures { result ≡ turned_round value }
@@ -42,7 +41,8 @@ pub(crate) fn turned(value: i64) -> u64
     }
 }
 
-// Writes the encoding of `value` in `count` bytes to the front of a target, and returns `count`. A shorter target is refused.
+// Writes the encoding of `value` in `count` bytes to the front of a target, and returns `count`. A shorter target
+// returns `TooBig`, and is unchanged.
 #[inline(always)]
 pub(crate) fn put_uleb(dst: &mut [u8], value: u64, count: usize) -> Result<usize>
     requires spelled { HasSpelling value count }
@@ -52,7 +52,7 @@ pub(crate) fn put_uleb(dst: &mut [u8], value: u64, count: usize) -> Result<usize
     put_groups(dst, value, (value >> 63) as u8, count)
 }
 
-// The same of a signed `value`.
+// The same for a signed `value`.
 #[inline(always)]
 pub(crate) fn put_sleb(dst: &mut [u8], value: i64, count: usize) -> Result<usize>
     requires spelled { HasSignedSpelling value count }
@@ -60,13 +60,13 @@ pub(crate) fn put_sleb(dst: &mut [u8], value: i64, count: usize) -> Result<usize
         (spelling (unsigned_form value count) count) dst.old dst.new) }
     ensures refused { IfErr result (LeavesShort count dst.old dst.new) }
 {
-    // Above the highest digit each bit is the sign.
+    // Above the highest digit every bit is the sign.
     let tenth = if value < 0 { 0x7f } else { 0 };
     put_groups(dst, value.cast_unsigned(), tenth, count)
 }
 
-// Writes an encoding of `count` groups to the front of a target, and returns `count`: the first nine of them are those of `low`,
-// and then comes `tenth`. A shorter target is refused.
+// Writes an encoding of `count` groups to the front of a target, and returns `count`. The first nine groups are those
+// of `low`, and the tenth is `tenth`. A shorter target returns `TooBig`, and is unchanged.
 #[inline(always)]
 fn put_groups(dst: &mut [u8], low: u64, tenth: u8, count: usize) -> Result<usize>
     requires group { tenth < 128 }
@@ -76,7 +76,7 @@ fn put_groups(dst: &mut [u8], low: u64, tenth: u8, count: usize) -> Result<usize
         (spelling (ten_groups low tenth % 128 ^ count) count) dst.old dst.new) }
     ensures refused { IfErr result (LeavesShort count dst.old dst.new) }
 {
-    // Before the test for room, so that the jump by which a count of one was found leads here.
+    // This comes before the check for room, so that the jump that found a count of one leads here.
     if count == 1 {
         if dst.is_empty() {
             return Err(Error::TooBig { size: 1, len: 0 });
@@ -108,8 +108,8 @@ fn put_one(dst: &mut [u8], low: u64, tenth: u8)
     dst[0] = byte_of(low, tenth, 1, 0);
 }
 
-// Writes an encoding of two or three bytes with no branch between the two lengths: the second byte is put twice where it is the
-// last.
+// Writes an encoding of two or three bytes without a branch on the length: the second byte is written twice if it is
+// the last.
 #[inline(always)]
 fn put_short(dst: &mut [u8], low: u64, tenth: u8, count: usize)
     requires group { tenth < 128 }
@@ -124,7 +124,7 @@ fn put_short(dst: &mut [u8], low: u64, tenth: u8, count: usize)
     dst[count - 1] = last;
 }
 
-// The last byte of an encoding of two or three.
+// Returns the last byte of an encoding of two or three bytes.
 #[inline(always)]
 fn last_of_short(low: u64, tenth: u8, count: usize) -> u8
     requires group { tenth < 128 }
@@ -169,7 +169,7 @@ fn put_long(dst: &mut [u8], low: u64, tenth: u8, count: usize)
     }
 }
 
-// Puts four bytes at a place.
+// Writes four bytes at an offset.
 #[inline(always)]
 fn put_four(dst: &mut [u8], at: usize, bytes: [u8; 4])
     requires { at + 4 ≤ length dst.old }
@@ -180,7 +180,7 @@ fn put_four(dst: &mut [u8], at: usize, bytes: [u8; 4])
     fill_four(&mut dst[at..at + 4], bytes);
 }
 
-// Fills four bytes: one store, where `copy_from_slice` would first test whether source and target overlap.
+// Fills four bytes by one store, where `copy_from_slice` would first test whether source and target overlap.
 #[inline(always)]
 fn fill_four(dst: &mut [u8], bytes: [u8; 4])
     requires { length dst.old ≡ 4 }
@@ -189,7 +189,7 @@ fn fill_four(dst: &mut [u8], bytes: [u8; 4])
     *dst.as_mut_array().unwrap() = bytes;
 }
 
-// The lowest four groups, each with the bit that says that more follow.
+// Returns the lowest four groups, each with the bit that says that more groups follow.
 #[inline(always)]
 fn open_groups(low: u64) -> [u8; 4]
     ensures { (k : ℕ) → k < 4 → slice_index result k ≡ 128 + low / 128 ^ k % 128 }
@@ -197,7 +197,7 @@ fn open_groups(low: u64) -> [u8; 4]
     (spread(low) | 0x8080_8080).to_le_bytes()
 }
 
-// The lowest four groups, the fourth of which is the last of the encoding.
+// Returns the lowest four groups, the last of which ends the encoding.
 #[inline(always)]
 fn last_groups(low: u64) -> [u8; 4]
     ensures open { (k : ℕ) → k < 3 → slice_index result k ≡ 128 + low / 128 ^ k % 128 }
@@ -206,7 +206,7 @@ fn last_groups(low: u64) -> [u8; 4]
     (spread(low) | 0x0080_8080).to_le_bytes()
 }
 
-// The lowest four groups, a byte each.
+// Returns the lowest four groups, one per byte.
 #[inline(always)]
 fn spread(low: u64) -> u32
     ensures { result ≡ sum_below (λ i. low / 128 ^ i % 128 * 256 ^ i) 4 }
@@ -216,7 +216,7 @@ fn spread(low: u64) -> u32
     pairs.wrapping_add(pairs & 0x3f80_3f80)
 }
 
-// Byte `i` of an encoding.
+// Returns byte `i` of an encoding.
 #[inline(always)]
 fn byte_of(low: u64, tenth: u8, count: usize, i: usize) -> u8
     requires group { tenth < 128 }

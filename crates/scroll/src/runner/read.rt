@@ -18,7 +18,7 @@ use crate::source::ReadFrom;
 use std::alloc::Global;
 use std::result;
 
-// Answers a read. A cursor that it uses moves by the size of what was read, once the answer's value stands.
+// Runs a read. A read at the cursor advances it by the size of the value, once the answer has been made.
 pub(crate) fn read(
     alloc: Global,
     buffer: &[u8],
@@ -42,8 +42,8 @@ pub(crate) fn read(
     }
 }
 
-// Reads a value of a kind, and copies what would borrow the buffer. Refuses by `NoMemory` where there is no memory for the
-// copy, and only there.
+// Reads a value of a kind, and copies what would borrow the buffer. Returns `NoMemory` on an allocation failure, and
+// only then.
 fn read_value(
     alloc: Global,
     buffer: &[u8],
@@ -115,7 +115,7 @@ fn read_number(
     }
 }
 
-// Reads an array of two texts, and takes it apart, since a `match` can't bind an array of references.
+// Reads an array of two strings, and takes it apart, since a `match` can't bind an array of references.
 fn read_texts<'b>(
     buffer: &'b [u8],
     cursor: &mut usize,
@@ -130,7 +130,7 @@ fn read_texts<'b>(
     read_at(buffer, cursor, place, ctx).map(both)
 }
 
-// The two texts of an array.
+// Returns the two strings of an array.
 fn both<'b>(texts: [&'b str; 2]) -> (&'b str, &'b str)
     ensures { texts.entry ≡ result.0 ∷ result.1 ∷ [] }
 {

@@ -11,7 +11,7 @@ use crate::ctx::TryIntoCtx;
 use crate::error::{Error, Result};
 use crate::slice;
 
-// Answers a write, and moves a cursor that it uses by the size of what was written.
+// Runs a write. A write at the cursor advances it by the size of the value.
 pub(crate) fn write(buffer: &mut [u8], cursor: &mut usize, place: Place, put: &Put<'_>) -> Answer
     ensures answer { WriteStep buffer.old cursor.old place (leaves_of put.now) result cursor.new }
     ensures after { buffer.new ≡ seen buffer.old

@@ -1,10 +1,10 @@
-// What a search stops at: a byte, or that byte and every byte that is not ASCII.
+// What a search stops at: one byte, or that byte and every byte that isn't ASCII.
 ghost use Rattle.std.specs.Prelude.{◌≡◌, ◌<◌, ◌==◌, ℕ, Bool, List, length, position, IfSome};
 ghost use Rattle.scroll.specs.Search.{is_stop};
 
 use std::simd::prelude::*;
 
-// A 1, the high bit, and the other bits, in each byte of a word.
+// In each byte of a word: a 1, the high bit, and the other bits.
 const ONES: u64 = 0x0101_0101_0101_0101;
 
 const HIGH: u64 = 0x8080_8080_8080_8080;
@@ -16,17 +16,17 @@ pub(crate) trait Stops: Copy {
     // Whether the search stops at a byte.
     ghost stops: { Self → ℕ → Bool };
 
-    /// The first stop in 32 bytes, which are compared at once.
+    /// Returns the offset of the first stop in 32 bytes, which are compared at once.
     fn in_vector(self, block: [u8; 32]) -> Option<usize>
         ensures place { result ≡ position (stops self) block }
         ensures within { IfSome result (λ place. place < 32) };
 
-    /// The first stop in the eight bytes of a word.
+    /// Returns the offset of the first stop in the eight bytes of a word.
     fn in_word(self, block: [u8; 8]) -> Option<usize>
         ensures place { result ≡ position (stops self) block }
         ensures within { IfSome result (λ place. place < 8) };
 
-    /// The first stop, byte by byte.
+    /// Returns the offset of the first stop, byte by byte.
     fn in_tail(self, tail: &[u8]) -> Option<usize>
         ensures place { result ≡ position (stops self) tail.now }
         ensures within { IfSome result (λ place. place < length tail.now) };
@@ -36,7 +36,7 @@ pub(crate) trait Stops: Copy {
 #[derive(Clone, Copy)]
 pub(crate) struct At(pub(crate) u8);
 
-/// Stops at one byte, and at every byte that is not ASCII.
+/// Stops at one byte, and at every byte that isn't ASCII.
 #[derive(Clone, Copy)]
 pub(crate) struct AtOrNotAscii(pub(crate) u8);
 
@@ -57,7 +57,7 @@ impl Stops for At {
     #[inline(always)]
     fn in_word(self, block: [u8; 8]) -> Option<usize> {
         let differences = u64::from_le_bytes(block) ^ u64::from(self.0) * ONES;
-        // No sum carries into the next byte, so each byte's high bit says whether the byte differs.
+        // No sum carries into the next byte, so the high bit of each byte says whether the byte differs.
         let flags = !((differences & LOW) + LOW | differences) & HIGH;
         if flags == 0 {
             return None;
@@ -86,7 +86,7 @@ impl Stops for AtOrNotAscii {
         Some(stops.trailing_zeros() as usize)
     }
 
-    // (the high bit of a byte that is not ASCII is its own flag)
+    // (the high bit of a byte that isn't ASCII is its own flag)
     #[inline(always)]
     fn in_word(self, block: [u8; 8]) -> Option<usize> {
         let word = u64::from_le_bytes(block);

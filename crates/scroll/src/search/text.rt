@@ -1,11 +1,12 @@
-// The text before a delimiter. Its bytes are looked at once where they are ASCII.
+// The string before a delimiter. Its bytes are examined once if they are ASCII.
 ghost use Rattle.std.specs.Prelude.{◌≡◌, length, take, IfSome, IfNone, IsUtf8};
 ghost use Rattle.std.specs.Str.{IsAscii};
 ghost use Rattle.scroll.specs.Texts.{first_place};
 
 use crate::search::{first_place, first_stop};
 
-/// What stands before the first delimiter, or the whole source where there is none: nothing where that is no UTF-8.
+/// Returns the string before the first delimiter, or the whole source if there is none. Returns `None` where that isn't
+/// UTF-8.
 #[inline(always)]
 pub(crate) fn text_before(delimiter: u8, source: &[u8]) -> Option<&str>
     ensures text { IfSome result (λ text.
@@ -24,12 +25,12 @@ pub(crate) fn text_before(delimiter: u8, source: &[u8]) -> Option<&str>
     }
 }
 
-// Bytes that are ASCII, as the text that they are.
+// Returns ASCII bytes as a string.
 #[inline(always)]
 fn text_of_ascii(bytes: &[u8]) -> &str
     requires { IsAscii bytes.now }
     ensures { result.now ≡ bytes.now }
 {
-    // ASCII is UTF-8: the premise of this call is proved of every call of `text_of_ascii`.
+    // ASCII is UTF-8: the premise of this call is proved for every call of `text_of_ascii`.
     unsafe { str::from_utf8_unchecked(bytes) }
 }

@@ -1,4 +1,4 @@
-// Arrays, read and written: values from outside, and what a refusal leaves.
+// Arrays, read and written: values from outside, and what an error leaves.
 use crate::ctx::{SizeWith, StrCtx, TryFromCtx, TryIntoCtx};
 use crate::{BE, Endian, Error, LE, Pread, Pwrite, Result};
 use std::result;
@@ -84,7 +84,7 @@ fn a_bad_offset_counts_from_its_own_array(rt: HostRuntime) {
     assert_eq!(rt; *offset, 4);
 }
 
-// Reads any number of values of any type, through the bound.
+// Reads arrays of any length and type, through the bound.
 fn values_of<
     'a,
     Ctx: Copy,
@@ -95,7 +95,7 @@ fn values_of<
     TryFromCtx::try_from_ctx(from, ctx)
 }
 
-// Writes any number of values of any type, through the bound.
+// Writes arrays of any length and type, through the bound.
 fn put_values<Ctx: Copy, T: TryIntoCtx<Ctx, Error = Error> + Drop, const N: usize>(
     values: [T; N],
     dst: &mut [u8],

@@ -1,13 +1,13 @@
-// C strings. Each test here also stands where an allocation is refused (`rt try --test --fail-alloc N`): then the call that
-// asked for it answers `NoMemory`, and nothing else changes. So what takes memory is called twice: one call of the two has to
-// succeed, whichever allocation is refused.
+// C strings. Each test also passes where an allocation fails (`rt try --test --fail-alloc N`): the call that allocates
+// then returns `NoMemory`, and nothing else changes. So what allocates is called twice: whichever allocation fails, one
+// of the two calls must succeed.
 use crate::cstr::{CStr, CString};
 use crate::ctx::{TryFromCtx, TryIntoCtx};
 use crate::{Error, Pread, Pwrite, Result};
 use std::alloc::{AllocError, Global};
 use std::process::Abort;
 
-// Whether a C string that was asked for is there. Any error but want of memory ends the test.
+// Returns whether a C string was made. Any error except out of memory ends the test.
 fn is_held(rt: &impl Abort, made: &Result<CString>, wanted: &[u8]) -> bool {
     match made {
         Ok(string) => {
@@ -21,7 +21,7 @@ fn is_held(rt: &impl Abort, made: &Result<CString>, wanted: &[u8]) -> bool {
     }
 }
 
-// The C string of a text, made by the second call where the first finds no memory.
+// Returns the C string of a text, from a second call where the first runs out of memory.
 fn make(rt: &impl Abort, alloc: Global, text: &[u8]) -> CString {
     match CString::new(alloc, text) {
         Ok(string) => string,
@@ -170,7 +170,7 @@ fn the_empty_text(rt: HostRuntime) {
     assert_eq!(rt; offset, 1);
 }
 
-// Whether two C strings that were asked for are there. Any error but want of memory ends the test.
+// Returns whether two C strings were made. Any error except out of memory ends the test.
 fn are_held(rt: &impl Abort, made: Result<[CString; 2]>, wanted: [&[u8]; 2]) -> bool {
     match made {
         Ok(strings) => {

@@ -1,4 +1,4 @@
-// The calls at the crate's own types.
+// The calls for the types of the crate.
 use crate::ctx::{FromCtx, IntoCtx, TryFromCtx, TryIntoCtx};
 use crate::{BE, Endian, Error, LE, NATIVE, NETWORK, Pread, Pwrite, Result};
 

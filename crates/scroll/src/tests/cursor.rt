@@ -39,7 +39,7 @@ fn gread_with_iter_bytes(rt: HostRuntime) {
 
 const BYTES: [u8; 8] = [0x0f, 0x0e, 0x0e, 0x0b, 0x0d, 0x0a, 0x0e, 0x0d];
 
-// Reads a number at the cursor, which then stands behind it.
+// Reads a number at the cursor, which is then after it.
 macro_rules! check_simple_gread {
     ($rt:ident, $number:ty, $value:expr, $size:expr) => {
         let mut offset = 0;
@@ -69,7 +69,7 @@ fn simple_gread_i64(rt: HostRuntime) {
     check_simple_gread!(rt, i64, 940700423303335439, 8);
 }
 
-// Writes a number in one order and then in the other behind it, and reads both back.
+// Writes a number in one order and, after it, in the other, and reads both back.
 macro_rules! check_gread_gwrite {
     ($rt:ident, $number:ty, $value:expr, $size:expr) => {
         let mut bytes = [0u8; 16];

@@ -1,5 +1,5 @@
-// Values are let go where a call is refused: those of an array, those that were to be written, those that a bulk read
-// replaces. No clause speaks of a value that is dropped.
+// Values are dropped where a call fails: those of an array, those to be written, and those that a bulk read replaces.
+// No clause speaks of dropped values.
 ghost use Rattle.std.specs.Prelude.{◌≡◌, ◌≤◌, length};
 ghost use Rattle.std.proofs.Common.{rules};
 ghost use Rattle.scroll.specs.Bytes.{RefusesShort, LeavesShort};
@@ -97,7 +97,7 @@ fn writes_drop_their_values(rt: HostRuntime) {
     let drops = Cell::new(0);
     let mut bytes = [0u8; 2];
     let mut target = &mut bytes[..];
-    // (the first is written, the second is refused, and the third is left)
+    // (the first is written, the second fails, and the third is left)
     let cut: Result<usize> = target.pwrite(three(&drops), 1);
     assert!(rt; matches!(&cut, Err(Error::TooBig { size: 1, len: 0 })));
     assert_eq!(rt; drops.get(), 3);

@@ -1,11 +1,12 @@
-// Each call at the greatest offset: past the end of every slice, it is refused by that offset, and nothing changes.
+// Each call at the greatest offset, which is past the end of every slice: it returns that offset as an error, and
+// nothing changes.
 use crate::cstr::CStr;
 use crate::ctx::StrCtx;
 use crate::{BE, Error, LE, Pread, Pwrite, Result, Sleb128, Uleb128, slice};
 
 const MOST: usize = usize::MAX;
 
-// Whether an answer is the refusal of the greatest offset.
+// Returns whether a result is the error for the greatest offset.
 fn is_past<T>(answer: &Result<T>) -> bool {
     matches!(answer, Err(Error::BadOffset(MOST)))
 }

@@ -4,7 +4,7 @@ use crate::ctx::{FromCtx, IntoCtx, SizeWith, TryFromCtx, TryIntoCtx};
 use crate::{BE, Cread, Cwrite, Error, IOread, IOwrite, LE, Pread, Pwrite, Result};
 use std::io;
 
-// The first float of the bytes that the Rust crate's tests read.
+// The first float in the bytes that the tests of the Rust crate read.
 macro_rules! check_gread {
     ($rt:ident, $float:ty, $value:expr, $size:expr) => {
         let bytes: [u8; 8] = [0, 0, 0, 0, 0, 0, 224, 63];
@@ -27,7 +27,7 @@ fn gread_f64(rt: HostRuntime) -> Result<()> {
     Ok(())
 }
 
-// Writes a float in one order and then in the other behind it, and reads both back.
+// Writes a float in one order and, after it, in the other, and reads both back.
 macro_rules! check_gread_gwrite {
     ($rt:ident, $float:ty, $value:expr, $size:expr) => {
         let mut bytes = [0u8; 16];
@@ -114,7 +114,7 @@ const DOUBLES: [(f64, [u8; 8]); 11] = [
     (-1.5, [0xbf, 0xf8, 0, 0, 0, 0, 0, 0]),
 ];
 
-// Both zeros are equal: which of them was read is told by what is written of it.
+// Both zeros are equal: what is written shows which of them was read.
 macro_rules! check_floats {
     ($rt:ident, $table:ident, $float:ty, $width:expr) => {
         for (value, big) in $table.iter() {

@@ -1,4 +1,4 @@
-// The laws that are generic, at a type of the crate.
+// The generic laws, for a type of the crate.
 use crate::laws::{
     array_depends_on_its_bytes, array_has_leaves, array_has_one_answer, array_size_is_bounded,
     write_is_of_its_leaves,

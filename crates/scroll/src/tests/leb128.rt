@@ -1,8 +1,8 @@
-// Texts of LEB128, and the readers beside each other.
+// LEB128 encodings, and the readers compared with each other.
 use crate::leb128::{plain_sleb, plain_uleb, sleb_block, sleb_loads, uleb_block, uleb_loads};
 use crate::{Error, LE, Loads, Pread, Result, Sleb128, Uleb128};
 
-// What a read answers.
+// The result of a read.
 #[derive(Clone, Copy, Debug, PartialEq)]
 enum Outcome {
     Value(i128, usize),
@@ -33,7 +33,7 @@ fn signed(source: &[u8]) -> Outcome {
     }
 }
 
-// `count` bytes `fill`, and `last` behind them.
+// Returns `count` times the byte `fill`, and `last` after them.
 fn text(fill: u8, count: usize, last: u8) -> [u8; 12] {
     let mut bytes = [0; 12];
     for (i, byte) in bytes.iter_mut().enumerate() {
@@ -230,7 +230,7 @@ fn counted_loads(rt: HostRuntime) {
     assert_eq!(rt; short.made(), 3);
 }
 
-// Tells whether the readers by loads and those byte by byte answer the same of a source.
+// Returns whether the readers by loads and those byte by byte return the same for a source.
 fn readers_agree_on(source: &[u8]) -> bool {
     let by_loads = match uleb_loads(&mut Loads::new(source)) {
         Ok((value, size)) => Outcome::Value(i128::from(value), size),

@@ -1,8 +1,8 @@
-// Texts of LEB128 that are written.
+// LEB128 encodings that are written.
 use crate::ctx::TryIntoCtx;
 use crate::{Error, Pread, Pwrite, Result, Sleb128, Uleb128};
 
-// What is written of a number into twelve bytes 0xee, and the size, or 99 where the number is refused.
+// Returns what a write of a number leaves of twelve bytes 0xee, and its size, or 99 on an error.
 fn unsigned(value: u64) -> ([u8; 12], usize) {
     let mut bytes = [0xee; 12];
     let size = Uleb128::shortest(value)
@@ -19,7 +19,7 @@ fn signed(value: i64) -> ([u8; 12], usize) {
     (bytes, size)
 }
 
-// The bytes of `text`, and 0xee behind them.
+// Returns the bytes of `text`, and 0xee after them.
 fn padded(text: &[u8]) -> ([u8; 12], usize) {
     let mut bytes = [0xee; 12];
     for (byte, given) in bytes.iter_mut().zip(text.iter()) {

@@ -1,4 +1,4 @@
-// All ten numbers, by value and by reference, and the calls with room made sure of.
+// All ten integer types, by value and by reference, and the calls whose caller ensures that there is room.
 ghost use Rattle.std.specs.Prelude.{◌≡◌, ◌+◌, ◌≤◌, length, drop};
 ghost use Rattle.scroll.specs.Numbers.{number};
 ghost use Rattle.scroll.specs.declared.endian.Endian.TheVariants.{Big};
@@ -151,7 +151,7 @@ fn with_room_made_sure_of(rt: HostRuntime) {
     assert_eq!(rt; out[..].cread::<u32>(8), 0xdeadbeef);
 }
 
-// The value behind the first one of its type, in big-endian order.
+// Returns the value after the first one of its type, big-endian.
 fn second_of<N: FromCtx<Endian> + SizeWith<Endian>>(source: &[u8]) -> N
     requires { N.SizeWith.size BE + N.FromCtx.need BE ≤ length source.now }
     ensures { N.makes BE (drop (N.SizeWith.size BE) source.now) result }

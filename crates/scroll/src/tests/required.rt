@@ -1,4 +1,4 @@
-// Texts whose delimiter has to stand in the source.
+// Strings whose delimiter the source must contain.
 use crate::ctx::StrCtx;
 use crate::{Error, Pread, Result};
 

@@ -1,5 +1,5 @@
-// Runs of commands that read and write texts, byte slices, C strings, LEB128 and arrays. Each stands where memory is refused,
-// too: see `check_run`.
+// Runs of commands that read and write strings, byte slices, C strings, LEB128 and arrays. Each also passes where an
+// allocation fails: see `check_run`.
 use super::runs::{check_run, is_same};
 use crate::cstr::CStr;
 use crate::ctx::{NULL, StrCtx};
@@ -83,7 +83,7 @@ fn texts_and_slices(rt: HostRuntime) -> Result<(), AllocError> {
     Ok(())
 }
 
-// A text, a slice and C strings of each length are copied. A refusal of memory ends the test.
+// A string, a slice and C strings of each length are copied. An allocation failure ends the test.
 #[test]
 fn values_of_each_length(rt: HostRuntime) -> Result<(), AllocError> {
     let alloc = rt.alloc();

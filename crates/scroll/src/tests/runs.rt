@@ -1,12 +1,12 @@
-// Runs of commands. Each run here also stands where memory is refused (`rt try --test --fail-alloc N`): then the answers
-// are those of the first commands, and the buffer and the cursor are as these left them.
+// Runs of commands. Each run also passes where an allocation fails (`rt try --test --fail-alloc N`): the answers are
+// then those of the first commands, and the buffer and the cursor are as these left them.
 use crate::ctx::StrCtx;
 use crate::runner::{Answer, Command, Kind, Place, Put, Value, Width, run};
 use crate::{BE, Error, LE};
 use std::alloc::{AllocError, Global};
 use std::process::Abort;
 
-// Whether two answers are the same.
+// Returns whether two answers are the same.
 pub fn is_same(a: &Answer, b: &Answer) -> bool {
     match (a, b) {
         (Answer::Read(Value::Unsigned(x)), Answer::Read(Value::Unsigned(y))) => x == y,
@@ -45,8 +45,8 @@ pub fn is_same(a: &Answer, b: &Answer) -> bool {
     }
 }
 
-// Runs the commands, and wants these answers. Where memory was refused, wants what the first commands alone answer and
-// leave, and that a second run of all finds memory, since one allocation is refused at most.
+// Runs the commands, and expects these answers. After an allocation failure it expects what the first commands alone
+// return and leave, and that a second run of all commands succeeds, since at most one allocation fails.
 pub fn check_run<const N: usize>(
     rt: &impl Abort,
     alloc: Global,
@@ -201,7 +201,8 @@ const LEFT: [([u8; 3], usize); 4] = [
     ([0x62, 0, 0], 2),
 ];
 
-// Wants that these answers are those of the first commands, and that buffer and cursor are as they left them.
+// Expects that these answers are those of the first commands, and that the buffer and the cursor are as these left
+// them.
 fn check_front(
     rt: &impl Abort,
     answers: &[Answer],
@@ -218,8 +219,8 @@ fn check_front(
     }
 }
 
-// The commands run behind none to four other answers, so that the list of answers grows at each command in turn. A refusal
-// is looked into, and then the test ends with it.
+// The commands run with zero to four other answers before theirs, so that the list of answers grows at each command in
+// turn. An error is checked, and then the test ends with it.
 #[test]
 fn answers_stand_up_to_a_refusal(rt: HostRuntime) -> Result<(), AllocError> {
     let text = String::from_str(rt.alloc(), "b")?;

@@ -1,10 +1,11 @@
-// The search for a byte beside a plain one, at every length that a vector, a word and a tail can leave.
+// The search for a byte compared with a plain one, at every length that a vector, a word and a tail can leave.
 use crate::search::{first_place, first_stop, text_before};
 
 const DELIMITERS: [u8; 5] = [0x00, 0x01, 0x7f, 0x80, 0xff];
 
-// What the bytes before the delimiter and behind it differ by from it: in the highest bit, in the lowest, in the lowest
-// right behind an equal byte, where a subtraction borrows, and by nothing behind it, so that there is a second one.
+// How the bytes before and after the delimiter differ from it: in the highest bit, in the lowest, in the lowest
+// directly after an equal byte, where a subtraction borrows, and not at all after it, so that there is a second
+// delimiter.
 const DIFFERENCES: [(u8, u8); 4] = [(0x80, 0x80), (0x01, 0x01), (0x80, 0x01), (0x01, 0x00)];
 
 fn plain_place(delimiter: u8, source: &[u8]) -> usize {
@@ -21,7 +22,7 @@ fn plain_stop(delimiter: u8, source: &[u8]) -> usize {
         .unwrap_or(source.len())
 }
 
-// Puts the delimiter at `place`, and bytes that differ from it to all other places.
+// Writes the delimiter at `place`, and bytes that differ from it everywhere else.
 fn fill(bytes: &mut [u8; 70], delimiter: u8, place: usize, before: u8, behind: u8) {
     for (i, byte) in bytes.iter_mut().enumerate() {
         *byte = if i < place {
@@ -64,7 +65,8 @@ fn every_length_and_place(rt: HostRuntime) {
 
 #[test]
 fn texts_that_are_not_ascii(rt: HostRuntime) {
-    // One character of two bytes, at each place of a vector and behind it; then the same cut after its first byte.
+    // One character of two bytes, at each offset of a vector and after it; then the same, truncated after its first
+    // byte.
     for place in 0..40 {
         let mut bytes = [b'a'; 50];
         bytes[place] = 0xc3;

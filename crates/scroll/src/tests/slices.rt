@@ -1,4 +1,4 @@
-// Writes to a slice that was lent, in the default context and in one that is given.
+// Writes to a borrowed slice, in the default context and in a given one.
 use crate::{BE, Error, LE, Pread, Pwrite, Result, slice};
 
 #[test]

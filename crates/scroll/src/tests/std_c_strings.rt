@@ -1,4 +1,4 @@
-// The C strings of std, read and written, and made of those of the crate.
+// The C strings of std, read and written, and converted from those of the crate.
 use crate::cstr::{CStr, CString};
 use crate::ctx::TryIntoCtx;
 use crate::{Error, Pread, Pwrite, Result};

@@ -8,7 +8,7 @@ use crate::{BE, Endian, IOread, IOwrite};
 use std::process::Abort;
 use std::test::Fail;
 
-// So many bytes, as they stand.
+// `N` bytes.
 #[derive(Clone, Copy, Debug)]
 struct Block<const N: usize>([u8; N]);
 
@@ -44,7 +44,7 @@ impl<const N: usize> SizeWith<()> for Block<N> {
     }
 }
 
-// Reads a block from more bytes than it takes, and writes it to more than it needs.
+// Reads a block from more bytes than it takes, and writes it to more bytes than it needs.
 fn check_block<const N: usize>(rt: &impl Abort) -> Result<(), Fail>
     requires { N ≤ 256 }
 {
@@ -82,7 +82,7 @@ fn blocks_of_each_size(rt: HostRuntime) -> Result<(), Fail> {
     check_block::<256>(&rt)
 }
 
-// A number of two bytes that takes up four.
+// A number of two bytes that occupies four.
 #[derive(Clone, Copy, Debug)]
 struct Wide {
     number: u16,

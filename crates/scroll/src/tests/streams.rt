@@ -5,7 +5,7 @@ use std::io::{ErrorKind, Read, Write};
 use std::process::Abort;
 use std::test::Fail;
 
-// An error of a stream: one of the operating system by its number, or one of a kind.
+// An error of a stream: one of the operating system, by its number, or one of a kind.
 #[derive(Clone, Copy, Debug)]
 enum Cause {
     Number(i32),
@@ -20,7 +20,7 @@ impl Cause {
         }
     }
 
-    // Whether a call was answered with this error.
+    // Returns whether a call returned this error.
     fn is_answer<T>(self, answer: &io::Result<T>) -> bool {
         match (self, answer) {
             (Cause::Number(number), Err(error)) => error.raw_os_error() == Some(number),
@@ -30,7 +30,7 @@ impl Cause {
     }
 }
 
-// The operating system's number for a call that was interrupted.
+// The operating system's number for an interrupted call.
 const INTERRUPTED: i32 = 4;
 
 // Which calls of a reader or a writer fail, counted from 1.
@@ -38,12 +38,12 @@ const INTERRUPTED: i32 = 4;
 enum Fault {
     Never,
     At(usize, Cause),
-    // All but each third call.
+    // All except every third call.
     Interrupted(Cause),
 }
 
 impl Fault {
-    // How a call fails.
+    // Returns how a call fails, if it does.
     fn at(self, call: usize) -> Option<io::Error> {
         match self {
             Fault::At(at, cause) if at == call => Some(cause.make_error()),
@@ -53,7 +53,7 @@ impl Fault {
     }
 }
 
-// A reader of one byte a call.
+// A reader that returns one byte per call.
 #[derive(Drop)]
 struct Source<'a> {
     rest: &'a [u8],
@@ -72,7 +72,7 @@ impl<'a> Read for Source<'a> {
     }
 }
 
-// A writer of one byte a call, which has room for so many bytes, and fails where it is flushed.
+// A writer that takes one byte per call, has room for a number of bytes, and fails when it is flushed.
 #[derive(Drop)]
 struct Sink {
     held: [u8; 5],
@@ -188,7 +188,7 @@ fn writers_of_one_byte_a_call(rt: HostRuntime) -> Result<(), Fail> {
     Ok(())
 }
 
-// Each stream call answers the error of the reader or the writer, and the call that failed is not made again.
+// Each stream call returns the error of the reader or the writer, and doesn't repeat the call that failed.
 fn check_cause(rt: &impl Abort, cause: Cause) {
     for at in 1..5 {
         let fault = Fault::At(at, cause);

@@ -1,4 +1,4 @@
-// Texts, byte slices and measures: the calls on them, and which bytes are texts.
+// Strings, byte slices and measures: the calls for them, and which bytes are strings.
 use crate::ctx::{MeasureWith, NULL, RET, SPACE, StrCtx, TAB};
 use crate::{BE, Error, LE, Pread, Pwrite, Result};
 use std::result;
@@ -125,7 +125,7 @@ fn pwrite_str_and_bytes(rt: HostRuntime) {
     );
 }
 
-// The cursor before each read and after it, and what is read or refused.
+// The cursor before and after each read, and what is read or which error is returned.
 #[test]
 fn texts_at_the_cursor(rt: HostRuntime) {
     let absent: Result<&str> = b"ab"[..].gread_with(&mut 0, StrCtx::Delimiter(NULL));
@@ -193,13 +193,13 @@ fn short_targets(rt: HostRuntime) {
     assert_eq!(rt; bytes, [0xff; 3]);
 }
 
-// Whether these bytes are read whole as a text.
+// Returns whether these bytes are read whole as a string.
 fn is_text(bytes: &[u8]) -> bool {
     let text: Result<&str> = bytes.pread_with(0, StrCtx::Length(bytes.len()));
     matches!(&text, Ok(text) if text.as_bytes() == bytes)
 }
 
-// The answers are those of Rust's `str::from_utf8`.
+// The results are those of Rust's `str::from_utf8`.
 #[test]
 fn edges_of_utf8(rt: HostRuntime) {
     for bytes in [
@@ -219,14 +219,14 @@ fn edges_of_utf8(rt: HostRuntime) {
         assert!(rt; is_text(bytes), "{bytes:?}");
     }
     for bytes in [
-        // longer than is needed
+        // longer than necessary
         &b"\xc0\x80"[..],
         b"\xc1\xbf",
         b"\xe0\x80\x80",
         b"\xe0\x9f\xbf",
         b"\xf0\x80\x80\x80",
         b"\xf0\x8f\xbf\xbf",
-        // surrogates, and values above the last
+        // surrogates, and values above the last one
         b"\xed\xa0\x80",
         b"\xed\xbf\xbf",
         b"\xf4\x90\x80\x80",
@@ -234,7 +234,7 @@ fn edges_of_utf8(rt: HostRuntime) {
         b"\xf8\x80\x80\x80",
         b"\xfe",
         b"\xff",
-        // no first byte, and cut
+        // no first byte, and truncated
         b"\x80",
         b"\xbf",
         b"\xc2",
@@ -252,7 +252,7 @@ fn edges_of_utf8(rt: HostRuntime) {
     }
 }
 
-// The forms of a character, as table 3-7 of the Unicode Standard has them: the range of each of its bytes.
+// The forms of a character, as in table 3-7 of the Unicode Standard: the range of each of its bytes.
 const FORMS: [&[(u8, u8)]; 9] = [
     &[(0x00, 0x7f)],
     &[(0xc2, 0xdf), (0x80, 0xbf)],
@@ -265,7 +265,7 @@ const FORMS: [&[(u8, u8)]; 9] = [
     &[(0xf4, 0xf4), (0x80, 0x8f), (0x80, 0xbf), (0x80, 0xbf)],
 ];
 
-// Whether these bytes are one character.
+// Returns whether these bytes are one character.
 fn is_character(bytes: &[u8]) -> bool {
     FORMS.iter().any(|form| {
         form.len() == bytes.len()
@@ -276,7 +276,7 @@ fn is_character(bytes: &[u8]) -> bool {
     })
 }
 
-// Whether these bytes are one character, or two.
+// Returns whether these bytes are one or two characters.
 fn is_characters(bytes: &[u8]) -> bool {
     is_character(bytes)
         || (1..bytes.len()).any(|n| is_character(&bytes[..n]) && is_character(&bytes[n..]))

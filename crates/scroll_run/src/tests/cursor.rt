@@ -1,4 +1,4 @@
-// What sessions answer on reads and writes at the cursor.
+// Sessions of reads and writes at the cursor.
 use crate::tests::sessions::expect_session;
 use std::test::Fail;
 

@@ -1,4 +1,4 @@
-// What sessions answer on texts, slices, C strings, numbers in LEB128 and arrays.
+// Sessions of strings, slices, C strings, numbers in LEB128 and arrays.
 use crate::tests::sessions::expect_session;
 use std::test::Fail;
 

@@ -1,4 +1,4 @@
-// What sessions answer on numbers of each type.
+// Sessions of numbers of each type.
 use crate::tests::sessions::expect_session;
 use std::test::Fail;
 

@@ -1,4 +1,4 @@
-// What sessions answer.
+// Sessions, with their output and their status.
 use crate::session::session;
 use std::alloc::Global;
 use std::process::Abort;

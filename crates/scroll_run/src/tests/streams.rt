@@ -11,7 +11,7 @@ const INPUT: &[u8] = b"buffer deadbeef\ncursor 0\npread 0 u32 be\npread 0 u32 le
 const OUTPUT: &[u8] =
     b"number 3735928559\nnumber 4022250974\nnumber 44478\nbuffer deadbeef\ncursor 0\n";
 
-// An error of a stream: one of the operating system by its number, or one of a kind.
+// An error of a stream: one of the operating system, by its number, or one of a kind.
 #[derive(Clone, Copy, Debug)]
 enum Cause {
     Number(i32),
@@ -26,7 +26,7 @@ impl Cause {
         }
     }
 
-    // Whether a session ended with this error.
+    // Returns whether a session ended with this error.
     fn is_answer(self, answer: &io::Result<u8>) -> bool {
         match (self, answer) {
             (Cause::Number(number), Err(error)) => error.raw_os_error() == Some(number),
@@ -36,7 +36,7 @@ impl Cause {
     }
 }
 
-// The operating system's number for a call that was interrupted.
+// The operating system's number for an interrupted call.
 const INTERRUPTED: i32 = 4;
 
 // The kinds of errors that have no number of the operating system.
@@ -47,8 +47,8 @@ const KINDS: [ErrorKind; 4] = [
     ErrorKind::Other,
 ];
 
-// Which calls of a reader or a writer fail, counted from 1: one, or each that is odd, or up to one or from one on is
-// interrupted.
+// Which calls of a reader or a writer fail, counted from 1: one of them; or the odd ones, the ones up to a number, or
+// the ones from a number on are interrupted.
 #[derive(Clone, Copy)]
 enum Fault {
     Never,
@@ -59,7 +59,7 @@ enum Fault {
 }
 
 impl Fault {
-    // How a call fails.
+    // Returns how a call fails, if it does.
     fn at(self, call: usize) -> Option<io::Error> {
         match self {
             Fault::At(at, cause) if at == call => Some(cause.make_error()),
@@ -71,7 +71,7 @@ impl Fault {
     }
 }
 
-// A reader that gives at most `step` bytes a call.
+// A reader that returns at most `step` bytes per call.
 #[derive(Drop)]
 struct Source<'a> {
     rest: &'a [u8],
@@ -91,7 +91,7 @@ impl<'a> Read for Source<'a> {
     }
 }
 
-// A writer that takes at most `step` bytes a call.
+// A writer that takes at most `step` bytes per call.
 #[derive(Drop)]
 struct Sink {
     held: Vec<u8>,
@@ -123,7 +123,7 @@ impl Write for Sink {
     }
 }
 
-// A reader of the input.
+// Returns a reader of the input.
 fn make_source(step: usize, fault: Fault) -> Source<'static> {
     Source {
         rest: INPUT,
@@ -133,7 +133,7 @@ fn make_source(step: usize, fault: Fault) -> Source<'static> {
     }
 }
 
-// A writer that holds nothing yet.
+// Returns a writer that holds nothing yet.
 fn make_sink(held: Vec<u8>, step: usize, fault: Fault) -> Sink {
     Sink {
         held,
@@ -166,8 +166,8 @@ fn in_pieces(rt: HostRuntime) -> Result<(), Fail> {
     Ok(())
 }
 
-// Runs the session where the reader fails at a call. Where it comes to that, the error is the session's, and the call is not
-// made again.
+// Runs the session with a reader that fails at a call. If that call is made, its error is the session's, and it isn't
+// repeated.
 fn check_reader(rt: &impl Abort, alloc: Global, at: usize, cause: Cause) {
     let mut input = make_source(1, Fault::At(at, cause));
     let mut output = Vec::new(alloc);
@@ -181,7 +181,7 @@ fn check_reader(rt: &impl Abort, alloc: Global, at: usize, cause: Cause) {
     }
 }
 
-// The same of the writer. Its last call is the flush.
+// The same for the writer, whose last call is the flush.
 fn check_writer(rt: &impl Abort, alloc: Global, at: usize, cause: Cause) {
     let mut input = INPUT;
     let mut output = make_sink(Vec::new(alloc), 1, Fault::At(at, cause));
@@ -210,7 +210,7 @@ fn each_call_fails(rt: HostRuntime) {
     }
 }
 
-// The first call and the last, and the flush, fail by an error.
+// The first call, the last one and the flush each fail with an error.
 fn check_cause(rt: &impl Abort, alloc: Global, cause: Cause) {
     for at in [1, INPUT.len() + 1] {
         check_reader(rt, alloc, at, cause);
@@ -244,7 +244,7 @@ fn writer_takes_nothing(rt: HostRuntime) -> Result<(), Fail> {
     Ok(())
 }
 
-// How often a reader is asked, and how often a writer is beyond once a byte, and to flush.
+// The maximum number of calls of a reader, of a writer beyond one per byte, and of flushes.
 const CALLS: usize = 131_072;
 
 #[test]
@@ -255,7 +255,7 @@ fn interrupted_for_ever(rt: HostRuntime) -> Result<(), Fail> {
     assert!(rt; matches!(&answer, Err(e) if e.kind() == ErrorKind::Other));
     assert_eq!(rt; input.calls, CALLS);
     assert_eq!(rt; output.calls, 0);
-    // from the first byte on, from the last one on, and where the writer is flushed
+    // from the first byte, from the last byte, and from the flush
     for first in [1, OUTPUT.len(), OUTPUT.len() + 1] {
         let mut input = INPUT;
         let mut output = make_sink(Vec::new(rt.alloc()), 1, Fault::From(first));

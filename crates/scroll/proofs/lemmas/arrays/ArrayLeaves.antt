@@ -12,7 +12,7 @@ use Rattle.scroll.specs.Leaves.{pieces, left_over, HasLeaves}
 use Rattle.scroll.specs.Writes.{WritesAt, LeavesAt}
 use Rattle.scroll.specs.declared.error.Error.{Error}
 
--- leaves behind leaves that fit
+-- leaves after leaves that fit
 pieces-append : (n o : ℕ) (ls ks : List (List ℕ)) → left_over n o ls ≡ None → pieces n o (ls ++ ks) ≡ pieces n o ls ++ pieces n (o + sum_by length ls) ks
 pieces-append n o [] ks h = ap (λ m. pieces n m ks) (omega arith)
 pieces-append n o (l ∷ ls) ks h = elim (cases_lt n (o + length l)) as (λ _. pieces n o ((l ∷ ls) ++ ks) ≡ pieces n o (l ∷ ls) ++ pieces n (o + sum_by length (l ∷ ls)) ks) [
@@ -34,7 +34,7 @@ left_over-append n o (l ∷ ls) ks h = elim (cases_lt n (o + length l)) as (λ _
       left_over-fits n o l (ls ++ ks) k ∙ rest ∙ ap (λ m. left_over n m ks) total
 ]
 
--- leaves behind one that doesn't fit
+-- leaves after one that doesn't fit
 pieces-stop : (n o : ℕ) (ls ks : List (List ℕ)) (e : Error) → left_over n o ls ≡ Some e → (pieces n o (ls ++ ks) ≡ pieces n o ls) × (left_over n o (ls ++ ks) ≡ Some e)
 pieces-stop n o [] ks e h = absurd (cc h)
 pieces-stop n o (l ∷ ls) ks e h = elim (cases_lt n (o + length l)) as (λ _. (pieces n o ((l ∷ ls) ++ ks) ≡ pieces n o (l ∷ ls)) × (left_over n o ((l ∷ ls) ++ ks) ≡ Some e)) [
@@ -49,18 +49,18 @@ pieces-stop n o (l ∷ ls) ks e h = elim (cases_lt n (o + length l)) as (λ _. (
       )
 ]
 
--- leaves that were laid down whole from a place, up to another
+-- leaves that were written whole from one offset to another
 record Laid (old : List ℕ) (place : ℕ) (leaves : List (List ℕ)) (new : List ℕ) (stop : ℕ) : Type 0 where
   pub after : new ≡ seen old (pieces (length old) place leaves)
   pub whole : left_over (length old) place leaves ≡ None
   pub end : stop ≡ place + sum_by length leaves
 
--- leaves of which one was left over
+-- leaves of which one is left over
 record Cut (old : List ℕ) (place : ℕ) (leaves : List (List ℕ)) (new : List ℕ) (e : Error) : Type 0 where
   pub after : new ≡ seen old (pieces (length old) place leaves)
   pub error : left_over (length old) place leaves ≡ Some e
 
--- leaves behind those that were laid down
+-- leaves after those that were written whole
 Laid-then : (old : List ℕ) (o : ℕ) (ls : List (List ℕ)) (mid : List ℕ) (m : ℕ) (ks : List (List ℕ)) (new : List ℕ) (end : ℕ) → Laid old o ls mid m → Laid mid m ks new end → Laid old o (ls ++ ks) new end
 Laid-then old o ls mid m ks new end a b =
     let len : length mid ≡ length old = ap length a.after ∙ length-seen old (pieces (length old) o ls) in
@@ -75,7 +75,7 @@ Laid-then old o ls mid m ks new end a b =
       end = omega (arith, a.end, b.end, total);
     }
 
--- leaves behind those that were laid down, of which the first list is left over
+-- leaves after those that were written whole, the first list of which is left over
 Laid-cut : (old : List ℕ) (o : ℕ) (ls : List (List ℕ)) (mid : List ℕ) (m : ℕ) (ks js : List (List ℕ)) (new : List ℕ) (e : Error) → Laid old o ls mid m → Cut mid m ks new e → Cut old o (ls ++ (ks ++ js)) new e
 Laid-cut old o ls mid m ks js new e a b =
     let len : length mid ≡ length old = ap length a.after ∙ length-seen old (pieces (length old) o ls) in
@@ -92,7 +92,7 @@ Laid-cut old o ls mid m ks js new e a b =
     }
 
 module _ {V : Type 0} (leaves : V → List (List ℕ)) (writes : V → List ℕ → List ℕ → ℕ → Type 0) (refuses : V → List ℕ → List ℕ → Error → Type 0) (has : HasLeaves leaves writes refuses) where
-  -- a value that was written at a place
+  -- a value that was written at an offset
   one-laid : (v : V) (old : List ℕ) (o : ℕ) (new : List ℕ) (n : ℕ) → WritesAt (writes v) old o new n → Laid old o (leaves v) new (o + n)
   one-laid v old o new n w =
       let part = has.written v (drop o old) (drop o new) n w.after in
@@ -110,7 +110,7 @@ module _ {V : Type 0} (leaves : V → List (List ℕ)) (writes : V → List ℕ 
         error = left_over-drop old o (leaves v) w.inside ∙ part.answer;
       }
 
-  -- values that were written one after the other
+  -- values that were written one after another
   all-laid : (vs : List V) (old : List ℕ) (o : ℕ) (new : List ℕ) (end : ℕ) → WritesAll writes old o vs new end → Laid old o (flat_map leaves vs) new end
   all-laid [] old o new end w = record {
     after = w.0 ∙ sym (seen-nil old);

@@ -1,4 +1,4 @@
--- Arrays go on by one element.
+-- Arrays grow by one element.
 use Rattle.std.proofs.Common.{◌≡◌, ℕ, ◌+◌, ◌++◌, List, [], ◌∷◌, length, map, Option, Some, sym, ap, ◌∙◌, refl, arith, subst, append_assoc, ◌≤◌}
 use Rattle.std.proofs.lemmas.List.{length_push, map-append}
 use Rattle.scroll.proofs.lemmas.callers.Cursors.{ReadsAll-push}
@@ -6,7 +6,7 @@ use Rattle.scroll.specs.Arrays.{WritesAll}
 use Rattle.scroll.specs.Reads.{ReadsBetween, ReadsAll}
 use Rattle.scroll.specs.Writes.{WritesAt}
 
--- lists whose optional values are the same are the same
+-- lists are equal if their optional values are
 pub map_some-same : {A : Type 0} → (xs ys : List A) → map (λ (x : A). Some x) xs ≡ map (λ (x : A). Some x) ys → xs ≡ ys
 map_some-same [] [] e = refl
 map_some-same [] (y ∷ ys) e = cc
@@ -17,7 +17,7 @@ map_some-same {A} (x ∷ xs) (y ∷ ys) e =
     let rest = map_some-same xs ys tails in
     cc
 
--- so many elements were read, stand in the slots, and end at a place
+-- that many elements were read, are in the slots, and end at an offset
 pub record IsFilled {V : Type 0} (reads : List ℕ → V → ℕ → Type 0) (s : List ℕ) (places : List (Option V)) (count place : ℕ) : Type 0 where
   pub values : List V
   pub slots : places ≡ map (λ (x : V). Some x) values
@@ -40,7 +40,7 @@ WritesAll-push writes old from [] mid to x new n h w =
 WritesAll-push writes old from (y ∷ vs) mid to x new n h w =
     (h.0, h.1, h.2, WritesAll-push writes h.0 (from + h.1) vs mid to x new n h.3 w)
 
--- so many values of an array are written, others are left, and the last that is written ends at a place
+-- that many values of an array are written, the others are left, and the last one written ends at an offset
 pub record IsPartWritten {V : Type 0} (writes : V → List ℕ → List ℕ → ℕ → Type 0) (all left : List V) (old new : List ℕ) (count place : ℕ) : Type 0 where
   pub done : List V
   pub split : all ≡ done ++ left

@@ -1,4 +1,4 @@
--- Arrays whose elements are seen as other values: texts as their bytes.
+-- Arrays whose elements are viewed as other values: strings as their bytes.
 use Rattle.std.proofs.Common.{◌<◌, ℕ, ◌+◌, List, [], ◌∷◌, map, drop, inl, inr, sym, subst, Result, Ok, Err, IfErr}
 use Rattle.std.proofs.lemmas.List.{length-map}
 use Rattle.scroll.specs.Arrays.{RefusesArray}
@@ -27,7 +27,7 @@ RefusesAt-by : {E : Type 0} (refuses refuses' : List ℕ → E → Type 0) (past
 RefusesAt-by refuses refuses' past_end by buffer place e (inl h) = inl h
 RefusesAt-by refuses refuses' past_end by buffer place e (inr h) = inr (h.0, by (drop place buffer) e h.1)
 
--- an array that is refused where a command acts
+-- an array whose read fails where a command acts
 RefusesHere-map : {V W E : Type 0} (f : V → W) (reads : List ℕ → W → ℕ → Type 0) (refuses : List ℕ → E → Type 0) (past_end : ℕ → E → Type 0) (count : ℕ) (buffer : List ℕ) (cursor : ℕ) (at : Place) (e : E) (after : ℕ) → RefusesHere (RefusesArray (λ s v n. reads s (f v) n) refuses past_end count) past_end buffer cursor at e after → RefusesHere (RefusesArray reads refuses past_end count) past_end buffer cursor at e after
 RefusesHere-map f reads refuses past_end count buffer cursor at e after h = (
   RefusesAt-by (RefusesArray (λ s v n. reads s (f v) n) refuses past_end count) (RefusesArray reads refuses past_end count) past_end
@@ -35,7 +35,7 @@ RefusesHere-map f reads refuses past_end count buffer cursor at e after h = (
   h.1,
 )
 
--- the same of the error of a result
+-- the same for the error of a result
 pub err-map : {T V W E : Type 0} (f : V → W) (reads : List ℕ → W → ℕ → Type 0) (refuses : List ℕ → E → Type 0) (past_end : ℕ → E → Type 0) (count : ℕ) (buffer : List ℕ) (cursor : ℕ) (at : Place) (after : ℕ) (r : Result T E) → IfErr r (λ e. RefusesHere (RefusesArray (λ s v n. reads s (f v) n) refuses past_end count) past_end buffer cursor at e after) → IfErr r (λ e. RefusesHere (RefusesArray reads refuses past_end count) past_end buffer cursor at e after)
 err-map f reads refuses past_end count buffer cursor at after (Ok x) h = tt
 err-map f reads refuses past_end count buffer cursor at after (Err e) h = RefusesHere-map f reads refuses past_end count buffer cursor at e after h

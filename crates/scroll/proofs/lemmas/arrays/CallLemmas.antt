@@ -1,4 +1,5 @@
--- An array that is made by calls, none of which changes what the calls look at; and values that are put one after another.
+-- An array that is made by calls, none of which changes what the calls read; and values that are written one after
+-- another.
 use Rattle.std.proofs.Common.{◌≡◌, ℕ, zero, suc, ◌+◌, ◌*◌, ◌<◌, ◌++◌, List, [], ◌∷◌, length, refl, sym, ap, subst, ◌∙◌, arith, add-zero}
 use Rattle.std.proofs.Math.Nat.{mul-suc}
 use Rattle.std.specs.Fn.{Mut, Called, Takes}
@@ -35,7 +36,7 @@ module _ {F B X : Type 0} (view : F → X) (g : Mut F (ℕ × Unit {0}) B)
     pub each-made : (f : F) (ys : List B) (n : ℕ) → IsFromFnResult g f ys n → (i : ℕ) (d : B) → i < n → P (view f) i (slice_index_or ys i d)
     each-made f ys n m i d lt = subst (λ j. P (view f) j (slice_index_or ys j d)) (zero-add i) (made-same f ys 0 n m.each i d lt)
 
--- one more value is put
+-- one more value is written
 pub LeavesAll-push : {V : Type 0} (width : ℕ) (leaves : V → List ℕ → List ℕ → Type 0) (old : List ℕ) (from : ℕ) (vs : List V) (mid : List ℕ) (x : V) (new : List ℕ) → LeavesAll width leaves old from vs mid → LeavesValue (leaves x) mid (from + width * length vs) new → LeavesAll width leaves old from (vs ++ x ∷ []) new
 LeavesAll-push width leaves old from [] mid x new h w =
     let here : from + width * 0 ≡ from = omega arith in

@@ -18,7 +18,7 @@ drop-one [] n h = absurd (omega (arith, h))
 drop-one (b ∷ s) zero h = refl
 drop-one (b ∷ s) (suc n) h = drop-one s n (omega (arith, h))
 
--- an array of bytes that was read is the bytes that stand there
+-- an array of bytes that was read is the bytes there
 ReadsAll-bytes : (order : Endian) (buffer : List ℕ) (from : ℕ) (xs : List ℕ) (to : ℕ) → ReadsAll (ReadsNumber 1 order) buffer from xs to → (to ≡ from + length xs) × (xs ≡ take (length xs) (drop from buffer))
 ReadsAll-bytes order buffer from [] to h = (h ∙ omega arith, refl)
 ReadsAll-bytes order buffer from (x ∷ xs) to h =
@@ -44,7 +44,7 @@ bytes_made order {n} {s} {xs} h room =
     let place : 1 * i ≡ i = omega arith in
     h.each i 0 inside ∙ ap (λ k. number order 1 (drop k s)) place ∙ byte-at order s i ∙ sym (get_or-take n s i 0 inside))
 
--- the bytes of values that are put one after another
+-- the bytes of values that are written one after another
 LeavesAll-grow : {V : Type 0} (bytes : V → List ℕ) (w : ℕ) → ((v : V) → length (bytes v) ≡ w) → (vs : List V) (place : ℕ) (front first a b : List ℕ) → Begins place front first a → LeavesAll w (λ v old new. new ≡ bytes v ++ drop w old) a place vs b → Begins (place + w * length vs) (front ++ flat_map bytes vs) first b
 LeavesAll-grow bytes w size [] place front first a b h put =
     let here : place + w * 0 ≡ place = omega arith in
@@ -59,7 +59,7 @@ LeavesAll-grow bytes w size (v ∷ vs) place front first a b h put =
 zero-add : (n : ℕ) → 0 + n ≡ n
 zero-add n = omega arith
 
--- an array of values of w bytes that was put has their bytes, one after another
+-- an array of values of w bytes that was written has their bytes, one after another
 pub array_filled : {V : Type 0} (bytes : V → List ℕ) {w n : ℕ} {vs : List V} {old new : List ℕ} → ((v : V) → length (bytes v) ≡ w) → FillsArray w (λ v old new. new ≡ bytes v ++ drop w old) n vs old new → new ≡ flat_map bytes vs ++ drop (w * n) old
 array_filled bytes {w} {n} {vs} {old} {new} size h =
     let whole : 0 + w * length vs ≡ w * n = zero-add (w * length vs) ∙ ap (λ k. w * k) h.len in
@@ -76,7 +76,7 @@ bytes-of : (order : Endian) (xs : List ℕ) → ((i : ℕ) → slice_index xs i 
 bytes-of order [] h = refl
 bytes-of order (x ∷ xs) h = rw (one-byte order x (h 0)) (ap (λ l. x ∷ l) (bytes-of order xs (λ i. h (suc i))))
 
--- an array of bytes that was put is these bytes
+-- an array of bytes that was written is these bytes
 pub bytes_filled : (order : Endian) {n : ℕ} {xs old new : List ℕ} → ((i : ℕ) → Fits w8 (slice_index xs i)) → FillsArray 1 (λ x old new. new ≡ number_bytes order 1 x ++ drop 1 old) n xs old new → new ≡ xs ++ drop n old
 bytes_filled order {n} {xs} {old} {new} fits h =
     let width : 1 * n ≡ n = omega arith in

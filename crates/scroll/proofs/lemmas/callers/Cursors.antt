@@ -1,5 +1,5 @@
--- Lemmas for callers: what was read at a place and where the cursor then stands, lists of reads, bytes that are written
--- one behind the other, a number beside its bytes, and an error that `?` hands on.
+-- Lemmas for callers: what was read at an offset and where the cursor then is, lists of reads, bytes that are written
+-- one after another, a number and its bytes, and an error that `?` returns.
 use Rattle.std.proofs.Common.{◌≡◌, ℕ, zero, suc, ◌+◌, ◌-◌, ◌*◌, ◌^◌, ◌<◌, ◌≤◌, ◌++◌, List, [], ◌∷◌, length, take, drop, slice_index, Some, Fits, w8, refl, sym, ap, ◌∙◌, arith, append_assoc, Result, Err, IfErr, OnErr}
 use Rattle.std.proofs.Math.Nat.{mul-suc}
 use Rattle.std.proofs.lemmas.Grind.{common_steps}
@@ -15,18 +15,18 @@ use Rattle.scroll.specs.Reads.{ReadsAt, ReadsBetween, ReadsAll}
 use Rattle.scroll.specs.Writes.{WritesAt}
 use Rattle.scroll.specs.declared.endian.Endian.{Endian}
 use Rattle.scroll.specs.declared.endian.Endian.TheVariants.{Little, Big}
--- how many bytes a number has
+-- the length of a number's bytes
 pub use Rattle.scroll.specs.lemmas.Frames.{length-number_bytes, length-signed_bytes}
 
--- the value that was read with a cursor which stood at a place
+-- the value that was read with a cursor at an offset
 pub value-at : {X : Type 0} {f : List ℕ → X} {w : ℕ} {buffer : List ℕ} {from to : ℕ} {x : X} (place : ℕ) → ReadsBetween (ReadsFront w f) buffer from to x → from ≡ place → x ≡ f (drop place buffer)
 value-at place h is = rw (← is) h.2.value.value
 
--- where the cursor stands behind it
+-- the cursor after it
 pub behind : {X : Type 0} {f : List ℕ → X} {w : ℕ} {buffer : List ℕ} {from to : ℕ} {x : X} (place : ℕ) → ReadsBetween (ReadsFront w f) buffer from to x → from ≡ place → to ≡ place + w
 behind place h is = grind (arith, h.1, h.2.value.size, is)
 
--- a list of reads goes on by one value
+-- a list of reads grows by one value
 pub ReadsAll-push : {V : Type 0} (reads : List ℕ → V → ℕ → Type 0) (buffer : List ℕ) (from : ℕ) (vs : List V) (mid to n : ℕ) (v : V) → ReadsAll reads buffer from vs mid → to ≡ mid + n → ReadsAt reads buffer mid v n → ReadsAll reads buffer from (vs ++ v ∷ []) to
 ReadsAll-push {V} reads buffer from [] mid to n v h is r = (n, rw (h) at r, rw (h) at is)
 ReadsAll-push {V} reads buffer from (w ∷ ws) mid to n v h is r = (h.0, h.1, ReadsAll-push reads buffer (from + h.0) ws mid to n v h.2 is r)
@@ -35,16 +35,16 @@ ReadsAll-push {V} reads buffer from (w ∷ ws) mid to n v h is r = (h.0, h.1, Re
 pub ReadsAll-next : {V : Type 0} (reads : List ℕ → V → ℕ → Type 0) (buffer : List ℕ) (from : ℕ) (vs : List V) (mid to : ℕ) (v : V) → ReadsAll reads buffer from vs mid → ReadsBetween reads buffer mid to v → ReadsAll reads buffer from (vs ++ v ∷ []) to
 ReadsAll-next reads buffer from vs mid to v h read = ReadsAll-push reads buffer from vs mid to read.0 v h read.1 read.2
 
--- the same where the list is known by an equation, as after `push` in a loop over a table
+-- the same if the list is given by an equation, as after `push` in a loop over a table
 pub ReadsAll-pushed : {V : Type 0} {reads : List ℕ → V → ℕ → Type 0} {buffer : List ℕ} (from : ℕ) {mid to : ℕ} (vs : List V) {xs : List V} {v : V} → ReadsAll reads buffer from vs mid → ReadsBetween reads buffer mid to v → xs ≡ vs ++ v ∷ [] → ReadsAll reads buffer from xs to
 ReadsAll-pushed {V} {reads} {buffer} from {mid} {to} vs {xs} {v} h read is = rw is (ReadsAll-next reads buffer from vs mid to v h read)
 
--- a call with a cursor that was refused, where `at` put the offset to the error: the cursor stood there, and what holds of
--- the error holds of the one that `at` keeps
+-- a call with a cursor failed, and `at` added the offset to its error: the offset is the cursor's, and what holds of the
+-- call's error holds of the one in the `At`
 pub located : {V E : Type 0} (P : E → Type 0) {from to place : ℕ} {r : Result V E} {e : E} → r ≡ Err e → place ≡ to → OnErr r (to ≡ from) → IfErr r P → (place ≡ from) × P e
 located P is at stays refused = (at ∙ (rw is at stays), rw is at refused)
 
--- of values of one size that are read one after the other, each stands at its place
+-- values of one size that are read one after another are each at their offset
 pub ReadsAll-at : {X : Type 0} (f : List ℕ → X) (w : ℕ) (buffer : List ℕ) (from : ℕ) (xs : List X) (to : ℕ) → ReadsAll (ReadsFront w f) buffer from xs to → (i : ℕ) → i < length xs → slice_get xs i ≡ Some (f (drop (from + w * i) buffer))
 ReadsAll-at f w buffer from [] to h i l = absurd (omega (arith, l))
 ReadsAll-at f w buffer from (x ∷ xs) to h zero l =
@@ -54,7 +54,7 @@ ReadsAll-at f w buffer from (x ∷ xs) to h (suc i) l =
     let place : from + h.0 + w * i ≡ from + w * suc i = omega (arith, h.1.value.size, mul-suc w i) in
     rw (← place) (ReadsAll-at f w buffer (from + h.0) xs to h.2 i (omega (arith, l)))
 
--- a buffer that is `first` at the start, with `front` over its first `place` bytes
+-- a buffer that was `first` at the start, with `front` over its first `place` bytes
 pub record Begins (place : ℕ) (front first now : List ℕ) : Type 0 where
   pub len : length front ≡ place
   pub is : now ≡ front ++ drop place first
@@ -63,11 +63,11 @@ pub record Begins (place : ℕ) (front first now : List ℕ) : Type 0 where
 pub begin : (first : List ℕ) → Begins 0 [] first first
 begin first = record { len = refl; is = refl }
 
--- or nothing yet from a place on
+-- or nothing yet from an offset on
 pub begin-at : (place : ℕ) (first : List ℕ) → place ≤ length first → Begins place (take place first) first first
 begin-at place first room = record { len = length-take-le place first room; is = sym (take-append-drop place first) }
 
--- bytes that are written behind those that were
+-- bytes that are written after those before
 pub grow : {place w : ℕ} {front : List ℕ} (bytes : List ℕ) {first a b : List ℕ} → Begins place front first a → length bytes ≡ w → take place b ≡ take place a → drop place b ≡ bytes ++ drop w (drop place a) → Begins (place + w) (front ++ bytes) first b
 grow {place} {w} {front} bytes {first} {a} {b} h size before after =
     let head : take place b ≡ front = rw h.is at before ∙ take_at front (drop place first) place h.len in
@@ -78,32 +78,32 @@ grow {place} {w} {front} bytes {first} {a} {b} h size before after =
       is = sym (take-append-drop place b) ∙ rw (head, tail) (sym (append_assoc front bytes (drop (place + w) first)));
     }
 
--- a slice that is written whole after them, by `cwrite_with`
+-- a whole slice that is written after them by `cwrite_with`
 pub grow-slice : {place : ℕ} {front : List ℕ} (bytes : List ℕ) {first a b : List ℕ} → Begins place front first a → take place b ≡ take place a → drop place b ≡ take (length bytes) bytes ++ drop (length (take (length bytes) bytes)) (drop place a) → Begins (place + length bytes) (front ++ bytes) first b
 grow-slice {place} {front} bytes {first} {a} {b} h before after =
     grow bytes h refl before (after ∙ ap (λ s. s ++ drop (length s) (drop place a)) (take_all (length bytes) bytes (omega arith)))
 
--- a write with a cursor that stands behind them
+-- a write with a cursor that is after them
 pub grow-write : {place w from n : ℕ} {front bytes first a b : List ℕ} → Begins place front first a → length bytes ≡ w → from ≡ place → WritesAt (WritesFront w bytes) a from b n → Begins (place + w) (front ++ bytes) first b
 grow-write {place} {w} {from} {n} {front} {bytes} {first} {a} {b} h size is wrote = grow bytes h size (rw (← is) wrote.before) (rw (← is) wrote.after.after)
 
--- bytes that are copied behind them, by `copy_from_slice` to a part of the buffer
+-- bytes that are copied after them, by `copy_from_slice` to a part of the buffer
 pub grow-copy : {place : ℕ} (w : ℕ) {front : List ℕ} (bytes : List ℕ) {first a : List ℕ} → Begins place front first a → length bytes ≡ w → place ≤ length a → Begins (place + w) (front ++ bytes) first (put_mid place w a bytes)
 grow-copy {place} w {front} bytes {first} {a} h size room =
     let len : length (take place a) ≡ place = length-take-le place a room in
     grow bytes h size (take_at (take place a) (bytes ++ drop w (drop place a)) place len) (drop_at (take place a) (bytes ++ drop w (drop place a)) place len)
 
--- a byte is the number of width 1 at its place
+-- a byte is the number of width 1 at its offset
 pub byte-at : (order : Endian) (buffer : List ℕ) (place : ℕ) → number order 1 (drop place buffer) ≡ slice_index buffer place
 byte-at Little buffer place = grind (arith, common_steps)
 byte-at Big buffer place = grind (arith, common_steps)
 
--- the number in the first w bytes of a list depends on these alone
+-- the number in the first w bytes of a list depends only on these
 pub number-front : (order : Endian) (w : ℕ) (s t : List ℕ) → ((i : ℕ) → i < w → slice_index s i ≡ slice_index t i) → number order w s ≡ number order w t
 number-front Little w s t h = sum_below-same _ _ w (λ i l. ap (λ b. b * 256 ^ i) (h i l))
 number-front Big w s t h = sum_below-same _ _ w (λ i l. ap (λ b. b * 256 ^ (w - 1 - i)) (h i l))
 
--- the bytes from a place on are bytes
+-- the bytes from an offset on are bytes
 pub byte-bound : (place : ℕ) (s : List ℕ) → ((i : ℕ) → Fits w8 (slice_index s i)) → (i : ℕ) → slice_index (drop place s) i < 256
 byte-bound place s h i = rw (get_or-drop place s i 0) (omega (arith, (h (place + i)).fits))
 
@@ -116,14 +116,14 @@ number-bound Big w place s h =
     let turned = sum_below-same (λ i. slice_index t (w - 1 - i) * 256 ^ (w - 1 - (w - 1 - i))) (λ i. slice_index t (w - 1 - i) * 256 ^ i) w (λ i l. ap (λ k. slice_index t (w - 1 - i) * 256 ^ k) (omega (arith, l))) in
     rw (back, turned) (digits-bound 256 (λ i. slice_index t (w - 1 - i)) (λ i. byte-bound place s h (w - 1 - i)) w)
 
--- the first w bytes alone make the number
+-- the first w bytes alone determine the number
 pub number-take : (order : Endian) (w n : ℕ) (s : List ℕ) → w ≤ n → number order w (take n s) ≡ number order w s
 number-take order w n s h = number-front order w (take n s) s (λ i l. get_or-take n s i 0 (omega (arith, l, h)))
 
--- and what stands behind them plays no part
+-- and the bytes after them play no part
 pub number-append : (order : Endian) (w : ℕ) (s rest : List ℕ) → w ≤ length s → number order w (s ++ rest) ≡ number order w s
 number-append order w s rest h = number-front order w (s ++ rest) s (λ i l. get_or_append_left s rest 0 i (omega (arith, l, h)))
 
--- an error that `?` hands on: `h` is what the exit's `from_residual.ensures.1` says
+-- an error that `?` returns: `h` is what the exit's `from_residual.ensures.1` says
 pub handed-on : {T E : Type 0} {e : E} (P : E → Type 0) (r : Result T E) → IsErrAnd r (λ y. y ≡ e) → P e → IfErr r P
 handed-on P r h p = let q = err_from_is_err_and r h in rw (q.1, q.2) p

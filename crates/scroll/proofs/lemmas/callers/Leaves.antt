@@ -1,5 +1,6 @@
--- From a call to leaves. What is written is a list of leaves, each of which is written whole or not at all: these lemmas
--- say which leaves a type has, that a write at a place is a write of them there, and that writes apart may be exchanged.
+-- From a call to leaves. What is written is a list of leaves, each of which is written whole or not at all. These
+-- lemmas say which leaves a type has, that a write at an offset is a write of them there, and that writes that don't
+-- overlap may be exchanged.
 use Rattle.std.proofs.Common.{◌≡◌, ℕ, ℤ, ◌+◌, ◌-◌, ◌≤◌, ◌<◌, ◌++◌, List, [], ◌∷◌, length, drop, map, arith, refl, sym, ◌∙◌, ap, subst, inl, inr, ◌⊎◌, Some, Result, Ok, Err, IfOk, IfErr, FitsSigned, to_z, of_z}
 use Rattle.std.proofs.lemmas.Int.{to_z-of_z}
 use Rattle.std.specs.Borrow.{Bor}
@@ -29,7 +30,7 @@ use Rattle.scroll.specs.declared.error.Error.TheVariants.{TooBig}
 use Rattle.scroll.specs.lemmas.Frames.{length-number_bytes, length-signed_bytes, length-spelling}
 
 -- WHICH LEAVES A TYPE HAS
--- bytes that are written whole or not at all are one leaf: so a type of one's own with `WritesFront` and `LeavesShort`
+-- bytes that are written whole or not at all are one leaf: so a caller's own type with `WritesFront` and `LeavesShort`
 pub front-leaf-by : {V : Type 0} (w : V → ℕ) (bytes : V → List ℕ) → ((x : V) → length (bytes x) ≡ w x) → HasLeaves (λ x. bytes x ∷ []) (λ x. WritesFront (w x) (bytes x)) (λ x. LeavesShort (w x))
 front-leaf-by w bytes len = record {
   written = λ x old new n h.
@@ -55,11 +56,11 @@ front-leaf-by w bytes len = record {
       };
 }
 
--- the same where each value has as many bytes
+-- the same where all values have the same number of bytes
 pub front-leaf : {V : Type 0} (w : ℕ) (bytes : V → List ℕ) → ((x : V) → length (bytes x) ≡ w) → HasLeaves (λ x. bytes x ∷ []) (λ x. WritesFront w (bytes x)) (λ _. LeavesShort w)
 front-leaf w = front-leaf-by (λ _. w)
 
--- bytes that are written as they are: a slice, a text, a C string with its zero
+-- bytes that are written unchanged: a slice, a string, a C string with its zero
 pub bytes-leaves : {V : Type 0} (bytes : V → List ℕ) → HasLeaves (λ x. bytes x ∷ []) (λ x. WritesFront (length (bytes x)) (bytes x)) (λ x. LeavesShort (length (bytes x)))
 bytes-leaves bytes = front-leaf-by (λ x. length (bytes x)) bytes (λ _. refl)
 
@@ -95,15 +96,15 @@ nested-leaves leaves writes refuses has [] = has
 nested-leaves leaves writes refuses has (count ∷ counts) =
     array-leaves (leaves_nested leaves counts) (WritesNested writes counts) (LeavesNested writes refuses counts) (nested-leaves leaves writes refuses has counts)
 
--- a refusal that is told under a condition which holds, as an array's is in generic code
+-- an error that is stated under a condition that holds, like an array's in generic code
 pub leaves-where : {V : Type 0} (leaves : V → List (List ℕ)) (writes : V → List ℕ → List ℕ → ℕ → Type 0) (refuses : V → List ℕ → List ℕ → Error → Type 0) (P : Type 0) → P → HasLeaves leaves writes refuses → HasLeaves leaves writes (λ v old new e. P → refuses v old new e)
 leaves-where leaves writes refuses P p has = record {
   written = has.written;
   refused = λ v old new e h. has.refused v old new e (h p);
 }
 
--- A WRITE AT A PLACE
--- a write at a place is a write of the leaves there, whichever its answer
+-- A WRITE AT AN OFFSET
+-- a write at an offset is a write of the leaves there, whatever its result
 pub at-leaves : {V : Type 0} (leaves : V → List (List ℕ)) (writes : V → List ℕ → List ℕ → ℕ → Type 0) (refuses : V → List ℕ → List ℕ → Error → Type 0) → HasLeaves leaves writes refuses → (x : V) (old : List ℕ) (o : ℕ) (new : List ℕ) (r : Result ℕ Error) → AnswersWrite (writes x) (refuses x) IsBadOffset old o new r → WritesLeaves old o (leaves x) new r
 at-leaves leaves writes refuses has x old o new (Ok n) w =
     let part = has.written x (drop o old) (drop o new) n w.after in
@@ -126,29 +127,29 @@ at-leaves leaves writes refuses has x old o new (Err e) (inr w) =
       answer = refusal-inside (length old) o (leaves x) w.inside ∙ left_over-drop old o (leaves x) w.inside ∙ part.answer;
     }
 
--- the same of a call, by its clauses `wrote` and `refused`
+-- the same for a call, from its clauses `wrote` and `refused`
 pub call-leaves : {V : Type 0} (leaves : V → List (List ℕ)) (writes : V → List ℕ → List ℕ → ℕ → Type 0) (refuses : V → List ℕ → List ℕ → Error → Type 0) → HasLeaves leaves writes refuses → (x : V) (old : List ℕ) (place : ℕ) (new : List ℕ) (r : Result ℕ Error) → IfOk r (WritesAt (writes x) old place new) → IfErr r (RefusesWriteAt (refuses x) IsBadOffset old place new) → WritesLeaves old place (leaves x) new r
 call-leaves leaves writes refuses has x old place new (Ok n) w l = at-leaves leaves writes refuses has x old place new (Ok n) w
 call-leaves leaves writes refuses has x old place new (Err e) w l = at-leaves leaves writes refuses has x old place new (Err e) l
 
--- and of one that succeeded, as behind a `?`
+-- and for one that succeeded, as after a `?`
 pub wrote-leaves : {V : Type 0} {leaves : V → List (List ℕ)} {writes : V → List ℕ → List ℕ → ℕ → Type 0} {refuses : V → List ℕ → List ℕ → Error → Type 0} → HasLeaves leaves writes refuses → (x : V) {old : List ℕ} {place : ℕ} {new : List ℕ} {n : ℕ} → WritesAt (writes x) old place new n → WritesLeaves old place (leaves x) new (Ok n)
 wrote-leaves {V} {leaves} {writes} {refuses} has x {old} {place} {new} {n} w = at-leaves leaves writes refuses has x old place new (Ok n) w
 
--- a number that is written at a place
+-- a number that is written at an offset
 pub number-leaf : (w : ℕ) (order : Endian) (x : ℕ) (old : List ℕ) (o : ℕ) (new : List ℕ) (r : Result ℕ Error) → AnswersWrite (WritesNumber w order x) (LeavesShort w) IsBadOffset old o new r → WritesLeaves old o (number_bytes order w x ∷ []) new r
 number-leaf w order x old o new r h = at-leaves _ _ _ (number-leaves w order) x old o new r h
 
--- a signed number that is written at a place, where it is passed in its bits
+-- a signed number that is written at an offset, where it is passed as its bits
 pub signed-leaf : (w : ℕ) (b : Width) (order : Endian) (x : ℤ) (old : List ℕ) (o : ℕ) (new : List ℕ) (r : Result ℕ Error) → FitsSigned b x → AnswersWrite (WritesSigned w order (to_z b (of_z b x))) (LeavesShort w) IsBadOffset old o new r → WritesLeaves old o (signed_bytes order w x ∷ []) new r
 signed-leaf w b order x old o new r fits h =
     at-leaves _ _ _ (signed-leaves w order) x old o new r (rw (to_z-of_z b x fits) at h)
 
--- bytes that are written at a place
+-- bytes that are written at an offset
 pub bytes-leaf : (bytes old : List ℕ) (o : ℕ) (new : List ℕ) (r : Result ℕ Error) → AnswersWrite (WritesFront (length bytes) bytes) (LeavesShort (length bytes)) IsBadOffset old o new r → WritesLeaves old o (bytes ∷ []) new r
 bytes-leaf bytes old o new r h = at-leaves _ _ _ (bytes-leaves (λ b. b)) bytes old o new r h
 
--- a number in LEB128 that is written at a place
+-- a number in LEB128 that is written at an offset
 pub uleb-leaf : (x : Counted ℕ) (old : List ℕ) (o : ℕ) (new : List ℕ) (r : Result ℕ Error) → AnswersWrite (WritesUleb x) (LeavesShort x.count) IsBadOffset old o new r
     → WritesLeaves old o (uleb_text x ∷ []) new r
 uleb-leaf = at-leaves (λ (x : Counted ℕ). uleb_text x ∷ []) WritesUleb (λ x. LeavesShort x.count) uleb-leaves
@@ -162,26 +163,26 @@ one_each : {V : Type 0} (f : V → List ℕ) (xs : List V) → flat_map (λ x. f
 one_each f [] = refl
 one_each f (x ∷ xs) = ap (λ ls. f x ∷ ls) (one_each f xs)
 
--- an array of numbers that is written at a place, where it fits in memory
+-- an array of numbers that is written at an offset, where it fits in memory
 pub numbers-leaves : {P : Type 0} (w : ℕ) (order : Endian) (xs : List ℕ) (old : List ℕ) (o : ℕ) (new : List ℕ) (r : Result ℕ Error) → AnswersWrite (WritesArray (WritesNumber w order) xs) (λ old new e. P → LeavesArray (WritesNumber w order) (λ _. LeavesShort w) xs old new e) IsBadOffset old o new r → P → WritesLeaves old o (map (number_bytes order w) xs) new r
 numbers-leaves {P} w order xs old o new r h p =
     subst (λ ls. WritesLeaves old o ls new r) (one_each (number_bytes order w) xs)
     (at-leaves _ _ _ (leaves-where _ _ _ P p (array-leaves _ _ _ (number-leaves w order))) xs old o new r h)
 
--- an array of slices that is written at a place, where it fits in memory
+-- an array of slices that is written at an offset, where it fits in memory
 pub slices-leaves : {P : Type 0} (xs : List (Bor (List ℕ))) (old : List ℕ) (o : ℕ) (new : List ℕ) (r : Result ℕ Error) → AnswersWrite (WritesArray (λ x. WritesFront (length x.now) x.now) xs) (λ old new e. P → LeavesArray (λ x. WritesFront (length x.now) x.now) (λ x. LeavesShort (length x.now)) xs old new e) IsBadOffset old o new r → P → WritesLeaves old o (flat_map (λ x. x.now ∷ []) xs) new r
 slices-leaves {P} xs old o new r h p =
     at-leaves _ _ _ (leaves-where _ _ _ P p (array-leaves _ _ _ (bytes-leaves (λ x. x.now)))) xs old o new r h
 
 -- WRITES IN EITHER ORDER
--- leaves that end where others begin, or before, are apart from them
+-- leaves that end where others begin, or before, don't overlap them
 pub apart-behind : (len place place' : ℕ) (leaves leaves' : List (List ℕ)) → place + sum_by length leaves ≤ place' → Apart (pieces len place leaves) (pieces len place' leaves')
 apart-behind = pieces-behind
 
 pub apart-before : (len place place' : ℕ) (leaves leaves' : List (List ℕ)) → place' + sum_by length leaves' ≤ place → Apart (pieces len place leaves) (pieces len place' leaves')
 apart-before len place place' leaves leaves' h i a b = apart-behind len place' place leaves' leaves h i b a
 
--- two writes that are apart may be exchanged
+-- two writes that don't overlap may be exchanged
 pub leaves-exchange : (old mid new : List ℕ) (place place' : ℕ) (leaves leaves' : List (List ℕ)) (r r' : Result ℕ Error) → Apart (pieces (length old) place leaves) (pieces (length old) place' leaves') → WritesLeaves old place leaves mid r → WritesLeaves mid place' leaves' new r' → (mid' : List ℕ) × WritesLeaves old place' leaves' mid' r' × WritesLeaves mid' place leaves new r
 leaves-exchange old mid new o o' ls ls' r r' apart w w' =
     let second : WritesLeaves (seen old (pieces (length old) o ls)) o' ls' new r' = subst (λ x. WritesLeaves x o' ls' new r') w.after w' in
@@ -202,7 +203,7 @@ leaves-exchange old mid new o o' ls ls' r r' apart w w' =
       },
     )
 
--- a write of leaves has one outcome: what it leaves, and its answer
+-- a write of leaves has one outcome: what it leaves, and its result
 one-answer : (len place : ℕ) (leaves : List (List ℕ)) (r q : Result ℕ Error) → AnswersLeaves len place leaves r → AnswersLeaves len place leaves q → r ≡ q
 one-answer len place leaves (Ok n) (Ok m) a b = ap Ok (a.1 ∙ sym b.1)
 one-answer len place leaves (Ok n) (Err e) a b = let wrong = sym a.0 ∙ b in absurd (cc wrong)
@@ -218,7 +219,7 @@ one-outcome old place leaves new new' r r' w w' = (
   one-answer (length old) place leaves r r' w.answer w'.answer,
 )
 
--- two writes that are apart leave the same bytes in either order, and have the same answers
+-- two writes that don't overlap leave the same bytes in either order, and return the same
 pub either-order : {old mid new mid' new' : List ℕ} {place place' : ℕ} {leaves leaves' : List (List ℕ)} {r r' q q' : Result ℕ Error} → Apart (pieces (length old) place leaves) (pieces (length old) place' leaves') → WritesLeaves old place leaves mid r → WritesLeaves mid place' leaves' new r' → WritesLeaves old place' leaves' mid' q' → WritesLeaves mid' place leaves new' q → (new ≡ new') × (r ≡ q) × (r' ≡ q')
 either-order {old} {mid} {new} {mid'} {new'} {place} {place'} {leaves} {leaves'} {r} {r'} {q} {q'} apart w w' v' v =
     let turned = leaves-exchange old mid new place place' leaves leaves' r r' apart w w' in
@@ -226,7 +227,7 @@ either-order {old} {mid} {new} {mid'} {new'} {place} {place'} {leaves} {leaves'}
     let second = one-outcome mid' place leaves new new' r q (subst (λ m. WritesLeaves m place leaves new r) first.0 turned.2) v in
     (second.0, second.1, first.1)
 
--- two values of fixed sizes that were written apart: the other order leaves the same bytes
+-- two writes of values of fixed sizes that don't overlap may be exchanged
 pub fronts-exchange : {w w' place place' n n' : ℕ} {bytes bytes' old mid new : List ℕ} → length bytes ≡ w → length bytes' ≡ w' → (place + w ≤ place') ⊎ (place' + w' ≤ place) → WritesAt (WritesFront w bytes) old place mid n → WritesAt (WritesFront w' bytes') mid place' new n' → (mid' : List ℕ) × WritesLeaves old place' (bytes' ∷ []) mid' (Ok w') × WritesLeaves mid' place (bytes ∷ []) new (Ok w)
 fronts-exchange {w} {w'} {place} {place'} {n} {n'} {bytes} {bytes'} {old} {mid} {new} len len' apart first second =
     let one : WritesLeaves old place (bytes ∷ []) mid (Ok w) = wrote-leaves (front-leaf w (λ (_ : ℕ). bytes) (λ _. len)) 0 (rw first.after.size at first) in

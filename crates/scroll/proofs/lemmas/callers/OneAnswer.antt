@@ -1,4 +1,4 @@
--- Exactly one answer: lemmas that give the law of a type, of its arrays, and of arrays of these.
+-- Exactly one result: lemmas that give this law for a type, for its arrays, and for arrays of these.
 use Rattle.std.proofs.Common.{◌≡◌, ℕ, zero, suc, ◌+◌, ◌≤◌, ◌<◌, List, [], ◌∷◌, length, drop, arith, refl, sym, ◌∙◌, ap, subst, inl, inr, ◌⊎◌, Result, Ok, Err}
 use Rattle.std.proofs.lemmas.Bool.{cases_lt}
 use Rattle.scroll.specs.Arrays.{ReadsArray, RefusesArray, ReadsNested, RefusesNested}
@@ -10,7 +10,7 @@ use Rattle.scroll.specs.Errors.{IsBadOffset}
 use Rattle.scroll.specs.declared.error.Error.{Error}
 use Rattle.scroll.specs.declared.error.Error.TheVariants.{TooBig, BadOffset}
 
--- one value, and no refusal
+-- one value, and no error
 one-Ok-same : {V : Type 0} (P : V → ℕ → Type 0) (Q : Error → Type 0) (v : V) (n : ℕ) → ((w : V) (m : ℕ) → P w m → (w ≡ v) × (m ≡ n)) → ((e : Error) → Q e → ⊥) → (q : Result (V × ℕ) Error) → Allows P Q q → SameAnswer q (Ok (v, n))
 one-Ok-same P Q v n only none (Ok x) a =
     let s = only x.0 x.1 a in
@@ -24,7 +24,7 @@ one-Ok P Q v n p only none = record {
   only = one-Ok-same P Q v n only none;
 }
 
--- one refusal, and no value
+-- one error, and no value
 one-Err-same : {V : Type 0} (P : V → ℕ → Type 0) (Q : Error → Type 0) (e : Error) → ((w : V) (m : ℕ) → P w m → ⊥) → ((d : Error) → Q d → SameError d e) → (q : Result (V × ℕ) Error) → Allows P Q q → SameAnswer q (Err e)
 one-Err-same P Q e none only (Ok x) a = absurd (none x.0 x.1 a)
 one-Err-same P Q e none only (Err d) a = only d a
@@ -42,7 +42,7 @@ same-too_big d a b e = subst (λ x. SameError x (TooBig a b)) (sym e) refl
 same-bad_offset : (d : Error) (a : ℕ) → d ≡ BadOffset a → SameError d (BadOffset a)
 same-bad_offset d a e = subst (λ x. SameError x (BadOffset a)) (sym e) refl
 
--- the same answers, said otherwise
+-- the same results, stated in another way
 Allows-as : {V : Type 0} (P P' : V → ℕ → Type 0) (Q Q' : Error → Type 0) → ((v : V) (n : ℕ) → P v n → P' v n) → ((e : Error) → Q e → Q' e) → (q : Result (V × ℕ) Error) → Allows P Q q → Allows P' Q' q
 Allows-as P P' Q Q' f g (Ok x) a = f x.0 x.1 a
 Allows-as P P' Q Q' f g (Err e) a = g e a
@@ -62,7 +62,7 @@ past-refuses : (refuses : List ℕ → Error → Type 0) (b : List ℕ) (o : ℕ
 past-refuses refuses b o h e (inl a) = same-bad_offset e o a.1
 past-refuses refuses b o h e (inr a) = absurd (omega (arith, h, a.0))
 
--- at each place
+-- at each offset
 pub one-at : {V : Type 0} (reads : List ℕ → V → ℕ → Type 0) (refuses : List ℕ → Error → Type 0) → ((s : List ℕ) → AllowsOne (reads s) (refuses s)) → AllowsOneAtEach reads refuses
 one-at reads refuses one b o = elim (cases_lt (length b) o) as (λ _. AllowsOne (ReadsAt reads b o) (RefusesAt refuses IsBadOffset b o)) [
   | inl past ↦ one-Err (ReadsAt reads b o) (RefusesAt refuses IsBadOffset b o) (BadOffset o) (inl (past, refl))
@@ -82,7 +82,7 @@ one-front w value_of s = elim (cases_lt (length s) w) as (λ _. AllowsOne (Reads
 ]
 
 module _ {V : Type 0} (reads : List ℕ → V → ℕ → Type 0) (refuses : List ℕ → Error → Type 0) (s : List ℕ) where
-  -- count values from a place, and fewer and then a refusal
+  -- count values from an offset, or fewer and then an error
   abbrev Values : ℕ → ℕ → List V → ℕ → Type 0
   Values count o vs end = (length vs ≡ count) × ReadsAll reads s o vs end
 
@@ -105,7 +105,7 @@ module _ {V : Type 0} (reads : List ℕ → V → ℕ → Type 0) (refuses : Lis
   put_first-same v (Ok x) (Err e) h = absurd h
   put_first-same v (Err d) (Ok y) h = absurd h
 
-  -- an answer begins with the answer of the first value
+  -- a result begins with that of the first value
   abbrev HasFirst : ℕ → ℕ → Result (List V × ℕ) Error → Type 0
   HasFirst count o q =
       ((v : V) × (n : ℕ) × (p : Result (List V × ℕ) Error) × ReadsAt reads s o v n
@@ -179,7 +179,7 @@ one-nested reads refuses one [] = one
 one-nested reads refuses one (count ∷ counts) =
     one-array (ReadsNested reads counts) (RefusesNested reads refuses IsBadOffset counts) (one-nested reads refuses one counts) count
 
--- a value with its size beside it
+-- a value with its size
 abbrev Sized : {V : Type 0} → (V → ℕ → Type 0) → Counted V → ℕ → Type 0
 Sized P x n = P x.value n × (x.count ≡ n)
 

@@ -1,5 +1,5 @@
--- Lemmas for callers: records whose fields stand one after another, however many: what was written is read again, and what
--- was read is written back. Cite them for a struct of numbers, floats and arrays of bytes.
+-- Lemmas for callers: records of fields, one after another, of any count. What was written reads back, and what was read is
+-- written back. Cite them for a struct of numbers, floats and arrays of bytes.
 use Rattle.std.proofs.Common.{◌≡◌, ℕ, ℤ, pos, neg_ℤ, ◌*ℤ◌, ◌≤ℤ◌, ◌<ℤ◌, ◌+◌, ◌^◌, ◌<◌, ◌≤◌, ◌++◌, List, [], ◌∷◌, length, take, drop, slice_index, Fits, w8, T, refl, sym, ap, subst, ◌∙◌, arith, append_assoc, length-append}
 use Rattle.std.proofs.lemmas.List.{drop_at, take_at, append-nil}
 use Rattle.std.specs.Bool.{⊤}
@@ -12,7 +12,7 @@ use Rattle.scroll.proofs.lemmas.callers.Cursors.{length-number_bytes, length-sig
 use Rattle.scroll.proofs.lemmas.callers.RoundTrips.{number-begins, number-back, signed-begins, signed-back, back-next}
 use Rattle.scroll.proofs.lemmas.numbers.FloatLemmas.{length-float_bytes, float-begins, float-back}
 
--- a field by its value: a number of so many bytes, without a sign or with one, a float, or bytes as they are
+-- a field with its value: a number of a width in bytes, without a sign or with one, a float of a format, or bytes
 pub data Field : Type 0 where
   unsigned : ℕ → ℕ → Field
   signed : ℕ → ℤ → Field
@@ -50,7 +50,7 @@ FieldFits (signed w x) = (neg_ℤ (pos (256 ^ w)) ≤ℤ (pos 2 *ℤ x)) × ((po
 FieldFits (floating f x) = T (fits f x)
 FieldFits (bytes s) = ⊤
 
--- it keeps all bits of its bytes: it is no NaN
+-- all bits of its bytes are kept: it is not a NaN
 abbrev pub FieldKeeps : Field → Type 0
 FieldKeeps (unsigned w x) = ⊤
 FieldKeeps (signed w x) = ⊤
@@ -62,12 +62,12 @@ abbrev pub fields_after : Endian → List ℕ → Fields → List ℕ
 fields_after order front [] = front
 fields_after order front (f ∷ fs) = fields_after order (front ++ field_bytes order f) fs
 
--- the place after fields that begin at a place
+-- the offset after fields that begin at an offset
 abbrev pub fields_end : ℕ → Fields → ℕ
 fields_end place [] = place
 fields_end place (f ∷ fs) = fields_end (place + field_width f) fs
 
--- each field stands at its place
+-- each field is at its offset
 abbrev pub FieldsAt : Endian → ℕ → List ℕ → Fields → Type 0
 FieldsAt order place s [] = ⊤
 FieldsAt order place s (f ∷ fs) = BeginsWithField order f (drop place s) × FieldsAt order (place + field_width f) s fs
@@ -121,7 +121,7 @@ again-after order front (f ∷ fs) rest fit =
       subst (λ n. FieldsAt order n (whole ++ rest) fs) place (again-after order (front ++ own) fs rest fit.1),
     )
 
--- fields that were written are read again
+-- fields that were written read back
 pub fields-again : (order : Endian) (fs : Fields) (rest : List ℕ) → FieldsFit fs → FieldsAt order 0 (fields_after order [] fs ++ rest) fs
 fields-again order fs rest fit = again-after order [] fs rest fit
 

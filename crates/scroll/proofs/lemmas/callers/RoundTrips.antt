@@ -1,4 +1,4 @@
--- Lemmas for callers: what was read is written back, and what was written is read again.
+-- Lemmas for callers: round trips. What was read is written back, and what was written is read again.
 use Rattle.std.proofs.Common.{◌≡◌, ◌≢◌, ℕ, ℤ, pos, neg_ℤ, nat_abs, ◌+ℤ◌, ◌-ℤ◌, ◌*ℤ◌, ◌≤ℤ◌, ◌<ℤ◌, ◌+◌, ◌-◌, ◌*◌, ◌/◌, ◌%◌, ◌^◌, ◌<◌, ◌≤◌, ◌++◌, ◌==◌, true, List, [], ◌∷◌, length, take, drop, get_or, slice_index, Fits, w8, refl, sym, ap, subst, ◌∙◌, inl, inr, arith, IsUtf8, append_assoc, length-append, length-take, length-drop, get_or-take}
 use Rattle.std.proofs.Math.Nat.{mod-eq_of_lt}
 use Rattle.std.proofs.Math.Seq.{take-add}
@@ -40,7 +40,7 @@ number-begins order w x rest h =
     (λ i l. get_or_append_left (number_bytes order w x) rest 0 i (omega (arith, l, len)))
     ∙ number-number_bytes order w x h
 
--- the bytes of the number that stands at a place are those that stand there
+-- the bytes of the number at an offset are the bytes there
 pub number-back : (order : Endian) (w place : ℕ) (s : List ℕ) → ((i : ℕ) → Fits w8 (slice_index s i)) → place + w ≤ length s → number_bytes order w (number order w (drop place s)) ≡ take w (drop place s)
 number-back Little w place s h room =
     let t = drop place s in
@@ -64,7 +64,7 @@ number-back Big w place s h room =
     ∙ ap (λ k. slice_index t k) twice
     ∙ sym (get_or-take w t i 0 inside))
 
--- bytes that are written back one behind the other: some more
+-- bytes that are written back one after another: some more
 pub back-next : (place n : ℕ) (s : List ℕ) {front bytes : List ℕ} → front ≡ take place s → bytes ≡ take n (drop place s) → front ++ bytes ≡ take (place + n) s
 back-next place n s {front} {bytes} before next = ap (λ l. l ++ bytes) before ∙ ap (λ l. take place s ++ l) next ∙ sym (take-add place n s)
 
@@ -75,7 +75,7 @@ back-grow order w place s front h room is = back-next place w s is (number-back 
 is-byte : (b d : ℕ) → (b == d) ≡ true → b ≡ d
 is-byte b d e = grind (arith, e)
 
--- a text that a delimiter ends: how many bytes it takes, and that these are its own and the delimiter
+-- a string that a delimiter ends: how many bytes it takes, and that these are its own and the delimiter
 pub required-size : (d : ℕ) (s text : List ℕ) (n : ℕ) → ReadsText (Required d) s text n → n ≡ length text + 1
 required-size d s text n r = let len = ap length r.front in let part = length-take (first_place d s) s in omega (arith, r.size, len, part, r.there)
 
@@ -94,7 +94,7 @@ required-whole {d} {n} {s} {text} r =
 pub required-rest : (d : ℕ) (text rest : List ℕ) → drop (length text + 1) (text ++ d ∷ rest) ≡ rest
 required-rest d text rest = ap (drop (length text + 1)) (sym (append_assoc text (d ∷ []) rest)) ∙ drop_at (text ++ d ∷ []) rest (length text + 1) (length-append text (d ∷ []))
 
--- the first delimiter behind bytes that are none
+-- the first delimiter, after bytes that are not the delimiter
 pub place-behind : (d : ℕ) (t rest : List ℕ) → All (λ b. b ≢ d) t → first_place d (t ++ d ∷ rest) ≡ length t
 place-behind d [] rest h = grind arith
 place-behind d (b ∷ bs) rest h =
@@ -102,7 +102,7 @@ place-behind d (b ∷ bs) rest h =
     let ih = place-behind d bs rest (All-tail (λ x. x ≢ d) b bs h) in
     grind (arith, ih, hb)
 
--- a text without the delimiter, and the delimiter behind it, are read again
+-- a string without the delimiter, followed by the delimiter, is read again
 pub required-again : (d : ℕ) (text rest : List ℕ) → All (λ b. b ≢ d) text → IsUtf8 text → ReadsText (Required d) (text ++ d ∷ rest) text (length text + 1)
 required-again d text rest h utf8 =
     let at = place-behind d text rest h in
@@ -114,7 +114,7 @@ required-again d text rest h utf8 =
       there = omega (arith, at, length-append text (d ∷ rest));
     }
 
--- values that were read one after the other are written back, where each is
+-- values that were read one after another are written back, if each is
 pub ReadsAll-back : {V : Type 0} (reads : List ℕ → V → ℕ → Type 0) (bytes : V → List ℕ) (buffer : List ℕ) → ((place : ℕ) (v : V) (n : ℕ) → ReadsAt reads buffer place v n → bytes v ≡ take n (drop place buffer)) → (from : ℕ) (vs : List V) (to : ℕ) → ReadsAll reads buffer from vs to → take from buffer ++ flat_map bytes vs ≡ take to buffer
 ReadsAll-back reads bytes buffer back from [] to h = append-nil (take from buffer) ∙ ap (λ n. take n buffer) (sym h)
 ReadsAll-back reads bytes buffer back from (v ∷ vs) to h =
@@ -122,7 +122,7 @@ ReadsAll-back reads bytes buffer back from (v ∷ vs) to h =
     ∙ ap (λ l. l ++ flat_map bytes vs) (back-next from h.0 buffer refl (back from v h.0 h.1))
     ∙ ReadsAll-back reads bytes buffer back (from + h.0) vs to h.2
 
--- values that were written one after the other are read again, where each is
+-- values that were written one after another are read again, if each is
 pub ReadsAll-again : {V : Type 0} (reads : List ℕ → V → ℕ → Type 0) (bytes : V → List ℕ) (vs : List V) → All (λ v. (rest : List ℕ) → reads (bytes v ++ rest) v (length (bytes v))) vs → (front rest : List ℕ) → ReadsAll reads (front ++ flat_map bytes vs ++ rest) (length front) vs (length (front ++ flat_map bytes vs))
 ReadsAll-again reads bytes [] again front rest = ap length (append-nil front)
 ReadsAll-again {V} reads bytes (v ∷ vs) again front rest =
@@ -141,7 +141,7 @@ ReadsAll-again {V} reads bytes (v ∷ vs) again front rest =
       subst (λ n. ReadsAll reads (front ++ (bytes v ++ others) ++ rest) n vs (length (front ++ (bytes v ++ others)))) (length-append front (bytes v)) whole,
     )
 
--- values that are written one behind the other: one more
+-- values that are written one after another: one more
 pub grow-next : {V : Type 0} (bytes : V → List ℕ) (vs : List V) (i : ℕ) (d : V) {place w : ℕ} {first a b : List ℕ} → Begins place (flat_map bytes (take i vs)) first a → i < length vs → length (bytes (get_or vs i d)) ≡ w → take place b ≡ take place a → drop place b ≡ bytes (get_or vs i d) ++ drop w (drop place a) → Begins (place + w) (flat_map bytes (take (i + 1) vs)) first b
 grow-next bytes vs i d {place} {w} {first} {a} {b} h inside size before after =
     let more : flat_map bytes (take (i + 1) vs) ≡ flat_map bytes (take i vs) ++ bytes (get_or vs i d) =
@@ -149,11 +149,11 @@ grow-next bytes vs i d {place} {w} {first} {a} {b} h inside size before after =
     ∙ ap (λ l. flat_map bytes (take i vs) ++ l) (append-nil (bytes (get_or vs i d))) in
     subst (λ l. Begins (place + w) l first b) (sym more) (grow (bytes (get_or vs i d)) h size before after)
 
--- values that fill a buffer: read, they are written back
+-- values that were read from a whole buffer are written back
 pub all-back : {V : Type 0} (reads : List ℕ → V → ℕ → Type 0) (bytes : V → List ℕ) (buffer : List ℕ) (vs : List V) {to : ℕ} → ((place : ℕ) (v : V) (n : ℕ) → ReadsAt reads buffer place v n → bytes v ≡ take n (drop place buffer)) → ReadsAll reads buffer 0 vs to → to ≡ length buffer → flat_map bytes vs ≡ buffer
 all-back reads bytes buffer vs {to} back h end = ReadsAll-back reads bytes buffer back 0 vs to h ∙ take_all to buffer (omega (arith, end))
 
--- and written by a loop that has come to their end, they are read again, where each is that holds P
+-- values that a loop has written to their end read back, if each value of which P holds does
 pub all-again : {V : Type 0} (reads : List ℕ → V → ℕ → Type 0) (bytes : V → List ℕ) (P : V → Type 0) → ((v : V) → P v → (rest : List ℕ) → reads (bytes v ++ rest) v (length (bytes v))) → (vs : List V) (i : ℕ) {s : List ℕ} → length vs ≤ i → All P (take i vs) → s ≡ flat_map bytes (take i vs) → ReadsAll reads s 0 vs (length s)
 all-again {V} reads bytes P again vs i {s} end each is =
     let all : All P vs = subst (All P) (take_all i vs end) each in
@@ -163,7 +163,7 @@ all-again {V} reads bytes P again vs i {s} end each is =
     (subst (λ l. ReadsAll reads (flat_map bytes vs ++ []) 0 vs (length l)) text
     (ReadsAll-again reads bytes vs (All-weaker P (λ v. (rest : List ℕ) → reads (bytes v ++ rest) v (length (bytes v))) again vs all) [] []))
 
--- bytes that were written from a place on: those before it stay, and these stand there
+-- bytes that were written from an offset on: those before it are unchanged, and these are there
 pub grown-at : {to place : ℕ} (n : ℕ) (bytes : List ℕ) {first now : List ℕ} → Begins to (take place first ++ bytes) first now → place ≤ length first → to ≡ place + n → (take place now ≡ take place first) × (drop place now ≡ bytes ++ drop n (drop place first))
 grown-at {to} {place} n bytes {first} {now} h room is =
     let len : length (take place first) ≡ place = length-take-le place first room in
@@ -174,17 +174,17 @@ grown-at {to} {place} n bytes {first} {now} h room is =
       ap (drop place) whole ∙ drop_at (take place first) (bytes ++ drop n (drop place first)) place len,
     )
 
--- the number that stands for a signed one is that of its bytes
+-- the number that stands for a signed number is that of its bytes
 complement-again : (m n : ℕ) → n < m → (x : ℤ) → x ≡ (if nat_lt (2 * n) m then pos n else pos n -ℤ pos m) → (if int_lt x (pos 0) then nat_abs (pos m +ℤ x) else nat_abs x) ≡ n
 complement-again m n h x is = grind (arith, ints)
 
--- the same of a signed number: its bytes are those that stand there
+-- the same for a signed number: its bytes are the bytes there
 pub signed-back : (order : Endian) (w place : ℕ) (s : List ℕ) → ((i : ℕ) → Fits w8 (slice_index s i)) → place + w ≤ length s → signed_bytes order w (signed_number order w (drop place s)) ≡ take w (drop place s)
 signed-back order w place s h room =
     ap (number_bytes order w) (complement-again (256 ^ w) (number order w (drop place s)) (number-bound order w place s h) (signed_number order w (drop place s)) refl)
     ∙ number-back order w place s h room
 
--- and those of one more, behind bytes that are written back
+-- and those of one more, after bytes that are written back
 pub signed-grow : (order : Endian) (w place : ℕ) (s front : List ℕ) → ((i : ℕ) → Fits w8 (slice_index s i)) → place + w ≤ length s → front ≡ take place s → front ++ signed_bytes order w (signed_number order w (drop place s)) ≡ take (place + w) s
 signed-grow order w place s front h room is = back-next place w s is (signed-back order w place s h room)
 
@@ -196,7 +196,7 @@ signed-begins order w x rest low high =
     (number-begins order w (if int_lt x (pos 0) then nat_abs (pos (256 ^ w) +ℤ x) else nat_abs x) rest back.0)
     ∙ back.1
 
--- bytes behind a number of w bytes that counts them: read, they are written back
+-- bytes after a number of w bytes that counts them: what was read is written back
 pub counted-back : (order : Endian) (w place : ℕ) (s text : List ℕ) (n : ℕ) → ((i : ℕ) → Fits w8 (slice_index s i)) → place ≤ length s → w + number order w (drop place s) ≤ length (drop place s) → text ≡ take (number order w (drop place s)) (drop w (drop place s)) → n ≡ length text → number_bytes order w n ++ text ≡ take (w + number order w (drop place s)) (drop place s)
 counted-back order w place s text n fits inside room is size =
     let t = drop place s in
@@ -204,7 +204,7 @@ counted-back order w place s text n fits inside room is size =
     ap (λ m. number_bytes order w m ++ text) (size ∙ len)
     ∙ back-next w (number order w t) t (number-back order w place s fits (omega (arith, inside, room, length-drop place s))) is
 
--- and written, they are read again
+-- and what was written reads back
 pub counted-again : (order : Endian) (w : ℕ) (text rest : List ℕ) (n : ℕ) → n < 256 ^ w → n ≡ length text → (number order w ((number_bytes order w n ++ text) ++ rest) ≡ n) × (take n (drop w ((number_bytes order w n ++ text) ++ rest)) ≡ text)
 counted-again order w text rest n fit size =
     let split = append_assoc (number_bytes order w n) text rest in (
@@ -212,7 +212,7 @@ counted-again order w text rest n fit size =
       ap (λ l. take n (drop w l)) split ∙ ap (take n) (drop_at (number_bytes order w n) (text ++ rest) w (length-number_bytes order w n)) ∙ take_at text rest n (sym size),
     )
 
--- each element of a list of bytes fits a byte, and so does what is read past its end
+-- each element of a list of bytes fits a byte, and so does the default that is read past its end
 byte-fits : (s : List ℕ) → All (λ b. b < 256) s → (i : ℕ) → Fits w8 (slice_index s i)
 byte-fits s h i = elim (cases_lt i (length s)) as (λ _. Fits w8 (slice_index s i)) [
   | inl l ↦ let b = All-get_or (λ x. x < 256) s i 0 l h in record { fits = omega (arith, b) }

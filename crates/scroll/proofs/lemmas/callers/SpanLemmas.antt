@@ -15,11 +15,11 @@ use Rattle.scroll.specs.Spelling.{BeginsWith, BeginsWithSigned, spelling, spelle
 use Rattle.scroll.specs.Writes.{WritesAt, RefusesWriteAt}
 use Rattle.scroll.specs.declared.error.Error.{Error}
 
--- nothing stands yet
+-- nothing is there yet
 pub stands-none : {buffer : List ℕ} {from : ℕ} → from ≤ length buffer → Stands [] buffer from from
 stands-none h = record { inside = h; size = omega arith; is = refl }
 
--- a text behind another
+-- bytes after others
 pub stands-next : {t u buffer : List ℕ} {a b c : ℕ} → Stands t buffer a b → Stands u buffer b c → Stands (t ++ u) buffer a c
 stands-next {t} {u} {buffer} {a} {b} {c} p q = record {
   inside = q.inside;
@@ -31,7 +31,7 @@ stands-next {t} {u} {buffer} {a} {b} {c} p q = record {
 pub stands-range : {t buffer : List ℕ} {a b : ℕ} → Stands t buffer a b → slice_range buffer a b ≡ t
 stands-range {t} {buffer} {a} {b} h = ap (take (b - a)) h.is ∙ take_at t (drop b buffer) (b - a) (omega (arith, h.size))
 
--- the first n bytes from a place on
+-- the first n bytes from an offset on
 pub front-stands : {t buffer : List ℕ} {a b : ℕ} (n : ℕ) → a ≤ length buffer → n ≤ length (drop a buffer) → take n (drop a buffer) ≡ t → b ≡ a + n → Stands t buffer a b
 front-stands {t} {buffer} {a} {b} n inside room is to =
     let len : length t ≡ n = sym (ap length is) ∙ length-take-le n (drop a buffer) room in
@@ -45,7 +45,7 @@ front-stands {t} {buffer} {a} {b} n inside room is to =
 pub bytes-below : (place : ℕ) (s : List ℕ) → ((i : ℕ) → Fits w8 (slice_index s i)) → All (λ b. b < 256) (drop place s)
 bytes-below place s h = All-from_get_or (λ b. b < 256) (drop place s) 0 (λ i l. rw (get_or-drop place s i 0) (omega (arith, (h (place + i)).fits)))
 
--- a number in LEB128 that was read stands as its text; `law` is what `unsigned_reads_are_spellings` says
+-- a number in LEB128 that was read is there as its encoding; `law` is what `unsigned_reads_are_spellings` says
 pub uleb-stands : {buffer : List ℕ} {a b : ℕ} {x : Counted ℕ} → ((s : List ℕ) (v n : ℕ) → All (λ b. b < 256) s → ReadsUleb s v n ↔ BeginsWith s v n)
     → ((i : ℕ) → Fits w8 (slice_index buffer i)) → ReadsBetween ReadsCountedUleb buffer a b x → Stands (uleb_text x) buffer a b
 uleb-stands {buffer} {a} {b} {x} law bytes r =
@@ -64,7 +64,7 @@ sleb-stands {buffer} {a} {b} {x} law bytes r =
 pub puts-none : {old : List ℕ} {from : ℕ} → from ≤ length old → Puts [] old old from from
 puts-none {old} {from} h = record { inside = h; size = omega arith; is = sym (take-append-drop from old) }
 
--- what stands up to the text and with it, and behind it
+-- what is there up to the end of the bytes, and after it
 puts-parts : {t a b : List ℕ} {p q : ℕ} → Puts t a b p q → (take q b ≡ take p a ++ t) × (drop q b ≡ drop q a) × (length b ≡ length a)
 puts-parts {t} {a} {b} {p} {q} h =
     let first : length (take p a) ≡ p = length-take-le p a (omega (arith, h.inside, h.size)) in
@@ -75,7 +75,7 @@ puts-parts {t} {a} {b} {p} {q} h =
       omega (arith, ap length split, length-append (take p a ++ t) (drop q a), front, length-drop q a, h.inside),
     )
 
--- a text that is written behind another
+-- bytes that are written after others
 pub puts-next : {t u a b c : List ℕ} {p q r : ℕ} → Puts t a b p q → Puts u b c q r → Puts (t ++ u) a c p r
 puts-next {t} {u} {a} {b} {c} {p} {q} {r} x y =
     let parts = puts-parts x in
@@ -86,7 +86,7 @@ puts-next {t} {u} {a} {b} {c} {p} {q} {r} x y =
       is = y.is ∙ rw (parts.0, rest, append_assoc (take p a) t (u ++ drop r a), append_assoc t u (drop r a)) refl;
     }
 
--- a text that is written stands
+-- bytes that are written are there
 pub puts-stands : {t a b : List ℕ} {p q : ℕ} → Puts t a b p q → Stands t b p q
 puts-stands {t} {a} {b} {p} {q} h =
     let parts = puts-parts h in
@@ -97,7 +97,7 @@ puts-stands {t} {a} {b} {p} {q} h =
       is = ap (drop p) h.is ∙ drop_at (take p a) (t ++ drop q a) p first ∙ ap (λ s. t ++ s) (sym parts.1);
     }
 
--- what stands in one buffer and is written to another is there byte for byte
+-- what is in one buffer and is written to another is there byte for byte
 pub puts-back : {t old new source : List ℕ} {a b p q : ℕ} → Puts t old new p q → Stands t source a b → slice_range new p q ≡ slice_range source a b
 puts-back w s = stands-range (puts-stands w) ∙ sym (stands-range s)
 
@@ -120,11 +120,11 @@ puts-at t {old} {new} {w} {p} len room before after = record {
   is = sym (take-append-drop p new) ∙ rw (before, after, drop-drop w p old) refl;
 }
 
--- what was written from the front on
+-- the bytes that were written from the start of a buffer
 pub puts-front : {t old new : List ℕ} {q : ℕ} → Puts t old new 0 q → take q new ≡ t
 puts-front h = (puts-parts h).0
 
--- a refusal of one value
+-- an error of one value
 pub front-write : {t old new : List ℕ} {w p : ℕ} {e : Error} → length t ≡ w → p ≤ length old → RefusesWriteAt (LeavesShort w) IsBadOffset old p new e → PutsFront t old new p e
 front-write len inside (inl past) = absurd (omega (arith, past.past, inside))
 front-write {t} {old} {new} {w} {p} {e} len inside (inr h) =
@@ -140,7 +140,7 @@ front-write {t} {old} {new} {w} {p} {e} len inside (inr h) =
       error = rw (len, ← length-drop p old) h.after.error;
     }
 
--- a number in LEB128 that was written, and one that was refused
+-- a number in LEB128 that was written, and one whose write failed
 length-uleb_text : (x : Counted ℕ) → length (uleb_text x) ≡ x.count
 length-uleb_text x = length-map-range_with_len (spelled_byte x.value x.count) 0 x.count
 
@@ -159,7 +159,7 @@ sleb-puts x = puts-write (length-sleb_text x)
 pub sleb-front : (x : Counted ℤ) {old new : List ℕ} {p : ℕ} {e : Error} → p ≤ length old → RefusesWriteAt (LeavesShort x.count) IsBadOffset old p new e → PutsFront (sleb_text x) old new p e
 sleb-front x = front-write (length-sleb_text x)
 
--- a refusal before a text, and one behind it
+-- an error before some bytes, and one after them
 pub front-first : {t old new : List ℕ} {p : ℕ} {e : Error} (u : List ℕ) → PutsFront t old new p e → PutsFront (t ++ u) old new p e
 front-first {t} u h = record {
   front = h.front;
@@ -186,16 +186,16 @@ front-next {t} {u} x h =
       error = rw (← len) h.error;
     }
 
--- the texts of a list, up to an element and with it
+-- the bytes of a list, up to an element, and including it
 item-text : {X : Type 0} (f : X → List ℕ) (xs : List X) (i : ℕ) (x : X) → i < length xs → x ≡ get_or xs i x → flat_map f (take (i + 1) xs) ≡ flat_map f (take i xs) ++ f x
 item-text f xs i x h is = ap (flat_map f) ((take_at_read xs i x h).1 ∙ ap (λ y. take i xs ++ y ∷ []) (sym is)) ∙ sym (flat_map_more f [] (take i xs) x)
 
--- one more element of a list is written, or is refused
+-- one more element of a list is written, or its write fails
 pub puts-item : {X : Type 0} (f : X → List ℕ) (xs : List X) {i : ℕ} {x : X} {a b c : List ℕ} {p q r : ℕ} → i < length xs → x ≡ get_or xs i x
     → Puts (flat_map f (take i xs)) a b p q → Puts (f x) b c q r → Puts (flat_map f (take (i + 1) xs)) a c p r
 puts-item f xs {i} {x} h is before wrote = rw (item-text f xs i x h is) (puts-next before wrote)
 
--- the same of an element that the loop copies
+-- the same if the loop copies the element
 pub puts-copy : {X : Type 0} (f : X → List ℕ) (xs : List X) (i : ℕ) (d : X) {a b c : List ℕ} {p q r : ℕ} → i < length xs
     → Puts (flat_map f (take i xs)) a b p q → Puts (f (get_or xs i d)) b c q r → Puts (flat_map f (take (i + 1) xs)) a c p r
 puts-copy f xs i d {a} {b} {c} {p} {q} {r} h before wrote =

@@ -1,4 +1,4 @@
--- The pieces that leaves leave at a place of a buffer, and in its rest.
+-- The pieces that a write of leaves leaves at an offset of a buffer, and in the rest of the buffer.
 use Rattle.std.proofs.Common.{◌≡◌, ℕ, ◌+◌, ◌-◌, ◌≤◌, ◌<◌, ◌++◌, List, [], ◌∷◌, length, take, drop, get_or, arith, refl, sym, ◌∙◌, ap, inl, inr, Some, None, unwrap_or, slice_get, length-drop, length-append}
 use Rattle.std.proofs.lemmas.Bool.{cases_lt}
 use Rattle.std.proofs.lemmas.Grind.{same_number_lists}
@@ -22,7 +22,7 @@ left_over-fits n o l ls h = grind arith
 pub left_over-misfit : (n o : ℕ) (l : List ℕ) (ls : List (List ℕ)) → n < o + length l → left_over n o (l ∷ ls) ≡ Some (TooBig (length l) (n - o))
 left_over-misfit n o l ls h = grind arith
 
--- no piece lies before the place
+-- no piece is before the offset
 last_byte-before : (n o : ℕ) (ls : List (List ℕ)) (i : ℕ) → i < o → last_byte (pieces n o ls) i ≡ None
 last_byte-before n o [] i h = refl
 last_byte-before n o (l ∷ ls) i h = elim (cases_lt n (o + length l)) as (λ _. last_byte (pieces n o (l ∷ ls)) i ≡ None) [
@@ -49,7 +49,7 @@ last_byte-rest n o p (l ∷ ls) i h = elim (cases_lt n (o + p + length l)) as (�
       rw (pieces-fits n (o + p) l ls k, pieces-fits (n - o) p l ls (omega (arith, k)), place, rest, byte) refl
 ]
 
--- the refusal in a buffer is that in its rest
+-- the error in a buffer is that in its rest
 left_over-rest : (n o p : ℕ) (ls : List (List ℕ)) → o ≤ n → left_over n (o + p) ls ≡ left_over (n - o) p ls
 left_over-rest n o p [] h = refl
 left_over-rest n o p (l ∷ ls) h = elim (cases_lt n (o + p + length l)) as (λ _. left_over n (o + p) (l ∷ ls) ≡ left_over (n - o) p (l ∷ ls)) [

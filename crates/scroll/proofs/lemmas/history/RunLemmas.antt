@@ -1,4 +1,4 @@
--- A run goes on by one command.
+-- A run grows by one command.
 use Rattle.std.proofs.Common.{◌≡◌, ℕ, ◌+◌, ◌<◌, ◌++◌, List, [], ◌∷◌, take, get_or, refl, sym, ◌∙◌, ap, subst, append_assoc, append-nil, length, Result, Ok, Err, IfOk}
 use Rattle.std.proofs.lemmas.List.{take_more}
 use Rattle.scroll.proofs.lemmas.history.SeenLemmas.{seen-append, seen-nil}
@@ -44,13 +44,13 @@ IsRun-push first buffer buffer' from to to' cs old new new' c a r items s =
       bytes = s.bytes ∙ ap (λ b. seen b s.written) r.bytes ∙ seen-append first r.history s.written;
     }
 
--- the same over the front of a list of commands
+-- the same for a front of a list of commands
 pub IsRun-next : (first buffer buffer' : List ℕ) (from to to' : ℕ) (commands : List Command) (i : ℕ) (d : Command) (old new new' : List Answer) (a : Answer) → i < length commands → IsRun first buffer from to (take i commands) old new → new' ≡ new ++ a ∷ [] → IsStep buffer buffer' to (get_or commands i d) a to' → IsRun first buffer' from to' (take (i + 1) commands) old new'
 IsRun-next first buffer buffer' from to to' commands i d old new new' a inside r items s =
     rw (take_more commands i d inside)
     (IsRun-push first buffer buffer' from to to' (take i commands) old new new' (get_or commands i d) a r items s)
 
--- a read that is answered is a step which leaves the buffer
+-- a read that returns an answer is a step that leaves the buffer unchanged
 pub IsStep-read : (buffer : List ℕ) (cursor : ℕ) (at : Place) (what : Kind) (r : Result Answer Error) (after : ℕ) → IfOk r (λ a. ReadStep buffer cursor at what a after) → IfOk r (λ a. IsStep buffer buffer cursor (Read at what) a after)
 IsStep-read buffer cursor at what (Ok a) after h = record {
   written = [];

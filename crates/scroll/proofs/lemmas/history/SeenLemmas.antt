@@ -45,7 +45,7 @@ seen-append b h p =
     ∙ ap (λ o. unwrap_or o (get_or b i 0)) (sym (last_byte-append h p i))
     ∙ sym (get_or-seen b (h ++ p) i inside))
 
--- nothing was put there
+-- nothing was written
 pub seen-nil : (b : List ℕ) → seen b [] ≡ b
 seen-nil b =
     same_number_lists (seen b []) b (length-seen b [])

@@ -1,4 +1,4 @@
--- What stands of a history: bytes that no later piece covers, and pieces that may be exchanged.
+-- What is left of a history: bytes that no later piece covers, and pieces that may be exchanged.
 use Rattle.std.proofs.Common.{◌≡◌, ℕ, zero, suc, ◌+◌, ◌-◌, ◌≤◌, ◌<◌, ◌++◌, List, [], ◌∷◌, length, take, drop, get_or, arith, refl, sym, ◌∙◌, ap, subst, Option, Some, None, unwrap_or, slice_get, inl, inr, ◌⊎◌}
 use Rattle.std.proofs.lemmas.Bool.{cases_lt}
 use Rattle.std.proofs.lemmas.Grind.{same_number_lists, common_steps}
@@ -23,7 +23,7 @@ seen-same b h k e = same_number_lists (seen b h) (seen b k) (length-seen b h ∙
     let inside : i < length b = omega (arith, l, length-seen b h) in
     get_or-seen b h i inside ∙ ap (λ o. unwrap_or o (get_or b i 0)) (e i) ∙ sym (get_or-seen b k i inside))
 
--- a piece has a byte only for a place that it covers
+-- a piece has a byte only at an offset that it covers
 byte_of-cases : (p : Piece) (i : ℕ) → (byte_of p i ≡ None) ⊎ Covers p i
 byte_of-cases p i = elim (cases_lt i p.0) as (λ _. (byte_of p i ≡ None) ⊎ Covers p i) [
   | inl l ↦ inl (grind arith)
@@ -33,7 +33,7 @@ byte_of-cases p i = elim (cases_lt i p.0) as (λ _. (byte_of p i ≡ None) ⊎ C
   ]
 ]
 
--- the byte of a place that a piece covers
+-- the byte at an offset that a piece covers
 byte_of-covered : (o : ℕ) (t : List ℕ) (k : ℕ) → k < length t → byte_of (o, t) (o + k) ≡ Some (get_or t k 0)
 byte_of-covered o t k l =
     let at : slice_get t (o + k - o) ≡ slice_get t k = ap (slice_get t) (omega arith) in
@@ -43,7 +43,7 @@ byte_of-covered o t k l =
 Any-cons : {X : Type 0} (P : X → Type 0) (y : X) (xs : List X) → Any P xs → Any P (y ∷ xs)
 Any-cons P y xs a = (a.0 + 1, a.1, omega (arith, a.2), grind (arith, a.3), a.4)
 
--- a place has a last byte only where a piece covers it
+-- an offset has a last byte only where a piece covers it
 last_byte-cases : (ps : List Piece) (i : ℕ) → (last_byte ps i ≡ None) ⊎ Any (λ p. Covers p i) ps
 last_byte-cases [] i = inl refl
 last_byte-cases (p ∷ ps) i = elim (last_byte-cases ps i) as (λ _. (last_byte (p ∷ ps) i ≡ None) ⊎ Any (λ q. Covers q i) (p ∷ ps)) [
@@ -58,7 +58,7 @@ either-none : (a b : Option ℕ) → (a ≡ None) ⊎ (b ≡ None) → option_or
 either-none a b (inl e) = rw e (sym (option_or-none b))
 either-none a b (inr e) = rw e (option_or-none a)
 
--- pieces that cover no common place may be exchanged
+-- pieces that don't overlap may be exchanged
 pub seen-exchange : (b : List ℕ) (ps qs : List Piece) → Apart ps qs → seen b (ps ++ qs) ≡ seen b (qs ++ ps)
 seen-exchange b ps qs apart = seen-same b (ps ++ qs) (qs ++ ps) (λ i.
     last_byte-append ps qs i
@@ -72,7 +72,7 @@ seen-exchange b ps qs apart = seen-same b (ps ++ qs) (qs ++ ps) (λ i.
     ])
     ∙ sym (last_byte-append qs ps i))
 
--- the byte of a piece where no later one covers its place
+-- the byte of a piece where no later one covers its offset
 last_byte-stands : (before after : List Piece) (o : ℕ) (t : List ℕ) (k : ℕ) → k < length t → Apart ((o, t) ∷ []) after → last_byte (before ++ (o, t) ∷ after) (o + k) ≡ Some (get_or t k 0)
 last_byte-stands before after o t k l apart =
     let none : last_byte after (o + k) ≡ None =
@@ -84,7 +84,7 @@ last_byte-stands before after o t k l apart =
     ∙ ap (λ x. option_or (option_or x (byte_of (o, t) (o + k))) (last_byte before (o + k))) none
     ∙ ap (λ x. option_or x (last_byte before (o + k))) (byte_of-covered o t k l)
 
--- what is seen has the bytes of such a piece at its place
+-- what is seen has the bytes of such a piece at its offset
 seen-stands : (b : List ℕ) (before after : List Piece) (o : ℕ) (t : List ℕ) → o + length t ≤ length b → Apart ((o, t) ∷ []) after → take (length t) (drop o (seen b (before ++ (o, t) ∷ after))) ≡ t
 seen-stands b before after o t room apart =
     let h = before ++ (o, t) ∷ after in
@@ -140,12 +140,12 @@ stands first commands history o t h w =
 no-cover : (i : ℕ) → Any (λ (p : Piece). Covers p i) [] → ⊥
 no-cover i a = absurd (omega (arith, a.2))
 
--- the first piece covers the place, or another does
+-- the first piece covers the offset, or another does
 Any-cases : (P : Piece → Type 0) (p : Piece) (ps : List Piece) → Any P (p ∷ ps) → P p ⊎ Any P ps
 Any-cases P p ps (zero, x, l, e, h) = inl (subst P (sym e) h)
 Any-cases P p ps (suc k, x, l, e, h) = inr (k, x, omega (arith, l), e, h)
 
--- a piece that is laid from a place covers nothing before it
+-- a piece that is written from an offset covers nothing before it
 covers-from : (n o : ℕ) (ls : List (List ℕ)) (i : ℕ) → Any (λ p. Covers p i) (pieces n o ls) → o ≤ i
 covers-from n o [] i a = absurd (omega (arith, a.2))
 covers-from n o (l ∷ ls) i a = elim (cases_lt n (o + length l)) as (λ _. o ≤ i) [
@@ -156,7 +156,7 @@ covers-from n o (l ∷ ls) i a = elim (cases_lt n (o + length l)) as (λ _. o �
   ]
 ]
 
--- nor, where each is whole, one behind the last
+-- nor anything after the last, where all are whole
 covers-below : (n o : ℕ) (ls : List (List ℕ)) (i : ℕ) → Any (λ p. Covers p i) (pieces n o ls) → i < o + sum_by length ls
 covers-below n o [] i a = absurd (omega (arith, a.2))
 covers-below n o (l ∷ ls) i a =
@@ -188,7 +188,7 @@ head-apart n o l ls i a b =
       | inr none ↦ no-cover i none
     ]
 
--- no piece of a write covers a place of a later one
+-- no piece of a write covers an offset of a later one
 pub pieces-apart : (n o : ℕ) (ls : List (List ℕ)) (before after : List Piece) (p : Piece) → pieces n o ls ≡ before ++ p ∷ after → Apart (p ∷ []) after
 pieces-apart n o [] before after p e = absurd (not-nil before after p e)
 pieces-apart n o (l ∷ ls) [] after p e = elim (cases_lt n (o + length l)) as (λ _. Apart (p ∷ []) after) [

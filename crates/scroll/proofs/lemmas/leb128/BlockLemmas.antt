@@ -18,7 +18,7 @@ use Rattle.scroll.proofs.lemmas.leb128.LebLemmas.{groups_same, groups_more, end_
 use Rattle.scroll.proofs.lemmas.words.WordLemmas.{lanes, Lanewise, done, lane, and_lanes, or_lanes, keep, word_lanes, bytes_small}
 use Rattle.scroll.proofs.lemmas.words.ZeroLemmas.{zeros_odd, zeros_shifted}
 
--- an answer by cases, as two facts
+-- a result by cases, as two facts
 pub by_clauses : {X : Type 0} (none : Type 0) (some : X → Type 0) (o : Option X) → MatchOption o none some → IfSome o some × IfNone o none
 by_clauses none some None h = (tt, h)
 by_clauses none some (Some x) h = (h, tt)
@@ -69,7 +69,7 @@ carry_is (b ∷ bs) h = elim (cases_lt b 128) [
       rw t (omega (arith, carry_is bs within))
 ]
 
--- no byte ends the text where all bits are filled, and only there
+-- no byte ends the encoding exactly where all bits are filled
 filled_none : (bs : List ℕ) → lanes 8 (map full bs) + 1 ≡ 256 ^ length bs → length bs ≤ end_of bs
 unfolding full
 filled_none [] h = omega arith
@@ -99,7 +99,7 @@ none_filled (b ∷ bs) h = elim (cases_lt b 128) [
       rw t (omega (arith, none_filled bs within, pow-suc 256 (length bs)))
 ]
 
--- the carry is an odd number of times the power at which the end's high bit stands
+-- the carry is an odd multiple of the power of the end's high bit
 carried_form : (bs : List ℕ) → end_of bs < length bs → (q : ℕ) × (lanes 8 (map full bs) + 1 ≡ (q * 2 + 1) * 2 ^ (8 * end_of bs + 7))
 unfolding full
 carried_form [] h = absurd (omega arith)
@@ -115,7 +115,7 @@ carried_form (b ∷ bs) h = elim (cases_lt b 128) [
       rw t (rest.0, rw (place, pow-add 2 (8 * end_of bs + 7) 8) (omega (arith, rest.1, mul_assoc (rest.0 * 2 + 1) (2 ^ (8 * end_of bs + 7)) 256)))
 ]
 
--- the zeros below the doubled carry: eight for each byte up to the end
+-- the trailing zeros of the doubled carry: eight for each byte up to the end
 shifted_mod : (x j k : ℕ) → x * 2 ^ j % 2 ^ (k + j) ≡ x % 2 ^ k * 2 ^ j
 shifted_mod x j k =
     let c = one-le-pow j 2 (omega arith) in
@@ -276,7 +276,7 @@ kept_groups bs eight within =
 filled_word : (n : ℕ) → n < 2 ^ 64 → bit_or n 0x7f7f_7f7f_7f7f_7f7f ≡ lanes 8 (map full (to_le_bytes w64 n))
 filled_word n fits = ap (λ m. bit_or m 0x7f7f_7f7f_7f7f_7f7f) (word_lanes n fits) ∙ or_lanes (fills (to_le_bytes w64 n) (bytes_small n))
 
--- no byte ends the text
+-- no byte ends the encoding
 pub word_none : (n : ℕ) → n < 2 ^ 64 → bit_or n 0x7f7f_7f7f_7f7f_7f7f ≡ 18446744073709551615 → 8 ≤ end_of (to_le_bytes w64 n)
 word_none n fits h = filled_none (to_le_bytes w64 n) (omega (arith, filled_word n fits))
 
@@ -327,7 +327,7 @@ word_groups n g fits within e =
     let bytes = le_bytes_8 (kept bs) (bit_and n (18446744073709551615 - (bit_or n 0x7f7f_7f7f_7f7f_7f7f + 1))) eight (kept_small bs (byte_small bs (bytes_small n))) (kept_word n fits within ∙ sym (lanes_word (kept bs) eight)) in
     e ∙ ap (λ s. groups_value s 8) bytes ∙ kept_groups bs refl within
 
--- ---- texts of one byte and of two
+-- ---- encodings of one byte and of two
 bit_clear : (n k : ℕ) → bit_and n (2 ^ k) ≡ 0 → n / 2 ^ k % 2 ≡ 0
 bit_clear n k h =
     let positive = one-le-pow k 2 (omega arith) in

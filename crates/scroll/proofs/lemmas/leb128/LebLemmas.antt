@@ -34,11 +34,11 @@ pub no_end : (s : List ℕ) → ((k : ℕ) → k < length s → 128 ≤ get_or s
 no_end s more =
     position_or_len_is (λ b. nat_lt b 128) s (length s) 0 (omega arith) (λ k h. let f = more k h in grind (arith, nat_tests)) (λ h. absurd (omega arith))
 
--- a complete text ends at a byte under 128
+-- a complete encoding ends at a byte below 128
 pub end_below : (s : List ℕ) → end_of s < length s → get_or s (end_of s) 0 < 128
 end_below s h = let t = passes_at_first (λ b. nat_lt b 128) s 0 h in grind (arith, nat_tests)
 
--- the bytes of a text before its end are at least 128
+-- the bytes of an encoding before its end are at least 128
 pub open_before : (s : List ℕ) (k : ℕ) → k < end_of s → 128 ≤ get_or s k 0
 open_before s k h = let f = fails_before_first (λ b. nat_lt b 128) s k 0 h in grind (arith, nat_tests)
 
@@ -58,7 +58,7 @@ or_group s i v r early value_is r_is =
     let whole : r * 2 ^ (7 * i) < 2 ^ 64 = rw (pow_128 i, e) (group_fits s i early) in
     ap (bit_or v) (mod-eq_of_lt whole) ∙ or_shifted_r r (7 * i) v small ∙ rw (pow_128 i, e, value_is, groups_more s i) (omega arith)
 
--- where the first i bytes do not end the text, it ends at i or later
+-- where the first i bytes don't end the encoding, it ends at i or later
 pub late_end : (s : List ℕ) (i : ℕ) → i ≤ length s → ((k : ℕ) → k < i → 128 ≤ get_or s k 0) → i ≤ end_of s
 late_end s i within more = elim (cases_lt (end_of s) i) [
   | inl early ↦
@@ -92,7 +92,7 @@ sign_is_top s g n within g_is n_is =
           left ∙ sym right
     ])
 
--- the byte that ends the text, in the words of the code
+-- the byte that ends the encoding, in the words of the code
 pub gives_at : (s : List ℕ) (i v r b : ℕ) → i < length s → i < 9 → ((k : ℕ) → k < i → 128 ≤ get_or s k 0) → get_or s i 0 ≡ b → b < 128
     → v ≡ groups_value s i → r ≡ bit_and b 127 → ReadsGroups s (bit_or v (r * 2 ^ (7 * i) % 2 ^ 64)) (i + 1)
 gives_at s i v r b within early more byte last value_is r_is =
@@ -104,7 +104,7 @@ pub groups_same : (a b : List ℕ) (n : ℕ) → ((k : ℕ) → k < n → get_or
 groups_same a b zero h = refl
 groups_same a b (suc n) h = rw (groups_same a b n (λ k l. h k (omega arith)), h n (omega arith)) refl
 
--- the first bytes of a source that ends the text among them say what the source says
+-- the first bytes of a source that end the encoding say what the source says
 pub gives_front : (s b : List ℕ) (v n : ℕ) → 8 ≤ length s → b ≡ take 8 s → end_of b < 8 → v ≡ unsigned_of b → n ≡ count_of b → ReadsGroups s v n
 gives_front s b v n eight front within value_is n_is =
     let same = λ (k : ℕ) (h : k < 8). ap (λ l. get_or l k 0) front ∙ get_or-take 8 s k 0 h in
@@ -120,14 +120,14 @@ gives_front s b v n eight front within value_is n_is =
 pub none_past : (s : List ℕ) (i : ℕ) → None ≡ slice_get s i → length s ≤ i
 none_past s i e = elim (cases_lt i (length s)) [ inl h ↦ let f = e ∙ slice_get-get_or s i 0 h in absurd (cc) | inr h ↦ h ]
 
--- what a look-up by `get` says of a byte that is there, and of a place past the end
+-- what a look-up by `get` says of a byte in bounds, and of an offset past the end
 pub byte_there : (s : List ℕ) (i b : ℕ) → true ≡ nat_lt i (length s) → b ≡ get_or s i b → (i < length s) × (slice_get s i ≡ Some b) × (get_or s i 0 ≡ b)
 byte_there s i b t e =
     let inside : i < length s = grind (arith, nat_tests) in
     let at = slice_get-get_or s i b inside ∙ ap Some (sym e) in
     (inside, at, get_or_from_slice_get s i b 0 at)
 
--- what is known at the tenth byte, as a look-up gives it, where none of the nine before it ends the text
+-- what is known at the tenth byte, as a look-up gives it, where none of the nine before it ends the encoding
 pub tenth_there : (s : List ℕ) (i g b : ℕ) → true ≡ nat_lt 9 (length s) → b ≡ get_or s 9 b → i ≡ 9 → ((k : ℕ) → k < i → 128 ≤ get_or s k 0) → g ≡ groups_value s i
     → (9 ≤ end_of s) × (slice_get s 9 ≡ Some b) × (g ≡ groups_value s 9)
 tenth_there s i g b t e nine more value =

@@ -1,4 +1,4 @@
--- A number in LEB128 depends on the bytes of its text alone.
+-- A number in LEB128 depends only on the bytes of its encoding.
 use Rattle.std.proofs.Common.{◌≡◌, ℕ, ℤ, pos, negsuc, ◌-ℤ◌, ◌+◌, ◌≤◌, ◌<◌, ◌%◌, ◌^◌, ◌⊎◌, inl, inr, List, length, take, get_or, refl, sym, ap, ◌∙◌, arith, subst, codes}
 use Rattle.std.proofs.lemmas.Bool.{cases_lt}
 use Rattle.std.proofs.lemmas.Int.{ints, fits_signed_from_abs}
@@ -60,7 +60,7 @@ local-sleb s t x n r h long e =
       size = r.size ∙ ap (λ m. m + 1) (sym end);
     }
 
--- the refusal of a text that is whole
+-- the error of an encoding that is whole
 abbrev failed : List ℕ → Error
 failed s = BadInput (length s) (record { ref_ptr = (0, 0); now = codes "failed to parse" })
 
@@ -101,7 +101,8 @@ fits-cases (negsuc n) = elim (cases_lt n (2 ^ 63)) as (λ _. FitsSigned w64 (neg
   | inr large ↦ inr (neg-unfit n large)
 ]
 
--- an error by which a source may be refused: it is cut, or its text is whole, and where it is complete its value is unfit
+-- an error that a source may return: it is truncated, or its encoding is whole, and where it is complete its value is
+-- unfit
 abbrev Refused : Type 0 → List ℕ → Error → Type 0
 Refused Unfit s d = (IsCut s × SameError d (TooBig 1 0)) ⊎ ((¬ IsCut s) × (IsComplete s → Unfit) × SameError d (failed s))
 
@@ -133,7 +134,7 @@ not-refused : (Unfit : Type 0) (s : List ℕ) (d : Error) → IsComplete s → �
 not-refused Unfit s d complete fits (inl q) = complete-whole s complete q.0
 not-refused Unfit s d complete fits (inr q) = fits (q.1 complete)
 
--- a read that gives one value where the text is complete and the value fits, and else a refusal
+-- a read that returns one value where the encoding is complete and the value fits, and otherwise an error
 module _ {V : Type 0} (Fits Unfit : Type 0) (reads : V → ℕ → Type 0) (refuses : Error → Type 0) (s : List ℕ) (value : V) where
   one-leb128 : Fits ⊎ Unfit → (Fits → ¬ Unfit)
       → (IsComplete s → Fits → reads value (count_of s)) → ((v : V) (m : ℕ) → reads v m → IsComplete s × Fits × (v ≡ value) × (m ≡ count_of s))

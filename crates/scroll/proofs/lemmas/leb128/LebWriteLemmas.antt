@@ -1,4 +1,4 @@
--- Texts as a writer makes them: digits of the groups, and the shortest count.
+-- Encodings as a writer makes them: digits of the groups, and the shortest count.
 use Rattle.std.proofs.Common.{◌≡◌, ℕ, suc, ◌+◌, ◌-◌, ◌*◌, ◌/◌, ◌%◌, ◌^◌, ◌<◌, ◌≤◌, inl, inr, true, false, nat_lt, List, ◌++◌, length, take, drop, get_or, bit_and, bit_or, refl, sym, ap, ◌∙◌, arith}
 use Rattle.std.proofs.Math.Nat.{mod-eq_of_lt, mul_assoc, one-le-pow}
 use Rattle.std.proofs.Math.Pow.{pow_mono}
@@ -59,7 +59,7 @@ pub group_digit : (low tenth n i g : ℕ) → i < n → i < 9 → g ≡ bit_and 
 group_digit low tenth n i g within nine e =
     e ∙ and_mask (low / 2 ^ (7 * i)) 7 ∙ ap (λ x. low / x % 128) (pow_128 i) ∙ sym (word_digit low tenth n i within nine)
 
--- ---- the bytes of a text
+-- ---- the bytes of an encoding
 pub marked_byte : (u n i g : ℕ) → i + 1 < n → g ≡ u / 128 ^ i % 128 → bit_or g 128 ≡ spelled_byte u n i
 marked_byte u n i g more e =
     let t : nat_lt (i + 1) n ≡ true = grind (arith, nat_tests) in
@@ -77,21 +77,21 @@ last_byte u n i g room before last e =
 pub mod_room : (x n : ℕ) → x % 128 ^ n < 128 ^ n
 mod_room x n = let positive : 0 < 128 ^ n = one-le-pow n 128 (omega arith) in omega arith
 
--- a target whose first bytes are those of a text
+-- a target whose first bytes are those of an encoding
 pub encoding_written : (u n : ℕ) (old new : List ℕ) → n ≤ length new → ((k : ℕ) → k < n → get_or new k 0 ≡ spelled_byte u n k) → drop n new ≡ drop n old
     → new ≡ spelling u n ++ drop n old
 encoding_written u n old new room bytes rest =
     let front : take n new ≡ spelling u n = fill_by_all (spelled_byte u n) (take n new) n 0 (length-take-le n new room) (λ k h. get_or-take n new k 0 h ∙ bytes k h) in
     sym (take-append-drop n new) ∙ rw (front, rest) refl
 
--- the byte in front of the last is the same whatever the length
+-- the byte before the last is the same whatever the length
 pub open_same : (x m n i : ℕ) → i + 1 < m → i + 1 < n → spelled_byte (x % 128 ^ m) m i ≡ spelled_byte (x % 128 ^ n) n i
 open_same x m n i p q =
     let s : nat_lt (i + 1) m ≡ true = grind (arith, nat_tests) in
     let t : nat_lt (i + 1) n ≡ true = grind (arith, nat_tests) in
     rw (s, t) (ap (λ d. 128 + d) (digit_mod x m i (omega arith) ∙ sym (digit_mod x n i (omega arith))))
 
--- a target of a text of two or three bytes, whose second byte may be put twice
+-- a target of an encoding of two or three bytes, whose second byte may be written twice
 pub short_written : (u n a b l : ℕ) (old : List ℕ) → 2 ≤ n → n ≤ 3 → n ≤ length old → a ≡ spelled_byte u n 0 → (n ≡ 3 → b ≡ spelled_byte u n 1)
     → l ≡ spelled_byte u n (n - 1) → set (set (set old 0 a) 1 b) (n - 1) l ≡ spelling u n ++ drop n old
 short_written u n a b l old some few room first second last =
@@ -118,7 +118,7 @@ short_written u n a b l old some few room first second last =
     drop-set-lt n two (n - 1) l (omega arith) ∙ drop-set-lt n one 1 b (omega arith) ∙ drop-set-lt n old 0 a (omega arith) in
     encoding_written u n old new (omega (arith, size, room)) byte rest
 
--- it reads as what was written, and so reads no source that begins otherwise
+-- it reads as what was written, and a source that begins otherwise doesn't read so
 pub written_reads : (v n : ℕ) (t rest : List ℕ) → HasSpelling v n → t ≡ spelling v n ++ rest → ReadsUleb t v n
 written_reads v n t rest has is =
     let g = from_spelling t v n has.groups (spelling_front v n t rest is) in
@@ -127,7 +127,7 @@ written_reads v n t rest has is =
 pub read_is_written : (v n : ℕ) (s t rest : List ℕ) → t ≡ spelling v n ++ rest → All (λ b. b < 256) s → ReadsUleb s v n → take n s ≡ take n t
 read_is_written v n s t rest is bytes g = ((reads_spelling s v n bytes).0 g).front ∙ sym (spelling_front v n t rest is)
 
--- ---- what was read, written back; f gives the number to be spelled in so many bytes
+-- ---- what was read, written back; f returns the number that is encoded in that many bytes
 pub encoding_back : (f : ℕ → ℕ) (c m n : ℕ) (s old new : List ℕ) → take n s ≡ spelling (f n) n → c ≡ n → WritesFront c (spelling (f c) c) old new m
     → (m ≡ n) × (new ≡ take n s ++ drop n old)
 encoding_back f c m n s old new front e w =

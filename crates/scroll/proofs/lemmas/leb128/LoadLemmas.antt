@@ -1,4 +1,4 @@
--- What the first bytes of a source, loaded one way or another, say of its text.
+-- What the first bytes of a source, however they were loaded, say of its encoding.
 use Rattle.std.proofs.Common.{◌≡◌, ℕ, ◌+◌, ◌-◌, ◌*◌, ◌%◌, ◌^◌, ◌<◌, ◌≤◌, ◌⊎◌, suc, Some, inl, inr, true, false, nat_lt, if◌then◌else◌, List, length, take, bit_and, bit_or, refl, sym, ap, ◌∙◌, arith, ℤ, pos, negsuc, ◌-ℤ◌, FitsSigned, to_z}
 use Rattle.std.proofs.Math.Nat.{mod-eq_of_lt, pow-le-pow_right}
 use Rattle.std.proofs.Math.Facts.{to_z-neg}
@@ -15,7 +15,7 @@ use Rattle.scroll.proofs.lemmas.leb128.LebLemmas.{groups_lt, groups_more, end_at
 use Rattle.scroll.proofs.lemmas.leb128.SignedLemmas.{less_whole}
 use Rattle.scroll.proofs.lemmas.leb128.SignedSpellingLemmas.{sign_of_groups}
 
--- ---- a text that ends in the first eight bytes
+-- ---- an encoding that ends in the first eight bytes
 block_groups_read : (s b : List ℕ) → 8 ≤ length s → b ≡ take 8 s → end_of b < 8 → ReadsGroups s (unsigned_of b) (count_of b)
 block_groups_read s b eight front within = gives_front s b (unsigned_of b) (count_of b) eight front within refl refl
 
@@ -51,7 +51,7 @@ groups_read s g n few r =
     let power : 128 ^ count_of s ≤ 128 ^ 9 = pow-le-pow_right {n = 128} (omega arith) nine in
     record { complete = r.complete; fits = omega (arith, low, power); value = r.value; size = r.size }
 
--- the groups of nine bytes, the last of which ends the text
+-- the groups of nine bytes, the last of which ends the encoding
 pub nine_read : (s : List ℕ) (g : ℕ) → 9 ≤ length s → g ≡ groups_value s 9 → end_of s ≡ 8 → ReadsGroups s g 9
 nine_read s g within value e = record { complete = (omega arith, omega arith); value = value ∙ ap (λ i. groups_value s (i + 1)) (sym e); size = ap (λ i. i + 1) (sym e) }
 
@@ -87,7 +87,7 @@ tenth_reads s g t late at g_is small =
 pub tenth_is_cut : (s : List ℕ) (t : ℕ) → slice_get s 9 ≡ Some t → ¬ IsCut s
 tenth_is_cut s t at cut = let inside = slice_get_within s 9 t at in omega (arith, cut.1, inside)
 
--- a complete text that goes past nine bytes ends at the tenth
+-- a complete encoding of more than nine bytes ends at the tenth
 complete_tenth : (s : List ℕ) (t : ℕ) → 9 ≤ end_of s → slice_get s 9 ≡ Some t → IsComplete s → (end_of s ≡ 9) × (t < 128)
 complete_tenth s t late at whole =
     let e : end_of s ≡ 9 = omega (arith, whole.1) in
@@ -102,7 +102,7 @@ tenth_refused s g t late at g_is large whole =
     let total = ap (λ i. groups_value s (i + 1)) e.0 in
     omega (arith, total, sum)
 
--- its low bit in all seven places
+-- its lowest bit in all seven positions
 sign_or_none : (t : ℕ) → t < 256 → t ≡ bit_and t 1 * 127 → (t ≡ 0) ⊎ (t ≡ 127)
 sign_or_none t small h =
     let low : bit_and t 1 ≡ t % 2 = and_mask t 1 in

@@ -1,4 +1,4 @@
--- Two's complement by a sign bit that is turned over and taken away.
+-- Two's complement by a sign bit that is flipped and then subtracted.
 use Rattle.std.proofs.Common.{◌≡◌, ℕ, suc, ◌+◌, ◌-◌, ◌*◌, ◌/◌, ◌%◌, ◌^◌, ◌<◌, ◌≤◌, inl, inr, true, false, nat_lt, if◌then◌else◌, bit_and, bit_xor, sym, ap, ◌∙◌, arith, pos, negsuc, ◌-ℤ◌, to_z}
 use Rattle.std.proofs.Math.Nat.{mod-eq_of_lt, one-le-pow, pow-le-pow_right}
 use Rattle.std.proofs.Math.Facts.{to_z-neg}
@@ -12,11 +12,11 @@ use Rattle.std.specs.Int.Bits.{xor_add_and}
 use Rattle.scroll.proofs.lemmas.leb128.LebLemmas.{pow_128}
 use Rattle.scroll.proofs.lemmas.leb128.SpellingLemmas.{power_more}
 
--- a number less a larger one
+-- a number minus a larger one
 pub less_whole : (u p k : ℕ) → u + suc k ≡ p → negsuc k ≡ pos u -ℤ pos p
 less_whole u p k h = omega (arith, ints)
 
--- the highest bit h of a number, turned over and then taken away
+-- the highest bit h of a number, flipped and then subtracted
 turned : (g k h : ℕ) → h ≡ 2 ^ k → h ≤ 2 ^ 62 → g < 2 * h
     → to_z w64 ((bit_xor g h + (2 ^ 64 - h)) % 2 ^ 64) ≡ (if nat_lt g h then pos g else pos g -ℤ pos (2 * h))
 turned g k h is small room =

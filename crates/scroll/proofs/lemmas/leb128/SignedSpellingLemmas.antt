@@ -1,4 +1,4 @@
--- Signed numbers and their texts.
+-- Signed numbers and their encodings.
 use Rattle.std.proofs.Common.{◌≡◌, ℕ, suc, ◌+◌, ◌-◌, ◌*◌, ◌^◌, ◌<◌, ◌≤◌, ◌↔◌, inl, inr, true, false, nat_lt, if◌then◌else◌, List, ◌++◌, length, refl, sym, ap, ◌∙◌, arith, ℤ, pos, negsuc, ◌-ℤ◌, FitsSigned, to_z, of_z}
 use Rattle.std.proofs.Math.Nat.{pow-le-pow_right}
 use Rattle.std.proofs.lemmas.Int.{ints, to_z-of_z}
@@ -16,12 +16,12 @@ use Rattle.scroll.proofs.lemmas.leb128.SpellingLemmas.{power_more, to_spelling, 
 pub power_last : (n : ℕ) → 1 ≤ n → 128 ^ n ≡ 128 * 128 ^ (n - 1)
 power_last n some = let back : n - 1 + 1 ≡ n = omega arith in rw back at (power_more (n - 1))
 
--- the number that a signed number is spelled as is below 128 ^ n
+-- the number that encodes a signed number is below 128 ^ n
 pub form_small : (v : ℤ) (n : ℕ) → HasSignedSpelling v n → HoldsGroups (unsigned_form v n) n
 form_small (pos a) n h = record { some = h.some; few = h.few; room = omega (arith, ints, power_last n h.some, h.high) }
 form_small (negsuc k) n h = record { some = h.some; few = h.few; room = omega (arith, ints, power_last n h.some, h.low) }
 
--- a signed value is the one that its groups give
+-- a signed value is the one that its groups encode
 pub form_signed : (s : List ℕ) (v : ℤ) (n : ℕ) → HasSignedSpelling v n → ReadsGroups s (unsigned_form v n) n → v ≡ signed_of s
 form_signed s (pos a) n h g =
     let top = sign_is_top s a n g.complete.0 g.value g.size in
@@ -71,19 +71,19 @@ reads_signed_spelling s v n bytes = (
       record { complete = g.complete; fits = rw e at b.has.fits; value = e; size = g.size },
 )
 
--- what was read has a spelling
+-- what was read has an encoding
 pub gives_signed_spelling : (s : List ℕ) (v : ℤ) (n : ℕ) → ReadsSleb s v n → HasSignedSpelling v n
 gives_signed_spelling s v n g =
     let room : unsigned_of s < 128 ^ n = rw g.size (groups_lt s (count_of s)) in
     let has : HoldsGroups (unsigned_of s) n = record { some = omega (arith, g.size); few = omega (arith, g.complete, g.size); room = room } in
     (signed_form s v n (record { complete = g.complete; value = refl; size = g.size }) has (rw g.value g.fits) g.value).0
 
--- the groups, with the value that their top bit gives
+-- the groups, with the value that their top bit determines
 pub sign_of_groups : (s : List ℕ) (g n : ℕ) (z : ℤ) → end_of s < length s → g ≡ unsigned_of s → n ≡ count_of s
     → z ≡ (if nat_lt g (64 * 128 ^ (n - 1)) then pos g else pos g -ℤ pos (128 ^ n)) → z ≡ signed_of s
 sign_of_groups s g n z within g_is n_is e = e ∙ rw (sign_is_top s g n within g_is n_is, g_is, n_is) refl
 
--- the same of a text that ends within eight bytes
+-- the same for an encoding that ends within eight bytes
 pub block_signed : (s : List ℕ) (g n : ℕ) (z : ℤ) → length s ≡ 8 → EndsInBlock s g n → FitsSigned w64 z
     → z ≡ (if nat_lt g (64 * 128 ^ (n - 1)) then pos g else pos g -ℤ pos (128 ^ n)) → EndsInSignedBlock s (to_z w64 (of_z w64 z)) n
 block_signed s g n z eight r fits e =
@@ -92,7 +92,7 @@ block_signed s g n z eight r fits e =
 pub block_below : (s : List ℕ) (g n : ℕ) → EndsInBlock s g n → g < 128 ^ n
 block_below s g n r = rw (r.value, r.size) (groups_lt s (count_of s))
 
--- a longer spelling is padded
+-- a longer encoding is padded
 pub longer_signed_spelling : (v : ℤ) (m n : ℕ) → HasSignedSpelling v m → m ≤ n → n ≤ 10 → HasSignedSpelling v n
 longer_signed_spelling v m n h more few =
     let before : m - 1 ≤ n - 1 = omega (arith, more) in
@@ -105,7 +105,7 @@ longer_signed_spelling v m n h more few =
       fits = h.fits;
     }
 
--- no spelling begins another
+-- no encoding is a prefix of another
 pub one_signed_spelling : (v w : ℤ) (m n : ℕ) (x y : List ℕ) → HasSignedSpelling v m → HasSignedSpelling w n
     → spelling (unsigned_form v m) m ++ x ≡ spelling (unsigned_form w n) n ++ y → (v ≡ w) × (m ≡ n)
 one_signed_spelling v w m n x y p q same =

@@ -20,7 +20,7 @@ from_turned : (v : ℤ) (n : ℕ) → FitsSigned w64 v → HoldsGroups (2 * turn
 from_turned (pos a) n fits h = let power = power_last n h.some in let room : 2 * a < 128 ^ n = h.room in record { some = h.some; few = h.few; low = omega (arith, ints); high = omega (arith, ints); fits = fits }
 from_turned (negsuc k) n fits h = let power = power_last n h.some in let room : 2 * k < 128 ^ n = h.room in record { some = h.some; few = h.few; low = omega (arith, ints); high = omega (arith, ints); fits = fits }
 
--- a signed number takes as many groups as twice the number turned round
+-- a signed number takes as many groups as twice `turned_round` of it
 pub signed_least : (v : ℤ) (n : ℕ) → FitsSigned w64 v → IsLeast (HoldsGroups (2 * turned_round v)) n → IsLeast (HasSignedSpelling v) n
 signed_least v n fits h = record { has = from_turned v n fits h.has; least = λ m s. h.least m (to_turned v m s) }
 
@@ -78,7 +78,7 @@ unsigned_groups_form v n room =
     let whole : ten_groups v (v / 2 ^ 63) ≡ v = omega arith in
     ap (λ x. x % 128 ^ n) whole ∙ mod-eq_of_lt room
 
--- a text that was written reads as the number, and so reads no source that begins otherwise
+-- an encoding that was written reads as the number, and a source that begins otherwise doesn't read so
 pub signed_written_reads : (v : ℤ) (n : ℕ) (t rest : List ℕ) → HasSignedSpelling v n → t ≡ spelling (unsigned_form v n) n ++ rest → ReadsSleb t v n
 signed_written_reads v n t rest has is =
     let g = from_spelling t (unsigned_form v n) n (form_small v n has) (spelling_front (unsigned_form v n) n t rest is) in

@@ -1,4 +1,4 @@
--- Digits of base 128, and the texts that they make.
+-- Digits to the base 128, and the encodings that they make.
 use Rattle.std.proofs.Common.{◌≡◌, ℕ, ◌+◌, ◌-◌, ◌*◌, ◌/◌, ◌%◌, ◌^◌, ◌<◌, ◌≤◌, ◌↔◌, inl, inr, true, false, nat_lt, List, ◌++◌, take, length, get_or, refl, sym, ap, ◌∙◌, arith, add-one, pow-suc}
 use Rattle.std.proofs.Math.Nat.{mod-eq_of_lt, mul_comm, one-le-pow, pow-le-pow_right}
 use Rattle.std.proofs.lemmas.Nat.{div_below}
@@ -18,7 +18,7 @@ use Rattle.scroll.proofs.lemmas.leb128.LebLemmas.{groups_lt, end_at, end_below, 
 pub power_more : (i : ℕ) → 128 ^ (i + 1) ≡ 128 * 128 ^ i
 power_more i = rw add-one (pow-suc 128 i ∙ mul_comm (128 ^ i) 128)
 
--- what a byte of a spelling says
+-- what a byte of an encoding says
 before_last : (s : List ℕ) (v n k : ℕ) → get_or s k 0 ≡ spelled_byte v n k → k + 1 < n → 128 ≤ get_or s k 0
 before_last s v n k e h =
     let t : nat_lt (k + 1) n ≡ true = grind (arith, nat_tests) in
@@ -102,7 +102,7 @@ from_spelling s v n has is =
       size = n_is;
     }
 
--- a read of an unsigned number, and the spelling in front
+-- a read of an unsigned number, and the encoding at the front
 pub reads_spelling : (s : List ℕ) (v n : ℕ) → All (λ b. b < 256) s → ReadsUleb s v n ↔ BeginsWith s v n
 reads_spelling s v n bytes = (
   λ (g : ReadsUleb s v n).
@@ -113,18 +113,18 @@ reads_spelling s v n bytes = (
       record { complete = g.complete; fits = omega (arith, g.value, b.has.fits); value = g.value; size = g.size },
 )
 
--- what is a text, and then whatever follows it, begins with the text
+-- bytes that are an encoding, and then anything, begin with the encoding
 pub spelling_front : (v n : ℕ) (t rest : List ℕ) → t ≡ spelling v n ++ rest → take n t ≡ spelling v n
 spelling_front v n t rest is = ap (take n) is ∙ ap (λ j. take j (spelling v n ++ rest)) (sym (length-spelling v n)) ∙ take-append_seam (spelling v n) rest
 
--- no spelling begins another
+-- no encoding is a prefix of another
 pub one_spelling : (v w m n : ℕ) (x y : List ℕ) → HoldsGroups v m → HoldsGroups w n → spelling v m ++ x ≡ spelling w n ++ y → (v ≡ w) × (m ≡ n)
 one_spelling v w m n x y p q same =
     let a = from_spelling (spelling v m ++ x) v m p (spelling_front v m (spelling v m ++ x) x refl) in
     let b = from_spelling (spelling v m ++ x) w n q (spelling_front w n (spelling v m ++ x) y same) in
     (a.value ∙ sym b.value, a.size ∙ sym b.size)
 
--- what was read has a spelling
+-- what was read has an encoding
 pub gives_spelling : (s : List ℕ) (v n : ℕ) → ReadsUleb s v n → HasSpelling v n
 gives_spelling s v n g =
     let room : v < 128 ^ n = rw (g.value, g.size) (groups_lt s (count_of s)) in

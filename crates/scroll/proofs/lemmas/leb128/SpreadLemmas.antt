@@ -1,4 +1,4 @@
--- Four groups in a word of four bytes, and texts that are written by such words.
+-- Four groups in a word of four bytes, and encodings that are written by such words.
 use Rattle.std.proofs.Common.{◌≡◌, ℕ, ◌+◌, ◌-◌, ◌*◌, ◌/◌, ◌%◌, ◌^◌, ◌<◌, ◌≤◌, inl, inr, true, nat_lt, List, [], ◌∷◌, ◌++◌, length, drop, get_or, bit_and, bit_or, refl, sym, ap, ◌∙◌, arith, below_none, below_more}
 use Rattle.std.proofs.Math.Nat.{div-div-eq-div-mul}
 use Rattle.std.proofs.lemmas.Nat.{pow-add, and_mask, and_block}
@@ -98,7 +98,7 @@ last_bytes low g bytes e is =
     let P = λ (k : ℕ). get_or bytes k 0 ≡ 128 + low / 128 ^ k % 128 in
     (below_more P 2 (below_more P 1 (below_more P 0 (below_none P) (rw list refl)) (rw list refl)) (rw list refl), rw list refl)
 
--- ---- bytes of a text from the digits of its word
+-- ---- bytes of an encoding from the digits of its word
 pub open_byte : (low tenth n k b : ℕ) → k + 1 < n → k < 9 → b ≡ 128 + low / 128 ^ k % 128 → b ≡ spelled_byte (ten_groups low tenth % 128 ^ n) n k
 open_byte low tenth n k b more nine e =
     let t : nat_lt (k + 1) n ≡ true = grind (arith, nat_tests) in
@@ -112,7 +112,8 @@ close_byte low tenth n k b last nine e =
 pub later_digit : (low m j : ℕ) → low / 2 ^ (7 * m) / 128 ^ j % 128 ≡ low / 128 ^ (m + j) % 128
 later_digit low m j = ap (λ p. low / p / 128 ^ j % 128) (pow_128 m) ∙ ap (λ q. q % 128) (div-div-eq-div-mul low (128 ^ m) (128 ^ j) ∙ ap (λ p. low / p) (sym (pow-add 128 m j)))
 
--- ---- targets that were written by words of four bytes: a list says in `at` which bytes stand in a target from a place on
+-- ---- targets that were written by words of four bytes: `at` says which bytes of a list are in a target from an offset
+-- on
 pub record FourAt (place : ℕ) (bytes old new : List ℕ) : Type 0 where
   pub put : (k : ℕ) → k < 4 → get_or new (place + k) 0 ≡ get_or bytes k 0
   pub before : (k : ℕ) → k < place → get_or new k 0 ≡ get_or old k 0

@@ -30,7 +30,7 @@ float-begins f order x rest h =
     let bound : to_bits f x < 256 ^ float_width f = omega (arith, to_bits-lt f x h, all-bits f) in
     ap (from_bits f) (number-begins order (float_width f) (to_bits f x) rest bound) ∙ of_bits-to_bits f x h
 
--- the bytes of the float that stands at a place are those that stand there, where it is no NaN
+-- the bytes of the float at an offset are the bytes there, if it isn't a NaN
 pub float-back : (f : Format) (order : Endian) (place : ℕ) (s : List ℕ) → ((i : ℕ) → Fits w8 (slice_index s i)) → place + float_width f ≤ length s → NotNan (float f order (drop place s)) → float_bytes f order (float f order (drop place s)) ≡ take (float_width f) (drop place s)
 float-back f order place s h room real =
     let bits = number order (float_width f) (drop place s) in
@@ -45,7 +45,7 @@ bytes-fit s h i = elim (cases_lt i (length s)) as (λ _. Fits w8 (slice_index s 
   | inr l ↦ record { fits = rw (get_or-eq_default s 0 l) (omega arith) }
 ]
 
--- a float depends on its own bytes alone
+-- a float depends only on its own bytes
 pub local-float : (f : Format) (order : Endian) → IsLocal (ReadsFloat f order)
 local-float f order s t x n r h long e =
     let front : take (float_width f) t ≡ take (float_width f) s = ap (λ m. take m t) (sym r.size) ∙ e ∙ ap (λ m. take m s) r.size in

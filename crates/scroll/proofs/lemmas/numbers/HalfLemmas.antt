@@ -7,7 +7,7 @@ use Rattle.std.specs.Int.{w64, to_le_bytes, to_be_bytes, swap_bytes}
 use Rattle.scroll.specs.Numbers.{number_bytes}
 use Rattle.scroll.specs.declared.endian.Endian.TheVariants.{Little, Big}
 
--- bytes that are put to the front of both parts of a target
+-- bytes that are written to the front of both parts of a target
 pub parts_written : (d xs ys x y a b front rest : List ℕ) → xs ≡ x → ys ≡ y → front ≡ take 8 d → rest ≡ drop 8 d
     → a ≡ xs ++ drop 8 front → b ≡ ys ++ drop 8 rest → a ++ b ≡ (x ++ y) ++ drop 16 d
 parts_written d xs ys x y a b front rest ex ey ef er first second =

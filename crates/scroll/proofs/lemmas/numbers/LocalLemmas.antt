@@ -1,4 +1,4 @@
--- Reads that depend on the bytes that they take alone, and that take no more than there are.
+-- Reads that depend only on the bytes that they take, and that take no more than there are.
 use Rattle.std.proofs.Common.{◌≡◌, ℕ, ◌+◌, ◌≤◌, ◌*◌, ◌^◌, List, [], ◌∷◌, length, take, drop, get_or, arith, sym, ◌∙◌, ap, length-drop, pos, ◌-ℤ◌}
 use Rattle.std.proofs.lemmas.List.{get_or-take, take-take, drop-take}
 use Rattle.std.specs.Prelude.{nat_lt, if◌then◌else◌}

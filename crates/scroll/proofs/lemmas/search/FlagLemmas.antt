@@ -29,7 +29,7 @@ no_flag p (b ∷ bs) h = elim (cases_Bool (p b)) [
       rw t (omega (arith, no_flag p bs g))
 ]
 
--- the lowest flag stands at the first byte that passes
+-- the lowest flag is that of the first byte that passes
 flag_form : (p : ℕ → Bool) (bs : List ℕ) → (each (flag p) bs ≡ 0 → ⊥) → (q : ℕ) × (each (flag p) bs ≡ (q * 2 + 1) * 2 ^ (8 * position_or_len p bs + 7)) × (position_or_len p bs < length bs)
 flag_form p [] h = absurd (h refl)
 flag_form p (b ∷ bs) h = elim (cases_Bool (p b)) [
@@ -151,7 +151,7 @@ keeps_xor d e b h = xor_lt 8 b d h e
 keeps_sum : (d : ℕ) → KeepsBytes (λ b. bit_and (bit_xor b d) 127 + 127)
 keeps_sum d b h = let low = small_and (bit_xor b d) in omega arith
 
--- the high bit of a byte says whether it is the wanted one
+-- the high bit of a byte says whether it is the one searched for
 abbrev equal_word : ℕ → ℕ → ℕ
 equal_word w x = 18446744073709551615 - bit_or (bit_and (bit_xor w (x * 0x0101_0101_0101_0101)) 0x7f7f_7f7f_7f7f_7f7f + 0x7f7f_7f7f_7f7f_7f7f) (bit_xor w (x * 0x0101_0101_0101_0101))
 
@@ -206,7 +206,7 @@ stop_flags bs d h l e =
     ∙ high_bits (stop_byte d) (stop_small d) bs h l
     ∙ each_same (λ b. bit_and (stop_byte d b) 128) (flag (is_stop d)) (stop_flag d e) bs h
 
--- ---- what the code answers for eight bytes
+-- ---- what the code returns for eight bytes
 
 pub is_bytes : (bs : List ℕ) → ((i : ℕ) → get_or bs i 0 < 256) → IsBytes bs
 is_bytes [] h = tt

@@ -1,4 +1,4 @@
--- A search block by block: what was seen, and where the first place is.
+-- A search block by block: what was seen, and where the first match is.
 use Rattle.std.proofs.Common.{◌≡◌, ℕ, zero, suc, ◌+◌, ◌-◌, ◌*◌, ◌<◌, ◌≤◌, inl, inr, Bool, true, false, nat_lt, List, [], length, take, drop, get_or, Some, None, position, unwrap_or, refl, sym, ap, ◌∙◌, arith, length-drop, length-take, get_or-drop, get_or-take}
 use Rattle.std.proofs.Math.Nat.{add-mul, mul-le-mul_right}
 use Rattle.std.proofs.lemmas.List.{drop-drop}
@@ -14,7 +14,7 @@ block_at n (suc m) xs (suc k) h =
     let e : suc k * n ≡ n + k * n = ap (λ j. j * n) (let o : suc k ≡ 1 + k = omega arith in o) ∙ add-mul 1 k n ∙ (let o : 1 * n + k * n ≡ n + k * n = omega arith in o) in
     block_at n m (drop n xs) k (omega arith) ∙ ap (take n) (drop-drop (k * n) n xs) ∙ ap (λ j. take n (drop j xs)) (sym e)
 
--- t is the window of s that begins at place n
+-- t is the window of s that begins at offset n
 pub record IsWindow (s : List ℕ) (n : ℕ) (t : List ℕ) : Type 0 where
   pub within : n + length t ≤ length s
   pub same : (j : ℕ) → j < length t → get_or t j 0 ≡ get_or s (n + j) 0
@@ -33,7 +33,7 @@ block_is_window w s m k t room h e =
       len,
     )
 
--- and what is left after them
+-- and the rest after them
 pub rest_is_window : (s : List ℕ) (n : ℕ) (t : List ℕ) → n ≤ length s → t ≡ drop n s → IsWindow s n t × (n + length t ≡ length s)
 rest_is_window s n t h e =
     let len : length t ≡ length s - n = ap length e ∙ length-drop n s in (
@@ -44,7 +44,7 @@ rest_is_window s n t h e =
       omega (arith, len),
     )
 
--- the test passes at none of the first n places
+-- the test passes at none of the first n offsets
 abbrev pub Nowhere : (ℕ → Bool) → List ℕ → ℕ → Type 0
 Nowhere p s n = (i : ℕ) → i < n → p (get_or s i 0) ≡ false
 

@@ -1,4 +1,4 @@
--- C strings depend on the bytes that they take alone, and have exactly one answer.
+-- C strings depend only on the bytes that they take, and a read of one has exactly one result.
 use Rattle.std.proofs.Common.{◌≡◌, ◌≢◌, ℕ, ◌+◌, ◌≤◌, ◌<◌, ◌++◌, List, [], ◌∷◌, length, take, drop, arith, refl, sym, ◌∙◌, ap, codes, length-append, append_assoc, inl, inr, length-take, get_or, ◌==◌, not, true, false, true≢false, subst}
 use Rattle.std.proofs.lemmas.Bool.{cases_lt}
 use Rattle.std.proofs.lemmas.List.{take_at, take_more, get_or-take, length-take-le}
@@ -60,7 +60,7 @@ begins-c_string s t h e =
 not-zero : (b : ℕ) → not (b == 0) ≡ true → b ≢ 0
 not-zero b e = λ h. let f : not (b == 0) ≡ false = rw h refl in true≢false (sym e ∙ f)
 
--- the bytes before the first zero are none
+-- the bytes before the first zero are not zero
 before-zero : (s : List ℕ) → All (λ b. b ≢ 0) (take (first_place 0 s) s)
 before-zero s = All-from_get_or (λ b. b ≢ 0) (take (first_place 0 s) s) 0 (λ i l.
     let inside : i < first_place 0 s = omega (arith, l, length-take (first_place 0 s) s) in
@@ -77,7 +77,7 @@ taken s text n r =
     ap (λ m. take m s) r.size ∙ take_more s (first_place 0 s) 0 r.found
     ∙ ap (λ b. take (first_place 0 s) s ++ b ∷ []) zero ∙ ap (λ t. t ++ 0 ∷ []) (sym r.value)
 
--- the text has no zero
+-- the text contains no zero
 pub no-zero : (s text : List ℕ) (n : ℕ) → ReadsCString s text n → All (λ b. b ≢ 0) text
 no-zero s text n r = subst (All (λ b. b ≢ 0)) (sym r.value) (before-zero s)
 

@@ -17,7 +17,7 @@ prefix_len-take p (suc k) (x ∷ xs) =
 pub first_place-take : (d k : ℕ) (s : List ℕ) → first_place d (take k s) ≡ min k (first_place d s)
 first_place-take d k s = prefix_len-take (λ b. not (b == d)) k s
 
--- a text within a limit
+-- a string within a limit
 pub take-until : (d k : ℕ) (s : List ℕ) → take (first_place d (take k s)) (take k s) ≡ take (min k (first_place d s)) s
 take-until d k s = ap (λ n. take n (take k s)) (first_place-take d k s) ∙ take-take (min k (first_place d s)) k s (omega arith)
 

@@ -1,4 +1,4 @@
--- Texts, byte slices and C strings depend on the bytes that they take alone, and have exactly one answer.
+-- Strings, byte slices and C strings depend only on the bytes that they take, and a read of one has exactly one result.
 use Rattle.std.proofs.Common.{◌≡◌, ℕ, min, ◌+◌, ◌≤◌, ◌<◌, List, length, take, arith, refl, sym, ◌∙◌, ap, subst, inl, inr, ◌⊎◌, IsUtf8, codes, true≢false}
 use Rattle.std.proofs.lemmas.Bool.{cases_lt, cases_Bool}
 use Rattle.std.proofs.lemmas.Str.{IsUtf8-from_is_utf8, is_utf8-from_IsUtf8}
@@ -67,7 +67,7 @@ local-text (Required d) s t v n r h long e =
       there = omega (arith, same, r.there, long);
     }
 
--- a text of a given length is within its source
+-- a string of a given length is within its source
 pub within-length : (k : ℕ) → IsWithin (ReadsText (Length k))
 within-length k s v n r = omega (arith, r.room, r.size)
 
@@ -133,7 +133,7 @@ one-text ctx s = elim (cases_lt (length s) (wanted_len ctx)) as (λ _. AllowsOne
   ]
 ]
 
--- a text whose delimiter has to stand in the source is within it
+-- a string whose delimiter the source must contain is within it
 pub within-required : (d : ℕ) → IsWithin (ReadsText (Required d))
 within-required d s v n r = omega (arith, r.there, r.size)
 

@@ -49,7 +49,7 @@ pub each_itself : (bs : List ℕ) → lanes 8 bs ≡ each (λ b. b) bs
 each_itself [] = refl
 each_itself (b ∷ bs) = omega (arith, each_itself bs)
 
--- what holds of every eight bytes
+-- what holds for any eight bytes
 eight : (P : List ℕ → Type 0) → ((a b c d e f g h : ℕ) → P (a ∷ b ∷ c ∷ d ∷ e ∷ f ∷ g ∷ h ∷ [])) → (bs : List ℕ) → length bs ≡ 8 → P bs
 eight P p [] l = absurd (omega arith)
 eight P p (a ∷ []) l = absurd (omega arith)
@@ -62,7 +62,7 @@ eight P p (a ∷ b ∷ c ∷ d ∷ e ∷ f ∷ g ∷ []) l = absurd (omega arith
 eight P p (a ∷ b ∷ c ∷ d ∷ e ∷ f ∷ g ∷ h ∷ []) l = p a b c d e f g h
 eight P p (a ∷ b ∷ c ∷ d ∷ e ∷ f ∷ g ∷ h ∷ x ∷ xs) l = absurd (omega arith)
 
--- one byte in all eight
+-- one byte in all eight lanes
 pub each_one : (x : ℕ) (bs : List ℕ) → length bs ≡ 8 → each (λ b. x) bs ≡ x * 0x0101_0101_0101_0101
 each_one x = eight (λ bs. each (λ b. x) bs ≡ x * 0x0101_0101_0101_0101) (λ a b c d e f g h. omega arith)
 

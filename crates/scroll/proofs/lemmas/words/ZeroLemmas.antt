@@ -1,4 +1,4 @@
--- How many zeros stand below the lowest digit of a number in base 2.
+-- The number of trailing zeros of a number in base 2.
 use Rattle.std.proofs.Common.{◌≡◌, ℕ, zero, suc, ◌+◌, ◌*◌, ◌/◌, ◌%◌, ◌^◌, refl, sym, ap, ◌∙◌, arith, pow-suc}
 use Rattle.std.proofs.Math.Nat.{mul_assoc}
 use Rattle.std.specs.Int.Count.{count_trailing_zeros}

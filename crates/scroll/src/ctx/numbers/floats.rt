@@ -1,7 +1,7 @@
-// The floats: `f32` and `f64`, as their bits.
+// The floats `f32` and `f64`, by their bits.
 //
-// A float that is no NaN has one pattern of bits. A NaN has many, and Rattle tells none of them from another: it is written
-// as the quiet NaN with no sign and no payload.
+// A float other than a NaN has one bit pattern. A NaN has many, and Rattle doesn't distinguish them: a NaN is written
+// as the quiet NaN without a sign or a payload.
 ghost use Rattle.std.specs.Prelude.{to_bits};
 ghost use Rattle.std.specs.Float.{binary32, binary64};
 ghost use Rattle.scroll.specs.Floats.{float};

@@ -1,4 +1,4 @@
-// The number types, as parts of a pair.
+// The number types as parts of a pair.
 ghost use Rattle.std.specs.Prelude.{to_bits};
 ghost use Rattle.std.specs.Float.{binary32, binary64};
 ghost use Rattle.scroll.specs.Floats.{float_bytes};

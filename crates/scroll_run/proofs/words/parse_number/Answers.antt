@@ -8,11 +8,11 @@ use Rattle.std.specs.Option.{SomeIff}
 use Rattle.std.specs.Result.{OkIff, result_ok}
 use Rattle.scroll_run.proofs.words.parse_number.Goals as goal
 
--- a plus is no digit
+-- a plus isn't a digit
 no_plus : (word : List ℕ) → get_or word 0 0 ≡ 43 → ¬ (IsNumeral 10 word)
 no_plus word plus n = not_in_digits (numerals_by_value (AllDigits 10) tells_digits) word 43 n.1 (λ r. omega (arith, r.0)) 0 n.0 plus
 
--- what a word that begins with no plus parses to
+-- what a word that doesn't begin with a plus parses to
 parsed : {E : Type 0} (word text : List ℕ) (r : Result ℕ E) → text ≡ word → get_or word 0 0 ≢ 43 → ParsesUnsigned 128 10 text r → SomeIff (result_ok r) (IsNumeral 10 word × (digits_value 10 word < 2 ^ 128)) (digits_value 10 word)
 parsed word text r e plain h = by_cases r (parse_plain (numerals_by_value (AllDigits 10) tells_digits) 128 word r (rw e at h) plain)
   where

@@ -1,4 +1,4 @@
--- The four calls as writes of leaves, of which those of the size and those of the names are apart.
+-- The four calls as writes of leaves: those of the size don't overlap those of the names.
 use Rattle.std.proofs.Common.{rules, arith, ◌+◌, List, ℕ, [], ◌∷◌, length, sym, subst}
 use Rattle.std.specs.Borrow.{Bor}
 use Rattle.std.specs.List.{flat_map}

@@ -1,4 +1,4 @@
--- The second of a pair stands after the first.
+-- The second value of a pair comes after the first.
 use Rattle.scroll.proofs.lemmas.callers.Cursors.{Begins, grow}
 use Rattle.scroll.proofs.ctx.pairs.Tuple2Fields.write_fields.Goals as goal
 

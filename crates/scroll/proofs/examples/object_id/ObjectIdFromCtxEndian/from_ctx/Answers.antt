@@ -1,4 +1,4 @@
--- The digest is the bytes that stand there.
+-- The digest is the bytes at its offset.
 use Rattle.std.proofs.Common.{refl, arith, length-drop}
 use Rattle.scroll.proofs.lemmas.callers.ByteArrays.{bytes_made}
 use Rattle.scroll.proofs.examples.object_id.ObjectIdFromCtxEndian.from_ctx.Goals as goal

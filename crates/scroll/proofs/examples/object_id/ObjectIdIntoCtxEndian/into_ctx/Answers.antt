@@ -1,4 +1,4 @@
--- The digest is written behind the kind.
+-- The digest is written after the kind.
 use Rattle.std.proofs.Common.{ℕ, ◌++◌, length, slice_index, Fits, w8, rules, arith, length-append}
 use Rattle.scroll.proofs.lemmas.callers.ByteArrays.{bytes_filled}
 use Rattle.scroll.proofs.lemmas.callers.Cursors.{begin, grow, length-number_bytes}
