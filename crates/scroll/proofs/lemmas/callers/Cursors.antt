@@ -1,9 +1,9 @@
 -- Lemmas for callers: what was read at an offset and where the cursor then is, lists of reads, bytes that are written
 -- one after another, a number and its bytes, and an error that `?` returns.
-use Rattle.std.proofs.Common.{◌≡◌, ℕ, zero, suc, ◌+◌, ◌-◌, ◌*◌, ◌^◌, ◌<◌, ◌≤◌, ◌++◌, List, [], ◌∷◌, length, take, drop, slice_index, Some, Fits, w8, refl, sym, ap, ◌∙◌, arith, append_assoc, Result, IfErr}
+use Rattle.std.proofs.Common.{◌≡◌, ℕ, zero, suc, ◌+◌, ◌-◌, ◌*◌, ◌^◌, ◌<◌, ◌≤◌, ◌++◌, List, [], ◌∷◌, length, take, drop, slice_index, Some, Fits, w8, refl, sym, ap, ◌∙◌, arith, append_assoc, Result, Err, IfErr, OnErr}
 use Rattle.std.proofs.Math.Nat.{mul-suc}
 use Rattle.std.proofs.lemmas.Grind.{common_steps}
-use Rattle.std.proofs.lemmas.List.{get_or-drop, take-append-drop, drop_at, take_at, drop-drop, length-append, get_or-take, get_or_append_left, length-take-le}
+use Rattle.std.proofs.lemmas.List.{get_or-drop, take-append-drop, drop_at, take_at, drop-drop, length-append, get_or-take, get_or_append_left, length-take-le, take_all}
 use Rattle.std.proofs.lemmas.Result.{err_from_is_err_and}
 use Rattle.std.specs.List.{slice_get}
 use Rattle.std.specs.Result.{IsErrAnd}
@@ -34,6 +34,15 @@ ReadsAll-push {V} reads buffer from (w ∷ ws) mid to n v h is r = (h.0, h.1, Re
 -- one more value at the end, read with a cursor
 pub ReadsAll-next : {V : Type 0} (reads : List ℕ → V → ℕ → Type 0) (buffer : List ℕ) (from : ℕ) (vs : List V) (mid to : ℕ) (v : V) → ReadsAll reads buffer from vs mid → ReadsBetween reads buffer mid to v → ReadsAll reads buffer from (vs ++ v ∷ []) to
 ReadsAll-next reads buffer from vs mid to v h read = ReadsAll-push reads buffer from vs mid to read.0 v h read.1 read.2
+
+-- the same if the list is given by an equation, as after `push` in a loop over a table
+pub ReadsAll-pushed : {V : Type 0} {reads : List ℕ → V → ℕ → Type 0} {buffer : List ℕ} (from : ℕ) {mid to : ℕ} (vs : List V) {xs : List V} {v : V} → ReadsAll reads buffer from vs mid → ReadsBetween reads buffer mid to v → xs ≡ vs ++ v ∷ [] → ReadsAll reads buffer from xs to
+ReadsAll-pushed {V} {reads} {buffer} from {mid} {to} vs {xs} {v} h read is = rw is (ReadsAll-next reads buffer from vs mid to v h read)
+
+-- a call with a cursor failed, and `at` added the offset to its error: the offset is the cursor's, and what holds of the
+-- call's error holds of the one in the `At`
+pub located : {V E : Type 0} (P : E → Type 0) {from to place : ℕ} {r : Result V E} {e : E} → r ≡ Err e → place ≡ to → OnErr r (to ≡ from) → IfErr r P → (place ≡ from) × P e
+located P is at stays refused = (at ∙ (rw is at stays), rw is at refused)
 
 -- values of one size that are read one after another are each at their offset
 pub ReadsAll-at : {X : Type 0} (f : List ℕ → X) (w : ℕ) (buffer : List ℕ) (from : ℕ) (xs : List X) (to : ℕ) → ReadsAll (ReadsFront w f) buffer from xs to → (i : ℕ) → i < length xs → slice_get xs i ≡ Some (f (drop (from + w * i) buffer))
@@ -68,6 +77,11 @@ grow {place} {w} {front} bytes {first} {a} {b} h size before after =
       len = omega (arith, h.len, size, length-append front bytes);
       is = sym (take-append-drop place b) ∙ rw (head, tail) (sym (append_assoc front bytes (drop (place + w) first)));
     }
+
+-- a whole slice that is written after them by `cwrite_with`
+pub grow-slice : {place : ℕ} {front : List ℕ} (bytes : List ℕ) {first a b : List ℕ} → Begins place front first a → take place b ≡ take place a → drop place b ≡ take (length bytes) bytes ++ drop (length (take (length bytes) bytes)) (drop place a) → Begins (place + length bytes) (front ++ bytes) first b
+grow-slice {place} {front} bytes {first} {a} {b} h before after =
+    grow bytes h refl before (after ∙ ap (λ s. s ++ drop (length s) (drop place a)) (take_all (length bytes) bytes (omega arith)))
 
 -- a write with a cursor that is after them
 pub grow-write : {place w from n : ℕ} {front bytes first a b : List ℕ} → Begins place front first a → length bytes ≡ w → from ≡ place → WritesAt (WritesFront w bytes) a from b n → Begins (place + w) (front ++ bytes) first b

@@ -1,7 +1,7 @@
 -- From a call to leaves. What is written is a list of leaves, each of which is written whole or not at all. These
 -- lemmas say which leaves a type has, that a write at an offset is a write of them there, and that writes that don't
 -- overlap may be exchanged.
-use Rattle.std.proofs.Common.{◌≡◌, ℕ, ℤ, ◌+◌, ◌-◌, ◌≤◌, ◌<◌, ◌++◌, List, [], ◌∷◌, length, drop, map, arith, refl, sym, ◌∙◌, ap, subst, inl, inr, Some, Result, Ok, Err, IfOk, IfErr, FitsSigned, to_z, of_z}
+use Rattle.std.proofs.Common.{◌≡◌, ℕ, ℤ, ◌+◌, ◌-◌, ◌≤◌, ◌<◌, ◌++◌, List, [], ◌∷◌, length, drop, map, arith, refl, sym, ◌∙◌, ap, subst, inl, inr, ◌⊎◌, Some, Result, Ok, Err, IfOk, IfErr, FitsSigned, to_z, of_z}
 use Rattle.std.proofs.lemmas.Int.{to_z-of_z}
 use Rattle.std.specs.Borrow.{Bor}
 use Rattle.std.specs.Float.{Format}
@@ -226,3 +226,14 @@ either-order {old} {mid} {new} {mid'} {new'} {place} {place'} {leaves} {leaves'}
     let first = one-outcome old place' leaves' turned.0 mid' r' q' turned.1 v' in
     let second = one-outcome mid' place leaves new new' r q (subst (λ m. WritesLeaves m place leaves new r) first.0 turned.2) v in
     (second.0, second.1, first.1)
+
+-- two writes of values of fixed sizes that don't overlap may be exchanged
+pub fronts-exchange : {w w' place place' n n' : ℕ} {bytes bytes' old mid new : List ℕ} → length bytes ≡ w → length bytes' ≡ w' → (place + w ≤ place') ⊎ (place' + w' ≤ place) → WritesAt (WritesFront w bytes) old place mid n → WritesAt (WritesFront w' bytes') mid place' new n' → (mid' : List ℕ) × WritesLeaves old place' (bytes' ∷ []) mid' (Ok w') × WritesLeaves mid' place (bytes ∷ []) new (Ok w)
+fronts-exchange {w} {w'} {place} {place'} {n} {n'} {bytes} {bytes'} {old} {mid} {new} len len' apart first second =
+    let one : WritesLeaves old place (bytes ∷ []) mid (Ok w) = wrote-leaves (front-leaf w (λ (_ : ℕ). bytes) (λ _. len)) 0 (rw first.after.size at first) in
+    let two : WritesLeaves mid place' (bytes' ∷ []) new (Ok w') = wrote-leaves (front-leaf w' (λ (_ : ℕ). bytes') (λ _. len')) 0 (rw second.after.size at second) in
+    let away : Apart (pieces (length old) place (bytes ∷ [])) (pieces (length old) place' (bytes' ∷ [])) = elim apart [
+      | inl h ↦ apart-behind (length old) place place' (bytes ∷ []) (bytes' ∷ []) (omega (arith, h, len))
+      | inr h ↦ apart-before (length old) place place' (bytes ∷ []) (bytes' ∷ []) (omega (arith, h, len'))
+    ] in
+    leaves-exchange old mid new place place' (bytes ∷ []) (bytes' ∷ []) (Ok w) (Ok w') away one two

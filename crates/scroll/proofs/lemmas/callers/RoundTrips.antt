@@ -5,8 +5,8 @@ use Rattle.std.proofs.Math.Seq.{take-add}
 use Rattle.std.proofs.lemmas.Bool.{cases_lt}
 use Rattle.std.proofs.lemmas.Grind.{common_steps, flat_map-append, same_number_lists}
 use Rattle.std.proofs.lemmas.Int.{ints}
-use Rattle.std.proofs.lemmas.List.{append-nil, drop-drop, drop_at, take_at, take_all, take_more, get_or_append_left, length-take-le}
-use Rattle.std.proofs.lemmas.List.Elements.{All-get_or, All-head, All-tail}
+use Rattle.std.proofs.lemmas.List.{append-nil, drop-drop, drop_at, take_at, take_all, take_more, take-append-drop, get_or_append_left, length-take-le}
+use Rattle.std.proofs.lemmas.List.Elements.{All-get_or, All-head, All-tail, All-weaker}
 use Rattle.std.proofs.lemmas.List.FromFn.{get_or-map-range_with_len}
 use Rattle.std.proofs.lemmas.List.Sums.{passes_at_first}
 use Rattle.std.specs.List.{All, flat_map}
@@ -85,6 +85,15 @@ required-back d s text n r =
     ap (λ m. take m s) r.size ∙ take_more s (first_place d s) 0 r.there
     ∙ ap (λ b. take (first_place d s) s ++ b ∷ []) byte ∙ ap (λ t. t ++ d ∷ []) (sym r.front)
 
+-- the text, the delimiter and what follows are the source
+pub required-whole : {d n : ℕ} {s text : List ℕ} → ReadsText (Required d) s text n → text ++ d ∷ drop n s ≡ s
+required-whole {d} {n} {s} {text} r =
+    sym (append_assoc text (d ∷ []) (drop n s)) ∙ ap (λ l. l ++ drop n s) (sym (required-back d s text n r)) ∙ take-append-drop n s
+
+-- what follows a text and its delimiter
+pub required-rest : (d : ℕ) (text rest : List ℕ) → drop (length text + 1) (text ++ d ∷ rest) ≡ rest
+required-rest d text rest = ap (drop (length text + 1)) (sym (append_assoc text (d ∷ []) rest)) ∙ drop_at (text ++ d ∷ []) rest (length text + 1) (length-append text (d ∷ []))
+
 -- the first delimiter, after bytes that are not the delimiter
 pub place-behind : (d : ℕ) (t rest : List ℕ) → All (λ b. b ≢ d) t → first_place d (t ++ d ∷ rest) ≡ length t
 place-behind d [] rest h = grind arith
@@ -140,6 +149,20 @@ grow-next bytes vs i d {place} {w} {first} {a} {b} h inside size before after =
     ∙ ap (λ l. flat_map bytes (take i vs) ++ l) (append-nil (bytes (get_or vs i d))) in
     subst (λ l. Begins (place + w) l first b) (sym more) (grow (bytes (get_or vs i d)) h size before after)
 
+-- values that were read from a whole buffer are written back
+pub all-back : {V : Type 0} (reads : List ℕ → V → ℕ → Type 0) (bytes : V → List ℕ) (buffer : List ℕ) (vs : List V) {to : ℕ} → ((place : ℕ) (v : V) (n : ℕ) → ReadsAt reads buffer place v n → bytes v ≡ take n (drop place buffer)) → ReadsAll reads buffer 0 vs to → to ≡ length buffer → flat_map bytes vs ≡ buffer
+all-back reads bytes buffer vs {to} back h end = ReadsAll-back reads bytes buffer back 0 vs to h ∙ take_all to buffer (omega (arith, end))
+
+-- values that a loop has written to their end read back, if each value of which P holds does
+pub all-again : {V : Type 0} (reads : List ℕ → V → ℕ → Type 0) (bytes : V → List ℕ) (P : V → Type 0) → ((v : V) → P v → (rest : List ℕ) → reads (bytes v ++ rest) v (length (bytes v))) → (vs : List V) (i : ℕ) {s : List ℕ} → length vs ≤ i → All P (take i vs) → s ≡ flat_map bytes (take i vs) → ReadsAll reads s 0 vs (length s)
+all-again {V} reads bytes P again vs i {s} end each is =
+    let all : All P vs = subst (All P) (take_all i vs end) each in
+    let whole : s ≡ flat_map bytes vs ++ [] = is ∙ ap (flat_map bytes) (take_all i vs end) ∙ sym (append-nil (flat_map bytes vs)) in
+    let text : flat_map bytes vs ≡ s = sym (whole ∙ append-nil (flat_map bytes vs)) in
+    subst (λ l. ReadsAll reads l 0 vs (length s)) (sym whole)
+    (subst (λ l. ReadsAll reads (flat_map bytes vs ++ []) 0 vs (length l)) text
+    (ReadsAll-again reads bytes vs (All-weaker P (λ v. (rest : List ℕ) → reads (bytes v ++ rest) v (length (bytes v))) again vs all) [] []))
+
 -- bytes that were written from an offset on: those before it are unchanged, and these are there
 pub grown-at : {to place : ℕ} (n : ℕ) (bytes : List ℕ) {first now : List ℕ} → Begins to (take place first ++ bytes) first now → place ≤ length first → to ≡ place + n → (take place now ≡ take place first) × (drop place now ≡ bytes ++ drop n (drop place first))
 grown-at {to} {place} n bytes {first} {now} h room is =
@@ -172,6 +195,22 @@ signed-begins order w x rest low high =
     ap (λ (n : ℕ). if nat_lt (2 * n) (256 ^ w) then pos n else pos n -ℤ pos (256 ^ w))
     (number-begins order w (if int_lt x (pos 0) then nat_abs (pos (256 ^ w) +ℤ x) else nat_abs x) rest back.0)
     ∙ back.1
+
+-- bytes after a number of w bytes that counts them: what was read is written back
+pub counted-back : (order : Endian) (w place : ℕ) (s text : List ℕ) (n : ℕ) → ((i : ℕ) → Fits w8 (slice_index s i)) → place ≤ length s → w + number order w (drop place s) ≤ length (drop place s) → text ≡ take (number order w (drop place s)) (drop w (drop place s)) → n ≡ length text → number_bytes order w n ++ text ≡ take (w + number order w (drop place s)) (drop place s)
+counted-back order w place s text n fits inside room is size =
+    let t = drop place s in
+    let len : length text ≡ number order w t = ap length is ∙ length-take-le (number order w t) (drop w t) (omega (arith, room, length-drop w t)) in
+    ap (λ m. number_bytes order w m ++ text) (size ∙ len)
+    ∙ back-next w (number order w t) t (number-back order w place s fits (omega (arith, inside, room, length-drop place s))) is
+
+-- and what was written reads back
+pub counted-again : (order : Endian) (w : ℕ) (text rest : List ℕ) (n : ℕ) → n < 256 ^ w → n ≡ length text → (number order w ((number_bytes order w n ++ text) ++ rest) ≡ n) × (take n (drop w ((number_bytes order w n ++ text) ++ rest)) ≡ text)
+counted-again order w text rest n fit size =
+    let split = append_assoc (number_bytes order w n) text rest in (
+      ap (number order w) split ∙ number-begins order w n (text ++ rest) fit,
+      ap (λ l. take n (drop w l)) split ∙ ap (take n) (drop_at (number_bytes order w n) (text ++ rest) w (length-number_bytes order w n)) ∙ take_at text rest n (sym size),
+    )
 
 -- each element of a list of bytes fits a byte, and so does the default that is read past its end
 byte-fits : (s : List ℕ) → All (λ b. b < 256) s → (i : ℕ) → Fits w8 (slice_index s i)

@@ -1,7 +1,7 @@
 -- Bytes that are read or written one after another.
 use Rattle.std.proofs.Common.{◌≡◌, ℕ, ◌+◌, ◌-◌, ◌<◌, ◌≤◌, ◌↔◌, ◌++◌, ℤ, List, [], ◌∷◌, length, take, drop, get_or, slice_index, Fits, w8, inl, inr, refl, sym, ap, subst, ◌∙◌, arith, append_assoc, length-append, length-drop}
 use Rattle.std.proofs.lemmas.Grind.{take_at_read, flat_map-append}
-use Rattle.std.proofs.lemmas.List.{append-nil, flat_map_more, take-append-drop, length-take-le, take_at, drop_at, drop-drop, get_or-drop}
+use Rattle.std.proofs.lemmas.List.{append-nil, flat_map_more, take-append-drop, length-take-le, take_at, take_more, drop_at, drop-drop, get_or-drop}
 use Rattle.std.proofs.lemmas.List.Elements.{All-from_get_or}
 use Rattle.std.proofs.lemmas.List.FromFn.{length-map-range_with_len}
 use Rattle.std.specs.List.{All, flat_map, slice_range}
@@ -112,6 +112,18 @@ puts-write {t} {old} {new} {w} {n} {p} {q} len h to =
       is = sym (take-append-drop p new) ∙ rw (h.before, h.after.after, rest) refl;
     }
 
+-- a write of one value by `cwrite_with`
+pub puts-at : (t : List ℕ) {old new : List ℕ} {w p : ℕ} → length t ≡ w → p + w ≤ length old → take p new ≡ take p old → drop p new ≡ t ++ drop w (drop p old) → Puts t old new p (p + w)
+puts-at t {old} {new} {w} {p} len room before after = record {
+  inside = room;
+  size = omega (arith, len);
+  is = sym (take-append-drop p new) ∙ rw (before, after, drop-drop w p old) refl;
+}
+
+-- the bytes that were written from the start of a buffer
+pub puts-front : {t old new : List ℕ} {q : ℕ} → Puts t old new 0 q → take q new ≡ t
+puts-front h = (puts-parts h).0
+
 -- an error of one value
 pub front-write : {t old new : List ℕ} {w p : ℕ} {e : Error} → length t ≡ w → p ≤ length old → RefusesWriteAt (LeavesShort w) IsBadOffset old p new e → PutsFront t old new p e
 front-write len inside (inl past) = absurd (omega (arith, past.past, inside))
@@ -182,6 +194,12 @@ item-text f xs i x h is = ap (flat_map f) ((take_at_read xs i x h).1 ∙ ap (λ 
 pub puts-item : {X : Type 0} (f : X → List ℕ) (xs : List X) {i : ℕ} {x : X} {a b c : List ℕ} {p q r : ℕ} → i < length xs → x ≡ get_or xs i x
     → Puts (flat_map f (take i xs)) a b p q → Puts (f x) b c q r → Puts (flat_map f (take (i + 1) xs)) a c p r
 puts-item f xs {i} {x} h is before wrote = rw (item-text f xs i x h is) (puts-next before wrote)
+
+-- the same if the loop copies the element
+pub puts-copy : {X : Type 0} (f : X → List ℕ) (xs : List X) (i : ℕ) (d : X) {a b c : List ℕ} {p q r : ℕ} → i < length xs
+    → Puts (flat_map f (take i xs)) a b p q → Puts (f (get_or xs i d)) b c q r → Puts (flat_map f (take (i + 1) xs)) a c p r
+puts-copy f xs i d {a} {b} {c} {p} {q} {r} h before wrote =
+    subst (λ t. Puts t a c p r) (sym (ap (flat_map f) (take_more xs i d h) ∙ sym (flat_map_more f [] (take i xs) (get_or xs i d)))) (puts-next before wrote)
 
 pub front-item : {X : Type 0} (f : X → List ℕ) (xs : List X) {i : ℕ} {x : X} {a b c : List ℕ} {p q : ℕ} {e : Error} → i < length xs → x ≡ get_or xs i x
     → Puts (flat_map f (take i xs)) a b p q → PutsFront (f x) b c q e → PutsFront (flat_map f xs) a c p e
