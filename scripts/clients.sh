@@ -82,7 +82,7 @@ try_client() {
     : >"$said"
     make_workspace "$name" || { fail 'its files could not be copied'; return; }
     is_laid_out "$crate" >"$said" || { fail 'rt fmt lays its files out in another way'; return; }
-    if grep -rn 'Rattle\.scroll\.proofs' "$crate" | grep -v 'Rattle\.scroll\.proofs\.lemmas\.callers\.' >"$said"; then
+    if grep -rnE 'scroll(\.|::)proofs' "$crate" | grep -vE 'scroll(\.|::)proofs(\.|::)lemmas(\.|::)callers(\.|::)' >"$said"; then
         fail 'it names a proof of the library that is not for callers'
         return
     fi

@@ -20,3 +20,4 @@ mod std_c_strings;
 mod stream_sizes;
 mod streams;
 mod texts;
+mod zeros;

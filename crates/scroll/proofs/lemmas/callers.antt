@@ -5,3 +5,4 @@ pub mod OneAnswer
 pub mod Records
 pub mod RoundTrips
 pub mod SpanLemmas
+pub mod Tables

@@ -45,12 +45,7 @@ fn first_nonzero(bytes: &[u8]) -> Option<usize>
         × (slice_index bytes.now place ≢ 0) × ((i : ℕ) → i < place → slice_index bytes.now i ≡ 0)) }
     ensures none { IfNone result ((i : ℕ) → i < length bytes.now → slice_index bytes.now i ≡ 0) }
 {
-    for place in 0..bytes.len() {
-        if bytes[place] != 0 {
-            return Some(place);
-        }
-    }
-    None
+    bytes.iter().position(|byte| *byte != 0)
 }
 
 impl<'a> TryFromCtx<'a, usize> for Zeros {

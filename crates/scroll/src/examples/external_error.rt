@@ -4,7 +4,7 @@ ghost use Rattle.std.proofs.Common.{rules};
 ghost use Rattle.scroll.specs.Numbers.{ReadsNumber};
 
 use crate::ctx::TryFromCtx;
-use crate::{BE, Endian, Error, Pread};
+use crate::{BE, Endian, Error, Pread, check_room};
 use std::alloc::AllocError;
 use std::fmt;
 use std::result::Result;
@@ -43,9 +43,7 @@ impl<'a> TryFromCtx<'a, Endian> for Foo {
     ghost reads_bounded = { λ order source x n h. Prim.search rules };
 
     fn try_from_ctx(from: &'a [u8], ctx: Endian) -> Result<(Foo, usize), ExternalError> {
-        if from.len() <= 2 {
-            return Err(ExternalError {});
-        }
+        check_room(3, from.len())?;
         let mut offset = 0;
         let n = from.gread_with(&mut offset, ctx)?;
         Ok((Foo(n), offset))

@@ -6,7 +6,7 @@ ghost use Rattle.scroll.specs.declared.error.Error.TheVariants.{TooBig, BadOffse
 ghost use Rattle.scroll.specs.declared.examples.own_type.VersionError.TheVariants.{Zero, Scroll};
 
 use crate::ctx::{TryFromCtx, TryIntoCtx};
-use crate::{BE, Endian, Error, LE, Pread, Pwrite, ReadFrom};
+use crate::{BE, Endian, Error, LE, Pread, Pwrite, ReadFrom, check_room};
 use std::result::Result;
 
 #[derive(Debug, Drop)]
@@ -40,12 +40,7 @@ impl<'a> TryFromCtx<'a, ()> for Version {
     ghost reads_bounded = { λ _ source x n h. Prim.search rules };
 
     fn try_from_ctx(from: &'a [u8], _ctx: ()) -> Result<(Version, usize), VersionError> {
-        if from.len() < 2 {
-            return Err(VersionError::Scroll(Error::TooBig {
-                size: 2,
-                len: from.len(),
-            }));
-        }
+        check_room(2, from.len())?;
         if from[0] == 0 {
             return Err(VersionError::Zero);
         }
@@ -69,12 +64,7 @@ impl TryIntoCtx<()> for Version {
     ghost writes_keeps = { λ _ x old new n h. Prim.search (rules, common_steps) };
 
     fn try_into_ctx(self, dst: &mut [u8], _ctx: ()) -> Result<usize, VersionError> {
-        if dst.len() < 2 {
-            return Err(VersionError::Scroll(Error::TooBig {
-                size: 2,
-                len: dst.len(),
-            }));
-        }
+        check_room(2, dst.len())?;
         dst[..2].copy_from_slice(&[self.major, self.minor]);
         Ok(2)
     }

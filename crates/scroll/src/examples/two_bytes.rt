@@ -42,9 +42,6 @@ impl TryIntoCtx<Endian> for Foo {
     ghost writes_keeps = { λ order x. WritesNumber-keeps 2 order x.0 };
 
     fn try_into_ctx(self, dst: &mut [u8], ctx: Endian) -> Result<usize, ExternalError> {
-        if dst.len() < 2 {
-            return Err(ExternalError {});
-        }
         let size = self.0.try_into_ctx(dst, ctx)?;
         Ok(size)
     }

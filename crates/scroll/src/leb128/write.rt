@@ -4,7 +4,7 @@ ghost use Rattle.scroll.specs.Bytes.{sum_below, WritesFront, LeavesShort};
 ghost use Rattle.scroll.specs.Spelling.{spelling, spelled_byte, unsigned_form, HoldsGroups, HasSpelling, HasSignedSpelling};
 ghost use Rattle.scroll.specs.LebWrites.{ten_groups, turned_round, IsLeast};
 
-use crate::error::{Error, Result};
+use crate::error::{Result, check_room};
 
 // Returns the least number of groups that hold `value`.
 #[inline(always)]
@@ -78,16 +78,11 @@ fn put_groups(dst: &mut [u8], low: u64, tenth: u8, count: usize) -> Result<usize
 {
     // This comes before the check for room, so that the jump that found a count of one leads here.
     if count == 1 {
-        if dst.is_empty() {
-            return Err(Error::TooBig { size: 1, len: 0 });
-        }
+        check_room(1, dst.len())?;
         put_one(dst, low, tenth);
         return Ok(1);
     }
-    let len = dst.len();
-    if len < count {
-        return Err(Error::TooBig { size: count, len });
-    }
+    check_room(count, dst.len())?;
     if count <= 3 {
         put_short(dst, low, tenth, count);
     } else if count <= 8 {

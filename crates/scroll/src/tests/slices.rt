@@ -39,6 +39,24 @@ fn writes_where_room_is_made_sure_of(rt: HostRuntime) {
     assert_eq!(rt; bytes, [2, 1, 0, 3, 4]);
 }
 
+// The first bytes of a slice, as many as the context says, or all of them where it has fewer.
+#[test]
+fn the_first_bytes_of_a_slice(rt: HostRuntime) {
+    let source: [u8; 3] = [1, 2, 3];
+    let wanted: [[u8; 5]; 5] = [
+        [9, 9, 9, 9, 9],
+        [9, 1, 9, 9, 9],
+        [9, 1, 2, 9, 9],
+        [9, 1, 2, 3, 9],
+        [9, 1, 2, 3, 9],
+    ];
+    for len in 0..5 {
+        let mut bytes = [9u8; 5];
+        slice::cwrite_with(&mut bytes, &source[..], 1, len);
+        assert_eq!(rt; bytes, wanted[len], "{len}");
+    }
+}
+
 #[test]
 fn arrays_and_vectors_are_read_as_they_are(rt: HostRuntime) -> Result<()> {
     let bytes: [u8; 3] = [1, 2, 3];

@@ -68,7 +68,8 @@ array_filled bytes {w} {n} {vs} {old} {new} size h =
 byte-of : (x : ℕ) → x < 256 → x / 1 % 256 ≡ x
 byte-of x h = omega (arith, h)
 
-one-byte : (order : Endian) (x : ℕ) → x < 256 → number_bytes order 1 x ≡ x ∷ []
+-- a byte by itself
+pub one-byte : (order : Endian) (x : ℕ) → x < 256 → number_bytes order 1 x ≡ x ∷ []
 one-byte Little x h = ap (λ b. b ∷ []) (byte-of x h)
 one-byte Big x h = ap (λ b. b ∷ []) (byte-of x h)
 

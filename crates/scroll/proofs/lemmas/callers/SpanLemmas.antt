@@ -1,6 +1,5 @@
 -- Bytes that are read or written one after another.
 use Rattle.std.proofs.Common.{◌≡◌, ℕ, ◌+◌, ◌-◌, ◌<◌, ◌≤◌, ◌↔◌, ◌++◌, ℤ, List, [], ◌∷◌, length, take, drop, get_or, slice_index, Fits, w8, inl, inr, refl, sym, ap, subst, ◌∙◌, arith, append_assoc, length-append, length-drop}
-use Rattle.std.proofs.lemmas.Grind.{take_at_read, flat_map-append}
 use Rattle.std.proofs.lemmas.List.{append-nil, flat_map_more, take-append-drop, length-take-le, take_at, take_more, drop_at, drop-drop, get_or-drop}
 use Rattle.std.proofs.lemmas.List.Elements.{All-from_get_or}
 use Rattle.std.proofs.lemmas.List.FromFn.{length-map-range_with_len}
@@ -9,11 +8,14 @@ use Rattle.scroll.specs.Bytes.{WritesFront, LeavesShort}
 use Rattle.scroll.specs.Errors.{IsBadOffset}
 use Rattle.scroll.specs.Leb128.{Counted, ReadsUleb, ReadsSleb, ReadsCountedUleb, ReadsCountedSleb}
 use Rattle.scroll.specs.LebWrites.{uleb_text, sleb_text, WritesUleb, WritesSleb}
+use Rattle.scroll.specs.Numbers.{WritesNumber}
 use Rattle.scroll.specs.Reads.{ReadsBetween}
 use Rattle.scroll.specs.Spans.{Stands, Puts, PutsFront}
 use Rattle.scroll.specs.Spelling.{BeginsWith, BeginsWithSigned, spelling, spelled_byte, unsigned_form}
 use Rattle.scroll.specs.Writes.{WritesAt, RefusesWriteAt}
+use Rattle.scroll.specs.declared.endian.Endian.{Endian}
 use Rattle.scroll.specs.declared.error.Error.{Error}
+use Rattle.scroll.proofs.lemmas.callers.ByteArrays.{one-byte}
 
 -- nothing is there yet
 pub stands-none : {buffer : List ℕ} {from : ℕ} → from ≤ length buffer → Stands [] buffer from from
@@ -159,6 +161,13 @@ sleb-puts x = puts-write (length-sleb_text x)
 pub sleb-front : (x : Counted ℤ) {old new : List ℕ} {p : ℕ} {e : Error} → p ≤ length old → RefusesWriteAt (LeavesShort x.count) IsBadOffset old p new e → PutsFront (sleb_text x) old new p e
 sleb-front x = front-write (length-sleb_text x)
 
+-- a byte that was written, and one whose write failed
+pub byte-puts : (order : Endian) {x : ℕ} {old new : List ℕ} {n p q : ℕ} → x < 256 → WritesAt (WritesNumber 1 order x) old p new n → q ≡ p + n → Puts (x ∷ []) old new p q
+byte-puts order {x} small h to = puts-write refl (rw (one-byte order x small) at h) to
+
+pub byte-front : {x : ℕ} {old new : List ℕ} {p : ℕ} {e : Error} → p ≤ length old → RefusesWriteAt (LeavesShort 1) IsBadOffset old p new e → PutsFront (x ∷ []) old new p e
+byte-front = front-write refl
+
 -- an error before some bytes, and one after them
 pub front-first : {t old new : List ℕ} {p : ℕ} {e : Error} (u : List ℕ) → PutsFront t old new p e → PutsFront (t ++ u) old new p e
 front-first {t} u h = record {
@@ -186,24 +195,12 @@ front-next {t} {u} x h =
       error = rw (← len) h.error;
     }
 
--- the bytes of a list, up to an element, and including it
-item-text : {X : Type 0} (f : X → List ℕ) (xs : List X) (i : ℕ) (x : X) → i < length xs → x ≡ get_or xs i x → flat_map f (take (i + 1) xs) ≡ flat_map f (take i xs) ++ f x
-item-text f xs i x h is = ap (flat_map f) ((take_at_read xs i x h).1 ∙ ap (λ y. take i xs ++ y ∷ []) (sym is)) ∙ sym (flat_map_more f [] (take i xs) x)
-
--- one more element of a list is written, or its write fails
-pub puts-item : {X : Type 0} (f : X → List ℕ) (xs : List X) {i : ℕ} {x : X} {a b c : List ℕ} {p q r : ℕ} → i < length xs → x ≡ get_or xs i x
-    → Puts (flat_map f (take i xs)) a b p q → Puts (f x) b c q r → Puts (flat_map f (take (i + 1) xs)) a c p r
-puts-item f xs {i} {x} h is before wrote = rw (item-text f xs i x h is) (puts-next before wrote)
-
--- the same if the loop copies the element
+-- one more element of a list is written, which the loop copies
 pub puts-copy : {X : Type 0} (f : X → List ℕ) (xs : List X) (i : ℕ) (d : X) {a b c : List ℕ} {p q r : ℕ} → i < length xs
     → Puts (flat_map f (take i xs)) a b p q → Puts (f (get_or xs i d)) b c q r → Puts (flat_map f (take (i + 1) xs)) a c p r
 puts-copy f xs i d {a} {b} {c} {p} {q} {r} h before wrote =
     subst (λ t. Puts t a c p r) (sym (ap (flat_map f) (take_more xs i d h) ∙ sym (flat_map_more f [] (take i xs) (get_or xs i d)))) (puts-next before wrote)
 
-pub front-item : {X : Type 0} (f : X → List ℕ) (xs : List X) {i : ℕ} {x : X} {a b c : List ℕ} {p q : ℕ} {e : Error} → i < length xs → x ≡ get_or xs i x
-    → Puts (flat_map f (take i xs)) a b p q → PutsFront (f x) b c q e → PutsFront (flat_map f xs) a c p e
-front-item f xs {i} {x} {a} {b} {c} {p} {q} {e} h is before refused =
-    let rest = flat_map f (drop (i + 1) xs) in
-    let whole : flat_map f xs ≡ (flat_map f (take i xs) ++ f x) ++ rest = ap (flat_map f) (sym (take-append-drop (i + 1) xs)) ∙ flat_map-append f (take (i + 1) xs) (drop (i + 1) xs) ∙ ap (λ s. s ++ rest) (item-text f xs i x h is) in
-    subst (λ t. PutsFront t a c p e) (sym whole) (front-first rest (front-next before refused))
+-- for functions that write one part of a text after another: `#[tactic(auto, using(scroll::proofs::lemmas::callers::SpanLemmas::parts))]`
+-- tries these on the error of each part
+pub ruleset parts = (front-first, front-next, uleb-front, sleb-front, byte-front)
