@@ -1,6 +1,7 @@
 -- The definitions that the contracts cite, in an order to read them in.
 pub mod Bytes
 pub mod Exact
+pub mod Made
 pub mod Numbers
 pub mod Floats
 pub mod Errors
