@@ -14,6 +14,14 @@ TRAITS = ["FromCtx", "TryFromCtx", "IntoCtx", "TryIntoCtx", "SizeWith"]
 # A struct of more numbers than this is refused.
 MOST_NUMBERS = 64
 
+# A struct that reads more numbers than this, or more signed ones, is read by a function with a clause for each field: the
+# prover gives up on one equation of so many.
+MOST_AT_ONCE = 14
+MOST_SIGNED = 6
+
+# A struct of more bytes than this states by a lemma that the bytes after it are unchanged.
+MOST_BYTES_COUNTED = 64
+
 # The longest line of a clause before its parts are put on separate lines.
 CLAUSE_WIDTH = 110
 
@@ -25,12 +33,14 @@ RESERVED = {
 
 # The modules of the names in the ghost members, in the order of the `use` lines.
 GHOST_IMPORTS: list[tuple[str, list[str]]] = [
-    ("Rattle.std.specs.Prelude", ["◌≡◌", "◌++◌", "[]", "◌∷◌", "take", "drop", "slice_index", "slice_index_or", "pos", "from_bits"]),
+    ("Rattle.std.specs.Prelude", ["◌≡◌", "◌≤◌", "◌++◌", "[]", "◌∷◌", "take", "drop", "slice_index", "slice_index_or", "length", "pos", "from_bits"]),
     ("Rattle.std.specs.Float", ["binary32", "binary64"]),
-    ("Rattle.std.proofs.Common", ["rules"]),
+    ("Rattle.std.proofs.Common", ["length-append", "rules"]),
     ("Rattle.scroll.specs.Bytes", ["ReadsFront", "RefusesShort", "WritesFront", "LeavesShort"]),
     ("Rattle.scroll.specs.Floats", ["float", "float_bytes"]),
+    ("Rattle.scroll.specs.Made", ["ReadsMade"]),
     ("Rattle.scroll.specs.Numbers", ["number", "number_bytes", "signed_number", "signed_bytes"]),
+    ("Rattle.scroll.specs.lemmas.Frames", ["drop-front", "length-number_bytes"]),
 ]
 
 
@@ -75,6 +85,51 @@ def places(struct: Struct) -> list[tuple[int, Field]]:
         found.append((place, field))
         place += width_of(field.type)
     return found
+
+
+def numbers_read(type: Type) -> list[Number]:
+    """The numbers that a field is read as by calls of its own."""
+    match type:
+        case Number():
+            return [type]
+        case Array() if not is_bytes(type):
+            return numbers_read(type.element) * type.length
+    return []
+
+
+def is_large(type: Type) -> bool:
+    """Whether a struct is read with a clause for each field."""
+    if not isinstance(type, Struct):
+        return False
+    read = [number for field in type.fields for number in numbers_read(field.type)]
+    signed = [number for number in read if number.is_signed]
+    return len(read) > MOST_AT_ONCE or len(signed) > MOST_SIGNED or any(is_large(field.type) for field in type.fields)
+
+
+@dataclass(frozen=True)
+class Fact:
+    """A field, as a clause says what it is."""
+
+    name: str
+    path: str
+    value: str
+
+
+def facts_of(struct: Struct, source: str, outer: tuple[str, ...] = (), path: str = "") -> list[Fact]:
+    """What the fields of a large struct are, and those of a large struct in it."""
+    found = []
+    for place, field in places(struct):
+        names = (*outer, f"field_{field.name}" if struct.is_tuple or field.name in RESERVED else field.name)
+        inner = f"{path}.{label(field)}"
+        if isinstance(field.type, Struct) and is_large(field.type):
+            found += facts_of(field.type, drop(place, source), names, inner)
+        else:
+            found.append(Fact("_".join(names), inner, value_at(field.type, source, place)))
+    return found
+
+
+def snake(name: str) -> str:
+    return re.sub(r"(?<=[a-z0-9])(?=[A-Z])", "_", name).lower()
 
 
 def drop(place: int, source: str) -> str:
@@ -162,35 +217,67 @@ def within(head: str, opening: str, items: list[str], end: str, indent: int) -> 
     return [f"{space}{head}{opening}", *(f"{space}    {item}," for item in items), f"{space}{closes}{end}"]
 
 
-def read_expression(type: Type, place: int, indent: int) -> str:
+def read_expression(type: Type, place: int, indent: int, context: str, large: bool) -> str:
     """Returns the call that reads a field."""
     if not isinstance(type, Array):
-        return f"this.cread_with({place}, ctx)"
+        return f"this.cread_with({place}, {context})"
+    if is_bytes(type) and large:
+        return f"bytes_at(this, {place})"
     if is_bytes(type):
         return f"*this{f'[{place}..]' if place else ''}.first_chunk().unwrap()"
     width = width_of(type.element)
-    items = [read_expression(type.element, place + width * index, indent + 4) for index in range(type.length)]
+    items = [read_expression(type.element, place + width * index, indent + 4, context, large) for index in range(type.length)]
     return "\n".join(within("", "[", items, "", indent)).lstrip()
+
+
+def read_body(struct: Struct, context: str, indent: int) -> list[str]:
+    """The struct, with each field read."""
+    name = struct.name
+    space = " " * indent
+    large = is_large(struct)
+    fields = [(field, read_expression(field.type, place, indent + 4, context, large)) for place, field in places(struct)]
+    if struct.is_tuple:
+        return within(name, "(", [call for _, call in fields], "", indent)
+    return [f"{space}{name} {{", *(f"{space}    {field.name}: {call}," for field, call in fields), f"{space}}}"]
+
+
+def facts_clause(head: str, struct: Struct, tail: str) -> str:
+    """A clause that says of each field what it is."""
+    facts = [f"(x{fact.path} ≡ {fact.value})" for fact in facts_of(struct, "s")]
+    return "\n".join([head, *(f"        {'× ' if index else ''}{fact}" for index, fact in enumerate(facts))]) + tail
+
+
+def read_fields(struct: Struct) -> list[str]:
+    """The function that reads a large struct."""
+    clauses = []
+    for fact in facts_of(struct, "this.now"):
+        line = f"    ensures {fact.name} {{ result{fact.path} ≡ {fact.value} }}"
+        clauses.append(line)
+    return [
+        "// The fields, with a clause for each.",
+        f"fn read_{snake(struct.name)}(this: &[u8], order: Endian) -> {struct.name}",
+        f"    requires {{ {width_of(struct)} ≤ length this.now }}",
+        *clauses,
+        "{",
+        *read_body(struct, "order", 4),
+        "}",
+        "",
+    ]
 
 
 def from_ctx(source: Source, struct: Struct) -> str:
     name = struct.name
-    size = width_of(struct)
-    makes = record_clause("    ghost makes = { λ order s x. x ≡ ", struct, " };")
-    if struct.is_tuple:
-        items = [read_expression(field.type, place, 12) for place, field in places(struct)]
-        body = within(name, "(", items, "", 8)
-    else:
-        fields = [f"            {field.name}: {read_expression(field.type, place, 12)}," for place, field in places(struct)]
-        body = [f"        {name} {{", *fields, "        }"]
+    large = is_large(struct)
+    head = "    ghost makes = { λ order s x."
     return "\n".join([
+        *(read_fields(struct) if large else []),
         f"impl FromCtx<Endian> for {name} {{",
-        f"    ghost need = {{ λ _. {size} }};",
+        f"    ghost need = {{ λ _. {width_of(struct)} }};",
         "",
-        makes,
+        facts_clause(head, struct, " };") if large else record_clause(f"{head} x ≡ ", struct, " };"),
         "",
         f"    fn from_ctx(this: &[u8], ctx: Endian) -> {name} {{",
-        *body,
+        *([f"        read_{snake(name)}(this, ctx)"] if large else read_body(struct, "ctx", 8)),
         "    }",
         "}",
     ])
@@ -210,19 +297,25 @@ def signature(name: str, parameters: list[str], result: str) -> list[str]:
 def try_from_ctx(source: Source, struct: Struct) -> str:
     name = struct.name
     size = width_of(struct)
+    head = "    ghost reads = { λ order."
+    if is_large(struct):
+        reads = facts_clause(f"{head} ReadsMade {size} (λ s x.", struct, ") };")
+        body = [f"        read_made(from, ctx, {size})"]
+    else:
+        reads = record_clause(f"{head} ReadsFront {size} (λ s. ", struct, ") };")
+        body = [room_test("from", size), f"        Ok(({name}::from_ctx(from, ctx), {size}))"]
     return "\n".join([
         f"impl<'a> TryFromCtx<'a, Endian> for {name} {{",
         "    type Error = Error;",
         "",
-        record_clause(f"    ghost reads = {{ λ order. ReadsFront {size} (λ s. ", struct, ") };"),
+        reads,
         "",
         f"    ghost refuses = {{ λ _. RefusesShort {size} }};",
         "",
         "    ghost reads_bounded = { λ order source x n h. Prim.search rules };",
         "",
         *signature("try_from_ctx", ["from: &'a [u8]", "ctx: Endian"], source.result_of(f"({name}, usize)")),
-        room_test("from", size),
-        f"        Ok(({name}::from_ctx(from, ctx), {size}))",
+        *body,
         "    }",
         "}",
     ])
@@ -244,13 +337,15 @@ def into_ctx(source: Source, struct: Struct) -> str:
     name = struct.name
     size = width_of(struct)
     parts = parts_of(struct, "self", "x")
+    counted = f"drop-front {size} _ old new (Prim.simp (length-append, length-number_bytes)) h"
+    law = counted if size > MOST_BYTES_COUNTED else "Prim.search rules"
     return "\n".join([
         f"impl IntoCtx<Endian> for {name} {{",
         f"    ghost need = {{ λ _. {size} }};",
         "",
         bytes_clause("    ghost leaves = { λ order x old new.", "new ≡ ", parts, f" ++ drop {size} old }};"),
         "",
-        "    ghost leaves_keeps = { λ order x old new h. Prim.search rules };",
+        f"    ghost leaves_keeps = {{ λ order x old new h. {law} }};",
         "",
         "    fn into_ctx(self, dst: &mut [u8], ctx: Endian) {",
         *write_lines(parts),
@@ -303,8 +398,8 @@ WRITERS = {"FromCtx": from_ctx, "TryFromCtx": try_from_ctx, "IntoCtx": into_ctx,
 def use_lines(blocks: list[str], traits: list[str], crate: str) -> str:
     """Returns the `use` lines that the blocks need."""
     text = "\n".join(blocks)
-    words = set(re.findall(r"[\w]+", text))
-    signs = {"◌≡◌": "≡", "◌++◌": "++", "◌∷◌": "∷", "[]": "[]"}
+    words = set(re.findall(r"[\w-]+", text))
+    signs = {"◌≡◌": "≡", "◌≤◌": "≤", "◌++◌": "++", "◌∷◌": "∷", "[]": "[]", "length": "length this"}
 
     def is_used(name: str) -> bool:
         return signs[name] in text if name in signs else name in words
@@ -323,7 +418,8 @@ def use_lines(blocks: list[str], traits: list[str], crate: str) -> str:
     ours += [name for name in ("Endian", "Error") if name in words]
     ours += ["Result"] if re.search(r"-> Result<(?!.*, Error>)", text) else []
     ours += ["check_room"] if "check_room" in words else []
-    lines += ["", f"use {crate}::ctx::{braced(sorted(needed))};", f"use {crate}::{braced(ours)};"]
+    contexts = sorted(needed) + [name for name in ("bytes_at", "read_made") if name in words]
+    lines += ["", f"use {crate}::ctx::{braced(contexts)};", f"use {crate}::{braced(ours)};"]
     return "\n".join(lines)
 
 

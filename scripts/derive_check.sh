@@ -41,8 +41,11 @@ clients/derived/src/shapes.rt.txt Data6
 clients/derived/src/shapes.rt.txt Pair
 clients/derived/src/shapes.rt.txt Data7
 clients/derived/src/shapes.rt.txt Data8
+clients/derived/src/station.rt.txt Report
 clients/object_files/src/header.rt.txt RawHeader FromCtx
 clients/object_files/src/sections.rt.txt Section FromCtx TryFromCtx
+clients/packets/src/headers.rt.txt UdpHeader FromCtx TryFromCtx IntoCtx TryIntoCtx
+clients/packets/src/headers.rt.txt DnsHeader FromCtx TryFromCtx IntoCtx TryIntoCtx
 END
 
 # Tests whether a call is refused with one line that ends in these words.

@@ -17,6 +17,10 @@ class Number:
     bytes: str
     default: str
 
+    @property
+    def is_signed(self) -> bool:
+        return self.value.startswith("signed")
+
     def value_at(self, source: str) -> str:
         return self.value.format(width=self.width, source=source)
 

@@ -19,6 +19,7 @@ pub mod CStringTexts
 pub mod Zeros
 pub mod Arrays
 pub mod Exact
+pub mod Made
 pub mod Fits
 pub mod History
 pub mod Leaves
