@@ -21,7 +21,8 @@
 #     edit_table.py   the tables of the edits say what the edits say
 #     edits.py        the edits, many in one check
 #
-# The tests of the library take longest to prove, so they stand in a second copy, beside the others; rt ci runs in a third.
+# Once the library is proved, three rows of steps run side by side, each in a copy of its own: the library's tests; the
+# clients, depending.sh and misuse.sh; and the others. rt ci runs in a further copy.
 #
 # Each step is named at the end with its counts and its time. The last line is `N passed, M failed`, the sums of the
 # counts, with `, K skipped` after it where something was left out. A step that ends without its counts, or that fails
@@ -103,22 +104,30 @@ run_step() {
     count_step "$room/step$steps" "$@"
 }
 
-# Starts a step in the copy $2 beside the others, under the name $1.
+# Starts steps in the copy $1 beside the others, one after the other. Each further argument is a step.
 start_beside() {
-    name=$1
-    tree=$room/$2
-    shift 2
-    run_in "$room/$name" "$tree" "$@" >"$room/$name.said" &
+    copy=$1
+    shift
+    number=0
+    for step in "$@"; do
+        number=$((number + 1))
+        # shellcheck disable=SC2086 # words
+        run_in "$room/$copy$number" "$room/$copy" $step >"$room/$copy$number.said"
+    done &
     beside="$beside $!"
 }
 
-# Shows and counts the step that was started beside the others under the name $1, once it has ended.
+# Shows and counts the steps that were started in the copy $1 beside the others, once they have ended.
 count_beside() {
-    name=$1
+    copy=$1
     shift
-    echo "== $*, beside the others"
-    cat "$room/$name.said"
-    count_step "$room/$name" "$@"
+    number=0
+    for step in "$@"; do
+        number=$((number + 1))
+        echo "== $step, beside the others"
+        cat "$room/$copy$number.said"
+        count_step "$room/$copy$number" "$step"
+    done
 }
 
 run_stands() {
@@ -126,19 +135,25 @@ run_stands() {
         # shellcheck disable=SC2086 # words
         run_step $step
     done
-    cp -R "$room/tree" "$room/tests" || stop "the files could not be copied"
-    # (the tests take about as long as all the others together, which are not always as many jobs)
+    for copy in tests clients; do
+        cp -R "$room/tree" "$room/$copy" || stop "the files could not be copied"
+    done
+    # (more jobs than processors: each row has stretches of one job alone)
     all=$(count_workers)
     export WORKERS=$((all > 1 ? all - 1 : 1))
-    start_beside tests tests sh scripts/prove.sh scroll tests
+    start_beside tests 'sh scripts/prove.sh scroll tests'
     tests=$!
     WORKERS=$((all > 1 ? all / 2 : 1))
-    for step in 'prove.sh scroll_run' 'prove.sh scroll_run tests' sessions.sh cuts.sh clients.sh depending.sh misuse.sh; do
+    start_beside clients 'sh scripts/clients.sh' 'sh scripts/depending.sh' 'sh scripts/misuse.sh'
+    clients=$!
+    for step in 'prove.sh scroll_run' 'prove.sh scroll_run tests' sessions.sh cuts.sh; do
         # shellcheck disable=SC2086 # words
         run_step sh scripts/$step
     done
+    wait "$clients"
+    count_beside clients 'sh scripts/clients.sh' 'sh scripts/depending.sh' 'sh scripts/misuse.sh'
     wait "$tests"
-    count_beside tests sh scripts/prove.sh scroll tests
+    count_beside tests 'sh scripts/prove.sh scroll tests'
     WORKERS=$all
     cp "$room/tests/crates/scroll/out/scroll_tests" "$room/tree/crates/scroll/out/" 2>/dev/null
     run_step sh scripts/faults.sh
@@ -149,14 +164,14 @@ copy_tree "$top" "$room/tree" || stop "the files could not be copied"
 if wants verdict; then
     copy_tree "$top" "$room/verdict" || stop "the files could not be copied"
     rm -f "$room"/verdict/crates/*/must-fail/*.edit
-    start_beside verdict verdict nice rt ci
+    start_beside verdict 'nice rt ci'
     verdict=$!
 fi
 if wants stands; then run_stands; fi
 if wants edits; then run_step python3 scripts/edits.py; fi
 if wants verdict; then
     wait "$verdict"
-    count_beside verdict rt ci
+    count_beside verdict 'nice rt ci'
 fi
 beside=
 
