@@ -3,7 +3,9 @@
 // succeed, whichever allocation is refused.
 use crate::cstr::{CStr, CString};
 use crate::ctx::{TryFromCtx, TryIntoCtx};
-use crate::tests::results::{check_bad_input, check_bad_offset, check_too_big, check_value};
+use crate::tests::results::{
+    check_bad_input, check_bad_offset, check_eq, check_too_big, check_value,
+};
 use crate::{Error, Pread, Pwrite, Result};
 use std::alloc::{AllocError, Global};
 use std::process::Abort;
@@ -14,7 +16,7 @@ const NO_ZERO: &str = "The input doesn't contain a null byte";
 fn is_held(rt: &impl Abort, made: Result<CString>, wanted: &[u8]) -> bool {
     match made {
         Ok(string) => {
-            assert!(rt; string.as_bytes_with_nul() == wanted);
+            check_eq(&rt, string.as_bytes_with_nul(), wanted);
             true
         }
         Err(error) => {
@@ -77,9 +79,9 @@ fn texts_that_are_held(rt: HostRuntime) {
         let second = is_held(&rt, CString::new(alloc, text), wanted);
         assert!(rt; first || second);
         let string = make(&rt, alloc, text);
-        assert!(rt; string.as_bytes() == text);
-        assert!(rt; string.as_c_str().to_bytes() == text);
-        assert!(rt; string.as_c_str().to_bytes_with_nul() == wanted);
+        check_eq(&rt, string.as_bytes(), text);
+        check_eq(&rt, string.as_c_str().to_bytes(), text);
+        check_eq(&rt, string.as_c_str().to_bytes_with_nul(), wanted);
     }
 }
 
@@ -89,16 +91,16 @@ fn texts_of_each_length(rt: HostRuntime) -> std::result::Result<(), AllocError> 
     for len in [0, 1, 255, 256, 4096, 65_535, 65_536] {
         let text = vec![in alloc; b'a'; len]?;
         let string = make(&rt, alloc, &text);
-        assert!(rt; string.as_bytes() == text.as_slice());
+        check_eq(&rt, string.as_bytes(), text.as_slice());
         let source = string.as_bytes_with_nul();
         let mut offset = 0;
         let copy: Result<CString> = source.gread_with(&mut offset, &alloc);
         if !is_held(&rt, copy, source) {
-            assert!(rt; offset == 0);
+            check_eq(&rt, offset, 0);
             let again: Result<CString> = source.gread_with(&mut offset, &alloc);
             assert!(rt; is_held(&rt, again, source));
         }
-        assert!(rt; offset == len + 1);
+        check_eq(&rt, offset, len + 1);
     }
     Ok(())
 }
@@ -111,7 +113,7 @@ fn up_to_the_first_zero(rt: HostRuntime) {
     assert!(rt; CStr::from_bytes_until_nul(b"").is_none());
     let other = [b'a', 0, 0];
     let same = CStr::from_bytes_until_nul(&other);
-    assert!(rt; front == same);
+    check_eq(&rt, front, same);
     assert!(rt; CStr::from_bytes_until_nul(b"b\0") != same);
     assert!(rt; CStr::from_bytes_until_nul(b"aa\0") != same);
 }
@@ -124,21 +126,21 @@ fn reads(rt: HostRuntime) {
     for _ in 0..2 {
         let mut offset = 6;
         assert!(rt; is_text(source.gread_with(&mut offset, ()), b"world"));
-        assert!(rt; offset == 12);
+        check_eq(&rt, offset, 12);
         let cut: Result<CStr> = source.gread_with(&mut offset, ());
         check_bad_input(&rt, cut, 0, NO_ZERO);
         let cut: Result<CString> = source.gread_with(&mut offset, &alloc);
         check_bad_input(&rt, cut, 0, NO_ZERO);
-        assert!(rt; offset == 12);
+        check_eq(&rt, offset, 12);
         let past: Result<CString> = source.pread_with(23, &alloc);
         check_bad_offset(&rt, past, 23);
     }
     let mut offset = 6;
     let first = is_held(&rt, source.gread_with(&mut offset, &alloc), b"world\0");
-    assert!(rt; offset == if first { 12 } else { 6 });
+    check_eq(&rt, offset, if first { 12 } else { 6 });
     offset = 6;
     let second = is_held(&rt, source.gread_with(&mut offset, &alloc), b"world\0");
-    assert!(rt; offset == if second { 12 } else { 6 });
+    check_eq(&rt, offset, if second { 12 } else { 6 });
     assert!(rt; first || second);
 }
 
@@ -150,14 +152,14 @@ fn the_empty_text(rt: HostRuntime) {
     let mut offset = 0;
     let empty: Result<CString> = source.gread_with(&mut offset, &alloc);
     if !is_held(&rt, empty, b"\0") {
-        assert!(rt; offset == 0);
+        check_eq(&rt, offset, 0);
         let again: Result<CString> = source.gread_with(&mut offset, &alloc);
         assert!(rt; is_held(&rt, again, b"\0"));
     }
-    assert!(rt; offset == 1);
+    check_eq(&rt, offset, 1);
     let cut: Result<CStr> = source.gread_with(&mut offset, ());
     check_bad_input(&rt, cut, 0, NO_ZERO);
-    assert!(rt; offset == 1);
+    check_eq(&rt, offset, 1);
 }
 
 // Whether two C strings that were asked for are there. Any error but want of memory ends the test.
@@ -186,10 +188,10 @@ fn arrays_of_c_strings(rt: HostRuntime) {
     let wanted = [b"ab".as_slice(), b"".as_slice()];
     let mut offset = 0;
     let first = are_held(&rt, source.gread_with(&mut offset, &alloc), wanted);
-    assert!(rt; offset == if first { 4 } else { 0 });
+    check_eq(&rt, offset, if first { 4 } else { 0 });
     offset = 0;
     let second = are_held(&rt, source.gread_with(&mut offset, &alloc), wanted);
-    assert!(rt; offset == if second { 4 } else { 0 });
+    check_eq(&rt, offset, if second { 4 } else { 0 });
     assert!(rt; first || second);
 }
 
@@ -204,12 +206,12 @@ fn writes(rt: HostRuntime) {
     let one = make(&rt, alloc, b"a");
     let cut: Result<usize> = target.gwrite_with(one.as_c_str(), &mut offset, ());
     check_too_big(&rt, cut, 2, 1);
-    assert!(rt; offset == 3);
-    assert!(rt; bytes == [0x61, 0x62, 0, 0xff]);
+    check_eq(&rt, offset, 3);
+    check_eq(&rt, bytes, [0x61, 0x62, 0, 0xff]);
     let mut bytes = [0xffu8; 4];
     let mut target = &mut bytes[..];
     check_value(&rt, target.pwrite(two, 1), 3);
     let cut: Result<usize> = target.pwrite(one, 3);
     check_too_big(&rt, cut, 2, 1);
-    assert!(rt; bytes == [0xff, 0x61, 0x62, 0]);
+    check_eq(&rt, bytes, [0xff, 0x61, 0x62, 0]);
 }

@@ -1,17 +1,19 @@
 // The calls at the crate's own types.
 use crate::ctx::{FromCtx, IntoCtx, TryFromCtx, TryIntoCtx};
-use crate::tests::results::{check_bad_offset, check_too_big, check_value};
+use crate::tests::results::{check_bad_offset, check_eq, check_too_big, check_value};
 use crate::{BE, Endian, LE, NATIVE, NETWORK, Pread, Pwrite, Result};
 
 #[test]
 fn byte_orders(rt: HostRuntime) {
-    assert!(rt;
-        [LE, BE, NETWORK, NATIVE] == [Endian::Little, Endian::Big, Endian::Big, Endian::Little]
+    check_eq(
+        &rt,
+        [LE, BE, NETWORK, NATIVE],
+        [Endian::Little, Endian::Big, Endian::Big, Endian::Little],
     );
-    assert!(rt; Endian::network() == BE);
-    assert!(rt; Endian::default() == LE);
-    assert!(rt; Endian::from(true) == LE);
-    assert!(rt; Endian::from(false) == BE);
+    check_eq(&rt, Endian::network(), BE);
+    check_eq(&rt, Endian::default(), LE);
+    check_eq(&rt, Endian::from(true), LE);
+    check_eq(&rt, Endian::from(false), BE);
     assert!(rt; LE.is_little());
     assert!(rt; !BE.is_little());
 }
@@ -55,20 +57,20 @@ fn writes_at_an_offset(rt: HostRuntime) {
     let wanted: [u8; 16] = [
         1, 2, 3, 4, 5, 6, 0xef, 0xbe, 0xad, 0xde, 0xff, 0xff, 0x12, 0x34, 0xff, 7,
     ];
-    assert!(rt; bytes == wanted);
+    check_eq(&rt, bytes, wanted);
 }
 
 #[test]
 fn with_no_offset(rt: HostRuntime) {
     let bytes: [u8; 3] = [1, 2, 3];
-    assert!(rt; u16::from_ctx(&bytes, BE) == 0x0102);
+    check_eq(&rt, u16::from_ctx(&bytes, BE), 0x0102);
     check_value(&rt, u16::try_from_ctx(&bytes, LE), (0x0201, 2));
     let mut out = [0u8; 3];
     0x0506u16.into_ctx(&mut out, BE);
-    assert!(rt; out == [5, 6, 0]);
+    check_eq(&rt, out, [5, 6, 0]);
     check_value(&rt, 0x0506u16.try_into_ctx(&mut out, LE), 2);
-    assert!(rt; out == [6, 5, 0]);
+    check_eq(&rt, out, [6, 5, 0]);
     let short = 1u32.try_into_ctx(&mut out, LE);
     check_too_big(&rt, short, 4, 3);
-    assert!(rt; out == [6, 5, 0]);
+    check_eq(&rt, out, [6, 5, 0]);
 }

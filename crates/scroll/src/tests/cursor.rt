@@ -1,5 +1,5 @@
 // The cursor, the default contexts and bulk reads.
-use crate::tests::results::{check_bad_offset, check_too_big, check_value};
+use crate::tests::results::{check_bad_offset, check_eq, check_too_big, check_value};
 use crate::{BE, LE, Pread, Pwrite, Result};
 use std::process::Abort;
 
@@ -22,7 +22,7 @@ fn pread_with_iter_bytes(rt: HostRuntime) {
             *byte = read;
         }
     }
-    assert!(rt; copy == bytes);
+    check_eq(&rt, copy, bytes);
 }
 
 #[test]
@@ -35,8 +35,8 @@ fn gread_with_iter_bytes(rt: HostRuntime) {
             *byte = read;
         }
     }
-    assert!(rt; copy == bytes);
-    assert!(rt; offset == 8);
+    check_eq(&rt, copy, bytes);
+    check_eq(&rt, offset, 8);
 }
 
 const BYTES: [u8; 8] = [0x0f, 0x0e, 0x0e, 0x0b, 0x0d, 0x0a, 0x0e, 0x0d];
@@ -47,7 +47,7 @@ macro_rules! check_simple_gread {
         let mut offset = 0;
         let read: Result<$number> = BYTES[..].gread_with(&mut offset, LE);
         check_value(&$rt, read, $value);
-        assert!($rt; offset == $size);
+        check_eq(&$rt, offset, $size);
     };
 }
 
@@ -79,11 +79,11 @@ macro_rules! check_gread_gwrite {
         let mut offset = 0;
         check_value(&$rt, target.gwrite_with($value, &mut offset, LE), $size);
         check_value(&$rt, target.gwrite_with($value, &mut offset, BE), $size);
-        assert!($rt; offset == 2 * $size);
+        check_eq(&$rt, offset, 2 * $size);
         let mut offset = 0;
         check_value(&$rt, bytes[..].gread_with(&mut offset, LE), $value);
         check_value(&$rt, bytes[..].gread_with(&mut offset, BE), $value);
-        assert!($rt; offset == 2 * $size);
+        check_eq(&$rt, offset, 2 * $size);
     };
 }
 
@@ -130,14 +130,14 @@ fn gread_with_byte(rt: HostRuntime) {
     let bytes = [0x7fu8; 1];
     let mut offset = 0;
     check_value(&rt, bytes[..].gread::<u8>(&mut offset), 127);
-    assert!(rt; offset == 1);
+    check_eq(&rt, offset, 1);
     let end: Result<u8> = bytes[..].gread(&mut offset);
     check_too_big(&rt, end, 1, 0);
-    assert!(rt; offset == 1);
+    check_eq(&rt, offset, 1);
     let dead: [u8; 2] = [0xde, 0xad];
     let mut offset = 0;
     check_value(&rt, dead[..].gread_with::<u16>(&mut offset, BE), 57005);
-    assert!(rt; offset == 2);
+    check_eq(&rt, offset, 2);
 }
 
 #[test]
@@ -147,14 +147,14 @@ fn gread_inout(rt: HostRuntime) {
     let mut offset = 0;
     let answer: Result<()> = bytes[..].gread_inout(&mut offset, &mut copy);
     assert!(rt; answer.is_ok());
-    assert!(rt; copy == bytes);
-    assert!(rt; offset == 8);
+    check_eq(&rt, copy, bytes);
+    check_eq(&rt, offset, 8);
     let mut two = [0u8; 2];
     let mut offset = 0;
     let answer: Result<()> = bytes[..].gread_inout_with(&mut offset, &mut two, LE);
     assert!(rt; answer.is_ok());
-    assert!(rt; two == [1, 2]);
-    assert!(rt; offset == 2);
+    check_eq(&rt, two, [1, 2]);
+    check_eq(&rt, offset, 2);
 }
 
 #[test]
@@ -164,8 +164,8 @@ fn gread_inout_that_stops(rt: HostRuntime) {
     let mut offset = 3;
     let answer: Result<()> = bytes[..].gread_inout_with(&mut offset, &mut three, LE);
     check_too_big(&rt, answer, 2, 0);
-    assert!(rt; three == [0x0504, 0x0706, 9]);
-    assert!(rt; offset == 7);
+    check_eq(&rt, three, [0x0504, 0x0706, 9]);
+    check_eq(&rt, offset, 7);
 }
 
 #[test]
@@ -175,9 +175,9 @@ fn default_writes(rt: HostRuntime) {
     let mut offset = 4;
     check_value(&rt, target.pwrite(0xbeefbeefu32, 0), 4);
     check_value(&rt, target.gwrite(0x0102u16, &mut offset), 2);
-    assert!(rt; offset == 6);
+    check_eq(&rt, offset, 6);
     let cut: Result<usize> = target.gwrite(0u32, &mut offset);
     check_too_big(&rt, cut, 4, 2);
-    assert!(rt; offset == 6);
-    assert!(rt; bytes == [0xef, 0xbe, 0xef, 0xbe, 2, 1, 0, 0]);
+    check_eq(&rt, offset, 6);
+    check_eq(&rt, bytes, [0xef, 0xbe, 0xef, 0xbe, 2, 1, 0, 0]);
 }

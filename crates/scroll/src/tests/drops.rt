@@ -8,7 +8,7 @@ ghost use Rattle.scroll.specs.Numbers.{WritesNumber};
 ghost use Rattle.scroll.specs.declared.endian.Endian.TheVariants.{Little};
 
 use crate::ctx::{TryFromCtx, TryIntoCtx};
-use crate::tests::results::{check_bad_offset, check_too_big, check_value};
+use crate::tests::results::{check_bad_offset, check_eq, check_too_big, check_value};
 use crate::{Error, LE, Pread, Pwrite, Result, slice};
 use std::cell::Cell;
 
@@ -71,11 +71,11 @@ fn a_refused_read_drops_its_elements(rt: HostRuntime) {
     let bytes: [u8; 3] = [7, 8, 9];
     let cut: Result<[Counted; 3]> = bytes[..2].pread_with(0, &drops);
     check_too_big(&rt, cut, 1, 0);
-    assert!(rt; drops.get() == 2);
+    check_eq(&rt, drops.get(), 2);
     let whole: Result<[Counted; 3]> = bytes[..].pread_with(0, &drops);
-    assert!(rt; drops.get() == 2);
+    check_eq(&rt, drops.get(), 2);
     drop(whole);
-    assert!(rt; drops.get() == 5);
+    check_eq(&rt, drops.get(), 5);
 }
 
 #[test]
@@ -86,11 +86,11 @@ fn a_bulk_read_drops_what_it_replaces(rt: HostRuntime) {
     let offset = &mut 0;
     let cut: Result<()> = bytes[..].gread_inout_with(offset, &mut held, &drops);
     check_too_big(&rt, cut, 1, 0);
-    assert!(rt; drops.get() == 2);
+    check_eq(&rt, drops.get(), 2);
     let [first, second, third] = &held;
-    assert!(rt; [first.byte, second.byte, third.byte] == [1, 2, 9]);
+    check_eq(&rt, [first.byte, second.byte, third.byte], [1, 2, 9]);
     drop(held);
-    assert!(rt; drops.get() == 5);
+    check_eq(&rt, drops.get(), 5);
 }
 
 #[test]
@@ -101,11 +101,11 @@ fn writes_drop_their_values(rt: HostRuntime) {
     // (the first is written, the second is refused, and the third is left)
     let cut: Result<usize> = target.pwrite(three(&drops), 1);
     check_too_big(&rt, cut, 1, 0);
-    assert!(rt; drops.get() == 3);
+    check_eq(&rt, drops.get(), 3);
     let past: Result<usize> = target.pwrite(three(&drops), 3);
     check_bad_offset(&rt, past, 3);
-    assert!(rt; drops.get() == 6);
-    assert!(rt; bytes == [0, 7]);
+    check_eq(&rt, drops.get(), 6);
+    check_eq(&rt, bytes, [0, 7]);
     let offset = &mut 1;
     let wrote: Result<usize> = slice::gwrite(
         &mut bytes,
@@ -116,6 +116,6 @@ fn writes_drop_their_values(rt: HostRuntime) {
         offset,
     );
     check_value(&rt, wrote, 1);
-    assert!(rt; drops.get() == 7);
-    assert!(rt; bytes == [0, 5]);
+    check_eq(&rt, drops.get(), 7);
+    check_eq(&rt, bytes, [0, 5]);
 }

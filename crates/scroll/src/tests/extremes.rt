@@ -1,7 +1,7 @@
 // Each call at the greatest offset: past the end of every slice, it is refused by that offset, and nothing changes.
 use crate::cstr::CStr;
 use crate::ctx::StrCtx;
-use crate::tests::results::{check_bad_offset, check_too_big};
+use crate::tests::results::{check_bad_offset, check_eq, check_too_big};
 use crate::{BE, LE, Pread, Pwrite, Result, Sleb128, Uleb128, slice};
 use std::process::Abort;
 
@@ -30,8 +30,8 @@ fn reads(rt: HostRuntime) {
     let mut two = [3u16, 4];
     check_past(&rt, source.gread_inout(&mut at, &mut two));
     check_past(&rt, source.gread_inout_with(&mut at, &mut two, BE));
-    assert!(rt; two == [3, 4]);
-    assert!(rt; at == MOST);
+    check_eq(&rt, two, [3, 4]);
+    check_eq(&rt, at, MOST);
 }
 
 #[test]
@@ -44,7 +44,7 @@ fn bulk_reads_into_no_element(rt: HostRuntime) {
         assert!(rt; by_default.is_ok(), "{start}");
         let in_order: Result<()> = bytes[..].gread_inout_with(&mut at, &mut none, BE);
         assert!(rt; in_order.is_ok(), "{start}");
-        assert!(rt; at == start);
+        check_eq(&rt, at, start);
     }
 }
 
@@ -64,8 +64,8 @@ fn writes(rt: HostRuntime) {
     );
     check_past(&rt, slice::gwrite(&mut bytes, 1u8, &mut at));
     check_past(&rt, slice::gwrite_with(&mut bytes, [1u8; 0], &mut at, LE));
-    assert!(rt; at == MOST);
-    assert!(rt; bytes == [7; 3]);
+    check_eq(&rt, at, MOST);
+    check_eq(&rt, bytes, [7; 3]);
 }
 
 #[test]

@@ -1,7 +1,7 @@
 // Floats: the values of the Rust crate's tests, and the bytes that it reads and writes for zeros, subnormals, infinities
 // and NaNs.
 use crate::ctx::{FromCtx, IntoCtx, SizeWith, TryFromCtx, TryIntoCtx};
-use crate::tests::results::{check_bad_offset, check_too_big, check_value};
+use crate::tests::results::{check_bad_offset, check_eq, check_too_big, check_value};
 use crate::{BE, Cread, Cwrite, Endian, IOread, IOwrite, LE, Pread, Pwrite, Result};
 use std::io;
 use std::process::Abort;
@@ -13,7 +13,7 @@ macro_rules! check_gread {
         let mut offset = 0;
         let value: $float = $value;
         check_value(&$rt, bytes[..].gread_with(&mut offset, LE), value);
-        assert!($rt; offset == $size);
+        check_eq(&$rt, offset, $size);
     };
 }
 
@@ -35,11 +35,11 @@ macro_rules! check_gread_gwrite {
         let mut offset = 0;
         check_value(&$rt, target.gwrite_with($value, &mut offset, LE), $size);
         check_value(&$rt, target.gwrite_with($value, &mut offset, BE), $size);
-        assert!($rt; offset == 2 * $size);
+        check_eq(&$rt, offset, 2 * $size);
         let mut offset = 0;
         check_value(&$rt, bytes[..].gread_with(&mut offset, LE), $value);
         check_value(&$rt, bytes[..].gread_with(&mut offset, BE), $value);
-        assert!($rt; offset == 2 * $size);
+        check_eq(&$rt, offset, 2 * $size);
     };
 }
 
@@ -118,13 +118,13 @@ const DOUBLES: [(f64, [u8; 8]); 11] = [
 macro_rules! check_float {
     ($rt:ident, $float:ty, $width:expr, $value:ident, $bytes:ident, $order:ident) => {
         let read: $float = $bytes[..].pread_with(0, $order)?;
-        assert!($rt; read == $value);
+        check_eq(&$rt, read, $value);
         let mut target = [7u8; $width];
         let mut slice = &mut target[..];
         slice.pwrite_with(read, 0, $order)?;
-        assert!($rt; target == $bytes);
+        check_eq(&$rt, target, $bytes);
         $value.into_ctx(&mut target, $order);
-        assert!($rt; target == $bytes);
+        check_eq(&$rt, target, $bytes);
     };
 }
 
@@ -180,24 +180,24 @@ fn nans_and_their_bytes(rt: HostRuntime) -> Result<()> {
         assert!(rt; read.is_nan());
         let mut target = [7u8; 4];
         read.try_into_ctx(&mut target, LE)?;
-        assert!(rt; target == [0, 0, 0xc0, 0x7f]);
+        check_eq(&rt, target, [0, 0, 0xc0, 0x7f]);
     }
     for bytes in DOUBLE_NANS.iter() {
         let (read, size) = f64::try_from_ctx(bytes, BE)?;
         assert!(rt; read.is_nan());
-        assert!(rt; size == 8);
+        check_eq(&rt, size, 8);
         let mut target = [7u8; 8];
         (&read).try_into_ctx(&mut target, BE)?;
-        assert!(rt; target == [0x7f, 0xf8, 0, 0, 0, 0, 0, 0]);
+        check_eq(&rt, target, [0x7f, 0xf8, 0, 0, 0, 0, 0, 0]);
     }
     Ok(())
 }
 
 #[test]
 fn sizes_and_refusals(rt: HostRuntime) {
-    assert!(rt; [f32::size_with(&LE), f64::size_with(&BE)] == [4, 8]);
-    assert!(rt; [f32::size_with(&()), f64::size_with(&())] == [4, 8]);
-    assert!(rt; <[[f64; 3]; 2]>::size_with(&LE) == 48);
+    check_eq(&rt, [f32::size_with(&LE), f64::size_with(&BE)], [4, 8]);
+    check_eq(&rt, [f32::size_with(&()), f64::size_with(&())], [4, 8]);
+    check_eq(&rt, <[[f64; 3]; 2]>::size_with(&LE), 48);
     let mut bytes = [0u8; 3];
     let short: Result<f32> = bytes[..].pread_with(0, LE);
     check_too_big(&rt, short, 4, 3);
@@ -208,7 +208,7 @@ fn sizes_and_refusals(rt: HostRuntime) {
     let mut target = &mut bytes[..];
     let short = target.pwrite_with(1.0f32, 0, LE);
     check_too_big(&rt, short, 4, 3);
-    assert!(rt; bytes == [0, 0, 0]);
+    check_eq(&rt, bytes, [0, 0, 0]);
 }
 
 #[test]
@@ -217,10 +217,10 @@ fn with_room_made_sure_of(rt: HostRuntime) {
     let mut target = &mut bytes[..];
     target.cwrite_with(1.5f32, 0, BE);
     target.cwrite(-2.25f64, 4);
-    assert!(rt; bytes == [0x3f, 0xc0, 0, 0, 0, 0, 0, 0, 0, 0, 0x02, 0xc0]);
+    check_eq(&rt, bytes, [0x3f, 0xc0, 0, 0, 0, 0, 0, 0, 0, 0, 0x02, 0xc0]);
     assert!(rt; bytes[..].cread_with::<f32>(0, BE) == 1.5);
     assert!(rt; bytes[..].cread::<f64>(4) == -2.25);
-    assert!(rt; f32::from_ctx(&bytes, BE) == 1.5);
+    check_eq(&rt, f32::from_ctx(&bytes, BE), 1.5);
 }
 
 #[test]
@@ -232,14 +232,14 @@ fn arrays_and_bulk_reads(rt: HostRuntime) -> Result<()> {
     let wanted: [u8; 20] = [
         0, 0, 0, 0, 0, 0, 0, 0x3f, 0, 0, 0, 0xc0, 0xcd, 0xcc, 0xcc, 0x3d, 0, 0xe0, 0x7f, 0x47,
     ];
-    assert!(rt; bytes == wanted);
+    check_eq(&rt, bytes, wanted);
     let read: [[f32; 2]; 2] = bytes[..].pread_with(4, LE)?;
-    assert!(rt; read == rows);
+    check_eq(&rt, read, rows);
     let mut all = [0.0f32; 5];
     let mut offset = 0;
     bytes[..].gread_inout_with(&mut offset, &mut all, LE)?;
-    assert!(rt; all == [0.0, 0.5, -2.0, 0.1, 65504.0]);
-    assert!(rt; offset == 20);
+    check_eq(&rt, all, [0.0, 0.5, -2.0, 0.1, 65504.0]);
+    check_eq(&rt, offset, 20);
     Ok(())
 }
 
@@ -258,11 +258,11 @@ fn streams_of_floats(rt: HostRuntime) -> io::Result<()> {
     let wanted: [u8; 12] = [
         0x3d, 0xcc, 0xcc, 0xcd, 0xfc, 0xa9, 0xf1, 0xd2, 0x4d, 0x62, 0xb0, 0xbf,
     ];
-    assert!(rt; written.as_slice() == wanted.as_slice());
+    check_eq(&rt, written.as_slice(), wanted.as_slice());
     let mut reader = written.as_slice();
     let single: f32 = reader.ioread_with(BE)?;
     let double: f64 = reader.ioread()?;
-    assert!(rt; single == 0.1);
-    assert!(rt; double == -0.064);
+    check_eq(&rt, single, 0.1);
+    check_eq(&rt, double, -0.064);
     Ok(())
 }

@@ -1,6 +1,6 @@
 // Texts of LEB128, and the readers beside each other.
 use crate::leb128::{plain_sleb, plain_uleb, sleb_block, sleb_loads, uleb_block, uleb_loads};
-use crate::tests::results::{check_bad_offset, check_too_big, check_value};
+use crate::tests::results::{check_bad_offset, check_eq, check_too_big, check_value};
 use crate::{Error, LE, Loads, Pread, Result, Sleb128, Uleb128};
 
 // What a read answers.
@@ -88,14 +88,14 @@ fn reads_with_an_offset(rt: HostRuntime) {
     let bytes: [u8; 3] = [0xff, 0x82, 1];
     let mut offset = 1;
     check_value(&rt, Uleb128::read(&bytes, &mut offset), 130);
-    assert!(rt; offset == 3);
+    check_eq(&rt, offset, 3);
     let cut = Uleb128::read(&bytes, &mut offset);
     check_too_big(&rt, cut, 1, 0);
-    assert!(rt; offset == 3);
+    check_eq(&rt, offset, 3);
     let mut past = 4;
     let refused = Sleb128::read(&bytes, &mut past);
     check_bad_offset(&rt, refused, 4);
-    assert!(rt; past == 4);
+    check_eq(&rt, past, 4);
 }
 
 #[test]
@@ -149,12 +149,20 @@ fn sign_bits(rt: HostRuntime) {
     for count in 0..9 {
         let bytes = text(0x80, count, 0x40);
         let source = &bytes[..count + 1];
-        assert!(rt; unsigned(source) == Outcome::Value(set[count], count + 1));
-        assert!(rt; signed(source) == Outcome::Value(set[count].wrapping_neg(), count + 1));
+        check_eq(&rt, unsigned(source), Outcome::Value(set[count], count + 1));
+        check_eq(
+            &rt,
+            signed(source),
+            Outcome::Value(set[count].wrapping_neg(), count + 1),
+        );
         let bytes = text(0x80, count, 0x3f);
         let source = &bytes[..count + 1];
-        assert!(rt; unsigned(source) == Outcome::Value(clear[count], count + 1));
-        assert!(rt; signed(source) == Outcome::Value(clear[count], count + 1));
+        check_eq(
+            &rt,
+            unsigned(source),
+            Outcome::Value(clear[count], count + 1),
+        );
+        check_eq(&rt, signed(source), Outcome::Value(clear[count], count + 1));
     }
 }
 
@@ -182,8 +190,8 @@ fn tenth_bytes(rt: HostRuntime) {
     ];
     for (fill, tenth, as_unsigned, as_signed) in table {
         let bytes = text(fill, 9, tenth);
-        assert!(rt; unsigned(&bytes) == as_unsigned);
-        assert!(rt; signed(&bytes) == as_signed);
+        check_eq(&rt, unsigned(&bytes), as_unsigned);
+        check_eq(&rt, signed(&bytes), as_signed);
     }
 }
 
@@ -203,16 +211,16 @@ fn cuts(rt: HostRuntime) {
 
 #[test]
 fn blocks(rt: HostRuntime) {
-    assert!(rt; uleb_block([0x82, 1, 0, 0, 0, 0, 0, 0]) == Some((130, 2)));
-    assert!(rt; uleb_block([0x80; 8]) == None);
-    assert!(rt; sleb_block([0x80; 8]) == None);
+    check_eq(&rt, uleb_block([0x82, 1, 0, 0, 0, 0, 0, 0]), Some((130, 2)));
+    check_eq(&rt, uleb_block([0x80; 8]), None);
+    check_eq(&rt, sleb_block([0x80; 8]), None);
     let ones = [0xff, 0xff, 0xff, 0xff, 0xff, 0xff, 0xff, 0x7f];
-    assert!(rt; uleb_block(ones) == Some((72057594037927935, 8)));
-    assert!(rt; sleb_block(ones) == Some((-1, 8)));
+    check_eq(&rt, uleb_block(ones), Some((72057594037927935, 8)));
+    check_eq(&rt, sleb_block(ones), Some((-1, 8)));
     let least = [0x80, 0x80, 0x80, 0x80, 0x80, 0x80, 0x80, 0x40];
-    assert!(rt; sleb_block(least) == Some((-36028797018963968, 8)));
+    check_eq(&rt, sleb_block(least), Some((-36028797018963968, 8)));
     let large = [0x80, 0x80, 0x80, 0x80, 0x80, 0x80, 0x80, 0x3f];
-    assert!(rt; sleb_block(large) == Some((35465847065542656, 8)));
+    check_eq(&rt, sleb_block(large), Some((35465847065542656, 8)));
 }
 
 #[test]
@@ -220,15 +228,15 @@ fn counted_loads(rt: HostRuntime) {
     let bytes = text(0xff, 9, 1);
     let mut source = Loads::new(&bytes[..10]);
     check_value(&rt, uleb_loads(&mut source), (18446744073709551615, 10));
-    assert!(rt; source.made() == 3);
+    check_eq(&rt, source.made(), 3);
     let bytes = text(0x80, 8, 0x7f);
     assert!(rt; signed(&bytes[..9]) == Outcome::Value(-72057594037927936, 9));
     let mut short = Loads::new(&bytes[..2]);
-    assert!(rt; short.len() == 2);
-    assert!(rt; short.word() == None);
-    assert!(rt; short.byte(2) == None);
-    assert!(rt; short.byte(1) == Some(0x80));
-    assert!(rt; short.made() == 3);
+    check_eq(&rt, short.len(), 2);
+    check_eq(&rt, short.word(), None);
+    check_eq(&rt, short.byte(2), None);
+    check_eq(&rt, short.byte(1), Some(0x80));
+    check_eq(&rt, short.made(), 3);
 }
 
 // Tells whether the readers by loads and those byte by byte answer the same of a source.

@@ -4,7 +4,7 @@ ghost use Rattle.scroll.specs.Numbers.{number};
 ghost use Rattle.scroll.specs.declared.endian.Endian.TheVariants.{Big};
 
 use crate::ctx::{FromCtx, IntoCtx, SizeWith, TryFromCtx, TryIntoCtx};
-use crate::tests::results::{check_too_big, check_value};
+use crate::tests::results::{check_eq, check_too_big, check_value};
 use crate::{BE, Cread, Cwrite, Endian, LE, Pread, Pwrite, Result};
 
 // Writes a number in each order into zeros, and reads it back.
@@ -62,7 +62,7 @@ fn pread_with_be(rt: HostRuntime) {
 
 #[test]
 fn test_measurable(rt: HostRuntime) {
-    assert!(rt; u64::size_with(&LE) == 8);
+    check_eq(&rt, u64::size_with(&LE), 8);
     let by_order = [
         u8::size_with(&BE),
         i8::size_with(&BE),
@@ -87,8 +87,8 @@ fn test_measurable(rt: HostRuntime) {
         u128::size_with(&()),
         i128::size_with(&()),
     ];
-    assert!(rt; by_order == [1, 1, 2, 2, 4, 4, 8, 8, 16, 16]);
-    assert!(rt; by_nothing == by_order);
+    check_eq(&rt, by_order, [1, 1, 2, 2, 4, 4, 8, 8, 16, 16]);
+    check_eq(&rt, by_nothing, by_order);
 }
 
 #[test]
@@ -113,7 +113,7 @@ fn signed_numbers(rt: HostRuntime) {
     let wanted: [u8; 16] = [
         0x80, 0, 0, 0, 0xff, 0xff, 0xf4, 0x48, 0x48, 0xf4, 0xff, 0xff, 0xfe, 0, 0, 0,
     ];
-    assert!(rt; out == wanted);
+    check_eq(&rt, out, wanted);
 }
 
 #[test]
@@ -121,9 +121,9 @@ fn references_write_as_their_numbers(rt: HostRuntime) {
     let mut bytes = [0u8; 2];
     let mut target = &mut bytes[..];
     check_value(&rt, target.pwrite_with(&258u16, 0, BE), 2);
-    assert!(rt; bytes == [1, 2]);
+    check_eq(&rt, bytes, [1, 2]);
     (&-2i16).into_ctx(&mut bytes, LE);
-    assert!(rt; bytes == [0xfe, 0xff]);
+    check_eq(&rt, bytes, [0xfe, 0xff]);
     let short = (&1u128).try_into_ctx(&mut bytes, LE);
     check_too_big(&rt, short, 16, 2);
 }
@@ -132,14 +132,14 @@ fn references_write_as_their_numbers(rt: HostRuntime) {
 fn with_room_made_sure_of(rt: HostRuntime) {
     let bytes: [u8; 12] = [1, 0, 0, 0, 0, 0, 0, 0, 0xef, 0xbe, 0, 0];
     let source = &bytes[..];
-    assert!(rt; source.cread::<i64>(0) == 1);
-    assert!(rt; source.cread::<u32>(8) == 48879);
+    check_eq(&rt, source.cread::<i64>(0), 1);
+    check_eq(&rt, source.cread::<u32>(8), 48879);
     let bytes: [u8; 12] = [
         0x7f, 255, 255, 255, 255, 255, 255, 255, 0xef, 0xbe, 0xad, 0xde,
     ];
     let source = &bytes[..];
-    assert!(rt; source.cread_with::<i64>(0, BE) == 9223372036854775807);
-    assert!(rt; source.cread_with::<u32>(8, LE) == 3735928559);
+    check_eq(&rt, source.cread_with::<i64>(0, BE), 9223372036854775807);
+    check_eq(&rt, source.cread_with::<u32>(8, LE), 3735928559);
     let mut out = [0u8; 16];
     let mut target = &mut out[..];
     target.cwrite_with(0xdeadbeefu32, 8, BE);
@@ -186,12 +186,12 @@ fn clear_first<T: Cwrite<Endian>>(target: &mut T)
 fn through_the_bounds(rt: HostRuntime) {
     let bytes: [u8; 4] = [1, 2, 3, 4];
     assert!(rt; at_the_start(&bytes[1..]) == 0x0203);
-    assert!(rt; second_of::<u16>(&bytes) == 0x0304);
+    check_eq(&rt, second_of::<u16>(&bytes), 0x0304);
     let mut out = [0u8; 4];
     put(&mut out, -2i16);
     put(&mut out[2..], &0x0506u16);
-    assert!(rt; out == [0xff, 0xfe, 5, 6]);
+    check_eq(&rt, out, [0xff, 0xfe, 5, 6]);
     let mut target = &mut out[..];
     clear_first(&mut target);
-    assert!(rt; out == [0, 0xfe, 5, 6]);
+    check_eq(&rt, out, [0, 0xfe, 5, 6]);
 }

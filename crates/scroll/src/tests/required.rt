@@ -1,6 +1,6 @@
 // Texts whose delimiter has to stand in the source.
 use crate::ctx::StrCtx;
-use crate::tests::results::{check_bad_input, check_value};
+use crate::tests::results::{check_bad_input, check_eq, check_value};
 use crate::{Pread, Result};
 use std::process::Abort;
 
@@ -10,7 +10,7 @@ fn check_missing<T: Drop>(rt: &impl Abort, outcome: Result<T>, len: usize) {
 
 #[test]
 fn context(rt: HostRuntime) {
-    assert!(rt; StrCtx::Required(0).len() == 1);
+    check_eq(&rt, StrCtx::Required(0).len(), 1);
     assert!(rt; !StrCtx::Required(0).is_empty());
 }
 
@@ -20,10 +20,10 @@ fn texts(rt: HostRuntime) {
     let offset = &mut 0;
     let text: Result<&str> = bytes.gread_with(offset, StrCtx::Required(0));
     check_value(&rt, text, "ab");
-    assert!(rt; *offset == 3);
+    check_eq(&rt, *offset, 3);
     let text: Result<&str> = bytes.gread_with(offset, StrCtx::Required(0));
     check_missing(&rt, text, 0);
-    assert!(rt; *offset == 3);
+    check_eq(&rt, *offset, 3);
     let bytes: &[u8] = b"ab";
     let text: Result<&str> = bytes.pread_with(0, StrCtx::Required(0));
     check_missing(&rt, text, 2);

@@ -62,3 +62,8 @@ pub fn check_bad_input<T: Drop>(
         Ok(_) => panic!(rt; "a value in the place of BadInput"),
     }
 }
+
+// As `assert_eq!`, in one step.
+pub fn check_eq<T: PartialEq + Debug + Drop>(rt: &impl Abort, value: T, wanted: T) {
+    assert!(rt; value == wanted, "{value:?} in the place of {wanted:?}");
+}

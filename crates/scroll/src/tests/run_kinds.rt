@@ -4,6 +4,7 @@ use super::runs::{check_answers, check_run};
 use crate::cstr::CStr;
 use crate::ctx::{NULL, StrCtx};
 use crate::runner::{Answer, Command, Kind, Place, Put, Value, Width, run};
+use crate::tests::results::check_eq;
 use crate::{BE, Error, LE, Pread, Sleb128, Uleb128};
 use std::alloc::{AllocError, Global};
 use std::process::Abort;
@@ -111,8 +112,8 @@ fn check_length(rt: &impl Abort, alloc: Global, len: usize) -> Result<(), AllocE
         assert!(rt; matches!(&error, Error::NoMemory));
         return Err(AllocError);
     }
-    assert!(rt; cursor.checked_sub(1) == Some(len));
-    assert!(rt; answers.len() == 4);
+    check_eq(&rt, cursor.checked_sub(1), Some(len));
+    check_eq(&rt, answers.len(), 4);
     check_answers(rt, &answers, &wanted);
     Ok(())
 }

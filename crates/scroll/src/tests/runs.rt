@@ -2,6 +2,7 @@
 // are those of the first commands, and the buffer and the cursor are as these left them.
 use crate::ctx::StrCtx;
 use crate::runner::{Answer, Command, Kind, Place, Put, Value, Width, run};
+use crate::tests::results::check_eq;
 use crate::{BE, Error, LE};
 use std::alloc::{AllocError, Global};
 use std::process::Abort;
@@ -85,9 +86,9 @@ pub fn check_run<const N: usize>(
     let mut answers = Vec::new(alloc);
     match run(alloc, &mut buffer, &mut at, commands, &mut answers) {
         Ok(()) => {
-            assert!(rt; answers.len() == wanted.len());
-            assert!(rt; buffer == last);
-            assert!(rt; at == last_cursor);
+            check_eq(&rt, answers.len(), wanted.len());
+            check_eq(&rt, buffer, last);
+            check_eq(&rt, at, last_cursor);
         }
         Err(error) => {
             assert!(rt; matches!(&error, Error::NoMemory));
@@ -220,8 +221,8 @@ fn check_front(
 ) {
     assert!(rt; answers.len() < 4);
     let (left, left_cursor) = LEFT[answers.len()];
-    assert!(rt; buffer == left);
-    assert!(rt; cursor == left_cursor);
+    check_eq(&rt, buffer, left);
+    check_eq(&rt, cursor, left_cursor);
     check_answers(rt, answers, wanted);
 }
 
@@ -260,7 +261,7 @@ fn answers_stand_up_to_a_refusal(rt: HostRuntime) -> Result<(), AllocError> {
         }
         check_front(&rt, added, &wanted, buffer, cursor);
         match done {
-            Ok(()) => assert!(rt; added.len() == 3),
+            Ok(()) => check_eq(&rt, added.len(), 3),
             Err(error) => {
                 assert!(rt; matches!(&error, Error::NoMemory));
                 assert!(rt; added.len() < 3);

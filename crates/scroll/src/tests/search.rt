@@ -1,5 +1,6 @@
 // The search for a byte beside a plain one, at every length that a vector, a word and a tail can leave.
 use crate::search::{first_place, first_stop, text_before};
+use crate::tests::results::check_eq;
 use std::process::Abort;
 
 const DELIMITERS: [u8; 5] = [0x00, 0x01, 0x7f, 0x80, 0xff];
@@ -39,12 +40,16 @@ fn fill(bytes: &mut [u8; 70], delimiter: u8, place: usize, before: u8, behind: u
 fn check_searches(rt: &impl Abort, delimiter: u8, place: usize, source: &[u8]) {
     let len = source.len();
     let plain = plain_place(delimiter, source);
-    assert!(rt; plain == place.min(len));
+    check_eq(&rt, plain, place.min(len));
     assert!(rt;
         first_place(delimiter, source) == plain,
         "{delimiter} at {place} of {len}"
     );
-    assert!(rt; first_stop(delimiter, source) == plain_stop(delimiter, source));
+    check_eq(
+        &rt,
+        first_stop(delimiter, source),
+        plain_stop(delimiter, source),
+    );
     assert!(rt; text_before(delimiter, source) == str::from_utf8(&source[..plain]).ok());
 }
 
@@ -74,7 +79,7 @@ fn texts_that_are_not_ascii(rt: HostRuntime) {
         let source = &bytes[..];
         let text = text_before(0, source);
         assert!(rt; text.map(|text| text.as_bytes()) == source.get(..place + 5));
-        assert!(rt; text_before(0xa4, source) == None);
-        assert!(rt; first_stop(0, source) == place);
+        check_eq(&rt, text_before(0xa4, source), None);
+        check_eq(&rt, first_stop(0, source), place);
     }
 }

@@ -1,5 +1,5 @@
 // Writes to a slice that was lent, in the default context and in one that is given.
-use crate::tests::results::{check_bad_offset, check_too_big, check_value};
+use crate::tests::results::{check_bad_offset, check_eq, check_too_big, check_value};
 use crate::{BE, Error, LE, Pread, Pwrite, Result, slice};
 
 #[test]
@@ -7,15 +7,15 @@ fn writes_at_a_place(rt: HostRuntime) {
     let mut bytes = [0u8; 4];
     let wrote: Result<usize> = slice::pwrite(&mut bytes, 0x0102u16, 1);
     check_value(&rt, wrote, 2);
-    assert!(rt; bytes == [0, 2, 1, 0]);
+    check_eq(&rt, bytes, [0, 2, 1, 0]);
     let wrote: Result<usize> = slice::pwrite_with(&mut bytes, 0x0304u16, 2, BE);
     check_value(&rt, wrote, 2);
-    assert!(rt; bytes == [0, 2, 3, 4]);
+    check_eq(&rt, bytes, [0, 2, 3, 4]);
     let short: Result<usize> = slice::pwrite_with(&mut bytes, 7u32, 2, BE);
     check_too_big(&rt, short, 4, 2);
     let past: Result<usize> = slice::pwrite(&mut bytes, 7u8, 5);
     check_bad_offset(&rt, past, 5);
-    assert!(rt; bytes == [0, 2, 3, 4]);
+    check_eq(&rt, bytes, [0, 2, 3, 4]);
 }
 
 #[test]
@@ -26,10 +26,10 @@ fn writes_with_a_cursor(rt: HostRuntime) {
     check_value(&rt, wrote, 2);
     let wrote: Result<usize> = slice::gwrite_with(&mut bytes, -2i16, &mut offset, BE);
     check_value(&rt, wrote, 2);
-    assert!(rt; bytes == [2, 1, 0xff, 0xfe, 0]);
+    check_eq(&rt, bytes, [2, 1, 0xff, 0xfe, 0]);
     let short: Result<usize> = slice::gwrite_with(&mut bytes, 1u16, &mut offset, LE);
     check_too_big(&rt, short, 2, 1);
-    assert!(rt; offset == 4);
+    check_eq(&rt, offset, 4);
 }
 
 #[test]
@@ -37,7 +37,7 @@ fn writes_where_room_is_made_sure_of(rt: HostRuntime) {
     let mut bytes = [0u8; 5];
     slice::cwrite(&mut bytes, 0x0102u16, 0);
     slice::cwrite_with(&mut bytes, 0x0304u16, 3, BE);
-    assert!(rt; bytes == [2, 1, 0, 3, 4]);
+    check_eq(&rt, bytes, [2, 1, 0, 3, 4]);
 }
 
 #[test]
@@ -55,7 +55,7 @@ fn arrays_and_vectors_are_read_as_they_are(rt: HostRuntime) -> Result<()> {
 fn a_slice_that_was_lent_is_written_through_the_trait(rt: HostRuntime) {
     let mut bytes = [0u8; 3];
     assert!(rt; write_through(&mut bytes).is_ok());
-    assert!(rt; bytes == [0, 1, 2]);
+    check_eq(&rt, bytes, [0, 1, 2]);
 }
 
 fn write_through(mut bytes: &mut [u8]) -> Result<usize> {

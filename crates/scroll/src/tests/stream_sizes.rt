@@ -4,6 +4,7 @@ ghost use Rattle.scroll.specs.Numbers.{number, number_bytes};
 ghost use Rattle.scroll.specs.lemmas.Frames.{number_bytes-keeps, drop-front};
 
 use crate::ctx::{FromCtx, IntoCtx, SizeWith};
+use crate::tests::results::check_eq;
 use crate::{BE, Endian, IOread, IOwrite};
 use std::process::Abort;
 use std::test::Fail;
@@ -66,8 +67,8 @@ fn check_block<const N: usize>(rt: &impl Abort) -> Result<(), Fail>
     assert!(rt; source == &bytes[N..]);
     let mut again = &bytes[..];
     let same: Block<N> = again.ioread()?;
-    assert!(rt; same.0.as_slice() == block.0.as_slice());
-    assert!(rt; again == source);
+    check_eq(&rt, same.0.as_slice(), block.0.as_slice());
+    check_eq(&rt, again, source);
     let mut held = [0x77u8; 257];
     let mut target = &mut held[..];
     target.iowrite_with(block, ())?;
@@ -130,12 +131,12 @@ impl SizeWith<Endian> for Wide {
 fn a_type_that_needs_less_than_its_size(rt: HostRuntime) -> Result<(), Fail> {
     let bytes: [u8; 5] = [1, 2, 0xff, 0xff, 9];
     let mut source = &bytes[..];
-    assert!(rt; source.ioread_with::<Wide>(BE)?.number == 258);
-    assert!(rt; source == [9u8].as_slice());
+    check_eq(&rt, source.ioread_with::<Wide>(BE)?.number, 258);
+    check_eq(&rt, source, [9u8].as_slice());
     assert!(rt; source.ioread_with::<Wide>(BE).is_err());
     let mut bytes = [7u8; 6];
     let mut target = &mut bytes[..];
     target.iowrite_with(Wide { number: 258 }, BE)?;
-    assert!(rt; bytes == [1, 2, 0, 0, 7, 7]);
+    check_eq(&rt, bytes, [1, 2, 0, 0, 7, 7]);
     Ok(())
 }

@@ -1,5 +1,5 @@
 // Readers and writers that are slow, end early, fail or are interrupted.
-use crate::tests::results::check_value;
+use crate::tests::results::{check_eq, check_value};
 use crate::{BE, IOread, IOwrite, LE};
 use std::io;
 use std::io::{ErrorKind, Read, Write};
@@ -174,10 +174,10 @@ fn writers_of_one_byte_a_call(rt: HostRuntime) -> Result<(), Fail> {
     ] {
         let mut target = make_sink(room, fault);
         target.iowrite_with(0xdeadbeefu32, BE)?;
-        assert!(rt; target.held == [0xde, 0xad, 0xbe, 0xef, 0x11]);
+        check_eq(&rt, target.held, [0xde, 0xad, 0xbe, 0xef, 0x11]);
         let mut target = make_sink(room, fault);
         target.iowrite(0xdeadbeefu32)?;
-        assert!(rt; target.held == [0xef, 0xbe, 0xad, 0xde, 0x11]);
+        check_eq(&rt, target.held, [0xef, 0xbe, 0xad, 0xde, 0x11]);
     }
     let full = Cause::Kind(ErrorKind::WriteZero);
     for room in 0..4 {
@@ -253,7 +253,7 @@ fn numbers_from_memory(rt: HostRuntime) -> Result<(), Fail> {
     check_value(&rt, source.ioread::<u32>(), 48879);
     let mut source = &bytes[..];
     check_value(&rt, source.ioread_with::<u64>(LE), 1);
-    assert!(rt; source.len() == 4);
+    check_eq(&rt, source.len(), 4);
     assert!(rt; source.ioread_with::<u64>(LE).is_err());
     Ok(())
 }
@@ -264,7 +264,11 @@ fn numbers_to_memory(rt: HostRuntime) -> Result<(), Fail> {
     let mut target = &mut bytes[..];
     target.write_all(b"hello")?;
     target.iowrite_with(0xdeadbeefu32, BE)?;
-    assert!(rt; bytes == [0x68, 0x65, 0x6c, 0x6c, 0x6f, 0xde, 0xad, 0xbe, 0xef, 0]);
+    check_eq(
+        &rt,
+        bytes,
+        [0x68, 0x65, 0x6c, 0x6c, 0x6f, 0xde, 0xad, 0xbe, 0xef, 0],
+    );
     for (order, wanted) in [
         (BE, [0xde, 0xad, 0xbe, 0xef, 0]),
         (LE, [0xef, 0xbe, 0xad, 0xde, 0]),
@@ -272,7 +276,7 @@ fn numbers_to_memory(rt: HostRuntime) -> Result<(), Fail> {
         let mut bytes = [0u8; 5];
         let mut target = &mut bytes[..];
         target.iowrite_with(0xdeadbeefu32, order)?;
-        assert!(rt; bytes == wanted);
+        check_eq(&rt, bytes, wanted);
     }
     let mut bytes = [0u8; 5];
     let mut target = &mut bytes[..];

@@ -1,6 +1,8 @@
 // Texts, byte slices and measures: the calls on them, and which bytes are texts.
 use crate::ctx::{MeasureWith, NULL, RET, SPACE, StrCtx, TAB};
-use crate::tests::results::{check_bad_input, check_bad_offset, check_too_big, check_value};
+use crate::tests::results::{
+    check_bad_input, check_bad_offset, check_eq, check_too_big, check_value,
+};
 use crate::{BE, LE, Pread, Pwrite, Result};
 use std::result;
 use std::test::Fail;
@@ -13,24 +15,24 @@ fn contexts(rt: HostRuntime) {
         (StrCtx::DelimiterUntil(SPACE, 4), 1),
         (StrCtx::Length(3), 0),
     ] {
-        assert!(rt; ctx.len() == len);
-        assert!(rt; ctx.is_empty() == (len == 0));
+        check_eq(&rt, ctx.len(), len);
+        check_eq(&rt, ctx.is_empty(), (len == 0));
     }
-    assert!(rt; [NULL, SPACE, RET, TAB] == *b"\0 \n\t");
+    check_eq(&rt, [NULL, SPACE, RET, TAB], *b"\0 \n\t");
 }
 
 #[test]
 fn test_measure_with_bytes(rt: HostRuntime) -> result::Result<(), Fail> {
     let bytes: [u8; 4] = [0xef, 0xbe, 0xad, 0xde];
-    assert!(rt; bytes.measure_with(&()) == 4);
+    check_eq(&rt, bytes.measure_with(&()), 4);
     let slice = &bytes[1..];
-    assert!(rt; slice.measure_with(&LE) == 3);
+    check_eq(&rt, slice.measure_with(&LE), 3);
     let vector = Vec::from_slice(rt.alloc(), slice)?;
-    assert!(rt; vector.measure_with(&StrCtx::Length(9)) == 3);
+    check_eq(&rt, vector.measure_with(&StrCtx::Length(9)), 3);
     let text = "h\u{e9}";
-    assert!(rt; text.measure_with(&()) == 3);
+    check_eq(&rt, text.measure_with(&()), 3);
     let string = String::from_str(rt.alloc(), text)?;
-    assert!(rt; string.measure_with(&BE) == 3);
+    check_eq(&rt, string.measure_with(&BE), 3);
     Ok(())
 }
 
@@ -81,15 +83,15 @@ fn gread_slice(rt: HostRuntime) {
     let mut offset = 0;
     let long: Result<&str> = bytes[..].gread_with(&mut offset, StrCtx::Length(3));
     check_too_big(&rt, long, 3, 2);
-    assert!(rt; offset == 0);
+    check_eq(&rt, offset, 0);
     let letters: [u8; 3] = [0x45, 0x42, 0x44];
     let text: Result<&str> = letters[..].gread_with(&mut offset, StrCtx::Length(2));
     check_value(&rt, text, "EB");
-    assert!(rt; offset == 2);
+    check_eq(&rt, offset, 2);
     let mut offset = 0;
     let slice: Result<&[u8]> = bytes[..].gread_with(&mut offset, 2);
     check_value(&rt, slice, &bytes);
-    assert!(rt; offset == 2);
+    check_eq(&rt, offset, 2);
 }
 
 #[test]
@@ -140,7 +142,7 @@ fn texts_at_the_cursor(rt: HostRuntime) {
         let mut offset = *from;
         let text: Result<&str> = bytes.gread_with(&mut offset, *ctx);
         check_value(&rt, text, *wanted);
-        assert!(rt; offset == *to);
+        check_eq(&rt, offset, *to);
     }
     let mut offset = 0;
     let short: Result<&str> = b"a\0c"[..].gread_with(&mut offset, StrCtx::DelimiterUntil(NULL, 4));
@@ -149,7 +151,7 @@ fn texts_at_the_cursor(rt: HostRuntime) {
     check_bad_input(&rt, invalid, 3, "invalid utf8");
     let cut: Result<&str> = b"\xc3\xa9"[..].gread_with(&mut offset, StrCtx::Length(1));
     check_bad_input(&rt, cut, 2, "invalid utf8");
-    assert!(rt; offset == 0);
+    check_eq(&rt, offset, 0);
 }
 
 #[test]
@@ -160,7 +162,7 @@ fn bulk_read_of_texts(rt: HostRuntime) {
     let read: Result<()> = bytes[..].gread_inout(&mut offset, &mut texts);
     check_bad_offset(&rt, read, 6);
     assert!(rt; texts == ["ab", "cd", "this"]);
-    assert!(rt; offset == 6);
+    check_eq(&rt, offset, 6);
 }
 
 #[test]
@@ -172,7 +174,7 @@ fn short_targets(rt: HostRuntime) {
     let slice: &[u8] = &[1, 2];
     let long: Result<usize> = target.pwrite(slice, 3);
     check_too_big(&rt, long, 2, 0);
-    assert!(rt; bytes == [0xff; 3]);
+    check_eq(&rt, bytes, [0xff; 3]);
 }
 
 // Whether these bytes are read whole as a text.
