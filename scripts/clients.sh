@@ -112,18 +112,20 @@ echo "clients: the library took $(($(date +%s) - start)) s"
     # shellcheck disable=SC2046 # words
     set -- $(list_clients)
 }
+
+# Each worker takes the next client that no other has.
+work() {
+    for client in "$@"; do
+        ! mkdir "$room/$client.taken" 2>/dev/null || try_client "$client" >"$room/$client.out" 2>&1
+    done
+}
+
 workers=$(count_workers)
 jobs=$((workers > $# ? workers / $# : 1))
-busy=0
-for client in "$@"; do
-    try_client "$client" >"$room/$client.out" 2>&1 &
+while [ "$workers" -gt 0 ]; do
+    work "$@" &
     running="$running $!"
-    busy=$((busy + 1))
-    if [ "$busy" -ge "$workers" ]; then
-        wait
-        running=
-        busy=0
-    fi
+    workers=$((workers - 1))
 done
 wait
 running=

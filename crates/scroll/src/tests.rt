@@ -12,6 +12,7 @@ mod leb128_writes;
 mod numbers;
 mod printed;
 mod required;
+pub mod results;
 mod run_kinds;
 mod runs;
 mod search;

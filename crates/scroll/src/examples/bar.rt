@@ -41,8 +41,8 @@ impl IntoCtx<Endian> for Bar {
 fn two_numbers_where_there_is_room(rt: HostRuntime) {
     let bytes: [u8; 8] = [0xff, 0xff, 0xff, 0xff, 0xef, 0xbe, 0xad, 0xde];
     let bar: Bar = bytes[..].cread_with(0, LE);
-    assert_eq!(rt; bar.foo, -1);
-    assert_eq!(rt; bar.bar, 0xdeadbeef);
+    assert!(rt; bar.foo == -1);
+    assert!(rt; bar.bar == 0xdeadbeef);
 }
 
 #[test]
@@ -58,14 +58,14 @@ fn written_where_there_is_room(rt: HostRuntime) {
         let mut bytes = [7u8; 9];
         let mut target = &mut bytes[..];
         target.cwrite_with(bar, 0, order);
-        assert_eq!(rt; bytes, wanted);
+        assert!(rt; bytes == wanted);
     }
     let mut bytes = [0u8; 8];
     let mut target = &mut bytes[..];
     target.cwrite(-1i32, 0);
     target.cwrite(0xdeadbeefu32, 4);
-    assert_eq!(rt; bytes, [0xff, 0xff, 0xff, 0xff, 0xef, 0xbe, 0xad, 0xde]);
+    assert!(rt; bytes == [0xff, 0xff, 0xff, 0xff, 0xef, 0xbe, 0xad, 0xde]);
     let bar: Bar = bytes[..].cread(0);
-    assert_eq!(rt; bar.foo, -1);
-    assert_eq!(rt; bar.bar, 0xdeadbeef);
+    assert!(rt; bar.foo == -1);
+    assert!(rt; bar.bar == 0xdeadbeef);
 }

@@ -24,7 +24,8 @@ fn take_apart<'a>(names: [&'a str; 3]) -> (&'a str, &'a str, &'a str)
 
 #[test]
 fn three_names(rt: HostRuntime) {
+    use crate::tests::results::check_value;
     let file = *b"ab\0c\0\0";
-    assert!(rt; matches!(&read_names(&file), Ok(("ab", "c", ""))));
+    check_value(&rt, read_names(&file), ("ab", "c", ""));
     assert!(rt; read_names(&file[..2]).is_err());
 }

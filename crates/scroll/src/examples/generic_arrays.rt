@@ -41,9 +41,10 @@ pub fn try_first_values<
 
 #[test]
 fn values_of_a_file(rt: HostRuntime) {
+    use crate::tests::results::check_value;
     let file: [u8; 5] = [1, 0, 2, 0, 3];
     let two: Result<[u16; 2], Error> = first_values(&file);
-    assert!(rt; matches!(&two, Ok([1, 2])));
+    check_value(&rt, two, [1, 2]);
     let three: Option<Result<[u16; 3], Error>> = try_first_values(&file);
     assert!(rt; matches!(&three, Some(Err(Error::TooBig { size: 2, len: 1 }))));
 }

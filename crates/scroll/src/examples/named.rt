@@ -44,6 +44,7 @@ impl<'a> TryFromCtx<'a, Context> for Data<'a> {
 
 #[test]
 fn a_number_and_a_name(rt: HostRuntime) {
+    use crate::tests::results::check_too_big;
     let bytes = b"\x01\x02\x03\x04\x00\x08UserName";
     let source = bytes.as_slice();
     let data: Result<Data> = source.pread_with(0, Context(BE));
@@ -59,13 +60,14 @@ fn a_number_and_a_name(rt: HostRuntime) {
     let offset = &mut 0;
     let data: Result<Data> = source.gread_with(offset, Context(BE));
     assert!(rt; data.is_ok());
-    assert_eq!(rt; *offset, 14);
+    assert!(rt; *offset == 14);
     let long: Result<Data> = source.pread_with(0, Context(LE));
-    assert!(rt; matches!(&long, Err(Error::TooBig { size: 2048, len: 8 })));
+    check_too_big(&rt, long, 2048, 8);
 }
 
 #[test]
 fn cut_at_each_length(rt: HostRuntime) {
+    use crate::tests::results::{check_bad_input, check_too_big};
     let bytes = b"\x01\x02\x03\x04\x00\x08UserName";
     for cut in 0..14 {
         let (wanted, start) = match cut {
@@ -74,19 +76,8 @@ fn cut_at_each_length(rt: HostRuntime) {
             _ => (8, 6),
         };
         let read: Result<Data> = bytes[..cut].pread_with(0, Context(BE));
-        assert!(rt;
-            matches!(&read, Err(Error::TooBig { size, len }) if *size == wanted && *len == cut - start),
-            "{cut}"
-        );
+        check_too_big(&rt, read, wanted, cut - start);
     }
     let no_text: Result<Data> = b"\x01\x02\x03\x04\x00\x01\xffe"[..].pread_with(0, Context(BE));
-    assert!(rt;
-        matches!(
-            &no_text,
-            Err(Error::BadInput {
-                size: 2,
-                msg: "invalid utf8"
-            })
-        )
-    );
+    check_bad_input(&rt, no_text, 2, "invalid utf8");
 }

@@ -79,6 +79,7 @@ impl TryIntoCtx<Endian> for ObjectId {
 
 #[test]
 fn ids_read_back(rt: HostRuntime) {
+    use crate::tests::results::check_value;
     use crate::{BE, Pread};
     let mut file = [0u8; 26];
     for i in 0..26 {
@@ -89,11 +90,11 @@ fn ids_read_back(rt: HostRuntime) {
         assert!(rt; false);
         return;
     };
-    assert_eq!(rt; id.kind, 0x01020304);
-    assert_eq!(rt; id.digest[0], 5);
-    assert_eq!(rt; id.digest[19], 24);
+    assert!(rt; id.kind == 0x01020304);
+    assert!(rt; id.digest[0] == 5);
+    assert!(rt; id.digest[19] == 24);
     let mut out = [0xffu8; 26];
-    assert!(rt; matches!(&slice::pwrite_with(&mut out, id, 1, BE), Ok(24)));
-    assert_eq!(rt; out[1..25], file[1..25]);
-    assert_eq!(rt; [out[0], out[25]], [0xff, 0xff]);
+    check_value(&rt, slice::pwrite_with(&mut out, id, 1, BE), 24);
+    assert!(rt; out[1..25] == file[1..25]);
+    assert!(rt; [out[0], out[25]] == [0xff, 0xff]);
 }

@@ -39,8 +39,9 @@ pub fn read_version(file: &[u8]) -> Result<u16, HeaderError>
 
 #[test]
 fn each_answer_of_a_version(rt: HostRuntime) {
+    use crate::tests::results::check_value;
     let file: [u8; 6] = [0x7f, 0x45, 0x4c, 0x46, 0, 3];
-    assert!(rt; matches!(&read_version(&file), Ok(3)));
+    check_value(&rt, read_version(&file), 3);
     let cut = read_version(&file[..5]);
     assert!(rt;
         matches!(

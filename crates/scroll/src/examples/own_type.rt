@@ -6,6 +6,7 @@ ghost use Rattle.scroll.specs.declared.error.Error.TheVariants.{TooBig, BadOffse
 ghost use Rattle.scroll.specs.declared.examples.own_type.VersionError.TheVariants.{Zero, Scroll};
 
 use crate::ctx::{TryFromCtx, TryIntoCtx};
+use crate::tests::results::{check_too_big, check_value};
 use crate::{BE, Endian, Error, LE, Pread, Pwrite, ReadFrom, check_room};
 use std::result::Result;
 
@@ -102,38 +103,44 @@ fn to_the_start<Ctx: Copy, E, T: Pwrite<Ctx, E>, N: TryIntoCtx<Ctx, Error = E> +
     target.pwrite_with(n, 0, ctx)
 }
 
+// Whether a version was read, with these numbers.
+fn is_version(read: Result<Version, VersionError>, major: u8, minor: u8) -> bool {
+    matches!(&read, Ok(version) if version.major == major && version.minor == minor)
+}
+
+// Whether a call was refused by the library's `TooBig`.
+fn is_too_big<T: Drop>(
+    outcome: Result<T, VersionError>,
+    wanted_size: usize,
+    wanted_len: usize,
+) -> bool {
+    matches!(&outcome, Err(VersionError::Scroll(Error::TooBig { size, len })) if *size == wanted_size && *len == wanted_len)
+}
+
+// Whether a call was refused by the library's `BadOffset`.
+fn is_bad_offset<T: Drop>(outcome: Result<T, VersionError>, wanted: usize) -> bool {
+    matches!(&outcome, Err(VersionError::Scroll(Error::BadOffset(offset))) if *offset == wanted)
+}
+
 #[test]
 fn a_type_of_ones_own(rt: HostRuntime) {
     let bytes: [u8; 4] = [0, 3, 14, 0];
     let source = &bytes[..];
     let read: Result<Version, VersionError> = source.pread_with(1, ());
-    assert!(rt;
-        matches!(
-            &read,
-            Ok(Version {
-                major: 3,
-                minor: 14
-            })
-        )
-    );
+    assert!(rt; is_version(read, 3, 14));
     let zero: Result<Version, VersionError> = source.pread_with(0, ());
     assert!(rt; matches!(&zero, Err(VersionError::Zero)));
     let cut: Result<Version, VersionError> = source.pread_with(3, ());
-    assert!(rt;
-        matches!(
-            &cut,
-            Err(VersionError::Scroll(Error::TooBig { size: 2, len: 1 }))
-        )
-    );
+    assert!(rt; is_too_big(cut, 2, 1));
     let past: Result<Version, VersionError> = source.pread_with(5, ());
-    assert!(rt; matches!(&past, Err(VersionError::Scroll(Error::BadOffset(5)))));
+    assert!(rt; is_bad_offset(past, 5));
     let mut out = [9u8; 4];
     let mut target = &mut out[..];
     let version = Version { major: 1, minor: 2 };
-    assert!(rt; matches!(&target.pwrite_with(version, 1, ()), Ok(2)));
+    check_value(&rt, target.pwrite_with(version, 1, ()), 2);
     let past = target.pwrite_with(version, 5, ());
-    assert!(rt; matches!(&past, Err(VersionError::Scroll(Error::BadOffset(5)))));
-    assert_eq!(rt; out, [9, 1, 2, 9]);
+    assert!(rt; is_bad_offset(past, 5));
+    assert!(rt; out == [9, 1, 2, 9]);
 }
 
 #[test]
@@ -141,33 +148,25 @@ fn through_the_bounds(rt: HostRuntime) {
     let bytes: [u8; 4] = [0, 3, 14, 0];
     let mut out = [9u8; 4];
     let own = copy_value::<(), VersionError, Version>(&bytes, &mut out, ());
-    assert!(rt; matches!(&own, Ok(2)));
-    assert_eq!(rt; out, [9, 9, 3, 14]);
+    check_value(&rt, own, 2);
+    assert!(rt; out == [9, 9, 3, 14]);
     let number = copy_value::<Endian, Error, u16>(&bytes, &mut out, BE);
-    assert!(rt; matches!(&number, Ok(2)));
-    assert_eq!(rt; out, [9, 9, 3, 14]);
+    check_value(&rt, number, 2);
+    assert!(rt; out == [9, 9, 3, 14]);
     let cut = copy_value::<Endian, Error, u32>(&bytes, &mut out, LE);
-    assert!(rt; matches!(&cut, Err(Error::TooBig { size: 4, len: 3 })));
+    check_too_big(&rt, cut, 4, 3);
     let mut source = &bytes[2..];
     let first: Result<u8, Error> = at_the_start(source, BE);
-    assert!(rt; matches!(&first, Ok(14)));
+    check_value(&rt, first, 14);
     source = &bytes[1..];
     let version: Result<Version, VersionError> = at_the_start(source, ());
-    assert!(rt;
-        matches!(
-            &version,
-            Ok(Version {
-                major: 3,
-                minor: 14
-            })
-        )
-    );
+    assert!(rt; is_version(version, 3, 14));
     let mut target = &mut out[..];
     let wrote: Result<usize, VersionError> = to_the_start(
         &mut target,
         Version { major: 7, minor: 8 },
         (),
     );
-    assert!(rt; matches!(&wrote, Ok(2)));
-    assert_eq!(rt; out, [7, 8, 3, 14]);
+    check_value(&rt, wrote, 2);
+    assert!(rt; out == [7, 8, 3, 14]);
 }

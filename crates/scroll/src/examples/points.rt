@@ -7,7 +7,7 @@ ghost use Rattle.scroll.specs.Reads.{ReadsBetween, RefusesAt};
 ghost use Rattle.scroll.specs.Errors.{IsBadOffset};
 ghost use Rattle.scroll.specs.declared.endian.Endian.TheVariants.{Little};
 
-use crate::{Error, LE, Pread, Result};
+use crate::{LE, Pread, Result};
 
 /// Reads a point at a cursor: three coordinates of 16 bits, little-endian.
 pub fn read_point(file: &[u8], offset: &mut usize) -> Result<[u16; 3]>
@@ -35,12 +35,13 @@ pub fn greatest(file: &[u8], offset: usize) -> Result<u16> {
 
 #[test]
 fn a_point(rt: HostRuntime) {
+    use crate::tests::results::{check_too_big, check_value};
     let bytes: [u8; 7] = [1, 0, 2, 0, 3, 0, 9];
-    assert!(rt; matches!(&greatest(&bytes, 0), Ok(3)));
+    check_value(&rt, greatest(&bytes, 0), 3);
     let offset = &mut 0;
-    assert!(rt; matches!(&read_point(&bytes, offset), Ok([1, 2, 3])));
-    assert_eq!(rt; *offset, 6);
+    check_value(&rt, read_point(&bytes, offset), [1, 2, 3]);
+    assert!(rt; *offset == 6);
     let cut = read_line(&bytes, offset);
-    assert!(rt; matches!(&cut, Err(Error::TooBig { size: 2, len: 1 })));
-    assert_eq!(rt; *offset, 6);
+    check_too_big(&rt, cut, 2, 1);
+    assert!(rt; *offset == 6);
 }

@@ -6,6 +6,7 @@ ghost use Rattle.scroll.specs.Numbers.{number, number_bytes};
 ghost use Rattle.scroll.specs.declared.error.Error.TheVariants.{TooBig};
 
 use crate::ctx::{TryFromCtx, TryIntoCtx};
+use crate::tests::results::{check_too_big, check_value};
 use crate::{BE, Endian, Error, Pread, Pwrite, Result, slice};
 
 #[derive(Clone, Copy, Debug)]
@@ -73,7 +74,7 @@ fn three_numbers(rt: HostRuntime) {
         )
     );
     let cut: Result<Data> = bytes[..].pread_with(1, BE);
-    assert!(rt; matches!(&cut, Err(Error::TooBig { size: 1, len: 0 })));
+    check_too_big(&rt, cut, 1, 0);
 }
 
 #[test]
@@ -86,8 +87,8 @@ fn written_back(rt: HostRuntime) {
     };
     let mut out = [0u8; 7];
     let mut target = &mut out[..];
-    assert!(rt; matches!(&target.pwrite_with(data, 0, BE), Ok(7)));
-    assert_eq!(rt; out, bytes);
+    check_value(&rt, target.pwrite_with(data, 0, BE), 7);
+    assert!(rt; out == bytes);
     for (len, size, left, wanted) in [
         (0, 4, 0, [0, 0, 0, 0, 0, 0, 0]),
         (3, 4, 3, [0, 0, 0, 0, 0, 0, 0]),
@@ -97,9 +98,7 @@ fn written_back(rt: HostRuntime) {
         let mut out = [0u8; 7];
         let mut target = &mut out[..len];
         let cut = target.pwrite_with(data, 0, BE);
-        assert!(rt;
-            matches!(&cut, Err(Error::TooBig { size: s, len: l }) if *s == size && *l == left)
-        );
-        assert_eq!(rt; out, wanted);
+        check_too_big(&rt, cut, size, left);
+        assert!(rt; out == wanted);
     }
 }

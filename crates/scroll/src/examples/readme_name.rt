@@ -9,6 +9,7 @@ ghost use Rattle.scroll.specs.Texts.{first_place, ReadsText, RefusesText};
 ghost use Rattle.scroll.specs.declared.ctx.str_ctx.StrCtx.TheVariants.{Delimiter};
 
 use crate::ctx::TryFromCtx;
+use crate::tests::results::{check_bad_input, check_bad_offset, check_too_big};
 use crate::{BE, Endian, Error, Pread, Result};
 
 #[derive(Clone, Copy, Debug)]
@@ -53,17 +54,9 @@ fn a_name_and_a_number(rt: HostRuntime) {
         )
     );
     let no_zero: Result<Data> = bytes[..8].pread_with(0, BE);
-    assert!(rt; matches!(&no_zero, Err(Error::BadOffset(9))));
+    check_bad_offset(&rt, no_zero, 9);
     let no_number: Result<Data> = bytes[..12].pread_with(0, BE);
-    assert!(rt; matches!(&no_number, Err(Error::TooBig { size: 4, len: 3 })));
+    check_too_big(&rt, no_number, 4, 3);
     let no_text: Result<Data> = b"\xff\x00\x01\x02\x03\x04"[..].pread_with(0, BE);
-    assert!(rt;
-        matches!(
-            &no_text,
-            Err(Error::BadInput {
-                size: 6,
-                msg: "invalid utf8"
-            })
-        )
-    );
+    check_bad_input(&rt, no_text, 6, "invalid utf8");
 }

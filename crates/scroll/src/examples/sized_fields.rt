@@ -12,6 +12,7 @@ ghost use Rattle.scroll.specs.declared.examples.sized_fields.DataError.TheVarian
 ghost use Rattle.scroll.specs.declared.examples.sized_fields.FieldSize.TheVariants.{U32, U64};
 
 use crate::ctx::{StrCtx, TryFromCtx};
+use crate::tests::results::check_too_big;
 use crate::{BE, Endian, Error, Pread, Result};
 use std::result;
 
@@ -161,6 +162,27 @@ const NARROW: &[u8; 26] =
 const WIDE: &[u8; 38] =
     b"\0\0\0\0\x00\x02\x03\x04\0\0\0\0\x01\x02\x03\x04\0\0\0\0\xde\xad\xbe\xef\x00\x08UserName\x00\x02\xca\xfe";
 
+// Whether the fields, the name and the value of these bytes were read.
+fn is_data(read: result::Result<Data, DataError>) -> bool {
+    match read {
+        Ok(data) => {
+            let fields = [data.field_a, data.field_b, data.field_c];
+            fields == [0x00020304, 0x01020304, 0xdeadbeef]
+                && data.name == "UserName"
+                && data.value == [0xca, 0xfe].as_slice()
+        }
+        Err(_) => false,
+    }
+}
+
+// The library's error that a read was refused by.
+fn scroll_error(read: result::Result<Data, DataError>) -> Result<()> {
+    match read {
+        Err(DataError::Scroll(error)) => Err(error),
+        _ => Ok(()),
+    }
+}
+
 #[test]
 fn by_fields_of_either_width(rt: HostRuntime) {
     for (fieldsize, bytes) in [
@@ -172,35 +194,18 @@ fn by_fields_of_either_width(rt: HostRuntime) {
             endianess: BE,
         };
         let read: result::Result<Data, DataError> = bytes.pread_with(0, ctx);
-        match read {
-            Ok(data) => {
-                assert_eq!(rt; data.field_a, 0x00020304);
-                assert_eq!(rt; data.field_b, 0x01020304);
-                assert_eq!(rt; data.field_c, 0xdeadbeef);
-                assert_eq!(rt; data.name, "UserName");
-                assert_eq!(rt; data.value, [0xca, 0xfe].as_slice());
-            }
-            Err(_) => assert!(rt; false),
-        }
+        assert!(rt; is_data(read));
         let offset = &mut 0;
         let read: result::Result<Data, DataError> = bytes.gread_with(offset, ctx);
         assert!(rt; read.is_ok());
-        assert_eq!(rt; *offset, bytes.len());
+        assert!(rt; *offset == bytes.len());
     }
     let ctx = Context {
         fieldsize: FieldSize::U64,
         endianess: BE,
     };
     let long: result::Result<Data, DataError> = NARROW[..].pread_with(0, ctx);
-    assert!(rt;
-        matches!(
-            &long,
-            Err(DataError::Scroll(Error::TooBig {
-                size: 51966,
-                len: 0
-            }))
-        )
-    );
+    check_too_big(&rt, scroll_error(long), 51966, 0);
 }
 
 #[test]
@@ -219,10 +224,7 @@ fn cut_or_out_of_order(rt: HostRuntime) {
         (25, 2, 1),
     ] {
         let read: result::Result<Data, DataError> = NARROW[..cut].pread_with(0, ctx);
-        assert!(rt;
-            matches!(&read, Err(DataError::Scroll(Error::TooBig { size, len })) if *size == wanted && *len == left),
-            "{cut}"
-        );
+        check_too_big(&rt, scroll_error(read), wanted, left);
     }
     for bytes in [
         b"\0\0\0\x02\0\0\0\x02\0\0\0\x03\0\0\0\0",
@@ -232,11 +234,6 @@ fn cut_or_out_of_order(rt: HostRuntime) {
         let read: result::Result<Data, DataError> = bytes[..].pread_with(0, ctx);
         assert!(rt; matches!(&read, Err(DataError::BadFieldMatchup)));
         let cut: result::Result<Data, DataError> = bytes[..15].pread_with(0, ctx);
-        assert!(rt;
-            matches!(
-                &cut,
-                Err(DataError::Scroll(Error::TooBig { size: 2, len: 1 }))
-            )
-        );
+        check_too_big(&rt, scroll_error(cut), 2, 1);
     }
 }

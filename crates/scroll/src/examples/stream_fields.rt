@@ -4,6 +4,7 @@ ghost use Rattle.std.proofs.Common.{rules};
 ghost use Rattle.scroll.specs.Numbers.{number, signed_number, number_bytes, signed_bytes};
 
 use crate::ctx::{FromCtx, IntoCtx, SizeWith};
+use crate::tests::results::check_value;
 use crate::{BE, Cread, Endian, IOread, IOwrite, LE, slice};
 use std::io;
 use std::test::Fail;
@@ -72,11 +73,11 @@ fn read_one_after_the_other_and_at_once(rt: HostRuntime) -> Result<(), Fail> {
     let mut source = &BYTES[..];
     let foo: i64 = source.ioread_with(LE)?;
     let bar: u32 = source.ioread_with(LE)?;
-    assert_eq!(rt; foo, 2827);
-    assert_eq!(rt; bar, 48879);
+    assert!(rt; foo == 2827);
+    assert!(rt; bar == 48879);
     assert!(rt; source.ioread_with::<u64>(LE).is_err());
     let mut source = &BYTES[..];
-    assert_eq!(rt; read_foo(&mut source, LE)?, Foo { foo, bar });
+    check_value(&rt, read_foo(&mut source, LE), Foo { foo, bar });
     assert!(rt; source.is_empty());
     assert!(rt; read_foo(&mut source, LE).is_err());
     let mut source = &BYTES[..];
@@ -84,7 +85,7 @@ fn read_one_after_the_other_and_at_once(rt: HostRuntime) -> Result<(), Fail> {
         foo: 0x0b0b_0000_0000_0000,
         bar: 0xefbe_0000,
     };
-    assert_eq!(rt; read_foo(&mut source, BE)?, big);
+    check_value(&rt, read_foo(&mut source, BE), big);
     Ok(())
 }
 
@@ -95,7 +96,7 @@ fn written_as_it_reads(rt: HostRuntime) -> Result<(), Fail> {
         let foo = read_foo(&mut source, order)?;
         let mut target = Vec::new(rt.alloc());
         write_foo(&mut target, foo, order)?;
-        assert_eq!(rt; target.as_slice(), BYTES.as_slice());
+        assert!(rt; target.as_slice() == BYTES.as_slice());
     }
     let mut bytes = [7u8; 13];
     let mut room = &mut bytes[..];
@@ -105,6 +106,6 @@ fn written_as_it_reads(rt: HostRuntime) -> Result<(), Fail> {
     };
     room.iowrite_with(foo, LE)?;
     assert!(rt; room.iowrite_with(foo, LE).is_err());
-    assert_eq!(rt; &bytes[..12], BYTES.as_slice());
+    assert!(rt; &bytes[..12] == BYTES.as_slice());
     Ok(())
 }

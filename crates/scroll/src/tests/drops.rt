@@ -8,6 +8,7 @@ ghost use Rattle.scroll.specs.Numbers.{WritesNumber};
 ghost use Rattle.scroll.specs.declared.endian.Endian.TheVariants.{Little};
 
 use crate::ctx::{TryFromCtx, TryIntoCtx};
+use crate::tests::results::{check_bad_offset, check_eq, check_too_big, check_value};
 use crate::{Error, LE, Pread, Pwrite, Result, slice};
 use std::cell::Cell;
 
@@ -69,12 +70,12 @@ fn a_refused_read_drops_its_elements(rt: HostRuntime) {
     let drops = Cell::new(0);
     let bytes: [u8; 3] = [7, 8, 9];
     let cut: Result<[Counted; 3]> = bytes[..2].pread_with(0, &drops);
-    assert!(rt; cut.is_err_and(|e| matches!(e, Error::TooBig { size: 1, len: 0 })));
-    assert_eq!(rt; drops.get(), 2);
+    check_too_big(&rt, cut, 1, 0);
+    check_eq(&rt, drops.get(), 2);
     let whole: Result<[Counted; 3]> = bytes[..].pread_with(0, &drops);
-    assert_eq!(rt; drops.get(), 2);
+    check_eq(&rt, drops.get(), 2);
     drop(whole);
-    assert_eq!(rt; drops.get(), 5);
+    check_eq(&rt, drops.get(), 5);
 }
 
 #[test]
@@ -84,12 +85,12 @@ fn a_bulk_read_drops_what_it_replaces(rt: HostRuntime) {
     let mut held = three(&drops);
     let offset = &mut 0;
     let cut: Result<()> = bytes[..].gread_inout_with(offset, &mut held, &drops);
-    assert!(rt; matches!(&cut, Err(Error::TooBig { size: 1, len: 0 })));
-    assert_eq!(rt; drops.get(), 2);
+    check_too_big(&rt, cut, 1, 0);
+    check_eq(&rt, drops.get(), 2);
     let [first, second, third] = &held;
-    assert_eq!(rt; [first.byte, second.byte, third.byte], [1, 2, 9]);
+    check_eq(&rt, [first.byte, second.byte, third.byte], [1, 2, 9]);
     drop(held);
-    assert_eq!(rt; drops.get(), 5);
+    check_eq(&rt, drops.get(), 5);
 }
 
 #[test]
@@ -99,12 +100,12 @@ fn writes_drop_their_values(rt: HostRuntime) {
     let mut target = &mut bytes[..];
     // (the first is written, the second fails, and the third is left)
     let cut: Result<usize> = target.pwrite(three(&drops), 1);
-    assert!(rt; matches!(&cut, Err(Error::TooBig { size: 1, len: 0 })));
-    assert_eq!(rt; drops.get(), 3);
+    check_too_big(&rt, cut, 1, 0);
+    check_eq(&rt, drops.get(), 3);
     let past: Result<usize> = target.pwrite(three(&drops), 3);
-    assert!(rt; matches!(&past, Err(Error::BadOffset(3))));
-    assert_eq!(rt; drops.get(), 6);
-    assert_eq!(rt; bytes, [0, 7]);
+    check_bad_offset(&rt, past, 3);
+    check_eq(&rt, drops.get(), 6);
+    check_eq(&rt, bytes, [0, 7]);
     let offset = &mut 1;
     let wrote: Result<usize> = slice::gwrite(
         &mut bytes,
@@ -114,7 +115,7 @@ fn writes_drop_their_values(rt: HostRuntime) {
         },
         offset,
     );
-    assert!(rt; matches!(&wrote, Ok(1)));
-    assert_eq!(rt; drops.get(), 7);
-    assert_eq!(rt; bytes, [0, 5]);
+    check_value(&rt, wrote, 1);
+    check_eq(&rt, drops.get(), 7);
+    check_eq(&rt, bytes, [0, 5]);
 }

@@ -1,84 +1,84 @@
 // Floats: the values of the Rust crate's tests, and the bytes that it reads and writes for zeros, subnormals, infinities
 // and NaNs.
 use crate::ctx::{FromCtx, IntoCtx, SizeWith, TryFromCtx, TryIntoCtx};
-use crate::{BE, Cread, Cwrite, Error, IOread, IOwrite, LE, Pread, Pwrite, Result};
+use crate::tests::results::{check_bad_offset, check_eq, check_too_big, check_value};
+use crate::{BE, Cread, Cwrite, Endian, IOread, IOwrite, LE, Pread, Pwrite, Result};
 use std::io;
+use std::process::Abort;
 
 // The first float in the bytes that the tests of the Rust crate read.
 macro_rules! check_gread {
     ($rt:ident, $float:ty, $value:expr, $size:expr) => {
         let bytes: [u8; 8] = [0, 0, 0, 0, 0, 0, 224, 63];
         let mut offset = 0;
-        let read: $float = bytes[..].gread_with(&mut offset, LE)?;
-        assert_eq!($rt; read, $value);
-        assert_eq!($rt; offset, $size);
+        let value: $float = $value;
+        check_value(&$rt, bytes[..].gread_with(&mut offset, LE), value);
+        check_eq(&$rt, offset, $size);
     };
 }
 
 #[test]
-fn gread_f32(rt: HostRuntime) -> Result<()> {
+fn gread_f32(rt: HostRuntime) {
     check_gread!(rt, f32, 0.0, 4);
-    Ok(())
 }
 
 #[test]
-fn gread_f64(rt: HostRuntime) -> Result<()> {
+fn gread_f64(rt: HostRuntime) {
     check_gread!(rt, f64, 0.5, 8);
-    Ok(())
 }
 
 // Writes a float in one order and, after it, in the other, and reads both back.
 macro_rules! check_gread_gwrite {
-    ($rt:ident, $float:ty, $value:expr, $size:expr) => {
+    ($rt:ident, $value:ident, $size:expr) => {
         let mut bytes = [0u8; 16];
         let mut target = &mut bytes[..];
-        let value: $float = $value;
         let mut offset = 0;
-        assert!($rt; matches!(&target.gwrite_with(value, &mut offset, LE), Ok($size)));
-        assert!($rt; matches!(&target.gwrite_with(value, &mut offset, BE), Ok($size)));
-        assert_eq!($rt; offset, 2 * $size);
+        check_value(&$rt, target.gwrite_with($value, &mut offset, LE), $size);
+        check_value(&$rt, target.gwrite_with($value, &mut offset, BE), $size);
+        check_eq(&$rt, offset, 2 * $size);
         let mut offset = 0;
-        let little: $float = bytes[..].gread_with(&mut offset, LE)?;
-        let big: $float = bytes[..].gread_with(&mut offset, BE)?;
-        assert_eq!($rt; [little, big], [value, value]);
-        assert_eq!($rt; offset, 2 * $size);
+        check_value(&$rt, bytes[..].gread_with(&mut offset, LE), $value);
+        check_value(&$rt, bytes[..].gread_with(&mut offset, BE), $value);
+        check_eq(&$rt, offset, 2 * $size);
     };
 }
 
-#[test]
-fn gread_gwrite_f64_1(rt: HostRuntime) -> Result<()> {
-    check_gread_gwrite!(rt, f64, 0.25, 8);
-    Ok(())
+fn check_gread_gwrite_f64(rt: &impl Abort, value: f64) {
+    check_gread_gwrite!(rt, value, 8);
+}
+
+fn check_gread_gwrite_f32(rt: &impl Abort, value: f32) {
+    check_gread_gwrite!(rt, value, 4);
 }
 
 #[test]
-fn gread_gwrite_f64_2(rt: HostRuntime) -> Result<()> {
-    check_gread_gwrite!(rt, f64, 0.5, 8);
-    Ok(())
+fn gread_gwrite_f64_1(rt: HostRuntime) {
+    check_gread_gwrite_f64(&rt, 0.25);
 }
 
 #[test]
-fn gread_gwrite_f64_3(rt: HostRuntime) -> Result<()> {
-    check_gread_gwrite!(rt, f64, 0.064, 8);
-    Ok(())
+fn gread_gwrite_f64_2(rt: HostRuntime) {
+    check_gread_gwrite_f64(&rt, 0.5);
 }
 
 #[test]
-fn gread_gwrite_f32_1(rt: HostRuntime) -> Result<()> {
-    check_gread_gwrite!(rt, f32, 0.25, 4);
-    Ok(())
+fn gread_gwrite_f64_3(rt: HostRuntime) {
+    check_gread_gwrite_f64(&rt, 0.064);
 }
 
 #[test]
-fn gread_gwrite_f32_2(rt: HostRuntime) -> Result<()> {
-    check_gread_gwrite!(rt, f32, 0.5, 4);
-    Ok(())
+fn gread_gwrite_f32_1(rt: HostRuntime) {
+    check_gread_gwrite_f32(&rt, 0.25);
 }
 
 #[test]
-fn gread_gwrite_f32_3(rt: HostRuntime) -> Result<()> {
-    check_gread_gwrite!(rt, f32, 0.0, 4);
-    Ok(())
+fn gread_gwrite_f32_2(rt: HostRuntime) {
+    check_gread_gwrite_f32(&rt, 0.5);
+}
+
+#[test]
+fn gread_gwrite_f32_3(rt: HostRuntime) {
+    check_gread_gwrite_f32(&rt, 0.0);
 }
 
 // Floats and their bytes, as the Rust crate writes them in big-endian order: zeros of both signs, the least and the
@@ -115,29 +115,43 @@ const DOUBLES: [(f64, [u8; 8]); 11] = [
 ];
 
 // Both zeros are equal: what is written shows which of them was read.
-macro_rules! check_floats {
-    ($rt:ident, $table:ident, $float:ty, $width:expr) => {
-        for (value, big) in $table.iter() {
-            let mut little = *big;
-            little.reverse();
-            for (bytes, order) in [(*big, BE), (little, LE)] {
-                let read: $float = bytes[..].pread_with(0, order)?;
-                assert_eq!($rt; read, *value);
-                let mut target = [7u8; $width];
-                let mut slice = &mut target[..];
-                slice.pwrite_with(read, 0, order)?;
-                assert_eq!($rt; target, bytes);
-                value.into_ctx(&mut target, order);
-                assert_eq!($rt; target, bytes);
-            }
-        }
+macro_rules! check_float {
+    ($rt:ident, $float:ty, $width:expr, $value:ident, $bytes:ident, $order:ident) => {
+        let read: $float = $bytes[..].pread_with(0, $order)?;
+        check_eq(&$rt, read, $value);
+        let mut target = [7u8; $width];
+        let mut slice = &mut target[..];
+        slice.pwrite_with(read, 0, $order)?;
+        check_eq(&$rt, target, $bytes);
+        $value.into_ctx(&mut target, $order);
+        check_eq(&$rt, target, $bytes);
     };
+}
+
+fn check_single(rt: &impl Abort, value: f32, bytes: [u8; 4], order: Endian) -> Result<()> {
+    check_float!(rt, f32, 4, value, bytes, order);
+    Ok(())
+}
+
+fn check_double(rt: &impl Abort, value: f64, bytes: [u8; 8], order: Endian) -> Result<()> {
+    check_float!(rt, f64, 8, value, bytes, order);
+    Ok(())
 }
 
 #[test]
 fn floats_and_their_bytes(rt: HostRuntime) -> Result<()> {
-    check_floats!(rt, SINGLES, f32, 4);
-    check_floats!(rt, DOUBLES, f64, 8);
+    for (value, big) in SINGLES.iter() {
+        check_single(&rt, *value, *big, BE)?;
+        let mut little = *big;
+        little.reverse();
+        check_single(&rt, *value, little, LE)?;
+    }
+    for (value, big) in DOUBLES.iter() {
+        check_double(&rt, *value, *big, BE)?;
+        let mut little = *big;
+        little.reverse();
+        check_double(&rt, *value, little, LE)?;
+    }
     Ok(())
 }
 
@@ -166,35 +180,35 @@ fn nans_and_their_bytes(rt: HostRuntime) -> Result<()> {
         assert!(rt; read.is_nan());
         let mut target = [7u8; 4];
         read.try_into_ctx(&mut target, LE)?;
-        assert_eq!(rt; target, [0, 0, 0xc0, 0x7f]);
+        check_eq(&rt, target, [0, 0, 0xc0, 0x7f]);
     }
     for bytes in DOUBLE_NANS.iter() {
         let (read, size) = f64::try_from_ctx(bytes, BE)?;
         assert!(rt; read.is_nan());
-        assert_eq!(rt; size, 8);
+        check_eq(&rt, size, 8);
         let mut target = [7u8; 8];
         (&read).try_into_ctx(&mut target, BE)?;
-        assert_eq!(rt; target, [0x7f, 0xf8, 0, 0, 0, 0, 0, 0]);
+        check_eq(&rt, target, [0x7f, 0xf8, 0, 0, 0, 0, 0, 0]);
     }
     Ok(())
 }
 
 #[test]
 fn sizes_and_refusals(rt: HostRuntime) {
-    assert_eq!(rt; [f32::size_with(&LE), f64::size_with(&BE)], [4, 8]);
-    assert_eq!(rt; [f32::size_with(&()), f64::size_with(&())], [4, 8]);
-    assert_eq!(rt; <[[f64; 3]; 2]>::size_with(&LE), 48);
+    check_eq(&rt, [f32::size_with(&LE), f64::size_with(&BE)], [4, 8]);
+    check_eq(&rt, [f32::size_with(&()), f64::size_with(&())], [4, 8]);
+    check_eq(&rt, <[[f64; 3]; 2]>::size_with(&LE), 48);
     let mut bytes = [0u8; 3];
     let short: Result<f32> = bytes[..].pread_with(0, LE);
-    assert!(rt; matches!(&short, Err(Error::TooBig { size: 4, len: 3 })));
+    check_too_big(&rt, short, 4, 3);
     let short: Result<f64> = bytes[..].pread_with(1, LE);
-    assert!(rt; matches!(&short, Err(Error::TooBig { size: 8, len: 2 })));
+    check_too_big(&rt, short, 8, 2);
     let past: Result<f32> = bytes[..].pread_with(4, LE);
-    assert!(rt; matches!(&past, Err(Error::BadOffset(4))));
+    check_bad_offset(&rt, past, 4);
     let mut target = &mut bytes[..];
     let short = target.pwrite_with(1.0f32, 0, LE);
-    assert!(rt; matches!(&short, Err(Error::TooBig { size: 4, len: 3 })));
-    assert_eq!(rt; bytes, [0, 0, 0]);
+    check_too_big(&rt, short, 4, 3);
+    check_eq(&rt, bytes, [0, 0, 0]);
 }
 
 #[test]
@@ -203,10 +217,10 @@ fn with_room_made_sure_of(rt: HostRuntime) {
     let mut target = &mut bytes[..];
     target.cwrite_with(1.5f32, 0, BE);
     target.cwrite(-2.25f64, 4);
-    assert_eq!(rt; bytes, [0x3f, 0xc0, 0, 0, 0, 0, 0, 0, 0, 0, 0x02, 0xc0]);
-    assert_eq!(rt; bytes[..].cread_with::<f32>(0, BE), 1.5);
-    assert_eq!(rt; bytes[..].cread::<f64>(4), -2.25);
-    assert_eq!(rt; f32::from_ctx(&bytes, BE), 1.5);
+    check_eq(&rt, bytes, [0x3f, 0xc0, 0, 0, 0, 0, 0, 0, 0, 0, 0x02, 0xc0]);
+    assert!(rt; bytes[..].cread_with::<f32>(0, BE) == 1.5);
+    assert!(rt; bytes[..].cread::<f64>(4) == -2.25);
+    check_eq(&rt, f32::from_ctx(&bytes, BE), 1.5);
 }
 
 #[test]
@@ -214,18 +228,18 @@ fn arrays_and_bulk_reads(rt: HostRuntime) -> Result<()> {
     let mut bytes = [0u8; 20];
     let mut target = &mut bytes[..];
     let rows = [[0.5f32, -2.0], [0.1, 65504.0]];
-    assert_eq!(rt; target.pwrite_with(rows, 4, LE)?, 16);
+    check_value(&rt, target.pwrite_with(rows, 4, LE), 16);
     let wanted: [u8; 20] = [
         0, 0, 0, 0, 0, 0, 0, 0x3f, 0, 0, 0, 0xc0, 0xcd, 0xcc, 0xcc, 0x3d, 0, 0xe0, 0x7f, 0x47,
     ];
-    assert_eq!(rt; bytes, wanted);
+    check_eq(&rt, bytes, wanted);
     let read: [[f32; 2]; 2] = bytes[..].pread_with(4, LE)?;
-    assert_eq!(rt; read, rows);
+    check_eq(&rt, read, rows);
     let mut all = [0.0f32; 5];
     let mut offset = 0;
     bytes[..].gread_inout_with(&mut offset, &mut all, LE)?;
-    assert_eq!(rt; all, [0.0, 0.5, -2.0, 0.1, 65504.0]);
-    assert_eq!(rt; offset, 20);
+    check_eq(&rt, all, [0.0, 0.5, -2.0, 0.1, 65504.0]);
+    check_eq(&rt, offset, 20);
     Ok(())
 }
 
@@ -234,8 +248,8 @@ fn arrays_and_bulk_reads(rt: HostRuntime) -> Result<()> {
 fn streams_of_floats(rt: HostRuntime) -> io::Result<()> {
     let bytes: [u8; 12] = [0x0b, 0x0b, 0, 0, 0, 0, 0, 0, 0xef, 0xbe, 0, 0];
     let mut reader = &bytes[..];
-    assert_eq!(rt; reader.ioread_with::<i64>(LE)?, 0xb0b);
-    assert_eq!(rt; reader.ioread_with::<u32>(LE)?, 0xbeef);
+    check_value(&rt, reader.ioread_with::<i64>(LE), 0xb0b);
+    check_value(&rt, reader.ioread_with::<u32>(LE), 0xbeef);
     let end: io::Result<f64> = reader.ioread_with(LE);
     assert!(rt; end.is_err());
     let mut written = Vec::new(rt.alloc());
@@ -244,11 +258,11 @@ fn streams_of_floats(rt: HostRuntime) -> io::Result<()> {
     let wanted: [u8; 12] = [
         0x3d, 0xcc, 0xcc, 0xcd, 0xfc, 0xa9, 0xf1, 0xd2, 0x4d, 0x62, 0xb0, 0xbf,
     ];
-    assert_eq!(rt; written.as_slice(), wanted.as_slice());
+    check_eq(&rt, written.as_slice(), wanted.as_slice());
     let mut reader = written.as_slice();
     let single: f32 = reader.ioread_with(BE)?;
     let double: f64 = reader.ioread()?;
-    assert_eq!(rt; single, 0.1);
-    assert_eq!(rt; double, -0.064);
+    check_eq(&rt, single, 0.1);
+    check_eq(&rt, double, -0.064);
     Ok(())
 }

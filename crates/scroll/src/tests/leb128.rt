@@ -1,5 +1,6 @@
 // LEB128 encodings, and the readers compared with each other.
 use crate::leb128::{plain_sleb, plain_uleb, sleb_block, sleb_loads, uleb_block, uleb_loads};
+use crate::tests::results::{check_bad_offset, check_eq, check_too_big, check_value};
 use crate::{Error, LE, Loads, Pread, Result, Sleb128, Uleb128};
 
 // The result of a read.
@@ -55,43 +56,46 @@ fn uleb_size(rt: HostRuntime) {
     ];
     for (bytes, value, size) in table {
         let number: Result<Uleb128> = bytes[..].pread(0);
-        assert!(rt; matches!(&number, Ok(number) if u64::from(*number) == value));
-        assert!(rt; matches!(&number, Ok(number) if number.size() == size));
+        check_value(
+            &rt,
+            number.map(|number| (u64::from(number), number.size())),
+            (value, size),
+        );
     }
 }
 
 #[test]
 fn uleb128(rt: HostRuntime) {
     let bytes: [u8; 2] = [0x82, 1];
-    assert!(rt; matches!(&Uleb128::read(&bytes, &mut 0), Ok(130)));
-    assert!(rt; matches!(&bytes[..].pread_with::<u16>(0, LE), Ok(386)));
+    check_value(&rt, Uleb128::read(&bytes, &mut 0), 130);
+    check_value(&rt, bytes[..].pread_with::<u16>(0, LE), 386);
 }
 
 #[test]
 fn uleb128_overflow(rt: HostRuntime) {
     let bytes = text(0x82, 10, 1);
-    assert_eq!(rt; unsigned(&bytes[..11]), Outcome::Bad(11));
+    assert!(rt; unsigned(&bytes[..11]) == Outcome::Bad(11));
 }
 
 #[test]
 fn sleb128(rt: HostRuntime) {
     let bytes: [u8; 2] = [0xff, 0x7e];
-    assert!(rt; matches!(&Sleb128::read(&bytes, &mut 0), Ok(-129)));
+    check_value(&rt, Sleb128::read(&bytes, &mut 0), -129);
 }
 
 #[test]
 fn reads_with_an_offset(rt: HostRuntime) {
     let bytes: [u8; 3] = [0xff, 0x82, 1];
     let mut offset = 1;
-    assert!(rt; matches!(&Uleb128::read(&bytes, &mut offset), Ok(130)));
-    assert_eq!(rt; offset, 3);
+    check_value(&rt, Uleb128::read(&bytes, &mut offset), 130);
+    check_eq(&rt, offset, 3);
     let cut = Uleb128::read(&bytes, &mut offset);
-    assert!(rt; matches!(&cut, Err(Error::TooBig { size: 1, len: 0 })));
-    assert_eq!(rt; offset, 3);
+    check_too_big(&rt, cut, 1, 0);
+    check_eq(&rt, offset, 3);
     let mut past = 4;
     let refused = Sleb128::read(&bytes, &mut past);
-    assert!(rt; matches!(&refused, Err(Error::BadOffset(4))));
-    assert_eq!(rt; past, 4);
+    check_bad_offset(&rt, refused, 4);
+    check_eq(&rt, past, 4);
 }
 
 #[test]
@@ -108,14 +112,14 @@ fn numbers_with_their_lengths_are_compared(rt: HostRuntime) {
 fn padded_texts(rt: HostRuntime) {
     for count in 0..10 {
         let bytes = text(0x80, count, 0);
-        assert_eq!(rt; unsigned(&bytes[..count + 1]), Outcome::Value(0, count + 1));
-        assert_eq!(rt; signed(&bytes[..count + 1]), Outcome::Value(0, count + 1));
+        assert!(rt; unsigned(&bytes[..count + 1]) == Outcome::Value(0, count + 1));
+        assert!(rt; signed(&bytes[..count + 1]) == Outcome::Value(0, count + 1));
         let bytes = text(0xff, count, 0x7f);
-        assert_eq!(rt; signed(&bytes[..count + 1]), Outcome::Value(-1, count + 1));
+        assert!(rt; signed(&bytes[..count + 1]) == Outcome::Value(-1, count + 1));
     }
     let bytes = text(0x80, 10, 0);
-    assert_eq!(rt; unsigned(&bytes[..11]), Outcome::Bad(11));
-    assert_eq!(rt; signed(&bytes[..11]), Outcome::Bad(11));
+    assert!(rt; unsigned(&bytes[..11]) == Outcome::Bad(11));
+    assert!(rt; signed(&bytes[..11]) == Outcome::Bad(11));
 }
 
 #[test]
@@ -145,15 +149,20 @@ fn sign_bits(rt: HostRuntime) {
     for count in 0..9 {
         let bytes = text(0x80, count, 0x40);
         let source = &bytes[..count + 1];
-        assert_eq!(rt; unsigned(source), Outcome::Value(set[count], count + 1));
-        assert_eq!(rt;
+        check_eq(&rt, unsigned(source), Outcome::Value(set[count], count + 1));
+        check_eq(
+            &rt,
             signed(source),
-            Outcome::Value(set[count].wrapping_neg(), count + 1)
+            Outcome::Value(set[count].wrapping_neg(), count + 1),
         );
         let bytes = text(0x80, count, 0x3f);
         let source = &bytes[..count + 1];
-        assert_eq!(rt; unsigned(source), Outcome::Value(clear[count], count + 1));
-        assert_eq!(rt; signed(source), Outcome::Value(clear[count], count + 1));
+        check_eq(
+            &rt,
+            unsigned(source),
+            Outcome::Value(clear[count], count + 1),
+        );
+        check_eq(&rt, signed(source), Outcome::Value(clear[count], count + 1));
     }
 }
 
@@ -181,8 +190,8 @@ fn tenth_bytes(rt: HostRuntime) {
     ];
     for (fill, tenth, as_unsigned, as_signed) in table {
         let bytes = text(fill, 9, tenth);
-        assert_eq!(rt; unsigned(&bytes), as_unsigned);
-        assert_eq!(rt; signed(&bytes), as_signed);
+        check_eq(&rt, unsigned(&bytes), as_unsigned);
+        check_eq(&rt, signed(&bytes), as_signed);
     }
 }
 
@@ -195,39 +204,39 @@ fn cuts(rt: HostRuntime) {
         } else {
             Outcome::Bad(len)
         };
-        assert_eq!(rt; unsigned(&bytes[..len]), wanted);
-        assert_eq!(rt; signed(&bytes[..len]), wanted);
+        assert!(rt; unsigned(&bytes[..len]) == wanted);
+        assert!(rt; signed(&bytes[..len]) == wanted);
     }
 }
 
 #[test]
 fn blocks(rt: HostRuntime) {
-    assert_eq!(rt; uleb_block([0x82, 1, 0, 0, 0, 0, 0, 0]), Some((130, 2)));
-    assert_eq!(rt; uleb_block([0x80; 8]), None);
-    assert_eq!(rt; sleb_block([0x80; 8]), None);
+    check_eq(&rt, uleb_block([0x82, 1, 0, 0, 0, 0, 0, 0]), Some((130, 2)));
+    check_eq(&rt, uleb_block([0x80; 8]), None);
+    check_eq(&rt, sleb_block([0x80; 8]), None);
     let ones = [0xff, 0xff, 0xff, 0xff, 0xff, 0xff, 0xff, 0x7f];
-    assert_eq!(rt; uleb_block(ones), Some((72057594037927935, 8)));
-    assert_eq!(rt; sleb_block(ones), Some((-1, 8)));
+    check_eq(&rt, uleb_block(ones), Some((72057594037927935, 8)));
+    check_eq(&rt, sleb_block(ones), Some((-1, 8)));
     let least = [0x80, 0x80, 0x80, 0x80, 0x80, 0x80, 0x80, 0x40];
-    assert_eq!(rt; sleb_block(least), Some((-36028797018963968, 8)));
+    check_eq(&rt, sleb_block(least), Some((-36028797018963968, 8)));
     let large = [0x80, 0x80, 0x80, 0x80, 0x80, 0x80, 0x80, 0x3f];
-    assert_eq!(rt; sleb_block(large), Some((35465847065542656, 8)));
+    check_eq(&rt, sleb_block(large), Some((35465847065542656, 8)));
 }
 
 #[test]
 fn counted_loads(rt: HostRuntime) {
     let bytes = text(0xff, 9, 1);
     let mut source = Loads::new(&bytes[..10]);
-    assert!(rt; matches!(&uleb_loads(&mut source), Ok((18446744073709551615, 10))));
-    assert_eq!(rt; source.made(), 3);
+    check_value(&rt, uleb_loads(&mut source), (18446744073709551615, 10));
+    check_eq(&rt, source.made(), 3);
     let bytes = text(0x80, 8, 0x7f);
-    assert_eq!(rt; signed(&bytes[..9]), Outcome::Value(-72057594037927936, 9));
+    assert!(rt; signed(&bytes[..9]) == Outcome::Value(-72057594037927936, 9));
     let mut short = Loads::new(&bytes[..2]);
-    assert_eq!(rt; short.len(), 2);
-    assert_eq!(rt; short.word(), None);
-    assert_eq!(rt; short.byte(2), None);
-    assert_eq!(rt; short.byte(1), Some(0x80));
-    assert_eq!(rt; short.made(), 3);
+    check_eq(&rt, short.len(), 2);
+    check_eq(&rt, short.word(), None);
+    check_eq(&rt, short.byte(2), None);
+    check_eq(&rt, short.byte(1), Some(0x80));
+    check_eq(&rt, short.made(), 3);
 }
 
 // Returns whether the readers by loads and those byte by byte return the same for a source.

@@ -1,6 +1,7 @@
 // LEB128 encodings that are written.
 use crate::ctx::TryIntoCtx;
-use crate::{Error, Pread, Pwrite, Result, Sleb128, Uleb128};
+use crate::tests::results::{check_eq, check_too_big, check_value};
+use crate::{Pread, Pwrite, Result, Sleb128, Uleb128};
 
 // Returns what a write of a number leaves of twelve bytes 0xee, and its size, or 99 on an error.
 fn unsigned(value: u64) -> ([u8; 12], usize) {
@@ -30,29 +31,33 @@ fn padded(text: &[u8]) -> ([u8; 12], usize) {
 
 #[test]
 fn unsigned_texts(rt: HostRuntime) {
-    assert_eq!(rt; unsigned(0), padded(&[0]));
-    assert_eq!(rt; unsigned(127), padded(&[0x7f]));
-    assert_eq!(rt; unsigned(130), padded(&[0x82, 1]));
-    assert_eq!(rt; unsigned(16384), padded(&[0x80, 0x80, 1]));
-    assert_eq!(rt; unsigned(675646857), padded(&[0x89, 0x9b, 0x96, 0xc2, 2]));
+    check_eq(&rt, unsigned(0), padded(&[0]));
+    check_eq(&rt, unsigned(127), padded(&[0x7f]));
+    check_eq(&rt, unsigned(130), padded(&[0x82, 1]));
+    check_eq(&rt, unsigned(16384), padded(&[0x80, 0x80, 1]));
+    check_eq(
+        &rt,
+        unsigned(675646857),
+        padded(&[0x89, 0x9b, 0x96, 0xc2, 2]),
+    );
     let nine = [0x80, 0x80, 0x80, 0x80, 0x80, 0x80, 0x80, 0x80, 1];
-    assert_eq!(rt; unsigned(72057594037927936), padded(&nine));
+    check_eq(&rt, unsigned(72057594037927936), padded(&nine));
     let ten = [0xff, 0xff, 0xff, 0xff, 0xff, 0xff, 0xff, 0xff, 0xff, 1];
-    assert_eq!(rt; unsigned(18446744073709551615), padded(&ten));
+    check_eq(&rt, unsigned(18446744073709551615), padded(&ten));
 }
 
 #[test]
 fn signed_texts(rt: HostRuntime) {
-    assert_eq!(rt; signed(0), padded(&[0]));
-    assert_eq!(rt; signed(63), padded(&[0x3f]));
-    assert_eq!(rt; signed(64), padded(&[0xc0, 0]));
-    assert_eq!(rt; signed(-64), padded(&[0x40]));
-    assert_eq!(rt; signed(-65), padded(&[0xbf, 0x7f]));
-    assert_eq!(rt; signed(-129), padded(&[0xff, 0x7e]));
+    check_eq(&rt, signed(0), padded(&[0]));
+    check_eq(&rt, signed(63), padded(&[0x3f]));
+    check_eq(&rt, signed(64), padded(&[0xc0, 0]));
+    check_eq(&rt, signed(-64), padded(&[0x40]));
+    check_eq(&rt, signed(-65), padded(&[0xbf, 0x7f]));
+    check_eq(&rt, signed(-129), padded(&[0xff, 0x7e]));
     let least = [0x80, 0x80, 0x80, 0x80, 0x80, 0x80, 0x80, 0x80, 0x80, 0x7f];
-    assert_eq!(rt; signed(-9223372036854775808), padded(&least));
+    check_eq(&rt, signed(-9223372036854775808), padded(&least));
     let most = [0xff, 0xff, 0xff, 0xff, 0xff, 0xff, 0xff, 0xff, 0xff, 0];
-    assert_eq!(rt; signed(9223372036854775807), padded(&most));
+    check_eq(&rt, signed(9223372036854775807), padded(&most));
 }
 
 #[test]
@@ -63,9 +68,9 @@ fn padded_texts_are_kept(rt: HostRuntime) {
     let read: Result<Uleb128> = text[..].pread(0);
     assert!(rt; read.is_ok());
     if let Ok(zero) = read {
-        assert!(rt; matches!(&target.pwrite(zero, 0), Ok(2)));
+        check_value(&rt, target.pwrite(zero, 0), 2);
     }
-    assert_eq!(rt; bytes, [0x80, 0, 0xee]);
+    check_eq(&rt, bytes, [0x80, 0, 0xee]);
 }
 
 #[test]
@@ -73,10 +78,10 @@ fn short_targets_stay(rt: HostRuntime) {
     let mut bytes = [7u8; 9];
     let mut target = &mut bytes[..];
     let refused: Result<usize> = target.pwrite(Uleb128::shortest(u64::MAX), 0);
-    assert!(rt; matches!(&refused, Err(Error::TooBig { size: 10, len: 9 })));
+    check_too_big(&rt, refused, 10, 9);
     let refused: Result<usize> = target.pwrite(Sleb128::shortest(64), 8);
-    assert!(rt; matches!(&refused, Err(Error::TooBig { size: 2, len: 1 })));
-    assert_eq!(rt; bytes, [7; 9]);
+    check_too_big(&rt, refused, 2, 1);
+    check_eq(&rt, bytes, [7; 9]);
 }
 
 #[test]
@@ -85,6 +90,6 @@ fn arrays_of_numbers(rt: HostRuntime) {
     let mut target = &mut bytes[..];
     let numbers = [Uleb128::shortest(1), Uleb128::shortest(128)];
     let refused: Result<usize> = target.pwrite(numbers, 0);
-    assert!(rt; matches!(&refused, Err(Error::TooBig { size: 2, len: 1 })));
-    assert_eq!(rt; bytes, [1, 0]);
+    check_too_big(&rt, refused, 2, 1);
+    check_eq(&rt, bytes, [1, 0]);
 }

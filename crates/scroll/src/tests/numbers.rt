@@ -4,7 +4,8 @@ ghost use Rattle.scroll.specs.Numbers.{number};
 ghost use Rattle.scroll.specs.declared.endian.Endian.TheVariants.{Big};
 
 use crate::ctx::{FromCtx, IntoCtx, SizeWith, TryFromCtx, TryIntoCtx};
-use crate::{BE, Cread, Cwrite, Endian, Error, LE, Pread, Pwrite, Result};
+use crate::tests::results::{check_eq, check_too_big, check_value};
+use crate::{BE, Cread, Cwrite, Endian, LE, Pread, Pwrite, Result};
 
 // Writes a number in each order into zeros, and reads it back.
 macro_rules! check_roundtrip {
@@ -14,9 +15,9 @@ macro_rules! check_roundtrip {
             let mut target = &mut bytes[..];
             let value: $number = $value;
             let wrote: Result<usize> = target.pwrite_with(value, 0, order);
-            assert!($rt; matches!(&wrote, Ok($size)));
+            check_value(&$rt, wrote, $size);
             let read: Result<$number> = bytes[..].pread_with(0, order);
-            assert!($rt; matches!(&read, Ok($value)));
+            check_value(&$rt, read, $value);
         }
     };
 }
@@ -54,14 +55,14 @@ fn pwrite_and_pread_roundtrip_i64(rt: HostRuntime) {
 #[test]
 fn pread_with_be(rt: HostRuntime) {
     let bytes: [u8; 2] = [0x7e, 0xef];
-    assert!(rt; matches!(&bytes[..].pread_with::<u16>(0, BE), Ok(0x7eef)));
+    check_value(&rt, bytes[..].pread_with::<u16>(0, BE), 0x7eef);
     let bytes: [u8; 2] = [0xde, 0xad];
-    assert!(rt; matches!(&bytes[..].pread_with::<u16>(0, BE), Ok(0xdead)));
+    check_value(&rt, bytes[..].pread_with::<u16>(0, BE), 0xdead);
 }
 
 #[test]
 fn test_measurable(rt: HostRuntime) {
-    assert_eq!(rt; u64::size_with(&LE), 8);
+    check_eq(&rt, u64::size_with(&LE), 8);
     let by_order = [
         u8::size_with(&BE),
         i8::size_with(&BE),
@@ -86,69 +87,69 @@ fn test_measurable(rt: HostRuntime) {
         u128::size_with(&()),
         i128::size_with(&()),
     ];
-    assert_eq!(rt; by_order, [1, 1, 2, 2, 4, 4, 8, 8, 16, 16]);
-    assert_eq!(rt; by_nothing, by_order);
+    check_eq(&rt, by_order, [1, 1, 2, 2, 4, 4, 8, 8, 16, 16]);
+    check_eq(&rt, by_nothing, by_order);
 }
 
 #[test]
 fn signed_numbers(rt: HostRuntime) {
     let bytes: [u8; 4] = [0x80, 0, 0xff, 0xff];
     let source = &bytes[..];
-    assert!(rt; matches!(&source.pread_with::<i8>(0, LE), Ok(-128)));
-    assert!(rt; matches!(&source.pread_with::<i16>(0, BE), Ok(-32768)));
-    assert!(rt; matches!(&source.pread_with::<i16>(0, LE), Ok(128)));
-    assert!(rt; matches!(&source.pread_with::<i32>(0, LE), Ok(-65408)));
+    check_value(&rt, source.pread_with::<i8>(0, LE), -128);
+    check_value(&rt, source.pread_with::<i16>(0, BE), -32768);
+    check_value(&rt, source.pread_with::<i16>(0, LE), 128);
+    check_value(&rt, source.pread_with::<i32>(0, LE), -65408);
     let short: Result<i64> = source.pread_with(0, LE);
-    assert!(rt; matches!(&short, Err(Error::TooBig { size: 8, len: 4 })));
+    check_too_big(&rt, short, 8, 4);
     let wide = [0xffu8; 16];
-    assert!(rt; matches!(&wide[..].pread_with::<u128>(0, BE), Ok(u128::MAX)));
-    assert!(rt; matches!(&wide[..].pread_with::<i128>(0, LE), Ok(-1)));
+    check_value(&rt, wide[..].pread_with::<u128>(0, BE), u128::MAX);
+    check_value(&rt, wide[..].pread_with::<i128>(0, LE), -1);
     let mut out = [0u8; 16];
     let mut target = &mut out[..];
-    assert!(rt; matches!(&target.pwrite_with(i128::MIN, 0, BE), Ok(16)));
-    assert!(rt; matches!(&target.pwrite_with(-3000i32, 4, BE), Ok(4)));
-    assert!(rt; matches!(&target.pwrite_with(-3000i32, 8, LE), Ok(4)));
-    assert!(rt; matches!(&target.pwrite_with(-2i8, 12, LE), Ok(1)));
+    check_value(&rt, target.pwrite_with(i128::MIN, 0, BE), 16);
+    check_value(&rt, target.pwrite_with(-3000i32, 4, BE), 4);
+    check_value(&rt, target.pwrite_with(-3000i32, 8, LE), 4);
+    check_value(&rt, target.pwrite_with(-2i8, 12, LE), 1);
     let wanted: [u8; 16] = [
         0x80, 0, 0, 0, 0xff, 0xff, 0xf4, 0x48, 0x48, 0xf4, 0xff, 0xff, 0xfe, 0, 0, 0,
     ];
-    assert_eq!(rt; out, wanted);
+    check_eq(&rt, out, wanted);
 }
 
 #[test]
 fn references_write_as_their_numbers(rt: HostRuntime) {
     let mut bytes = [0u8; 2];
     let mut target = &mut bytes[..];
-    assert!(rt; matches!(&target.pwrite_with(&258u16, 0, BE), Ok(2)));
-    assert_eq!(rt; bytes, [1, 2]);
+    check_value(&rt, target.pwrite_with(&258u16, 0, BE), 2);
+    check_eq(&rt, bytes, [1, 2]);
     (&-2i16).into_ctx(&mut bytes, LE);
-    assert_eq!(rt; bytes, [0xfe, 0xff]);
+    check_eq(&rt, bytes, [0xfe, 0xff]);
     let short = (&1u128).try_into_ctx(&mut bytes, LE);
-    assert!(rt; matches!(&short, Err(Error::TooBig { size: 16, len: 2 })));
+    check_too_big(&rt, short, 16, 2);
 }
 
 #[test]
 fn with_room_made_sure_of(rt: HostRuntime) {
     let bytes: [u8; 12] = [1, 0, 0, 0, 0, 0, 0, 0, 0xef, 0xbe, 0, 0];
     let source = &bytes[..];
-    assert_eq!(rt; source.cread::<i64>(0), 1);
-    assert_eq!(rt; source.cread::<u32>(8), 48879);
+    check_eq(&rt, source.cread::<i64>(0), 1);
+    check_eq(&rt, source.cread::<u32>(8), 48879);
     let bytes: [u8; 12] = [
         0x7f, 255, 255, 255, 255, 255, 255, 255, 0xef, 0xbe, 0xad, 0xde,
     ];
     let source = &bytes[..];
-    assert_eq!(rt; source.cread_with::<i64>(0, BE), 9223372036854775807);
-    assert_eq!(rt; source.cread_with::<u32>(8, LE), 3735928559);
+    check_eq(&rt, source.cread_with::<i64>(0, BE), 9223372036854775807);
+    check_eq(&rt, source.cread_with::<u32>(8, LE), 3735928559);
     let mut out = [0u8; 16];
     let mut target = &mut out[..];
     target.cwrite_with(0xdeadbeefu32, 8, BE);
-    assert_eq!(rt; out[..].cread_with::<u32>(8, LE), 4022250974);
+    assert!(rt; out[..].cread_with::<u32>(8, LE) == 4022250974);
     let mut out = [0u8; 12];
     let mut target = &mut out[..];
     target.cwrite(42i64, 0);
     target.cwrite(&0xdeadbeefu32, 8);
-    assert_eq!(rt; out[..].cread::<i64>(0), 42);
-    assert_eq!(rt; out[..].cread::<u32>(8), 0xdeadbeef);
+    assert!(rt; out[..].cread::<i64>(0) == 42);
+    assert!(rt; out[..].cread::<u32>(8) == 0xdeadbeef);
 }
 
 // Returns the value after the first one of its type, big-endian.
@@ -184,13 +185,13 @@ fn clear_first<T: Cwrite<Endian>>(target: &mut T)
 #[test]
 fn through_the_bounds(rt: HostRuntime) {
     let bytes: [u8; 4] = [1, 2, 3, 4];
-    assert_eq!(rt; at_the_start(&bytes[1..]), 0x0203);
-    assert_eq!(rt; second_of::<u16>(&bytes), 0x0304);
+    assert!(rt; at_the_start(&bytes[1..]) == 0x0203);
+    check_eq(&rt, second_of::<u16>(&bytes), 0x0304);
     let mut out = [0u8; 4];
     put(&mut out, -2i16);
     put(&mut out[2..], &0x0506u16);
-    assert_eq!(rt; out, [0xff, 0xfe, 5, 6]);
+    check_eq(&rt, out, [0xff, 0xfe, 5, 6]);
     let mut target = &mut out[..];
     clear_first(&mut target);
-    assert_eq!(rt; out, [0, 0xfe, 5, 6]);
+    check_eq(&rt, out, [0, 0xfe, 5, 6]);
 }

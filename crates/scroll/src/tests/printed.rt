@@ -1,5 +1,6 @@
 // The printed lines.
 use crate::Error;
+use crate::tests::results::check_eq;
 use std::io;
 use std::io::ErrorKind;
 use std::test::Fail;
@@ -23,11 +24,11 @@ fn lines_of_errors(rt: HostRuntime) -> Result<(), Fail> {
         (Error::NoMemory, "out of memory"),
     ] {
         let line = format!(in alloc; "{error}")?;
-        assert_eq!(rt; line.as_str(), wanted);
+        check_eq(&rt, line.as_str(), wanted);
     }
     let stream = io::Error::from(ErrorKind::UnexpectedEof);
     let line = format!(in alloc; "{stream}")?;
     let error = format!(in alloc; "{}", Error::from(stream))?;
-    assert_eq!(rt; error.as_str(), line.as_str());
+    check_eq(&rt, error.as_str(), line.as_str());
     Ok(())
 }

@@ -1,11 +1,13 @@
 // Runs of commands that read and write strings, byte slices, C strings, LEB128 and arrays. Each also passes where an
 // allocation fails: see `check_run`.
-use super::runs::{check_run, is_same};
+use super::runs::{check_answers, check_run};
 use crate::cstr::CStr;
 use crate::ctx::{NULL, StrCtx};
 use crate::runner::{Answer, Command, Kind, Place, Put, Value, Width, run};
+use crate::tests::results::check_eq;
 use crate::{BE, Error, LE, Pread, Sleb128, Uleb128};
 use std::alloc::{AllocError, Global};
+use std::process::Abort;
 
 const HERE: Place = Place::Cursor;
 
@@ -29,18 +31,18 @@ fn bad_input(size: usize, msg: &'static str) -> Answer {
     Answer::Refused(Error::BadInput { size, msg })
 }
 
-fn texts_wanted(alloc: Global) -> Result<[Answer; 9], AllocError> {
-    Ok([
-        text(alloc, "a")?,
-        text(alloc, "c")?,
-        Answer::Refused(Error::BadOffset(4)),
-        text(alloc, "ab")?,
-        too_big(4, 3),
-        Answer::Wrote(2),
-        bad_input(3, "invalid utf8"),
-        bytes(alloc, &[0xff, 0x7a])?,
-        bytes(alloc, &[])?,
-    ])
+fn texts_wanted(alloc: Global) -> Result<Vec<Answer>, AllocError> {
+    let mut wanted = Vec::new(alloc);
+    wanted.push(text(alloc, "a")?)?;
+    wanted.push(text(alloc, "c")?)?;
+    wanted.push(Answer::Refused(Error::BadOffset(4)))?;
+    wanted.push(text(alloc, "ab")?)?;
+    wanted.push(too_big(4, 3))?;
+    wanted.push(Answer::Wrote(2))?;
+    wanted.push(bad_input(3, "invalid utf8"))?;
+    wanted.push(bytes(alloc, &[0xff, 0x7a])?)?;
+    wanted.push(bytes(alloc, &[])?)?;
+    Ok(wanted)
 }
 
 #[test]
@@ -83,51 +85,59 @@ fn texts_and_slices(rt: HostRuntime) -> Result<(), AllocError> {
     Ok(())
 }
 
-// A string, a slice and C strings of each length are copied. An allocation failure ends the test.
+// Returns the answers to reads of a text of one length.
+fn copies_wanted(alloc: Global, copied: &[u8]) -> Result<Vec<Answer>, AllocError> {
+    let mut wanted = Vec::new(alloc);
+    wanted.push(text(alloc, str::from_utf8(copied).unwrap_or_default())?)?;
+    wanted.push(bytes(alloc, copied)?)?;
+    wanted.push(c_string(alloc, copied)?)?;
+    wanted.push(c_string(alloc, copied)?)?;
+    Ok(wanted)
+}
+
+// Checks that a string, a slice and C strings of one length are copied.
+fn check_length(rt: &impl Abort, alloc: Global, len: usize) -> Result<(), AllocError> {
+    let mut buffer = vec![in alloc; b'a'; len]?;
+    let wanted = copies_wanted(alloc, &buffer)?;
+    buffer.push(0)?;
+    let commands = [
+        Command::Read(HERE, Kind::Text(StrCtx::Delimiter(NULL))),
+        Command::Read(Place::At(0), Kind::Bytes(len)),
+        Command::Read(Place::At(0), Kind::CStr),
+        Command::Read(Place::At(0), Kind::CString),
+    ];
+    let mut cursor = 0;
+    let mut answers = Vec::new(alloc);
+    if let Err(error) = run(alloc, &mut buffer, &mut cursor, &commands, &mut answers) {
+        assert!(rt; matches!(&error, Error::NoMemory));
+        return Err(AllocError);
+    }
+    check_eq(&rt, cursor.checked_sub(1), Some(len));
+    check_eq(&rt, answers.len(), 4);
+    check_answers(rt, &answers, &wanted);
+    Ok(())
+}
+
+// An allocation failure ends the test.
 #[test]
 fn values_of_each_length(rt: HostRuntime) -> Result<(), AllocError> {
-    let alloc = rt.alloc();
     for len in [0, 1, 255, 256, 4096] {
-        let mut buffer = vec![in alloc; b'a'; len]?;
-        let wanted = [
-            text(alloc, str::from_utf8(&buffer).unwrap_or_default())?,
-            bytes(alloc, &buffer)?,
-            c_string(alloc, &buffer)?,
-            c_string(alloc, &buffer)?,
-        ];
-        buffer.push(0)?;
-        let commands = [
-            Command::Read(HERE, Kind::Text(StrCtx::Delimiter(NULL))),
-            Command::Read(Place::At(0), Kind::Bytes(len)),
-            Command::Read(Place::At(0), Kind::CStr),
-            Command::Read(Place::At(0), Kind::CString),
-        ];
-        let mut cursor = 0;
-        let mut answers = Vec::new(alloc);
-        if let Err(error) = run(alloc, &mut buffer, &mut cursor, &commands, &mut answers) {
-            assert!(rt; matches!(&error, Error::NoMemory));
-            return Err(AllocError);
-        }
-        assert_eq!(rt; cursor, len + 1);
-        assert_eq!(rt; answers.len(), 4);
-        for (answer, want) in answers.iter().zip(wanted.iter()) {
-            assert!(rt; is_same(answer, want), "{len}");
-        }
+        check_length(&rt, rt.alloc(), len)?;
     }
     Ok(())
 }
 
 const NO_ZERO: &str = "The input doesn't contain a null byte";
 
-fn c_strings_wanted(alloc: Global) -> Result<[Answer; 6], AllocError> {
-    Ok([
-        Answer::Wrote(3),
-        c_string(alloc, b"ab")?,
-        c_string(alloc, b"ab")?,
-        c_string(alloc, b"")?,
-        too_big(3, 1),
-        bad_input(0, NO_ZERO),
-    ])
+fn c_strings_wanted(alloc: Global) -> Result<Vec<Answer>, AllocError> {
+    let mut wanted = Vec::new(alloc);
+    wanted.push(Answer::Wrote(3))?;
+    wanted.push(c_string(alloc, b"ab")?)?;
+    wanted.push(c_string(alloc, b"ab")?)?;
+    wanted.push(c_string(alloc, b"")?)?;
+    wanted.push(too_big(3, 1))?;
+    wanted.push(bad_input(0, NO_ZERO))?;
+    Ok(wanted)
 }
 
 #[test]
@@ -239,16 +249,19 @@ fn numbers_in_leb128_are_written(rt: HostRuntime) -> crate::Result<()> {
     Ok(())
 }
 
-fn arrays_wanted(alloc: Global) -> Result<[Answer; 7], AllocError> {
-    Ok([
-        Answer::Read(Value::U16x3([1, 2, 0x6100])),
-        too_big(2, 1),
-        Answer::Read(Value::Textx2(String::from_str(alloc, "a")?, String::from_str(alloc, "")?)),
-        Answer::Refused(Error::BadOffset(2)),
-        Answer::Read(Value::U8x0),
-        Answer::Refused(Error::BadOffset(8)),
-        too_big(2, 1),
-    ])
+fn arrays_wanted(alloc: Global) -> Result<Vec<Answer>, AllocError> {
+    let mut wanted = Vec::new(alloc);
+    wanted.push(Answer::Read(Value::U16x3([1, 2, 0x6100])))?;
+    wanted.push(too_big(2, 1))?;
+    wanted.push(Answer::Read(Value::Textx2(
+        String::from_str(alloc, "a")?,
+        String::from_str(alloc, "")?,
+    )))?;
+    wanted.push(Answer::Refused(Error::BadOffset(2)))?;
+    wanted.push(Answer::Read(Value::U8x0))?;
+    wanted.push(Answer::Refused(Error::BadOffset(8)))?;
+    wanted.push(too_big(2, 1))?;
+    Ok(wanted)
 }
 
 #[test]

@@ -2,6 +2,7 @@
 // then those of the first commands, and the buffer and the cursor are as these left them.
 use crate::ctx::StrCtx;
 use crate::runner::{Answer, Command, Kind, Place, Put, Value, Width, run};
+use crate::tests::results::check_eq;
 use crate::{BE, Error, LE};
 use std::alloc::{AllocError, Global};
 use std::process::Abort;
@@ -45,6 +46,29 @@ pub fn is_same(a: &Answer, b: &Answer) -> bool {
     }
 }
 
+// Compares the answers with those that are expected, as far as there are both.
+pub fn check_answers(rt: &impl Abort, answers: &[Answer], wanted: &[Answer]) {
+    for (answer, want) in answers.iter().zip(wanted.iter()) {
+        assert!(rt; is_same(answer, want), "{answer:?} for {want:?}");
+    }
+}
+
+// Returns whether a run of these commands succeeds, and leaves this buffer and this cursor.
+fn leaves<const N: usize>(
+    alloc: Global,
+    first: [u8; N],
+    cursor: usize,
+    commands: &[Command<'_>],
+    last: [u8; N],
+    last_cursor: usize,
+) -> bool {
+    let mut buffer = first;
+    let mut at = cursor;
+    let mut answers = Vec::new(alloc);
+    let done = run(alloc, &mut buffer, &mut at, commands, &mut answers);
+    done.is_ok() && buffer == last && at == last_cursor
+}
+
 // Runs the commands, and expects these answers. After an allocation failure it expects what the first commands alone
 // return and leave, and that a second run of all commands succeeds, since at most one allocation fails.
 pub fn check_run<const N: usize>(
@@ -62,33 +86,19 @@ pub fn check_run<const N: usize>(
     let mut answers = Vec::new(alloc);
     match run(alloc, &mut buffer, &mut at, commands, &mut answers) {
         Ok(()) => {
-            assert_eq!(rt; answers.len(), wanted.len());
-            assert_eq!(rt; buffer, last);
-            assert_eq!(rt; at, last_cursor);
+            check_eq(&rt, answers.len(), wanted.len());
+            check_eq(&rt, buffer, last);
+            check_eq(&rt, at, last_cursor);
         }
         Err(error) => {
             assert!(rt; matches!(&error, Error::NoMemory));
             assert!(rt; answers.len() < commands.len());
-            let mut again = first;
-            let mut again_at = cursor;
-            let mut front = Vec::new(alloc);
             let fewer = &commands[..answers.len()];
-            let done = run(alloc, &mut again, &mut again_at, fewer, &mut front);
-            assert!(rt; done.is_ok());
-            assert_eq!(rt; buffer, again);
-            assert_eq!(rt; at, again_at);
-            let mut again = first;
-            let mut again_at = cursor;
-            let mut whole = Vec::new(alloc);
-            let done = run(alloc, &mut again, &mut again_at, commands, &mut whole);
-            assert!(rt; done.is_ok());
-            assert_eq!(rt; again, last);
-            assert_eq!(rt; again_at, last_cursor);
+            assert!(rt; leaves(alloc, first, cursor, fewer, buffer, at));
+            assert!(rt; leaves(alloc, first, cursor, commands, last, last_cursor));
         }
     }
-    for (answer, want) in answers.iter().zip(wanted.iter()) {
-        assert!(rt; is_same(answer, want), "{answer:?} for {want:?}");
-    }
+    check_answers(rt, &answers, wanted);
 }
 
 #[test]
@@ -212,11 +222,9 @@ fn check_front(
 ) {
     assert!(rt; answers.len() < 4);
     let (left, left_cursor) = LEFT[answers.len()];
-    assert_eq!(rt; buffer, left);
-    assert_eq!(rt; cursor, left_cursor);
-    for (answer, want) in answers.iter().zip(wanted.iter()) {
-        assert!(rt; is_same(answer, want), "{answer:?} for {want:?}");
-    }
+    check_eq(&rt, buffer, left);
+    check_eq(&rt, cursor, left_cursor);
+    check_answers(rt, answers, wanted);
 }
 
 // The commands run with zero to four other answers before theirs, so that the list of answers grows at each command in
@@ -254,7 +262,7 @@ fn answers_stand_up_to_a_refusal(rt: HostRuntime) -> Result<(), AllocError> {
         }
         check_front(&rt, added, &wanted, buffer, cursor);
         match done {
-            Ok(()) => assert_eq!(rt; added.len(), 3),
+            Ok(()) => check_eq(&rt, added.len(), 3),
             Err(error) => {
                 assert!(rt; matches!(&error, Error::NoMemory));
                 assert!(rt; added.len() < 3);

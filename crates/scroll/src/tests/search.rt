@@ -1,5 +1,7 @@
 // The search for a byte compared with a plain one, at every length that a vector, a word and a tail can leave.
 use crate::search::{first_place, first_stop, text_before};
+use crate::tests::results::check_eq;
+use std::process::Abort;
 
 const DELIMITERS: [u8; 5] = [0x00, 0x01, 0x7f, 0x80, 0xff];
 
@@ -35,6 +37,23 @@ fn fill(bytes: &mut [u8; 70], delimiter: u8, place: usize, before: u8, behind: u
     }
 }
 
+// Wants that each search stops where a plain one does.
+fn check_searches(rt: &impl Abort, delimiter: u8, place: usize, source: &[u8]) {
+    let len = source.len();
+    let plain = plain_place(delimiter, source);
+    check_eq(&rt, plain, place.min(len));
+    assert!(rt;
+        first_place(delimiter, source) == plain,
+        "{delimiter} at {place} of {len}"
+    );
+    check_eq(
+        &rt,
+        first_stop(delimiter, source),
+        plain_stop(delimiter, source),
+    );
+    assert!(rt; text_before(delimiter, source) == str::from_utf8(&source[..plain]).ok());
+}
+
 #[test]
 fn every_length_and_place(rt: HostRuntime) {
     let mut bytes = [0u8; 70];
@@ -43,20 +62,7 @@ fn every_length_and_place(rt: HostRuntime) {
             for place in 0..71 {
                 fill(&mut bytes, delimiter, place, before, behind);
                 for len in 0..71 {
-                    let source = &bytes[..len];
-                    let plain = plain_place(delimiter, source);
-                    assert_eq!(rt; plain, place.min(len));
-                    assert_eq!(rt;
-                        first_place(delimiter, source),
-                        plain,
-                        "{delimiter} at {place} of {len}"
-                    );
-                    assert_eq!(rt;
-                        first_stop(delimiter, source),
-                        plain_stop(delimiter, source)
-                    );
-                    let text = text_before(delimiter, source);
-                    assert_eq!(rt; text, str::from_utf8(&source[..plain]).ok());
+                    check_searches(&rt, delimiter, place, &bytes[..len]);
                 }
             }
         }
@@ -74,8 +80,8 @@ fn texts_that_are_not_ascii(rt: HostRuntime) {
         bytes[place + 5] = 0;
         let source = &bytes[..];
         let text = text_before(0, source);
-        assert_eq!(rt; text.map(|text| text.as_bytes()), source.get(..place + 5));
-        assert_eq!(rt; text_before(0xa4, source), None);
-        assert_eq!(rt; first_stop(0, source), place);
+        assert!(rt; text.map(|text| text.as_bytes()) == source.get(..place + 5));
+        check_eq(&rt, text_before(0xa4, source), None);
+        check_eq(&rt, first_stop(0, source), place);
     }
 }

@@ -1,8 +1,11 @@
 // The C strings of std, read and written, and converted from those of the crate.
 use crate::cstr::{CStr, CString};
 use crate::ctx::TryIntoCtx;
-use crate::{Error, Pread, Pwrite, Result};
+use crate::tests::results::{check_bad_input, check_eq, check_too_big, check_value};
+use crate::{Pread, Pwrite, Result};
 use std::ffi;
+
+const NO_ZERO: &str = "The input doesn't contain a null byte";
 
 const BYTES: [u8; 7] = *b"on\0off\0";
 
@@ -10,19 +13,19 @@ const BYTES: [u8; 7] = *b"on\0off\0";
 fn borrowed(rt: HostRuntime) -> Result<()> {
     let mut offset = 3;
     let read: ffi::CStr = BYTES.gread_with(&mut offset, ())?;
-    assert_eq!(rt; read.to_bytes(), b"off".as_slice());
-    assert_eq!(rt; offset, 7);
+    check_eq(&rt, read.to_bytes(), b"off".as_slice());
+    check_eq(&rt, offset, 7);
     let cut: Result<ffi::CStr> = BYTES[..2].pread(0);
-    assert!(rt; matches!(&cut, Err(Error::BadInput { size: 0, .. })));
+    check_bad_input(&rt, cut, 0, NO_ZERO);
     let text = CStr::from(read);
-    assert_eq!(rt; text.to_bytes_with_nul(), b"off\0".as_slice());
-    assert_eq!(rt; ffi::CStr::from(text), read);
+    check_eq(&rt, text.to_bytes_with_nul(), b"off\0".as_slice());
+    check_eq(&rt, ffi::CStr::from(text), read);
     let mut target = [7u8; 5];
     let mut slice = &mut target[..];
-    assert_eq!(rt; slice.pwrite_with(read, 1, ())?, 4);
-    assert_eq!(rt; target, *b"\x07off\0");
+    check_value(&rt, slice.pwrite_with(read, 1, ()), 4);
+    check_eq(&rt, target, *b"\x07off\0");
     let short = read.try_into_ctx(&mut target[..3], ());
-    assert!(rt; matches!(&short, Err(Error::TooBig { size: 4, len: 3 })));
+    check_too_big(&rt, short, 4, 3);
     Ok(())
 }
 
@@ -30,14 +33,14 @@ fn borrowed(rt: HostRuntime) -> Result<()> {
 fn owned(rt: HostRuntime) -> Result<()> {
     let alloc = rt.alloc();
     let read: ffi::CString = BYTES.pread_with(0, &alloc)?;
-    assert_eq!(rt; read.as_bytes(), b"on".as_slice());
+    check_eq(&rt, read.as_bytes(), b"on".as_slice());
     let cut: Result<ffi::CString> = BYTES[..2].pread_with(0, &alloc);
-    assert!(rt; matches!(&cut, Err(Error::BadInput { size: 0, .. })));
+    check_bad_input(&rt, cut, 0, NO_ZERO);
     let string = CString::from(read);
-    assert_eq!(rt; string.as_bytes_with_nul(), b"on\0".as_slice());
+    check_eq(&rt, string.as_bytes_with_nul(), b"on\0".as_slice());
     let back = ffi::CString::from(string);
     let mut target = [7u8; 5];
-    assert_eq!(rt; back.try_into_ctx(&mut target, ())?, 3);
-    assert_eq!(rt; target, *b"on\0\x07\x07");
+    check_value(&rt, back.try_into_ctx(&mut target, ()), 3);
+    check_eq(&rt, target, *b"on\0\x07\x07");
     Ok(())
 }

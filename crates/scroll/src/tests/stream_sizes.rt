@@ -4,6 +4,7 @@ ghost use Rattle.scroll.specs.Numbers.{number, number_bytes};
 ghost use Rattle.scroll.specs.lemmas.Frames.{number_bytes-keeps, drop-front};
 
 use crate::ctx::{FromCtx, IntoCtx, SizeWith};
+use crate::tests::results::check_eq;
 use crate::{BE, Endian, IOread, IOwrite};
 use std::process::Abort;
 use std::test::Fail;
@@ -44,6 +45,14 @@ impl<const N: usize> SizeWith<()> for Block<N> {
     }
 }
 
+// Checks that the first bytes were written, and no others.
+fn check_held<const N: usize>(rt: &impl Abort, held: &[u8; 257], bytes: &[u8; 257])
+    requires { N ≤ 256 }
+{
+    assert!(rt; held[..N] == bytes[..N]);
+    assert!(rt; held[N..].iter().all(|byte| *byte == 0x77));
+}
+
 // Reads a block from more bytes than it takes, and writes it to more bytes than it needs.
 fn check_block<const N: usize>(rt: &impl Abort) -> Result<(), Fail>
     requires { N ≤ 256 }
@@ -54,22 +63,20 @@ fn check_block<const N: usize>(rt: &impl Abort) -> Result<(), Fail>
     }
     let mut source = &bytes[..];
     let block: Block<N> = source.ioread_with(())?;
-    assert_eq!(rt; block.0.as_slice(), &bytes[..N]);
-    assert_eq!(rt; source, &bytes[N..]);
+    assert!(rt; block.0.as_slice() == &bytes[..N]);
+    assert!(rt; source == &bytes[N..]);
     let mut again = &bytes[..];
     let same: Block<N> = again.ioread()?;
-    assert_eq!(rt; same.0.as_slice(), block.0.as_slice());
-    assert_eq!(rt; again, source);
+    check_eq(&rt, same.0.as_slice(), block.0.as_slice());
+    check_eq(&rt, again, source);
     let mut held = [0x77u8; 257];
     let mut target = &mut held[..];
     target.iowrite_with(block, ())?;
-    assert_eq!(rt; held[..N], bytes[..N]);
-    assert!(rt; held[N..].iter().all(|byte| *byte == 0x77));
+    check_held::<N>(rt, &held, &bytes);
     let mut held = [0x77u8; 257];
     let mut target = &mut held[..];
     target.iowrite(block)?;
-    assert_eq!(rt; held[..N], bytes[..N]);
-    assert!(rt; held[N..].iter().all(|byte| *byte == 0x77));
+    check_held::<N>(rt, &held, &bytes);
     Ok(())
 }
 
@@ -124,12 +131,12 @@ impl SizeWith<Endian> for Wide {
 fn a_type_that_needs_less_than_its_size(rt: HostRuntime) -> Result<(), Fail> {
     let bytes: [u8; 5] = [1, 2, 0xff, 0xff, 9];
     let mut source = &bytes[..];
-    assert_eq!(rt; source.ioread_with::<Wide>(BE)?.number, 258);
-    assert_eq!(rt; source, [9u8].as_slice());
+    check_eq(&rt, source.ioread_with::<Wide>(BE)?.number, 258);
+    check_eq(&rt, source, [9u8].as_slice());
     assert!(rt; source.ioread_with::<Wide>(BE).is_err());
     let mut bytes = [7u8; 6];
     let mut target = &mut bytes[..];
     target.iowrite_with(Wide { number: 258 }, BE)?;
-    assert_eq!(rt; bytes, [1, 2, 0, 0, 7, 7]);
+    check_eq(&rt, bytes, [1, 2, 0, 0, 7, 7]);
     Ok(())
 }

@@ -1,4 +1,5 @@
 // Readers and writers that are slow, end early, fail or are interrupted.
+use crate::tests::results::{check_eq, check_value};
 use crate::{BE, IOread, IOwrite, LE};
 use std::io;
 use std::io::{ErrorKind, Read, Write};
@@ -20,12 +21,14 @@ impl Cause {
         }
     }
 
-    // Returns whether a call returned this error.
-    fn is_answer<T>(self, answer: &io::Result<T>) -> bool {
-        match (self, answer) {
-            (Cause::Number(number), Err(error)) => error.raw_os_error() == Some(number),
-            (Cause::Kind(kind), Err(error)) => error.kind() == kind,
-            (_, Ok(_)) => false,
+    // Returns whether a call failed with this error.
+    fn failed<T: Drop>(self, outcome: io::Result<T>) -> bool {
+        let Err(error) = outcome else {
+            return false;
+        };
+        match self {
+            Cause::Number(number) => error.raw_os_error() == Some(number),
+            Cause::Kind(kind) => error.kind() == kind,
         }
     }
 }
@@ -144,17 +147,17 @@ fn readers_of_one_byte_a_call(rt: HostRuntime) -> Result<(), Fail> {
         Fault::At(5, Cause::Kind(ErrorKind::Other)),
     ] {
         let mut source = make_source(&BYTES, fault);
-        assert_eq!(rt; source.ioread_with::<u32>(BE)?, 3735928559);
+        check_value(&rt, source.ioread_with::<u32>(BE), 3735928559);
         let mut source = make_source(&BYTES, fault);
-        assert_eq!(rt; source.ioread::<u32>()?, 4022250974);
+        check_value(&rt, source.ioread::<u32>(), 4022250974);
     }
     let ended = Cause::Kind(ErrorKind::UnexpectedEof);
     for len in 0..4 {
         for fault in [Fault::Never, INTERRUPTIONS[0], INTERRUPTIONS[1]] {
             let mut source = make_source(&BYTES[..len], fault);
-            assert!(rt; ended.is_answer(&source.ioread_with::<u32>(LE)), "{len}");
+            assert!(rt; ended.failed(source.ioread_with::<u32>(LE)), "{len}");
             let mut source = make_source(&BYTES[..len], fault);
-            assert!(rt; ended.is_answer(&source.ioread::<u32>()), "{len}");
+            assert!(rt; ended.failed(source.ioread::<u32>()), "{len}");
         }
     }
     Ok(())
@@ -171,21 +174,33 @@ fn writers_of_one_byte_a_call(rt: HostRuntime) -> Result<(), Fail> {
     ] {
         let mut target = make_sink(room, fault);
         target.iowrite_with(0xdeadbeefu32, BE)?;
-        assert_eq!(rt; target.held, [0xde, 0xad, 0xbe, 0xef, 0x11]);
+        check_eq(&rt, target.held, [0xde, 0xad, 0xbe, 0xef, 0x11]);
         let mut target = make_sink(room, fault);
         target.iowrite(0xdeadbeefu32)?;
-        assert_eq!(rt; target.held, [0xef, 0xbe, 0xad, 0xde, 0x11]);
+        check_eq(&rt, target.held, [0xef, 0xbe, 0xad, 0xde, 0x11]);
     }
     let full = Cause::Kind(ErrorKind::WriteZero);
     for room in 0..4 {
         for fault in [Fault::Never, INTERRUPTIONS[0], INTERRUPTIONS[1]] {
             let mut target = make_sink(room, fault);
-            assert!(rt; full.is_answer(&target.iowrite_with(1u32, LE)), "{room}");
+            assert!(rt; full.failed(target.iowrite_with(1u32, LE)), "{room}");
             let mut target = make_sink(room, fault);
-            assert!(rt; full.is_answer(&target.iowrite(1u32)), "{room}");
+            assert!(rt; full.failed(target.iowrite(1u32)), "{room}");
         }
     }
     Ok(())
+}
+
+// Checks that a call failed with this error, and wasn't repeated.
+fn check_failure<T: Drop>(
+    rt: &impl Abort,
+    cause: Cause,
+    outcome: io::Result<T>,
+    calls: usize,
+    at: usize,
+) {
+    assert!(rt; cause.failed(outcome), "{cause:?}");
+    assert!(rt; calls == at, "{cause:?}");
 }
 
 // Each stream call returns the error of the reader or the writer, and doesn't repeat the call that failed.
@@ -193,23 +208,17 @@ fn check_cause(rt: &impl Abort, cause: Cause) {
     for at in 1..5 {
         let fault = Fault::At(at, cause);
         let mut source = make_source(&BYTES, fault);
-        assert!(rt;
-            cause.is_answer(&source.ioread_with::<u32>(BE)),
-            "{cause:?}"
-        );
-        assert_eq!(rt; source.calls, at, "{cause:?}");
+        let read: io::Result<u32> = source.ioread_with(BE);
+        check_failure(rt, cause, read, source.calls, at);
         let mut source = make_source(&BYTES, fault);
-        assert!(rt; cause.is_answer(&source.ioread::<u32>()), "{cause:?}");
-        assert_eq!(rt; source.calls, at, "{cause:?}");
+        let read: io::Result<u32> = source.ioread();
+        check_failure(rt, cause, read, source.calls, at);
         let mut target = make_sink(5, fault);
-        assert!(rt;
-            cause.is_answer(&target.iowrite_with(1u32, BE)),
-            "{cause:?}"
-        );
-        assert_eq!(rt; target.calls, at, "{cause:?}");
+        let written = target.iowrite_with(1u32, BE);
+        check_failure(rt, cause, written, target.calls, at);
         let mut target = make_sink(5, fault);
-        assert!(rt; cause.is_answer(&target.iowrite(1u32)), "{cause:?}");
-        assert_eq!(rt; target.calls, at, "{cause:?}");
+        let written = target.iowrite(1u32);
+        check_failure(rt, cause, written, target.calls, at);
     }
 }
 
@@ -230,21 +239,21 @@ fn each_error_of_a_stream(rt: HostRuntime) {
 fn numbers_from_memory(rt: HostRuntime) -> Result<(), Fail> {
     let bytes: [u8; 8] = [0xef, 0xbe, 0xb0, 0xb0, 0xfe, 0xed, 0xde, 0xad];
     let mut source = &bytes[..];
-    assert_eq!(rt; source.ioread_with::<u16>(LE)?, 48879);
-    assert_eq!(rt; source.ioread::<u8>()?, 176);
-    assert_eq!(rt; source.ioread::<u8>()?, 176);
-    assert_eq!(rt; source.ioread_with::<u32>(BE)?, 4277001901);
+    check_value(&rt, source.ioread_with::<u16>(LE), 48879);
+    check_value(&rt, source.ioread::<u8>(), 176);
+    check_value(&rt, source.ioread::<u8>(), 176);
+    check_value(&rt, source.ioread_with::<u32>(BE), 4277001901);
     assert!(rt; source.ioread::<u8>().is_err());
     let mut source = &bytes[..2];
-    assert_eq!(rt; source.ioread::<u16>()?, 48879);
+    check_value(&rt, source.ioread::<u16>(), 48879);
     assert!(rt; source.is_empty());
     let bytes: [u8; 12] = [1, 0, 0, 0, 0, 0, 0, 0, 0xef, 0xbe, 0, 0];
     let mut source = &bytes[..];
-    assert_eq!(rt; source.ioread::<u64>()?, 1);
-    assert_eq!(rt; source.ioread::<u32>()?, 48879);
+    check_value(&rt, source.ioread::<u64>(), 1);
+    check_value(&rt, source.ioread::<u32>(), 48879);
     let mut source = &bytes[..];
-    assert_eq!(rt; source.ioread_with::<u64>(LE)?, 1);
-    assert_eq!(rt; source.len(), 4);
+    check_value(&rt, source.ioread_with::<u64>(LE), 1);
+    check_eq(&rt, source.len(), 4);
     assert!(rt; source.ioread_with::<u64>(LE).is_err());
     Ok(())
 }
@@ -255,9 +264,10 @@ fn numbers_to_memory(rt: HostRuntime) -> Result<(), Fail> {
     let mut target = &mut bytes[..];
     target.write_all(b"hello")?;
     target.iowrite_with(0xdeadbeefu32, BE)?;
-    assert_eq!(rt;
+    check_eq(
+        &rt,
         bytes,
-        [0x68, 0x65, 0x6c, 0x6c, 0x6f, 0xde, 0xad, 0xbe, 0xef, 0]
+        [0x68, 0x65, 0x6c, 0x6c, 0x6f, 0xde, 0xad, 0xbe, 0xef, 0],
     );
     for (order, wanted) in [
         (BE, [0xde, 0xad, 0xbe, 0xef, 0]),
@@ -266,12 +276,12 @@ fn numbers_to_memory(rt: HostRuntime) -> Result<(), Fail> {
         let mut bytes = [0u8; 5];
         let mut target = &mut bytes[..];
         target.iowrite_with(0xdeadbeefu32, order)?;
-        assert_eq!(rt; bytes, wanted);
+        check_eq(&rt, bytes, wanted);
     }
     let mut bytes = [0u8; 5];
     let mut target = &mut bytes[..];
     target.iowrite(0xdeadbeefu32)?;
     assert!(rt; target.iowrite(1u16).is_err());
-    assert_eq!(rt; bytes[..4] == [0xef, 0xbe, 0xad, 0xde], true);
+    assert!(rt; bytes[..4] == [0xef, 0xbe, 0xad, 0xde]);
     Ok(())
 }

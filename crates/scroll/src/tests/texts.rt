@@ -1,6 +1,9 @@
 // Strings, byte slices and measures: the calls for them, and which bytes are strings.
 use crate::ctx::{MeasureWith, NULL, RET, SPACE, StrCtx, TAB};
-use crate::{BE, Error, LE, Pread, Pwrite, Result};
+use crate::tests::results::{
+    check_bad_input, check_bad_offset, check_eq, check_too_big, check_value,
+};
+use crate::{BE, LE, Pread, Pwrite, Result};
 use std::result;
 use std::test::Fail;
 
@@ -12,24 +15,24 @@ fn contexts(rt: HostRuntime) {
         (StrCtx::DelimiterUntil(SPACE, 4), 1),
         (StrCtx::Length(3), 0),
     ] {
-        assert_eq!(rt; ctx.len(), len);
-        assert_eq!(rt; ctx.is_empty(), len == 0);
+        check_eq(&rt, ctx.len(), len);
+        check_eq(&rt, ctx.is_empty(), (len == 0));
     }
-    assert_eq!(rt; [NULL, SPACE, RET, TAB], *b"\0 \n\t");
+    check_eq(&rt, [NULL, SPACE, RET, TAB], *b"\0 \n\t");
 }
 
 #[test]
 fn test_measure_with_bytes(rt: HostRuntime) -> result::Result<(), Fail> {
     let bytes: [u8; 4] = [0xef, 0xbe, 0xad, 0xde];
-    assert_eq!(rt; bytes.measure_with(&()), 4);
+    check_eq(&rt, bytes.measure_with(&()), 4);
     let slice = &bytes[1..];
-    assert_eq!(rt; slice.measure_with(&LE), 3);
+    check_eq(&rt, slice.measure_with(&LE), 3);
     let vector = Vec::from_slice(rt.alloc(), slice)?;
-    assert_eq!(rt; vector.measure_with(&StrCtx::Length(9)), 3);
+    check_eq(&rt, vector.measure_with(&StrCtx::Length(9)), 3);
     let text = "h\u{e9}";
-    assert_eq!(rt; text.measure_with(&()), 3);
+    check_eq(&rt, text.measure_with(&()), 3);
     let string = String::from_str(rt.alloc(), text)?;
-    assert_eq!(rt; string.measure_with(&BE), 3);
+    check_eq(&rt, string.measure_with(&BE), 3);
     Ok(())
 }
 
@@ -37,41 +40,41 @@ fn test_measure_with_bytes(rt: HostRuntime) -> result::Result<(), Fail> {
 fn pread_slice(rt: HostRuntime) {
     let bytes: [u8; 2] = [0x7e, 0xef];
     let long: Result<&str> = bytes[..].pread_with(0, StrCtx::Length(3));
-    assert!(rt; matches!(&long, Err(Error::TooBig { size: 3, len: 2 })));
+    check_too_big(&rt, long, 3, 2);
     let none: Result<&[u8]> = bytes[..].pread(1);
-    assert!(rt; matches!(&none, Ok([])));
+    check_value(&rt, none, &[]);
     let past: Result<&[u8]> = bytes[..].pread(3);
-    assert!(rt; matches!(&past, Err(Error::BadOffset(3))));
+    check_bad_offset(&rt, past, 3);
 }
 
 #[test]
 fn pread_str(rt: HostRuntime) {
     let bytes: [u8; 2] = [0x2e, 0];
-    assert!(rt; matches!(&bytes[..].pread::<&str>(0), Ok(".")));
+    check_value(&rt, bytes[..].pread::<&str>(0), ".");
     let bytes: &[u8] = b"hello, world!\0some_other_things";
-    for (offset, delimiter, wanted) in [
+    for (offset, delimiter, wanted) in &[
         (0, NULL, "hello, world!"),
         (0, SPACE, "hello,"),
         (6, SPACE, ""),
         (7, NULL, "world!"),
         (14, TAB, "some_other_things"),
     ] {
-        let text: Result<&str> = bytes.pread_with(offset, StrCtx::Delimiter(delimiter));
-        assert!(rt; matches!(&text, Ok(text) if *text == wanted), "at {offset}");
+        let text: Result<&str> = bytes.pread_with(*offset, StrCtx::Delimiter(*delimiter));
+        check_value(&rt, text, *wanted);
     }
     let rest: Result<&str> = bytes.pread_with(7, StrCtx::Delimiter(SPACE));
-    assert!(rt; matches!(&rest, Ok("world!\0some_other_things")));
+    check_value(&rt, rest, "world!\0some_other_things");
 }
 
 #[test]
 fn pread_str_weird(rt: HostRuntime) {
     let bytes: &[u8] = b"";
     let empty: Result<&str> = bytes.pread_with(0, StrCtx::Delimiter(NULL));
-    assert!(rt; matches!(&empty, Ok("")));
+    check_value(&rt, empty, "");
     let past: Result<&str> = bytes.pread_with(7, StrCtx::Delimiter(SPACE));
-    assert!(rt; matches!(&past, Err(Error::BadOffset(7))));
+    check_bad_offset(&rt, past, 7);
     let bytes: &[u8] = b"\0";
-    assert!(rt; matches!(&bytes.pread::<&str>(0), Ok("")));
+    check_value(&rt, bytes.pread::<&str>(0), "");
 }
 
 #[test]
@@ -79,16 +82,16 @@ fn gread_slice(rt: HostRuntime) {
     let bytes: [u8; 2] = [0x7e, 0xef];
     let mut offset = 0;
     let long: Result<&str> = bytes[..].gread_with(&mut offset, StrCtx::Length(3));
-    assert!(rt; matches!(&long, Err(Error::TooBig { size: 3, len: 2 })));
-    assert_eq!(rt; offset, 0);
+    check_too_big(&rt, long, 3, 2);
+    check_eq(&rt, offset, 0);
     let letters: [u8; 3] = [0x45, 0x42, 0x44];
     let text: Result<&str> = letters[..].gread_with(&mut offset, StrCtx::Length(2));
-    assert!(rt; matches!(&text, Ok("EB")));
-    assert_eq!(rt; offset, 2);
+    check_value(&rt, text, "EB");
+    check_eq(&rt, offset, 2);
     let mut offset = 0;
     let slice: Result<&[u8]> = bytes[..].gread_with(&mut offset, 2);
-    assert!(rt; matches!(&slice, Ok([0x7e, 0xef])));
-    assert_eq!(rt; offset, 2);
+    check_value(&rt, slice, &bytes);
+    check_eq(&rt, offset, 2);
 }
 
 #[test]
@@ -96,32 +99,29 @@ fn pwrite_str_and_bytes(rt: HostRuntime) {
     let mut buffer = [0u8; 33];
     let mut target = &mut buffer[..];
     let wrote: Result<usize> = target.pwrite("lol hello_world lal\0ala imabytes", 0);
-    assert!(rt; matches!(&wrote, Ok(32)));
+    check_value(&rt, wrote, 32);
     {
         let world: Result<&str> = buffer[..].pread_with(4, StrCtx::Delimiter(SPACE));
-        assert!(rt; matches!(&world, Ok("hello_world")));
+        check_value(&rt, world, "hello_world");
     }
     let bytes: &[u8] = b"more\0bytes";
     let mut target = &mut buffer[..];
     let wrote: Result<usize> = target.pwrite(bytes, 0);
-    assert!(rt; matches!(&wrote, Ok(10)));
-    assert!(rt;
-        matches!(
-            &bytes.pread_with::<&str>(0, StrCtx::Delimiter(NULL)),
-            Ok("more")
-        )
+    check_value(&rt, wrote, 10);
+    check_value(
+        &rt,
+        bytes.pread_with::<&str>(0, StrCtx::Delimiter(NULL)),
+        "more",
     );
-    assert!(rt;
-        matches!(
-            &bytes.pread_with::<&str>(5, StrCtx::Delimiter(NULL)),
-            Ok("bytes")
-        )
+    check_value(
+        &rt,
+        bytes.pread_with::<&str>(5, StrCtx::Delimiter(NULL)),
+        "bytes",
     );
-    assert!(rt;
-        matches!(
-            &buffer[..].pread_with::<&str>(8, StrCtx::Length(6)),
-            Ok("esworl")
-        )
+    check_value(
+        &rt,
+        buffer[..].pread_with::<&str>(8, StrCtx::Length(6)),
+        "esworl",
     );
 }
 
@@ -129,8 +129,8 @@ fn pwrite_str_and_bytes(rt: HostRuntime) {
 #[test]
 fn texts_at_the_cursor(rt: HostRuntime) {
     let absent: Result<&str> = b"ab"[..].gread_with(&mut 0, StrCtx::Delimiter(NULL));
-    assert!(rt; matches!(&absent, Ok("ab")));
-    for (bytes, from, ctx, wanted, to) in [
+    check_value(&rt, absent, "ab");
+    for (bytes, from, ctx, wanted, to) in &[
         (&b"ab"[..], 0, StrCtx::Delimiter(NULL), "ab", 3),
         (b"", 0, StrCtx::Delimiter(NULL), "", 1),
         (b"abcd", 0, StrCtx::DelimiterUntil(NULL, 2), "ab", 3),
@@ -139,35 +139,19 @@ fn texts_at_the_cursor(rt: HostRuntime) {
         (b"a\xff", 0, StrCtx::Length(1), "a", 1),
         (b"\xc3\xa9", 0, StrCtx::Length(2), "\u{e9}", 2),
     ] {
-        let mut offset = from;
-        let text: Result<&str> = bytes.gread_with(&mut offset, ctx);
-        assert!(rt; matches!(&text, Ok(text) if *text == wanted), "to {to}");
-        assert_eq!(rt; offset, to);
+        let mut offset = *from;
+        let text: Result<&str> = bytes.gread_with(&mut offset, *ctx);
+        check_value(&rt, text, *wanted);
+        check_eq(&rt, offset, *to);
     }
     let mut offset = 0;
     let short: Result<&str> = b"a\0c"[..].gread_with(&mut offset, StrCtx::DelimiterUntil(NULL, 4));
-    assert!(rt; matches!(&short, Err(Error::TooBig { size: 4, len: 3 })));
+    check_too_big(&rt, short, 4, 3);
     let invalid: Result<&str> = b"\xffa\0"[..].gread_with(&mut offset, StrCtx::Delimiter(NULL));
-    assert!(rt;
-        matches!(
-            &invalid,
-            Err(Error::BadInput {
-                size: 3,
-                msg: "invalid utf8"
-            })
-        )
-    );
+    check_bad_input(&rt, invalid, 3, "invalid utf8");
     let cut: Result<&str> = b"\xc3\xa9"[..].gread_with(&mut offset, StrCtx::Length(1));
-    assert!(rt;
-        matches!(
-            &cut,
-            Err(Error::BadInput {
-                size: 2,
-                msg: "invalid utf8"
-            })
-        )
-    );
-    assert_eq!(rt; offset, 0);
+    check_bad_input(&rt, cut, 2, "invalid utf8");
+    check_eq(&rt, offset, 0);
 }
 
 #[test]
@@ -176,9 +160,9 @@ fn bulk_read_of_texts(rt: HostRuntime) {
     let mut texts = ["as", "before", "this"];
     let mut offset = 0;
     let read: Result<()> = bytes[..].gread_inout(&mut offset, &mut texts);
-    assert!(rt; matches!(&read, Err(Error::BadOffset(6))));
-    assert_eq!(rt; texts, ["ab", "cd", "this"]);
-    assert_eq!(rt; offset, 6);
+    check_bad_offset(&rt, read, 6);
+    assert!(rt; texts == ["ab", "cd", "this"]);
+    check_eq(&rt, offset, 6);
 }
 
 #[test]
@@ -186,11 +170,11 @@ fn short_targets(rt: HostRuntime) {
     let mut bytes = [0xffu8; 3];
     let mut target = &mut bytes[..];
     let long: Result<usize> = target.pwrite("ab", 2);
-    assert!(rt; matches!(&long, Err(Error::TooBig { size: 2, len: 1 })));
+    check_too_big(&rt, long, 2, 1);
     let slice: &[u8] = &[1, 2];
     let long: Result<usize> = target.pwrite(slice, 3);
-    assert!(rt; matches!(&long, Err(Error::TooBig { size: 2, len: 0 })));
-    assert_eq!(rt; bytes, [0xff; 3]);
+    check_too_big(&rt, long, 2, 0);
+    check_eq(&rt, bytes, [0xff; 3]);
 }
 
 // Returns whether these bytes are read whole as a string.
@@ -202,7 +186,7 @@ fn is_text(bytes: &[u8]) -> bool {
 // The results are those of Rust's `str::from_utf8`.
 #[test]
 fn edges_of_utf8(rt: HostRuntime) {
-    for bytes in [
+    for bytes in &[
         &b"\0"[..],
         b"\x7f",
         b"\xc2\x80",
@@ -218,7 +202,7 @@ fn edges_of_utf8(rt: HostRuntime) {
     ] {
         assert!(rt; is_text(bytes), "{bytes:?}");
     }
-    for bytes in [
+    for bytes in &[
         // longer than necessary
         &b"\xc0\x80"[..],
         b"\xc1\xbf",
@@ -295,7 +279,7 @@ fn characters_of_utf8(rt: HostRuntime) {
                 &[first, 0x90, second, 0x80],
                 &[first, second, 0xbf, 0x80],
             ] {
-                assert_eq!(rt; is_text(bytes), is_characters(bytes), "{bytes:?}");
+                assert!(rt; is_text(bytes) == is_characters(bytes), "{bytes:?}");
             }
         }
     }

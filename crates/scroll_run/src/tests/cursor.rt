@@ -4,7 +4,7 @@ use std::test::Fail;
 
 #[test]
 fn cursor_moves_with_accepted_commands(rt: HostRuntime) -> Result<(), Fail> {
-    for (input, wanted) in [
+    for (input, wanted) in &[
         (
             "buffer 0102030405\ncursor 0\ngread u16 be\ngread u16 le\npread 0 u8 le\ngread u16 be\ngread i8 be\ngread u8 le\n",
             "number 258\nnumber 1027\nnumber 1\nerror type is too big (2) for 1\nnumber 5\nerror type is too big (1) for 0\nbuffer 0102030405\ncursor 5\n",

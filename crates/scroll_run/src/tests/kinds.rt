@@ -4,7 +4,7 @@ use std::test::Fail;
 
 #[test]
 fn each_kind_is_answered(rt: HostRuntime) -> Result<(), Fail> {
-    for (input, wanted) in [
+    for (input, wanted) in &[
         (
             "buffer 6162\ncursor 0\ngread str delim 00\ngread str delim 00\n",
             "text 6162\nerror bad offset 3\nbuffer 6162\ncursor 3\n",

@@ -4,7 +4,7 @@ use std::test::Fail;
 
 #[test]
 fn least_and_greatest_of_each_type(rt: HostRuntime) -> Result<(), Fail> {
-    for (width, value, size, bytes) in [
+    for (width, value, size, bytes) in &[
         ("u8", "255", 1, "ff000000000000000000000000000000"),
         ("i8", "-128", 1, "80000000000000000000000000000000"),
         ("i8", "127", 1, "7f000000000000000000000000000000"),
@@ -64,7 +64,7 @@ fn least_and_greatest_of_each_type(rt: HostRuntime) -> Result<(), Fail> {
 
 #[test]
 fn one_past_the_range_of_each_type_is_bad(rt: HostRuntime) -> Result<(), Fail> {
-    for (width, value) in [
+    for (width, value) in &[
         ("u8", "256"),
         ("i8", "-129"),
         ("i8", "128"),
@@ -91,7 +91,7 @@ fn one_past_the_range_of_each_type_is_bad(rt: HostRuntime) -> Result<(), Fail> {
 
 #[test]
 fn numbers_with_a_minus(rt: HostRuntime) -> Result<(), Fail> {
-    for (width, value, size, number) in [
+    for (width, value, size, number) in &[
         ("i8", "-0", 1, "0"),
         ("i8", "0", 1, "0"),
         ("i8", "-1", 1, "-1"),
@@ -130,7 +130,7 @@ fn numbers_with_a_minus(rt: HostRuntime) -> Result<(), Fail> {
 
 #[test]
 fn signs_that_spell_no_number(rt: HostRuntime) -> Result<(), Fail> {
-    for (width, value) in [
+    for (width, value) in &[
         ("i8", "-"),
         ("i8", "--1"),
         ("i8", "-+1"),

@@ -22,7 +22,7 @@ pub(crate) fn expect_session(
 
 #[test]
 fn commands_are_answered(rt: HostRuntime) -> Result<(), Fail> {
-    for (input, wanted) in [
+    for (input, wanted) in &[
         ("buffer -\ncursor 0\n", "buffer -\ncursor 0\n"),
         (
             "buffer deadbeef\ncursor 0\npread 0 u32 be\npread 0 u32 le\npread 1 u16 be\n",
@@ -44,7 +44,7 @@ fn commands_are_answered(rt: HostRuntime) -> Result<(), Fail> {
 
 #[test]
 fn numerals_and_bytes_in_other_spellings(rt: HostRuntime) -> Result<(), Fail> {
-    for (input, wanted) in [
+    for (input, wanted) in &[
         ("buffer -\ncursor 0", "buffer -\ncursor 0\n"),
         (
             "buffer Aa0F\ncursor 0000000000000000000000018446744073709551615",
@@ -66,7 +66,7 @@ fn numerals_and_bytes_in_other_spellings(rt: HostRuntime) -> Result<(), Fail> {
 
 #[test]
 fn first_two_lines_are_bad(rt: HostRuntime) -> Result<(), Fail> {
-    for (input, wanted) in [
+    for (input, wanted) in &[
         ("", "bad line 1\n"),
         ("\n", "bad line 1\n"),
         ("\nbuffer -\ncursor 0\n", "bad line 1\n"),
@@ -99,7 +99,7 @@ fn first_two_lines_are_bad(rt: HostRuntime) -> Result<(), Fail> {
 
 #[test]
 fn a_command_is_bad(rt: HostRuntime) -> Result<(), Fail> {
-    for line in [
+    for line in &[
         "",
         "pread",
         "pread 0",

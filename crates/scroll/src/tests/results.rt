@@ -1,0 +1,78 @@
+// What a test expects of a call's result. A `match` in each test would have a step in the proof for each part of the result
+// and each drop; a call of these is one step, and is proved in a quarter of the time.
+use crate::{Error, Result};
+use std::fmt::Debug;
+use std::process::Abort;
+use std::result;
+
+// Checks that a call returned this value.
+pub fn check_value<T: PartialEq + Debug + Drop, E: Debug + Drop>(
+    rt: &impl Abort,
+    outcome: result::Result<T, E>,
+    wanted: T,
+) {
+    match outcome {
+        Ok(value) => assert!(rt; value == wanted, "expected {wanted:?}, got {value:?}"),
+        Err(error) => panic!(rt; "expected {wanted:?}, got {error:?}"),
+    }
+}
+
+// Checks that a call returned this `TooBig`.
+pub fn check_too_big<T: Drop>(
+    rt: &impl Abort,
+    outcome: Result<T>,
+    wanted_size: usize,
+    wanted_len: usize,
+) {
+    match outcome {
+        Err(Error::TooBig { size, len }) => {
+            assert!(rt;
+                size == wanted_size,
+                "expected the size {wanted_size}, got {size}"
+            );
+            assert!(rt;
+                len == wanted_len,
+                "expected the length {wanted_len}, got {len}"
+            );
+        }
+        Err(error) => panic!(rt; "expected TooBig, got {error:?}"),
+        Ok(_) => panic!(rt; "expected TooBig, got a value"),
+    }
+}
+
+// Checks that a call returned this `BadOffset`.
+pub fn check_bad_offset<T: Drop>(rt: &impl Abort, outcome: Result<T>, wanted: usize) {
+    match outcome {
+        Err(Error::BadOffset(offset)) => assert!(rt;
+            offset == wanted,
+            "expected the offset {wanted}, got {offset}"
+        ),
+        Err(error) => panic!(rt; "expected BadOffset, got {error:?}"),
+        Ok(_) => panic!(rt; "expected BadOffset, got a value"),
+    }
+}
+
+// Checks that a call returned this `BadInput`.
+pub fn check_bad_input<T: Drop>(
+    rt: &impl Abort,
+    outcome: Result<T>,
+    wanted_size: usize,
+    wanted_msg: &str,
+) {
+    match outcome {
+        Err(Error::BadInput { size, msg }) => {
+            assert!(rt;
+                size == wanted_size,
+                "expected the size {wanted_size}, got {size}"
+            );
+            assert!(rt; msg == wanted_msg, "expected {wanted_msg}, got {msg}");
+        }
+        Err(error) => panic!(rt; "expected BadInput, got {error:?}"),
+        Ok(_) => panic!(rt; "expected BadInput, got a value"),
+    }
+}
+
+// Checks that a value is the expected one, as `assert_eq!` does.
+pub fn check_eq<T: PartialEq + Debug + Drop>(rt: &impl Abort, value: T, wanted: T) {
+    assert!(rt; value == wanted, "expected {wanted:?}, got {value:?}");
+}
