@@ -1,5 +1,5 @@
 -- Arrays. The elements are read or written one after another, from the start of a source or a target. An array of no
--- elements has the size 0, and is never refused.
+-- elements has the size 0, and its read and its write never fail.
 use Rattle.std.specs.Prelude.{◌≡◌, ◌<◌, ℕ, ◌+◌, ◌*◌, ◌++◌, List, [], ◌∷◌, length, take, drop, slice_index_or}
 use Rattle.scroll.specs.Reads.{ReadsAll, RefusesAt}
 use Rattle.scroll.specs.Writes.{WritesAt, LeavesAt}
@@ -30,8 +30,8 @@ abbrev pub ReadsNested : {V : Type 0} → (List ℕ → V → ℕ → Type 0) �
 ReadsNested reads [] = reads
 ReadsNested reads (count ∷ counts) = ReadsArray (ReadsNested reads counts) count
 
--- `RefusesNested reads refuses past_end counts`: how such an array is refused: with no length by `refuses`, and else by
--- `RefusesArray` over the same for the other lengths
+-- `RefusesNested reads refuses past_end counts`: how the read of such an array fails: with no length by `refuses`, and
+-- else by `RefusesArray` over the same for the other lengths
 abbrev pub RefusesNested : {V E : Type 0} → (List ℕ → V → ℕ → Type 0) → (List ℕ → E → Type 0) → (ℕ → E → Type 0) → List ℕ → List ℕ → E → Type 0
 RefusesNested reads refuses past_end [] = refuses
 RefusesNested reads refuses past_end (count ∷ counts) =
@@ -48,8 +48,8 @@ WritesAll writes old from (v ∷ vs) new to =
 abbrev pub WritesArray : {V : Type 0} → (V → List ℕ → List ℕ → ℕ → Type 0) → List V → List ℕ → List ℕ → ℕ → Type 0
 WritesArray writes vs old new n = WritesAll writes old 0 vs new n
 
--- the values before some value of `vs` are written one after another from the start of the target, that value is
--- refused with `e` at the offset where the last of them ends, and `new` is what it leaves
+-- the values before some value of `vs` are written one after another from the start of the target, and the write of
+-- that value, at the offset where the last of them ends, fails with `e` and leaves `new`
 pub record LeavesArray {V E : Type 0} (writes : V → List ℕ → List ℕ → ℕ → Type 0) (refuses : V → List ℕ → List ℕ → E → Type 0) (vs : List V) (old new : List ℕ) (e : E) : Type 0 where
   pub front : List V
   pub value : V

@@ -1,6 +1,6 @@
 -- Buffers. A byte is a number below 256. A buffer, a source and a target are lists of bytes, and the rest of a buffer
--- at an offset is `drop place buffer`. A type reads the start of a source, and writes over the start of a target. It
--- refuses a source or a target that it can't take, with an error.
+-- at an offset is `drop place buffer`. A type reads the start of a source, and writes over the start of a target.
+-- Either may fail with an error.
 use Rattle.std.specs.Prelude.{◌≡◌, ◌≤◌, ◌<◌, ℕ, zero, suc, ◌+◌, ◌++◌, List, length, drop, map}
 use Rattle.std.specs.List.{range_with_len}
 use Rattle.scroll.specs.declared.error.Error.{Error}

@@ -1,6 +1,6 @@
 -- Types that fit in memory. A value of a type takes fewer than 2^63 bytes wherever there is such a value. A function
--- that is generic over the type and the length of an array can't know that, so there a contract says what an array
--- refuses under a condition: the type that holds the elements meanwhile fits. For a known type the condition is an
+-- that is generic over the type and the length of an array can't know that, so there a contract states the errors of
+-- an array under a condition: the type that holds the elements meanwhile fits. For a known type the condition is an
 -- inequality between two numbers, which the prover decides.
 use Rattle.std.specs.Borrow.{RattleType, unit}
 use Rattle.std.specs.Mem.{FitsInMemory}

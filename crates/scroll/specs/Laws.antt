@@ -34,7 +34,7 @@ pub record WrittenLast (history : List Piece) (p : Piece) : Type 0 where
   pub apart : Apart (p ∷ []) after
 
 -- `WritesNested writes counts`, `LeavesNested writes refuses counts`, `leaves_nested leaves counts`: how an array of
--- arrays is written, what a refused one leaves, and its leaves, those of the innermost elements in order: with no
+-- arrays is written, what a failed write leaves, and its leaves, those of the innermost elements in order: with no
 -- length `writes`, `refuses` and `leaves`, and else `WritesArray`, `LeavesArray` and the leaves of each element, over
 -- the same for the other lengths. The lengths are those of `Nested`.
 abbrev pub WritesNested : {V : Type 0} → (V → List ℕ → List ℕ → ℕ → Type 0) → (counts : List ℕ) → Nested V counts → List ℕ → List ℕ → ℕ → Type 0

@@ -1,17 +1,17 @@
--- Writes in LEB128. A number is written by its spelling, in as many bytes as its `Counted` says.
+-- Writes in LEB128. A number is written as its encoding, in as many bytes as its `Counted` says.
 use Rattle.std.specs.Prelude.{ℕ, ◌+◌, ◌*◌, ◌%◌, ◌^◌, ◌≤◌, List, ℤ, pos, negsuc}
 use Rattle.scroll.specs.Bytes.{WritesFront}
 use Rattle.scroll.specs.Leb128.{Counted}
 use Rattle.scroll.specs.Spelling.{spelling, unsigned_form}
 
--- the spelling of the number: the one leaf of a `Uleb128`, of a `Sleb128`
+-- the encoding of the number: the one leaf of a `Uleb128`, of a `Sleb128`
 abbrev pub uleb_text : Counted ℕ → List ℕ
 uleb_text x = spelling x.value x.count
 
 abbrev pub sleb_text : Counted ℤ → List ℕ
 sleb_text x = spelling (unsigned_form x.value x.count) x.count
 
--- the spelling is written over the start of a target: `WritesFront`; a shorter target is refused by `LeavesShort`
+-- the encoding is written over the start of a target: `WritesFront`; a write to a shorter target fails: `LeavesShort`
 abbrev pub WritesUleb : Counted ℕ → List ℕ → List ℕ → ℕ → Type 0
 WritesUleb x = WritesFront x.count (uleb_text x)
 

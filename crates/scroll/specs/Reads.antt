@@ -17,7 +17,7 @@ abbrev pub ReadsBetween : {V : Type 0} → (List ℕ → V → ℕ → Type 0) �
 ReadsBetween reads buffer from to v = (n : ℕ) × (to ≡ from + n) × ReadsAt reads buffer from v n
 
 -- the offset is past the end, and `past_end` holds of it and `e`; or it is at most the length of the buffer, and the
--- rest there is refused with `e`
+-- read of the rest there fails with `e`
 abbrev pub RefusesAt : {E : Type 0} → (List ℕ → E → Type 0) → (ℕ → E → Type 0) → List ℕ → ℕ → E → Type 0
 RefusesAt refuses past_end buffer place e =
     ((length buffer < place) × past_end place e) ⊎ ((place ≤ length buffer) × refuses (drop place buffer) e)

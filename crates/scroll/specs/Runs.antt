@@ -77,7 +77,7 @@ Reads (kind.Textx2 ctx) source (value.Textx2 a b) n =
     ReadsArray (ReadsText ctx) 2 source (string_bytes a ∷ string_bytes b ∷ []) n
 Reads what source x n = ⊥
 
--- `Refuses what source e`: a value is refused as the relation of its type says
+-- `Refuses what source e`: the read of a value fails as the relation of its type says
 abbrev pub Refuses : Kind → List ℕ → Error → Type 0
 Refuses (kind.Number w order) source e = RefusesShort (bytes_in w) source e
 Refuses (kind.Text ctx) source e = RefusesText ctx source e
@@ -127,7 +127,7 @@ abbrev pub ReadsHere : {V : Type 0} → (List ℕ → V → ℕ → Type 0) → 
 ReadsHere reads buffer cursor at x after =
     (n : ℕ) × ReadsAt reads buffer (place_of at cursor) x n × (after ≡ moved at cursor n)
 
--- a read is refused at the offset at which a command acts, `RefusesAt`, and the cursor is unchanged
+-- a read fails at the offset at which a command acts, `RefusesAt`, and the cursor is unchanged
 abbrev pub RefusesHere : {E : Type 0} → (List ℕ → E → Type 0) → (ℕ → E → Type 0) → List ℕ → ℕ → Place → E → ℕ → Type 0
 RefusesHere refuses past_end buffer cursor at e after =
     RefusesAt refuses past_end buffer (place_of at cursor) e × (after ≡ cursor)

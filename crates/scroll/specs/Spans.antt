@@ -15,7 +15,7 @@ pub record Puts (text old new : List ℕ) (from to : ℕ) : Type 0 where
   pub size : to ≡ from + length text
   pub is : new ≡ take from old ++ (text ++ drop to old)
 
--- a prefix of `text` is written from the offset `from` on, and the next part is refused: it has more bytes than are
+-- a prefix of `text` is written at the offset `from`, and the write of the next part fails: it has more bytes than are
 -- left, and the error is `TooBig` with its length and the number of bytes left
 pub record PutsFront (text old new : List ℕ) (from : ℕ) (e : Error) : Type 0 where
   pub front : List ℕ

@@ -70,8 +70,8 @@ pub record RefusesMissing (ctx : StrCtx) (source : List ℕ) (e : Error) : Type 
   pub missing : ¬ HasDelimiter ctx source
   pub error : IsBadInput e (length source) (codes "missing delimiter")
 
--- a text is refused: the source is too short, which is tested first, or a required delimiter is missing, or the text is
--- not UTF-8
+-- the read of a text fails: the source is too short, which is tested first, or a required delimiter is missing, or the
+-- text is not UTF-8
 abbrev pub RefusesText : StrCtx → List ℕ → Error → Type 0
 RefusesText ctx source e = RefusesShort (wanted_len ctx) source e ⊎ RefusesInvalid ctx source e ⊎ RefusesMissing ctx source e
 
@@ -79,6 +79,6 @@ RefusesText ctx source e = RefusesShort (wanted_len ctx) source e ⊎ RefusesInv
 abbrev pub ReadsSlice : ℕ → List ℕ → List ℕ → ℕ → Type 0
 ReadsSlice n = ReadsFront n (take n)
 
--- a source of fewer than `n` bytes is refused: `RefusesShort n`
+-- the source has fewer than `n` bytes, and the read fails: `RefusesShort n`
 abbrev pub RefusesSlice : ℕ → List ℕ → Error → Type 0
 RefusesSlice n = RefusesShort n

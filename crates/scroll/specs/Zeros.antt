@@ -28,6 +28,6 @@ pub record RefusesNonzero (n : ℕ) (source : List ℕ) (e : Error) : Type 0 whe
   pub nonzero : slice_index source place ≢ 0
   pub error : IsBadInput e place (codes "padding is not zero")
 
--- zeros are refused: the source is too short, which is tested first, or one of its first `n` bytes is not zero
+-- the read of zeros fails: the source is too short, which is tested first, or one of its first `n` bytes is not zero
 abbrev pub RefusesZeros : ℕ → List ℕ → Error → Type 0
 RefusesZeros n source e = RefusesShort n source e ⊎ RefusesNonzero n source e

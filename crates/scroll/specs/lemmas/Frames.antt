@@ -59,7 +59,7 @@ WritesAll-keeps writes keeps old from (v ∷ vs) new to h =
 pub WritesArray-keeps : {V : Type 0} (writes : V → List ℕ → List ℕ → ℕ → Type 0) → ((x : V) (old new : List ℕ) (n : ℕ) → writes x old new n → drop n new ≡ drop n old) → (vs : List V) (old new : List ℕ) (n : ℕ) → WritesArray writes vs old new n → drop n new ≡ drop n old
 WritesArray-keeps writes keeps vs old new n h = (WritesAll-keeps writes keeps old 0 vs new n h).1
 
--- a spelling in `n` bytes has `n` bytes
+-- an encoding in `n` bytes has `n` bytes
 pub length-spelling : (v n : ℕ) → length (spelling v n) ≡ n
 length-spelling v n = length-map-range_with_len (spelled_byte v n) 0 n
 

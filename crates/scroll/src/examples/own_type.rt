@@ -108,7 +108,7 @@ fn is_version(read: Result<Version, VersionError>, major: u8, minor: u8) -> bool
     matches!(&read, Ok(version) if version.major == major && version.minor == minor)
 }
 
-// Whether a call was refused by the library's `TooBig`.
+// Whether a call failed with the library's `TooBig`.
 fn is_too_big<T: Drop>(
     outcome: Result<T, VersionError>,
     wanted_size: usize,
@@ -117,7 +117,7 @@ fn is_too_big<T: Drop>(
     matches!(&outcome, Err(VersionError::Scroll(Error::TooBig { size, len })) if *size == wanted_size && *len == wanted_len)
 }
 
-// Whether a call was refused by the library's `BadOffset`.
+// Whether a call failed with the library's `BadOffset`.
 fn is_bad_offset<T: Drop>(outcome: Result<T, VersionError>, wanted: usize) -> bool {
     matches!(&outcome, Err(VersionError::Scroll(Error::BadOffset(offset))) if *offset == wanted)
 }

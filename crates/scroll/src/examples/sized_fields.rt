@@ -175,7 +175,7 @@ fn is_data(read: result::Result<Data, DataError>) -> bool {
     }
 }
 
-// The library's error that a read was refused by.
+// Returns the library's error of a read that failed with one.
 fn scroll_error(read: result::Result<Data, DataError>) -> Result<()> {
     match read {
         Err(DataError::Scroll(error)) => Err(error),

@@ -37,7 +37,7 @@ fn fill(bytes: &mut [u8; 70], delimiter: u8, place: usize, before: u8, behind: u
     }
 }
 
-// Wants that each search stops where a plain one does.
+// Expects that each search stops where a plain one does.
 fn check_searches(rt: &impl Abort, delimiter: u8, place: usize, source: &[u8]) {
     let len = source.len();
     let plain = plain_place(delimiter, source);

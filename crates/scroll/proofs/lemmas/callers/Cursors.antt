@@ -103,7 +103,7 @@ pub number-front : (order : Endian) (w : ℕ) (s t : List ℕ) → ((i : ℕ) �
 number-front Little w s t h = sum_below-same _ _ w (λ i l. ap (λ b. b * 256 ^ i) (h i l))
 number-front Big w s t h = sum_below-same _ _ w (λ i l. ap (λ b. b * 256 ^ (w - 1 - i)) (h i l))
 
--- the bytes from an offset on are bytes
+-- the bytes from an offset on are below 256
 pub byte-bound : (place : ℕ) (s : List ℕ) → ((i : ℕ) → Fits w8 (slice_index s i)) → (i : ℕ) → slice_index (drop place s) i < 256
 byte-bound place s h i = rw (get_or-drop place s i 0) (omega (arith, (h (place + i)).fits))
 

@@ -174,7 +174,7 @@ grown-at {to} {place} n bytes {first} {now} h room is =
       ap (drop place) whole ∙ drop_at (take place first) (bytes ++ drop n (drop place first)) place len,
     )
 
--- the number that stands for a signed number is that of its bytes
+-- the unsigned form of a signed number is the number of its bytes
 complement-again : (m n : ℕ) → n < m → (x : ℤ) → x ≡ (if nat_lt (2 * n) m then pos n else pos n -ℤ pos m) → (if int_lt x (pos 0) then nat_abs (pos m +ℤ x) else nat_abs x) ≡ n
 complement-again m n h x is = grind (arith, ints)
 

@@ -33,7 +33,7 @@ stands-next {t} {u} {buffer} {a} {b} {c} p q = record {
 pub stands-range : {t buffer : List ℕ} {a b : ℕ} → Stands t buffer a b → slice_range buffer a b ≡ t
 stands-range {t} {buffer} {a} {b} h = ap (take (b - a)) h.is ∙ take_at t (drop b buffer) (b - a) (omega (arith, h.size))
 
--- the first n bytes from an offset on
+-- the first n bytes at an offset
 pub front-stands : {t buffer : List ℕ} {a b : ℕ} (n : ℕ) → a ≤ length buffer → n ≤ length (drop a buffer) → take n (drop a buffer) ≡ t → b ≡ a + n → Stands t buffer a b
 front-stands {t} {buffer} {a} {b} n inside room is to =
     let len : length t ≡ n = sym (ap length is) ∙ length-take-le n (drop a buffer) room in

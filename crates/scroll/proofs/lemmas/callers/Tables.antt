@@ -1,5 +1,5 @@
--- Lemmas for callers: loops over a table, whose elements stand one after another. Each record is what such a loop keeps:
--- of elements that are read, of elements of one size that are read, and of elements that are written.
+-- Lemmas for callers: loops over a table, whose elements follow one another. Each record is the invariant of such a
+-- loop: of elements that are read, of elements of one size that are read, and of elements that are written.
 use Rattle.std.proofs.Common.{◌≡◌, ℕ, zero, suc, ◌+◌, ◌*◌, ◌<◌, ◌≤◌, ◌++◌, List, [], ◌∷◌, length, take, drop, get_or, Some, inl, inr, sym, ap, subst, ◌∙◌, arith, append_assoc, length-append, length-drop}
 use Rattle.std.proofs.Math.Nat.{mul-suc}
 use Rattle.std.proofs.lemmas.Grind.{take_at_read, flat_map-append}
@@ -23,7 +23,7 @@ item-more : {X : Type 0} (text : X → List ℕ) (front : List ℕ) (xs : List X
 item-more text front xs i x inside is =
     ap (λ l. front ++ flat_map text l) ((take_at_read xs i x inside).1 ∙ ap (λ y. take i xs ++ y ∷ []) (sym is)) ∙ text-more text front (take i xs) x
 
--- elements that were read: their texts stand after a front, and each has a property
+-- elements that were read: their texts follow a front in the buffer, and each has a property
 pub record StandsEach {X : Type 0} (text : X → List ℕ) (P : X → Type 0) (front buffer : List ℕ) (from to : ℕ) (xs : List X) : Type 0 where
   pub stands : Stands (front ++ flat_map text xs) buffer from to
   pub each : All P xs
@@ -36,7 +36,7 @@ read-next {X} {text} {P} {front} {buffer} {from} {to} {next} {xs} {x} h read is 
   each = All-push P xs x h.each is;
 }
 
--- elements of w bytes each that were read, and the place after them
+-- elements of w bytes each that were read, and the offset after them
 pub record ReadsTable {X : Type 0} (f : List ℕ → X) (w : ℕ) (buffer : List ℕ) (from to : ℕ) (xs : List X) : Type 0 where
   pub entries : ReadsAll (ReadsFront w f) buffer from xs to
   pub place : to ≡ from + w * length xs
@@ -51,13 +51,13 @@ table-next {X} {f} {w} {buffer} {from} {to} {next} {xs} {x} h read =
       place = rw more (omega (arith, h.place, read.1, read.2.value.size, mul-suc w (length xs)));
     }
 
--- one is refused: the buffer ends before it does
+-- the read of one fails: the buffer ends before it does
 pub table-cut : {X : Type 0} {f : List ℕ → X} {w : ℕ} {buffer : List ℕ} {from to : ℕ} {xs : List X} {e : Error}
     → ReadsTable f w buffer from to xs → RefusesAt (RefusesShort w) IsBadOffset buffer to e → length buffer < from + w * suc (length xs)
 table-cut {X} {f} {w} {buffer} {from} {to} {xs} h (inl past) = omega (arith, h.place, past.0, mul-suc w (length xs))
 table-cut {X} {f} {w} {buffer} {from} {to} {xs} h (inr cut) = omega (arith, h.place, cut.0, cut.1.short, length-drop to buffer, mul-suc w (length xs))
 
--- each at its place
+-- each is at its offset
 pub table-at : {X : Type 0} {f : List ℕ → X} {w : ℕ} {buffer : List ℕ} {from to : ℕ} {xs : List X} → ReadsTable f w buffer from to xs
     → (i : ℕ) → i < length xs → slice_get xs i ≡ Some (f (drop (from + w * i) buffer))
 table-at {X} {f} {w} {buffer} {from} {to} {xs} h = ReadsAll-at f w buffer from xs to h.entries
@@ -82,7 +82,7 @@ module _ {X : Type 0} {text : X → List ℕ} {front : List ℕ} {xs : List X} {
   pub written-all : {ys : List X} {i : ℕ} → ys ≡ xs → length ys ≤ i → PutsEach text front xs i old now from to → Puts (front ++ flat_map text xs) old now from to
   written-all {ys} {i} same end h = subst (λ l. Puts (front ++ flat_map text l) old now from to) (take_all i xs (rw same at end)) h.put
 
-  -- one is refused
+  -- the write of one fails
   pub written-cut : {ys : List X} {i : ℕ} {x : X} {new : List ℕ} {e : Error} → ys ≡ xs → i < length ys → x ≡ get_or ys i x
       → PutsEach text front xs i old now from to → PutsFront (text x) now new to e → PutsFront (front ++ flat_map text xs) old new from e
   written-cut {ys} {i} {x} {new} {e} same inside is h refused =
@@ -92,7 +92,7 @@ module _ {X : Type 0} {text : X → List ℕ} {front : List ℕ} {xs : List X} {
       ∙ sym (append_assoc front (flat_map text (take (i + 1) xs)) rest) ∙ ap (λ s. s ++ rest) (item-more text front xs i x (rw same at inside) (rw same at is)) in
       subst (λ t. PutsFront t old new from e) (sym whole) (front-first rest (front-next h.put refused))
 
-  -- what follows them is refused
+  -- the write of what follows them fails
   pub written-after : {ys : List X} {i : ℕ} {rest new : List ℕ} {e : Error} → ys ≡ xs → length ys ≤ i
       → PutsEach text front xs i old now from to → PutsFront rest now new to e → PutsFront ((front ++ flat_map text xs) ++ rest) old new from e
   written-after same end h refused = front-next (written-all same end h) refused

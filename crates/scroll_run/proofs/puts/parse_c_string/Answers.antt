@@ -8,7 +8,7 @@ use Rattle.scroll_run.specs.Puts.{SpellCString}
 use Rattle.scroll_run.proofs.CommandLemmas.{one_bytes}
 use Rattle.scroll_run.proofs.puts.parse_c_string.Goals as goal
 
--- a text that is refused as bad input contains a zero
+-- a text whose conversion fails with `BadInput` contains a zero
 has_a_zero : (text other : List ℕ) (e : Error) (size : ℕ) (msg : Bor (List ℕ)) → text ≡ other → first_place 0 other ≡ length other → e ≡ BadInput size msg → ¬ (RefusesToHold text e)
 has_a_zero text other e size msg same none is (inl q) = let some = rw same at q.0 in omega (arith, some, none)
 has_a_zero text other e size msg same none is (inr q) = let no = q.1 in grind (arith, common_steps)
