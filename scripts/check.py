@@ -22,8 +22,9 @@ Several of these words may be given; .ci/run gives `all verdict`. The steps are:
     faults.sh       the sessions and the tests where memory is refused and streams fail, by what was proved
     edits.py        the edits, many in one check
 
-Steps run side by side, with as many jobs in all as there are workers (scripts/workers.py), and a step starts when those that
-it needs have ended. The tests of the library and rt ci run in copies of their own.
+Steps run side by side, and a step starts when those that it needs have ended. In all they have one job more than there are
+workers (scripts/workers.py), since parts of a check run on one processor. The tests of the library and rt ci run in copies of
+their own.
 
 Each step is named at the end with its counts, its time and the processor time that it took. The last line is
 `N passed, M failed`, the sums of the counts, with `, K skipped` after it where something was left out. A step that ends
@@ -163,7 +164,10 @@ class Gate:
 
 
 def list_clients() -> List[str]:
-    return sorted(it.parts[-3] for it in TOP.glob("clients/*/src/lib.rt.txt"))
+    """Returns the clients, the largest first, which takes longest."""
+    clients = [it.parents[1] for it in TOP.glob("clients/*/src/lib.rt.txt")]
+    sizes = {it.name: sum(file.stat().st_size for file in it.rglob("*.txt")) for it in clients}
+    return sorted(sizes, key=lambda name: -sizes[name])
 
 
 def list_steps(groups: Sequence[str], workers: int) -> List[Step]:
@@ -178,7 +182,7 @@ def list_steps(groups: Sequence[str], workers: int) -> List[Step]:
             steps.append(Step(f"python3 scripts/{name}.py", 1))
         steps += [
             Step(PROVE, workers),
-            Step(f"{PROVE} tests", half, (PROVE,), "tests", "crates/scroll/out/scroll_tests"),
+            Step(f"{PROVE} tests", half + 1, (PROVE,), "tests", "crates/scroll/out/scroll_tests"),
             Step(PROGRAM, half, (PROVE,)),
             Step(f"{PROGRAM} tests", half, (PROGRAM,)),
         ]
@@ -201,7 +205,7 @@ def main(words: List[str]) -> int:
     workers = count_workers()
     steps = list_steps(groups, workers)
     with tempfile.TemporaryDirectory(prefix="check-") as room:
-        gate = Gate(Path(room), workers)
+        gate = Gate(Path(room), workers + 1)
         for number in (signal.SIGHUP, signal.SIGINT, signal.SIGTERM):
             signal.signal(number, lambda *_: sys.exit(1))
         try:
