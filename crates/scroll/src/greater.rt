@@ -63,7 +63,7 @@ pub trait Cwrite<Ctx: Copy> {
     // The bytes of the target.
     ghost target: { Self → List ℕ };
 
-    // Holds of two values that stand for the same target.
+    // Holds of two values that refer to the same target.
     ghost same_target: { Self → Self → Type 0 };
 
     /// Writes `n` at `offset` in the default context, which for numbers is the machine's byte order.

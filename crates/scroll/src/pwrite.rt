@@ -18,7 +18,7 @@ pub trait Pwrite<Ctx: Copy, E> {
     // The bytes of the target.
     ghost target: { Self → List ℕ };
 
-    // Holds of two values that stand for the same target.
+    // Holds of two values that refer to the same target.
     ghost same_target: { Self → Self → Type 0 };
 
     // Holds of an offset past the end and each error that may be returned for it.

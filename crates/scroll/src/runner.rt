@@ -117,9 +117,9 @@ pub enum Put<'c> {
 /// A read or a write.
 #[derive(Clone, Copy, Debug)]
 pub enum Command<'c> {
-    /// Reads a value of a kind at a place.
+    /// Reads a value of a kind at an offset or at the cursor.
     Read(Place, Kind),
-    /// Writes a value at a place.
+    /// Writes a value at an offset or at the cursor.
     Write(Place, Put<'c>),
 }
 
@@ -163,7 +163,7 @@ pub enum Answer {
 /// `answers`.
 ///
 /// A command that fails appends its error, and the next one runs. The offset of `Place::At` counts bytes from the start
-/// of the buffer, and a command at such a place leaves the cursor unchanged.
+/// of the buffer, and a command at such an offset leaves the cursor unchanged.
 ///
 /// The only error is [`Error::NoMemory`]. The answers of some first commands, but not of all, are then appended, and
 /// the buffer and the cursor are as these commands left them: memory for an answer is reserved before its command runs,

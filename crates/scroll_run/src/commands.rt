@@ -14,9 +14,9 @@ use std::alloc::{AllocError, Global};
 /// A command, with the bytes that its line holds.
 #[derive(Drop)]
 pub enum CommandLine {
-    /// Reads a kind at a place.
+    /// Reads a kind at an offset or at the cursor.
     Read(Place, Kind),
-    /// Writes at a place.
+    /// Writes at an offset or at the cursor.
     Write(Place, OwnedPut),
 }
 
@@ -124,7 +124,7 @@ fn parse_offset<'w, 'a>(words: &'w [&'a [u8]]) -> Option<(usize, &'w [&'a [u8]])
     Some((parse_usize(word)?, rest))
 }
 
-// Returns the read at a place that the words spell.
+// Returns the read, at an offset or at the cursor, that the words spell.
 fn parse_read(place: Place, words: &[&[u8]]) -> Option<CommandLine>
     ensures { let texts = map (λ word. word.now) words.now in
         FindsCommand (SpellsRead place texts) result }
@@ -132,7 +132,7 @@ fn parse_read(place: Place, words: &[&[u8]]) -> Option<CommandLine>
     Some(CommandLine::Read(place, parse_kind(words)?))
 }
 
-// Returns the write at a place that the words spell.
+// Returns the write, at an offset or at the cursor, that the words spell.
 fn parse_write(
     alloc: Global,
     place: Place,

@@ -9,7 +9,7 @@ use Rattle.scroll.specs.Texts.{first_place, ReadsText}
 use Rattle.scroll.specs.declared.ctx.str_ctx.StrCtx.{StrCtx}
 use Rattle.scroll.specs.declared.ctx.str_ctx.StrCtx.TheVariants.{Delimiter, DelimiterUntil, Length, Required}
 
--- the first place is at most the length
+-- the index of the first byte of a value is at most the length
 pub first_place-le : (d : ℕ) (s : List ℕ) → first_place d s ≤ length s
 first_place-le d s = prefix_len-le-length (λ b. not (b == d)) s
 

@@ -201,7 +201,7 @@ impl<Ctx: Copy, T: IntoCtx<Ctx> + SizeWith<Ctx> + Copy, const N: usize> IntoCtx<
     }
 }
 
-// Writes an element to its place.
+// Writes an element at its offset.
 #[inline(always)]
 fn put_element<Ctx: Copy, T: IntoCtx<Ctx> + SizeWith<Ctx>>(
     value: T,

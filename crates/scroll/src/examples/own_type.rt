@@ -103,12 +103,12 @@ fn to_the_start<Ctx: Copy, E, T: Pwrite<Ctx, E>, N: TryIntoCtx<Ctx, Error = E> +
     target.pwrite_with(n, 0, ctx)
 }
 
-// Whether a version was read, with these numbers.
+// Returns whether a version was read, with these numbers.
 fn is_version(read: Result<Version, VersionError>, major: u8, minor: u8) -> bool {
     matches!(&read, Ok(version) if version.major == major && version.minor == minor)
 }
 
-// Whether a call failed with the library's `TooBig`.
+// Returns whether a call failed with the library's `TooBig`.
 fn is_too_big<T: Drop>(
     outcome: Result<T, VersionError>,
     wanted_size: usize,
@@ -117,7 +117,7 @@ fn is_too_big<T: Drop>(
     matches!(&outcome, Err(VersionError::Scroll(Error::TooBig { size, len })) if *size == wanted_size && *len == wanted_len)
 }
 
-// Whether a call failed with the library's `BadOffset`.
+// Returns whether a call failed with the library's `BadOffset`.
 fn is_bad_offset<T: Drop>(outcome: Result<T, VersionError>, wanted: usize) -> bool {
     matches!(&outcome, Err(VersionError::Scroll(Error::BadOffset(offset))) if *offset == wanted)
 }

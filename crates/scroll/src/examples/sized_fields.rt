@@ -162,7 +162,7 @@ const NARROW: &[u8; 26] =
 const WIDE: &[u8; 38] =
     b"\0\0\0\0\x00\x02\x03\x04\0\0\0\0\x01\x02\x03\x04\0\0\0\0\xde\xad\xbe\xef\x00\x08UserName\x00\x02\xca\xfe";
 
-// Whether the fields, the name and the value of these bytes were read.
+// Returns whether the fields, the name and the value of these bytes were read.
 fn is_data(read: result::Result<Data, DataError>) -> bool {
     match read {
         Ok(data) => {

@@ -157,7 +157,7 @@ fn copy_bytes(alloc: Global, bytes: &[u8]) -> Result<Vec<u8>>
     }
 }
 
-// Reads a value of any type at the place of a command.
+// Reads a value of any type at the offset or the cursor of a command.
 fn read_at<'b, Ctx: Copy, E: From<Error>, N: ReadFrom<&'b [u8], Ctx, Error = E>>(
     buffer: &'b [u8],
     cursor: &mut usize,

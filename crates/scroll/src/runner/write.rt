@@ -50,7 +50,7 @@ fn write_value(buffer: &mut [u8], cursor: &mut usize, place: Place, put: &Put<'_
     }
 }
 
-// Writes a value of any type at the place of a command.
+// Writes a value of any type at the offset or the cursor of a command.
 fn write_at<Ctx: Copy, N: TryIntoCtx<Ctx, Error = Error> + Drop>(
     buffer: &mut [u8],
     cursor: &mut usize,

@@ -39,7 +39,7 @@ ReadsAll-next reads buffer from vs mid to v h read = ReadsAll-push reads buffer 
 pub ReadsAll-pushed : {V : Type 0} {reads : List ℕ → V → ℕ → Type 0} {buffer : List ℕ} (from : ℕ) {mid to : ℕ} (vs : List V) {xs : List V} {v : V} → ReadsAll reads buffer from vs mid → ReadsBetween reads buffer mid to v → xs ≡ vs ++ v ∷ [] → ReadsAll reads buffer from xs to
 ReadsAll-pushed {V} {reads} {buffer} from {mid} {to} vs {xs} {v} h read is = rw is (ReadsAll-next reads buffer from vs mid to v h read)
 
--- a call with a cursor failed, and `at` added the offset to its error: the offset is the cursor's, and what holds of the
+-- a call with a cursor failed, and `at` added the offset to its error: the offset is the cursor, and what holds of the
 -- call's error holds of the one in the `At`
 pub located : {V E : Type 0} (P : E → Type 0) {from to place : ℕ} {r : Result V E} {e : E} → r ≡ Err e → place ≡ to → OnErr r (to ≡ from) → IfErr r P → (place ≡ from) × P e
 located P is at stays refused = (at ∙ (rw is at stays), rw is at refused)

@@ -30,7 +30,8 @@ use Rattle.scroll.specs.declared.error.Error.TheVariants.{TooBig}
 use Rattle.scroll.specs.lemmas.Frames.{length-number_bytes, length-signed_bytes, length-spelling}
 
 -- WHICH LEAVES A TYPE HAS
--- bytes that are written whole or not at all are one leaf: so a caller's own type with `WritesFront` and `LeavesShort`
+-- bytes that are written whole or not at all are one leaf, such as those of a caller's own type with `WritesFront` and
+-- `LeavesShort`
 pub front-leaf-by : {V : Type 0} (w : V → ℕ) (bytes : V → List ℕ) → ((x : V) → length (bytes x) ≡ w x) → HasLeaves (λ x. bytes x ∷ []) (λ x. WritesFront (w x) (bytes x)) (λ x. LeavesShort (w x))
 front-leaf-by w bytes len = record {
   written = λ x old new n h.

@@ -1,5 +1,5 @@
--- Lemmas for callers: records of fields, one after another, of any count. What was written reads back, and what was read is
--- written back. Cite them for a struct of numbers, floats and arrays of bytes.
+-- Lemmas for callers: records of any number of fields, one after another. What was written reads back, and what was
+-- read is written back. Cite them for a struct of numbers, floats and arrays of bytes.
 use Rattle.std.proofs.Common.{◌≡◌, ℕ, ℤ, pos, neg_ℤ, ◌*ℤ◌, ◌≤ℤ◌, ◌<ℤ◌, ◌+◌, ◌^◌, ◌<◌, ◌≤◌, ◌++◌, List, [], ◌∷◌, length, take, drop, slice_index, Fits, w8, T, refl, sym, ap, subst, ◌∙◌, arith, append_assoc, length-append}
 use Rattle.std.proofs.lemmas.List.{drop_at, take_at, append-nil}
 use Rattle.std.specs.Bool.{⊤}
@@ -23,7 +23,7 @@ pub data Field : Type 0 where
 abbrev pub Fields : Type 0
 Fields = List Field
 
--- how many bytes a field has, and which
+-- how many bytes a field has, and the bytes themselves
 abbrev pub field_width : Field → ℕ
 field_width (unsigned w x) = w
 field_width (signed w x) = w
@@ -50,7 +50,7 @@ FieldFits (signed w x) = (neg_ℤ (pos (256 ^ w)) ≤ℤ (pos 2 *ℤ x)) × ((po
 FieldFits (floating f x) = T (fits f x)
 FieldFits (bytes s) = ⊤
 
--- all bits of its bytes are kept: it is not a NaN
+-- a round trip keeps every bit of its bytes: it is not a NaN
 abbrev pub FieldKeeps : Field → Type 0
 FieldKeeps (unsigned w x) = ⊤
 FieldKeeps (signed w x) = ⊤
@@ -100,7 +100,7 @@ field-back order (floating f x) place s fits room keep at = ap (float_bytes f or
 field-back order (bytes t) place s fits room keep at = sym at
 
 -- ALL FIELDS
--- bytes after a front begin with the front
+-- the bytes of a front and of fields after it begin with the front
 front-first : (order : Endian) (front : List ℕ) (fs : Fields) → (rest : List ℕ) × (fields_after order front fs ≡ front ++ rest)
 front-first order front [] = ([], sym (append-nil front))
 front-first order front (f ∷ fs) =

@@ -1,4 +1,4 @@
--- Lemmas for callers: round trips. What was read is written back, and what was written is read again.
+-- Lemmas for callers: round trips. What was read is written back, and what was written reads back.
 use Rattle.std.proofs.Common.{◌≡◌, ◌≢◌, ℕ, ℤ, pos, neg_ℤ, nat_abs, ◌+ℤ◌, ◌-ℤ◌, ◌*ℤ◌, ◌≤ℤ◌, ◌<ℤ◌, ◌+◌, ◌-◌, ◌*◌, ◌/◌, ◌%◌, ◌^◌, ◌<◌, ◌≤◌, ◌++◌, ◌==◌, true, List, [], ◌∷◌, length, take, drop, get_or, slice_index, Fits, w8, refl, sym, ap, subst, ◌∙◌, inl, inr, arith, IsUtf8, append_assoc, length-append, length-take, length-drop, get_or-take}
 use Rattle.std.proofs.Math.Nat.{mod-eq_of_lt}
 use Rattle.std.proofs.Math.Seq.{take-add}
@@ -75,7 +75,7 @@ back-grow order w place s front h room is = back-next place w s is (number-back 
 is-byte : (b d : ℕ) → (b == d) ≡ true → b ≡ d
 is-byte b d e = grind (arith, e)
 
--- a string that a delimiter ends: how many bytes it takes, and that these are its own and the delimiter
+-- a string that a delimiter ends: its size, and that the bytes of this size are the string and the delimiter
 pub required-size : (d : ℕ) (s text : List ℕ) (n : ℕ) → ReadsText (Required d) s text n → n ≡ length text + 1
 required-size d s text n r = let len = ap length r.front in let part = length-take (first_place d s) s in omega (arith, r.size, len, part, r.there)
 
@@ -94,7 +94,7 @@ required-whole {d} {n} {s} {text} r =
 pub required-rest : (d : ℕ) (text rest : List ℕ) → drop (length text + 1) (text ++ d ∷ rest) ≡ rest
 required-rest d text rest = ap (drop (length text + 1)) (sym (append_assoc text (d ∷ []) rest)) ∙ drop_at (text ++ d ∷ []) rest (length text + 1) (length-append text (d ∷ []))
 
--- the first delimiter, after bytes that are not the delimiter
+-- where the first delimiter is, after bytes that are not the delimiter
 pub place-behind : (d : ℕ) (t rest : List ℕ) → All (λ b. b ≢ d) t → first_place d (t ++ d ∷ rest) ≡ length t
 place-behind d [] rest h = grind arith
 place-behind d (b ∷ bs) rest h =
@@ -102,7 +102,7 @@ place-behind d (b ∷ bs) rest h =
     let ih = place-behind d bs rest (All-tail (λ x. x ≢ d) b bs h) in
     grind (arith, ih, hb)
 
--- a string without the delimiter, followed by the delimiter, is read again
+-- a string without the delimiter, followed by the delimiter, reads back
 pub required-again : (d : ℕ) (text rest : List ℕ) → All (λ b. b ≢ d) text → IsUtf8 text → ReadsText (Required d) (text ++ d ∷ rest) text (length text + 1)
 required-again d text rest h utf8 =
     let at = place-behind d text rest h in
@@ -122,7 +122,7 @@ ReadsAll-back reads bytes buffer back from (v ∷ vs) to h =
     ∙ ap (λ l. l ++ flat_map bytes vs) (back-next from h.0 buffer refl (back from v h.0 h.1))
     ∙ ReadsAll-back reads bytes buffer back (from + h.0) vs to h.2
 
--- values that were written one after another are read again, if each is
+-- values that were written one after another read back, if each does
 pub ReadsAll-again : {V : Type 0} (reads : List ℕ → V → ℕ → Type 0) (bytes : V → List ℕ) (vs : List V) → All (λ v. (rest : List ℕ) → reads (bytes v ++ rest) v (length (bytes v))) vs → (front rest : List ℕ) → ReadsAll reads (front ++ flat_map bytes vs ++ rest) (length front) vs (length (front ++ flat_map bytes vs))
 ReadsAll-again reads bytes [] again front rest = ap length (append-nil front)
 ReadsAll-again {V} reads bytes (v ∷ vs) again front rest =
@@ -219,7 +219,7 @@ byte-fits s h i = elim (cases_lt i (length s)) as (λ _. Fits w8 (slice_index s 
   | inr l ↦ let none : slice_index s i ≡ 0 = grind (arith, common_steps) in rw none (record { fits = omega arith })
 ]
 
--- bytes that read as a number are that number's, and no others do
+-- bytes as many as the width are those of the number that they read as
 pub number-only : (order : Endian) (w : ℕ) (s : List ℕ) → All (λ b. b < 256) s → length s ≡ w → s ≡ number_bytes order w (number order w s)
 number-only order w s h len = sym (number-back order w 0 s (byte-fits s h) (omega (arith, len)) ∙ take_all w s (omega (arith, len)))
 

@@ -29,7 +29,7 @@ stands-next {t} {u} {buffer} {a} {b} {c} p q = record {
   is = p.is ∙ ap (λ s. t ++ s) q.is ∙ sym (append_assoc t u (drop c buffer));
 }
 
--- the bytes themselves
+-- the bytes between the two offsets
 pub stands-range : {t buffer : List ℕ} {a b : ℕ} → Stands t buffer a b → slice_range buffer a b ≡ t
 stands-range {t} {buffer} {a} {b} h = ap (take (b - a)) h.is ∙ take_at t (drop b buffer) (b - a) (omega (arith, h.size))
 
@@ -99,7 +99,7 @@ puts-stands {t} {a} {b} {p} {q} h =
       is = ap (drop p) h.is ∙ drop_at (take p a) (t ++ drop q a) p first ∙ ap (λ s. t ++ s) (sym parts.1);
     }
 
--- what is in one buffer and is written to another is there byte for byte
+-- bytes of one buffer that are written to another are the same in both
 pub puts-back : {t old new source : List ℕ} {a b p q : ℕ} → Puts t old new p q → Stands t source a b → slice_range new p q ≡ slice_range source a b
 puts-back w s = stands-range (puts-stands w) ∙ sym (stands-range s)
 
@@ -126,7 +126,7 @@ puts-at t {old} {new} {w} {p} len room before after = record {
 pub puts-front : {t old new : List ℕ} {q : ℕ} → Puts t old new 0 q → take q new ≡ t
 puts-front h = (puts-parts h).0
 
--- an error of one value
+-- a write of one value that fails
 pub front-write : {t old new : List ℕ} {w p : ℕ} {e : Error} → length t ≡ w → p ≤ length old → RefusesWriteAt (LeavesShort w) IsBadOffset old p new e → PutsFront t old new p e
 front-write len inside (inl past) = absurd (omega (arith, past.past, inside))
 front-write {t} {old} {new} {w} {p} {e} len inside (inr h) =
@@ -168,7 +168,7 @@ byte-puts order {x} small h to = puts-write refl (rw (one-byte order x small) at
 pub byte-front : {x : ℕ} {old new : List ℕ} {p : ℕ} {e : Error} → p ≤ length old → RefusesWriteAt (LeavesShort 1) IsBadOffset old p new e → PutsFront (x ∷ []) old new p e
 byte-front = front-write refl
 
--- an error before some bytes, and one after them
+-- a write that fails before further bytes, and one that fails after bytes that were written
 pub front-first : {t old new : List ℕ} {p : ℕ} {e : Error} (u : List ℕ) → PutsFront t old new p e → PutsFront (t ++ u) old new p e
 front-first {t} u h = record {
   front = h.front;
@@ -195,7 +195,7 @@ front-next {t} {u} x h =
       error = rw (← len) h.error;
     }
 
--- one more element of a list is written, which the loop copies
+-- one more element of a list, which the loop copies, is written
 pub puts-copy : {X : Type 0} (f : X → List ℕ) (xs : List X) (i : ℕ) (d : X) {a b c : List ℕ} {p q r : ℕ} → i < length xs
     → Puts (flat_map f (take i xs)) a b p q → Puts (f (get_or xs i d)) b c q r → Puts (flat_map f (take (i + 1) xs)) a c p r
 puts-copy f xs i d {a} {b} {c} {p} {q} {r} h before wrote =

@@ -50,7 +50,7 @@ IsRun-next first buffer buffer' from to to' commands i d old new new' a inside r
     rw (take_more commands i d inside)
     (IsRun-push first buffer buffer' from to to' (take i commands) old new new' (get_or commands i d) a r items s)
 
--- a read that returns an answer is a step that leaves the buffer unchanged
+-- a successful read is a step that leaves the buffer unchanged
 pub IsStep-read : (buffer : List ℕ) (cursor : ℕ) (at : Place) (what : Kind) (r : Result Answer Error) (after : ℕ) → IfOk r (λ a. ReadStep buffer cursor at what a after) → IfOk r (λ a. IsStep buffer buffer cursor (Read at what) a after)
 IsStep-read buffer cursor at what (Ok a) after h = record {
   written = [];

@@ -1,4 +1,4 @@
--- Fronts of a list that end before or at the first place of a byte, and the bytes of a C string.
+-- Fronts of a list that end before or with the first byte of a value, and the bytes of a C string.
 use Rattle.std.proofs.Common.{◌≡◌, ◌==◌, ◌≤◌, ◌<◌, ◌+◌, ◌-◌, ℕ, List, [], ◌∷◌, ◌++◌, length, take, get_or, arith}
 use Rattle.std.proofs.lemmas.Grind.{common_steps}
 use Rattle.std.proofs.lemmas.List.Sums.{position_or_len_is, fails_before_first, passes_at_first}
@@ -6,7 +6,7 @@ use Rattle.scroll.specs.CStrings.{IsCString}
 use Rattle.scroll.specs.lemmas.Sizes.{first_place-le}
 use Rattle.scroll.specs.Texts.{first_place}
 
--- a front that ends before the first place doesn't contain the byte
+-- a front that ends before the first such byte doesn't contain one
 pub first_place-front : (d : ℕ) (s : List ℕ) (n : ℕ) → n ≤ first_place d s → first_place d (take n s) ≡ n
 first_place-front d s n h =
     let within = first_place-le d s in
@@ -15,7 +15,7 @@ first_place-front d s n h =
     (λ k l. let fails = fails_before_first (λ b. b == d) s k 0 (omega arith) in let same : get_or (take n s) k 0 ≡ get_or s k 0 = grind (arith, common_steps) in rw same fails)
     (λ l. absurd (omega arith))
 
--- a front that ends with the first place contains the byte there
+-- a front that ends with the first such byte contains it there
 pub first_place-with : (d : ℕ) (s : List ℕ) → first_place d s < length s → first_place d (take (first_place d s + 1) s) ≡ first_place d s
 first_place-with d s h =
     let n : ℕ = first_place d s in

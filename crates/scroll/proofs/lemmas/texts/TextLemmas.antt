@@ -1,4 +1,4 @@
--- The first place of a byte.
+-- The index of the first byte of a value.
 use Rattle.std.proofs.Common.{◌≡◌, ℕ, zero, suc, ◌+◌, ◌==◌, Bool, true, false, not, List, [], ◌∷◌, take, min, cond, ap, ◌∙◌, arith}
 use Rattle.std.proofs.lemmas.List.{take-take}
 use Rattle.std.specs.List.{prefix_len}
@@ -13,7 +13,7 @@ prefix_len-take p (suc k) (x ∷ xs) =
     elim (p x) as (λ b. cond b (1 + prefix_len p (take k xs)) 0 ≡ min (suc k) (cond b (1 + prefix_len p xs) 0))
     [ true ↦ omega arith | false ↦ omega arith ]
 
--- in the front of a source: as far as that goes
+-- in the first k bytes of a list it is the same, or k if it is k or more
 pub first_place-take : (d k : ℕ) (s : List ℕ) → first_place d (take k s) ≡ min k (first_place d s)
 first_place-take d k s = prefix_len-take (λ b. not (b == d)) k s
 

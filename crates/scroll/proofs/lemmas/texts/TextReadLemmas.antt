@@ -16,7 +16,7 @@ use Rattle.scroll.specs.declared.ctx.str_ctx.StrCtx.TheVariants.{Delimiter, Deli
 use Rattle.scroll.specs.declared.error.Error.{Error}
 use Rattle.scroll.specs.declared.error.Error.TheVariants.{TooBig, BadOffset, BadInput, Custom, IO, NoMemory}
 
--- the first place in equal fronts
+-- the index of the first byte of a value in lists with equal fronts
 pub first_place-fronts : (d n : ℕ) (s t : List ℕ) → take n t ≡ take n s → min n (first_place d t) ≡ min n (first_place d s)
 first_place-fronts d n s t e = sym (first_place-take d n t) ∙ ap (first_place d) e ∙ first_place-take d n s
 
