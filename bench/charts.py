@@ -11,7 +11,8 @@ INK, SOFT, GRID = "#1f2328", "#59636e", "#d8dee4"
 FASTER, EQUAL, SLOWER = "#0b7a75", "#7d8590", "#c2410c"
 COLUMN, LABEL, PLOT = 386, 184, 150
 LINE, HEAD = 13, 26
-LEAST, MOST = 0.08, 2.2
+LEAST, MOST = 0.08, 13
+TICKS = (0.1, 0.2, 0.5, 1, 2, 5, 10)
 
 
 def text(x, y, words, size=10, fill=INK, anchor="start", weight="normal"):
@@ -61,7 +62,7 @@ def draw_set(x, y, title, rows):
     left = x + LABEL
     bottom = y + HEAD + LINE * len(rows) - 6
     parts = [text(x + COLUMN - 8, y + 12, title, 11, INK, "end", "bold")]
-    for tick in (0.1, 0.2, 0.5, 1, 2):
+    for tick in TICKS:
         stroke, width = (INK, 1.1) if tick == 1 else (GRID, 0.8)
         parts.append(line(left + place(tick), y + HEAD - 8, left + place(tick), bottom, stroke, width))
     for k, row in enumerate(rows):
@@ -70,7 +71,7 @@ def draw_set(x, y, title, rows):
 
 
 def draw_axis(x, y):
-    parts = [text(x + LABEL + place(tick), y, f"{tick:g}", 9, SOFT, "middle") for tick in (0.1, 0.2, 0.5, 1, 2)]
+    parts = [text(x + LABEL + place(tick), y, f"{tick:g}", 9, SOFT, "middle") for tick in TICKS]
     return parts
 
 
