@@ -21,13 +21,14 @@ TOP = Path(__file__).resolve().parents[1]
 # Names of Rust, of its crates and of processors, and placeholders in docs/SESSIONS.md.
 FOREIGN = set("""
 I Self::Units array::try_from_fn cause collect core::mem core::result f64 memchr scroll_derive x86-64-v2
-HEX HH ORD SESSION law_7
+HEX HH ORD SESSION law_7 crates/first crates/first/src/lib.rt
 """.split())
 
 SPAN = re.compile(r"(?<!`)`([^`\n]+)`(?!`)")
 CITED = re.compile(r"(?:r#)?[A-Za-z_][\w-]*(?:::(?:[A-Za-z_]\w*|\*))*")
 WORD = re.compile(r"[^\W\d][\w-]*")
 FENCE = re.compile(r"^```.*?^```$", re.M | re.S)
+FILE = re.compile(r"[a-z.][\w.-]*(?:/[\w.-]+)+/?")
 LINK = re.compile(r"\]\(([^()\s]+)\)")
 HEADING = re.compile(r"^#+ +(.*?) *$", re.M)
 HISTORY = TOP / "CHANGELOG.md"
@@ -46,6 +47,12 @@ def read_prose(path: Path) -> str:
 def anchors(path: Path) -> Set[str]:
     """What a link may have after `#`: a heading in lower case, with no punctuation, and with `-` for a space."""
     return {re.sub(r"[^\w -]", "", it).lower().replace(" ", "-") for it in HEADING.findall(read_prose(path))}
+
+
+def is_gone(path: str, document: Path) -> bool:
+    if path in FOREIGN or re.search(r"\b[A-Z]{2,}\b(?!\.md)", path) or "out" in path.split("/"):
+        return False
+    return not any((folder / path).exists() for folder in (TOP, document.parent, *TOP.glob("crates/*"), *TOP.glob("clients/*")))
 
 
 def leads_nowhere(link: str, document: Path) -> bool:
@@ -86,12 +93,14 @@ def faults(document: Path, known: Set[str]) -> Tuple[int, List[str]]:
         place = f"{document.relative_to(TOP)}:{number}"
         names = [] if document == HISTORY else [it for it in SPAN.findall(line) if CITED.fullmatch(it)]
         links = [it for it in LINK.findall(line) if "://" not in it]
-        count += len(names) + len(links)
+        paths = [] if document == HISTORY else [it for it in SPAN.findall(line) if FILE.fullmatch(it)]
+        count += len(names) + len(links) + len(paths)
         gone += [
             f"{place}: `{it}` is not in the sources"
             for it in names
             if it not in known and not all(is_known(part, known) for part in it.split("::"))
         ]
+        gone += [f"{place}: `{it}` is not there" for it in paths if is_gone(it, document)]
         gone += [f"{place}: the link to {it} leads nowhere" for it in links if leads_nowhere(it, document)]
     return count, gone
 
