@@ -88,7 +88,7 @@ def places(struct: Struct) -> list[tuple[int, Field]]:
 
 
 def numbers_read(type: Type) -> list[Number]:
-    """The numbers that a field is read as by calls of its own."""
+    """Returns the numbers of a field that are read by calls of their own."""
     match type:
         case Number():
             return [type]
@@ -98,7 +98,7 @@ def numbers_read(type: Type) -> list[Number]:
 
 
 def is_large(type: Type) -> bool:
-    """Whether a struct is read with a clause for each field."""
+    """Returns whether a struct is read by a function with a clause for each field."""
     if not isinstance(type, Struct):
         return False
     read = [number for field in type.fields for number in numbers_read(field.type)]
@@ -108,7 +108,7 @@ def is_large(type: Type) -> bool:
 
 @dataclass(frozen=True)
 class Fact:
-    """A field, as a clause says what it is."""
+    """A clause on a field: its name, the field, and the value that it has."""
 
     name: str
     path: str
@@ -116,7 +116,7 @@ class Fact:
 
 
 def facts_of(struct: Struct, source: str, outer: tuple[str, ...] = (), path: str = "") -> list[Fact]:
-    """What the fields of a large struct are, and those of a large struct in it."""
+    """Returns the clauses on the fields of a large struct, and on those of large structs in it."""
     found = []
     for place, field in places(struct):
         names = (*outer, f"field_{field.name}" if struct.is_tuple or field.name in RESERVED else field.name)
@@ -231,7 +231,7 @@ def read_expression(type: Type, place: int, indent: int, context: str, large: bo
 
 
 def read_body(struct: Struct, context: str, indent: int) -> list[str]:
-    """The struct, with each field read."""
+    """Returns the expression that makes the struct of its fields."""
     name = struct.name
     space = " " * indent
     large = is_large(struct)
@@ -242,13 +242,13 @@ def read_body(struct: Struct, context: str, indent: int) -> list[str]:
 
 
 def facts_clause(head: str, struct: Struct, tail: str) -> str:
-    """A clause that says of each field what it is."""
+    """Returns a clause that states the value of each field."""
     facts = [f"(x{fact.path} ≡ {fact.value})" for fact in facts_of(struct, "s")]
     return "\n".join([head, *(f"        {'× ' if index else ''}{fact}" for index, fact in enumerate(facts))]) + tail
 
 
 def read_fields(struct: Struct) -> list[str]:
-    """The function that reads a large struct."""
+    """Returns the function that reads a large struct."""
     clauses = []
     for fact in facts_of(struct, "this.now"):
         line = f"    ensures {fact.name} {{ result{fact.path} ≡ {fact.value} }}"

@@ -24,7 +24,7 @@ pub fn read_format(file: &[u8], order: Endian) -> Result<Format>
     ensures channels { IfOk result (λ format. format.channels ≡ number order 2 (drop 2 file.now)) }
     ensures rate { IfOk result (λ format. format.rate ≡ number order 4 (drop 4 file.now)) }
     ensures room { 8 ≤ length file.now → IsOk result }
-    ensures short { OnOk result (8 ≤ length file.now) }
+    ensures whole { OnOk result (8 ≤ length file.now) }
 {
     check_room(SIZE, file.len())?;
     Ok(Format {

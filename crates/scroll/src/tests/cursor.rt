@@ -1,5 +1,7 @@
 // The cursor, the default contexts and bulk reads.
-use crate::tests::results::{check_bad_offset, check_eq, check_too_big, check_value};
+use crate::tests::results::{
+    check_bad_offset, check_eq, check_gread_gwrite, check_too_big, check_value,
+};
 use crate::{BE, LE, Pread, Pwrite, Result};
 use std::process::Abort;
 
@@ -69,22 +71,6 @@ fn simple_gread_u64(rt: HostRuntime) {
 #[test]
 fn simple_gread_i64(rt: HostRuntime) {
     check_simple_gread!(rt, i64, 940700423303335439, 8);
-}
-
-// Writes a number in one order and, after it, in the other, and reads both back.
-macro_rules! check_gread_gwrite {
-    ($rt:ident, $value:ident, $size:expr) => {
-        let mut bytes = [0u8; 16];
-        let mut target = &mut bytes[..];
-        let mut offset = 0;
-        check_value(&$rt, target.gwrite_with($value, &mut offset, LE), $size);
-        check_value(&$rt, target.gwrite_with($value, &mut offset, BE), $size);
-        check_eq(&$rt, offset, 2 * $size);
-        let mut offset = 0;
-        check_value(&$rt, bytes[..].gread_with(&mut offset, LE), $value);
-        check_value(&$rt, bytes[..].gread_with(&mut offset, BE), $value);
-        check_eq(&$rt, offset, 2 * $size);
-    };
 }
 
 fn check_gread_gwrite_i64(rt: &impl Abort, value: i64) {

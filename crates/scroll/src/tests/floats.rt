@@ -1,7 +1,9 @@
 // Floats: the values of the Rust crate's tests, and the bytes that it reads and writes for zeros, subnormals, infinities
 // and NaNs.
 use crate::ctx::{FromCtx, IntoCtx, SizeWith, TryFromCtx, TryIntoCtx};
-use crate::tests::results::{check_bad_offset, check_eq, check_too_big, check_value};
+use crate::tests::results::{
+    check_bad_offset, check_eq, check_gread_gwrite, check_too_big, check_value,
+};
 use crate::{BE, Cread, Cwrite, Endian, IOread, IOwrite, LE, Pread, Pwrite, Result};
 use std::io;
 use std::process::Abort;
@@ -25,22 +27,6 @@ fn gread_f32(rt: HostRuntime) {
 #[test]
 fn gread_f64(rt: HostRuntime) {
     check_gread!(rt, f64, 0.5, 8);
-}
-
-// Writes a float in one order and, after it, in the other, and reads both back.
-macro_rules! check_gread_gwrite {
-    ($rt:ident, $value:ident, $size:expr) => {
-        let mut bytes = [0u8; 16];
-        let mut target = &mut bytes[..];
-        let mut offset = 0;
-        check_value(&$rt, target.gwrite_with($value, &mut offset, LE), $size);
-        check_value(&$rt, target.gwrite_with($value, &mut offset, BE), $size);
-        check_eq(&$rt, offset, 2 * $size);
-        let mut offset = 0;
-        check_value(&$rt, bytes[..].gread_with(&mut offset, LE), $value);
-        check_value(&$rt, bytes[..].gread_with(&mut offset, BE), $value);
-        check_eq(&$rt, offset, 2 * $size);
-    };
 }
 
 fn check_gread_gwrite_f64(rt: &impl Abort, value: f64) {

@@ -76,3 +76,21 @@ pub fn check_bad_input<T: Drop>(
 pub fn check_eq<T: PartialEq + Debug + Drop>(rt: &impl Abort, value: T, wanted: T) {
     assert!(rt; value == wanted, "expected {wanted:?}, got {value:?}");
 }
+
+// Writes a number in one order and, after it, in the other, and reads both back.
+macro_rules! check_gread_gwrite {
+    ($rt:ident, $value:ident, $size:expr) => {
+        let mut bytes = [0u8; 16];
+        let mut target = &mut bytes[..];
+        let mut offset = 0;
+        check_value(&$rt, target.gwrite_with($value, &mut offset, LE), $size);
+        check_value(&$rt, target.gwrite_with($value, &mut offset, BE), $size);
+        check_eq(&$rt, offset, 2 * $size);
+        let mut offset = 0;
+        check_value(&$rt, bytes[..].gread_with(&mut offset, LE), $value);
+        check_value(&$rt, bytes[..].gread_with(&mut offset, BE), $value);
+        check_eq(&$rt, offset, 2 * $size);
+    };
+}
+
+pub(crate) use check_gread_gwrite;
