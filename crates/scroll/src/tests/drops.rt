@@ -65,57 +65,52 @@ fn three(drops: &Cell<u32>) -> [Counted<'_>; 3] {
     ]
 }
 
+// Returns the bytes of three values, and drops the values.
+fn bytes_of(held: [Counted<'_>; 3]) -> [u8; 3] {
+    let [first, second, third] = &held;
+    [first.byte, second.byte, third.byte]
+}
+
 #[test]
 fn a_refused_read_drops_its_elements(rt: HostRuntime) {
-    let drops = Cell::new(0);
-    let bytes: [u8; 3] = [7, 8, 9];
-    let cut: Result<[Counted; 3]> = bytes[..2].pread_with(0, &drops);
-    check_too_big(&rt, cut, 1, 0);
-    check_eq(&rt, drops.get(), 2);
-    let whole: Result<[Counted; 3]> = bytes[..].pread_with(0, &drops);
-    check_eq(&rt, drops.get(), 2);
+    let rt = &rt;
+    let drops = &Cell::new(0);
+    let source: &[u8] = &[7, 8, 9];
+    let cut: Result<[Counted; 3]> = source[..2].pread_with(0, drops);
+    check_too_big(rt, cut, 1, 0);
+    check_eq(rt, drops.get(), 2);
+    let whole: Result<[Counted; 3]> = source.pread_with(0, drops);
+    check_eq(rt, drops.get(), 2);
     drop(whole);
-    check_eq(&rt, drops.get(), 5);
+    check_eq(rt, drops.get(), 5);
 }
 
 #[test]
 fn a_bulk_read_drops_what_it_replaces(rt: HostRuntime) {
-    let drops = Cell::new(0);
-    let bytes: [u8; 2] = [1, 2];
-    let mut held = three(&drops);
-    let offset = &mut 0;
-    let cut: Result<()> = bytes[..].gread_inout_with(offset, &mut held, &drops);
-    check_too_big(&rt, cut, 1, 0);
-    check_eq(&rt, drops.get(), 2);
-    let [first, second, third] = &held;
-    check_eq(&rt, [first.byte, second.byte, third.byte], [1, 2, 9]);
-    drop(held);
-    check_eq(&rt, drops.get(), 5);
+    let rt = &rt;
+    let drops = &Cell::new(0);
+    let source: &[u8] = &[1, 2];
+    let mut held = three(drops);
+    check_too_big(rt, source.gread_inout_with(&mut 0, &mut held, drops), 1, 0);
+    check_eq(rt, drops.get(), 2);
+    check_eq(rt, bytes_of(held), [1, 2, 9]);
+    check_eq(rt, drops.get(), 5);
 }
 
 #[test]
 fn writes_drop_their_values(rt: HostRuntime) {
-    let drops = Cell::new(0);
+    let rt = &rt;
+    let drops = &Cell::new(0);
     let mut bytes = [0u8; 2];
     let mut target = &mut bytes[..];
     // (the first is written, the second fails, and the third is left)
-    let cut: Result<usize> = target.pwrite(three(&drops), 1);
-    check_too_big(&rt, cut, 1, 0);
-    check_eq(&rt, drops.get(), 3);
-    let past: Result<usize> = target.pwrite(three(&drops), 3);
-    check_bad_offset(&rt, past, 3);
-    check_eq(&rt, drops.get(), 6);
-    check_eq(&rt, bytes, [0, 7]);
-    let offset = &mut 1;
-    let wrote: Result<usize> = slice::gwrite(
-        &mut bytes,
-        Counted {
-            byte: 5,
-            drops: &drops,
-        },
-        offset,
-    );
-    check_value(&rt, wrote, 1);
-    check_eq(&rt, drops.get(), 7);
-    check_eq(&rt, bytes, [0, 5]);
+    check_too_big(rt, target.pwrite(three(drops), 1), 1, 0);
+    check_eq(rt, drops.get(), 3);
+    check_bad_offset(rt, target.pwrite(three(drops), 3), 3);
+    check_eq(rt, drops.get(), 6);
+    check_eq(rt, bytes, [0, 7]);
+    let five = Counted { byte: 5, drops };
+    check_value(rt, slice::gwrite(&mut bytes, five, &mut 1), 1);
+    check_eq(rt, drops.get(), 7);
+    check_eq(rt, bytes, [0, 5]);
 }

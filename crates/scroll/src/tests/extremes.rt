@@ -2,11 +2,13 @@
 // nothing changes.
 use crate::cstr::CStr;
 use crate::ctx::StrCtx;
-use crate::tests::results::{check_bad_offset, check_eq, check_too_big};
+use crate::tests::results::{check_bad_offset, check_eq, check_too_big, check_value};
 use crate::{BE, LE, Pread, Pwrite, Result, Sleb128, Uleb128, slice};
 use std::process::Abort;
 
 const MOST: usize = usize::MAX;
+
+const SOURCE: &[u8] = b"a\0b";
 
 // Checks that a call returned the error for the greatest offset.
 fn check_past<T: Drop>(rt: &impl Abort, outcome: Result<T>) {
@@ -15,68 +17,69 @@ fn check_past<T: Drop>(rt: &impl Abort, outcome: Result<T>) {
 
 #[test]
 fn reads(rt: HostRuntime) {
-    let bytes: [u8; 3] = [0x61, 0x00, 0x62];
-    let source = &bytes[..];
+    let rt = &rt;
+    let source = SOURCE;
     let mut at = MOST;
-    check_past(&rt, source.pread::<u16>(MOST));
-    check_past(&rt, source.pread_with::<u16>(MOST, BE));
-    check_past(&rt, source.gread::<u16>(&mut at));
-    check_past(&rt, source.gread_with::<u16>(&mut at, LE));
-    check_past(&rt, source.gread_with::<&str>(&mut at, StrCtx::Length(0)));
-    check_past(&rt, source.gread_with::<&[u8]>(&mut at, 0));
-    check_past(&rt, source.gread_with::<CStr>(&mut at, ()));
-    check_past(&rt, source.gread_with::<[u8; 0]>(&mut at, LE));
-    check_past(&rt, Uleb128::read(source, &mut at));
-    check_past(&rt, Sleb128::read(source, &mut at));
+    check_past(rt, source.pread::<u16>(MOST));
+    check_past(rt, source.pread_with::<u16>(MOST, BE));
+    check_past(rt, source.gread::<u16>(&mut at));
+    check_past(rt, source.gread_with::<u16>(&mut at, LE));
+    check_past(rt, source.gread_with::<&str>(&mut at, StrCtx::Length(0)));
+    check_past(rt, source.gread_with::<&[u8]>(&mut at, 0));
+    check_past(rt, source.gread_with::<CStr>(&mut at, ()));
+    check_past(rt, source.gread_with::<[u8; 0]>(&mut at, LE));
+    check_past(rt, Uleb128::read(source, &mut at));
+    check_past(rt, Sleb128::read(source, &mut at));
     let mut two = [3u16, 4];
-    check_past(&rt, source.gread_inout(&mut at, &mut two));
-    check_past(&rt, source.gread_inout_with(&mut at, &mut two, BE));
-    check_eq(&rt, two, [3, 4]);
-    check_eq(&rt, at, MOST);
+    check_past(rt, source.gread_inout(&mut at, &mut two));
+    check_past(rt, source.gread_inout_with(&mut at, &mut two, BE));
+    check_eq(rt, two, [3, 4]);
+    check_eq(rt, at, MOST);
+}
+
+// Checks that a bulk read into no element succeeds, and leaves the offset.
+fn check_no_element(rt: &impl Abort, start: usize) {
+    let mut none: [u16; 0] = [];
+    let mut at = start;
+    check_value(rt, SOURCE.gread_inout(&mut at, &mut none), ());
+    check_value(rt, SOURCE.gread_inout_with(&mut at, &mut none, BE), ());
+    check_eq(rt, at, start);
 }
 
 #[test]
 fn bulk_reads_into_no_element(rt: HostRuntime) {
-    let bytes: [u8; 3] = [0x61, 0x00, 0x62];
-    let mut none: [u16; 0] = [];
-    for start in [0, 3, 4, MOST] {
-        let mut at = start;
-        let by_default: Result<()> = bytes[..].gread_inout(&mut at, &mut none);
-        assert!(rt; by_default.is_ok(), "{start}");
-        let in_order: Result<()> = bytes[..].gread_inout_with(&mut at, &mut none, BE);
-        assert!(rt; in_order.is_ok(), "{start}");
-        check_eq(&rt, at, start);
-    }
+    let rt = &rt;
+    check_no_element(rt, 0);
+    check_no_element(rt, 3);
+    check_no_element(rt, 4);
+    check_no_element(rt, MOST);
 }
 
 #[test]
 fn writes(rt: HostRuntime) {
+    let rt = &rt;
     let mut bytes = [7u8; 3];
     let mut at = MOST;
     let mut target = &mut bytes[..];
-    check_past(&rt, target.pwrite(1u16, MOST));
-    check_past(&rt, target.pwrite_with(1u16, MOST, BE));
-    check_past(&rt, target.gwrite(1u16, &mut at));
-    check_past(&rt, target.gwrite_with(1u16, &mut at, LE));
-    check_past(&rt, slice::pwrite(&mut bytes, "", MOST));
-    check_past(
-        &rt,
-        slice::pwrite_with(&mut bytes, Uleb128::shortest(1), MOST, ()),
-    );
-    check_past(&rt, slice::gwrite(&mut bytes, 1u8, &mut at));
-    check_past(&rt, slice::gwrite_with(&mut bytes, [1u8; 0], &mut at, LE));
-    check_eq(&rt, at, MOST);
-    check_eq(&rt, bytes, [7; 3]);
+    check_past(rt, target.pwrite(1u16, MOST));
+    check_past(rt, target.pwrite_with(1u16, MOST, BE));
+    check_past(rt, target.gwrite(1u16, &mut at));
+    check_past(rt, target.gwrite_with(1u16, &mut at, LE));
+    check_past(rt, slice::pwrite(&mut bytes, "", MOST));
+    let one = Uleb128::shortest(1);
+    check_past(rt, slice::pwrite_with(&mut bytes, one, MOST, ()));
+    check_past(rt, slice::gwrite(&mut bytes, 1u8, &mut at));
+    check_past(rt, slice::gwrite_with(&mut bytes, [1u8; 0], &mut at, LE));
+    check_eq(rt, at, MOST);
+    check_eq(rt, bytes, [7; 3]);
 }
 
 #[test]
 fn lengths_and_limits(rt: HostRuntime) {
-    let bytes: [u8; 3] = [0x61, 0x00, 0x62];
-    let source = &bytes[..];
-    let by_length: Result<&str> = source.pread_with(1, StrCtx::Length(MOST));
-    check_too_big(&rt, by_length, MOST, 2);
-    let by_limit: Result<&str> = source.pread_with(0, StrCtx::DelimiterUntil(0, MOST));
-    check_too_big(&rt, by_limit, MOST, 3);
-    let slice: Result<&[u8]> = source.pread_with(3, MOST);
-    check_too_big(&rt, slice, MOST, 0);
+    let rt = &rt;
+    let by_length = SOURCE.pread_with::<&str>(1, StrCtx::Length(MOST));
+    check_too_big(rt, by_length, MOST, 2);
+    let by_limit = SOURCE.pread_with::<&str>(0, StrCtx::DelimiterUntil(0, MOST));
+    check_too_big(rt, by_limit, MOST, 3);
+    check_too_big(rt, SOURCE.pread_with::<&[u8]>(3, MOST), MOST, 0);
 }

@@ -1,34 +1,42 @@
 // The printed lines.
 use crate::Error;
 use crate::tests::results::check_eq;
+use std::alloc::Global;
 use std::io;
 use std::io::ErrorKind;
-use std::test::Fail;
+use std::process::Abort;
+
+// Checks the line that an error prints.
+fn check_line(rt: &impl Abort, alloc: Global, error: Error, wanted: &str) {
+    match format!(in alloc; "{error}") {
+        Ok(line) => check_eq(rt, line.as_str(), wanted),
+        Err(_) => panic!(rt; "out of memory"),
+    }
+}
 
 #[test]
-fn lines_of_errors(rt: HostRuntime) -> Result<(), Fail> {
+fn lines_of_errors(rt: HostRuntime) {
     let alloc = rt.alloc();
+    let rt = &rt;
+    let short = Error::TooBig { size: 8, len: 4 };
+    check_line(rt, alloc, short, "type is too big (8) for 4");
+    check_line(rt, alloc, Error::BadOffset(5), "bad offset 5");
     let msg = "invalid utf8";
-    let text = String::from_str(alloc, "no such field")?;
-    for (error, wanted) in [
-        (
-            Error::TooBig { size: 8, len: 4 },
-            "type is too big (8) for 4",
-        ),
-        (Error::BadOffset(5), "bad offset 5"),
-        (
-            Error::BadInput { size: 3, msg },
-            "bad input invalid utf8 (3)",
-        ),
-        (Error::Custom(text), "no such field"),
-        (Error::NoMemory, "out of memory"),
-    ] {
-        let line = format!(in alloc; "{error}")?;
-        check_eq(&rt, line.as_str(), wanted);
+    let bad = Error::BadInput { size: 3, msg };
+    check_line(rt, alloc, bad, "bad input invalid utf8 (3)");
+    check_line(rt, alloc, Error::NoMemory, "out of memory");
+    match String::from_str(alloc, "no such field") {
+        Ok(text) => check_line(rt, alloc, Error::Custom(text), "no such field"),
+        Err(_) => panic!(rt; "out of memory"),
     }
+}
+
+#[test]
+fn a_stream_error_prints_its_own_line(rt: HostRuntime) {
+    let alloc = rt.alloc();
     let stream = io::Error::from(ErrorKind::UnexpectedEof);
-    let line = format!(in alloc; "{stream}")?;
-    let error = format!(in alloc; "{}", Error::from(stream))?;
-    check_eq(&rt, error.as_str(), line.as_str());
-    Ok(())
+    match format!(in alloc; "{stream}") {
+        Ok(line) => check_line(&rt, alloc, Error::from(stream), line.as_str()),
+        Err(_) => panic!(rt; "out of memory"),
+    }
 }

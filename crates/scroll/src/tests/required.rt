@@ -4,47 +4,42 @@ use crate::tests::results::{check_bad_input, check_eq, check_value};
 use crate::{Pread, Result};
 use std::process::Abort;
 
+const REQUIRED: StrCtx = StrCtx::Required(0);
+
 fn check_missing<T: Drop>(rt: &impl Abort, outcome: Result<T>, len: usize) {
     check_bad_input(rt, outcome, len, "missing delimiter");
 }
 
 #[test]
 fn context(rt: HostRuntime) {
-    check_eq(&rt, StrCtx::Required(0).len(), 1);
-    assert!(rt; !StrCtx::Required(0).is_empty());
+    check_eq(&rt, REQUIRED.len(), 1);
+    assert!(rt; !REQUIRED.is_empty());
 }
 
 #[test]
 fn texts(rt: HostRuntime) {
-    let bytes: &[u8] = b"ab\0";
+    let rt = &rt;
+    let source: &[u8] = b"ab\0";
     let offset = &mut 0;
-    let text: Result<&str> = bytes.gread_with(offset, StrCtx::Required(0));
-    check_value(&rt, text, "ab");
-    check_eq(&rt, *offset, 3);
-    let text: Result<&str> = bytes.gread_with(offset, StrCtx::Required(0));
-    check_missing(&rt, text, 0);
-    check_eq(&rt, *offset, 3);
-    let bytes: &[u8] = b"ab";
-    let text: Result<&str> = bytes.pread_with(0, StrCtx::Required(0));
-    check_missing(&rt, text, 2);
-    let text: Result<&str> = bytes.pread_with(0, StrCtx::Delimiter(0));
-    check_value(&rt, text, "ab");
-    let bytes: &[u8] = b"\xffa";
-    let text: Result<&str> = bytes.pread_with(0, StrCtx::Required(0));
-    check_missing(&rt, text, 2);
-    let bytes: &[u8] = b"\xff\0";
-    let text: Result<&str> = bytes.pread_with(0, StrCtx::Required(0));
-    check_bad_input(&rt, text, 2, "invalid utf8");
+    check_value(rt, source.gread_with(offset, REQUIRED), "ab");
+    check_missing(rt, source.gread_with::<&str>(offset, REQUIRED), 0);
+    check_eq(rt, *offset, 3);
+    let source: &[u8] = b"ab";
+    check_missing(rt, source.pread_with::<&str>(0, REQUIRED), 2);
+    check_value(rt, source.pread_with(0, StrCtx::Delimiter(0)), "ab");
+    let source: &[u8] = b"\xffa";
+    check_missing(rt, source.pread_with::<&str>(0, REQUIRED), 2);
+    let source: &[u8] = b"\xff\0";
+    let text = source.pread_with::<&str>(0, REQUIRED);
+    check_bad_input(rt, text, 2, "invalid utf8");
 }
 
 #[test]
 fn arrays_of_texts(rt: HostRuntime) {
-    let bytes: &[u8] = b"a\0b\0";
-    let texts: Result<[&str; 2]> = bytes.pread_with(0, StrCtx::Required(0));
-    check_value(&rt, texts, ["a", "b"]);
-    let bytes: &[u8] = b"a\0";
-    let texts: Result<[&str; 2]> = bytes.pread_with(0, StrCtx::Required(0));
-    check_missing(&rt, texts, 0);
-    let texts: Result<[&str; 2]> = bytes.pread_with(0, StrCtx::Delimiter(0));
-    check_value(&rt, texts, ["a", ""]);
+    let rt = &rt;
+    let source: &[u8] = b"a\0b\0";
+    check_value(rt, source.pread_with(0, REQUIRED), ["a", "b"]);
+    let source: &[u8] = b"a\0";
+    check_missing(rt, source.pread_with::<[&str; 2]>(0, REQUIRED), 0);
+    check_value(rt, source.pread_with(0, StrCtx::Delimiter(0)), ["a", ""]);
 }

@@ -5,6 +5,27 @@ use std::fmt::Debug;
 use std::process::Abort;
 use std::result;
 
+// The words of an error and its numbers, or 0 for those that it lacks.
+type Parts<'a> = (&'a str, usize, usize);
+
+// Returns the parts of a call's error.
+fn parts_of<T>(outcome: &Result<T>) -> Parts<'_> {
+    match outcome {
+        Err(Error::TooBig { size, len }) => ("too big", *size, *len),
+        Err(Error::BadOffset(offset)) => ("bad offset", *offset, 0),
+        Err(Error::BadInput { size, msg }) => (msg, *size, 0),
+        Err(Error::Custom(text)) => (text, 0, 0),
+        Err(Error::IO(_)) => ("stream error", 0, 0),
+        Err(Error::NoMemory) => ("out of memory", 0, 0),
+        Ok(_) => ("a value", 0, 0),
+    }
+}
+
+// Checks that a call returned an error of these parts.
+fn check_error<T: Drop>(rt: &impl Abort, outcome: Result<T>, wanted: Parts<'_>) {
+    check_eq(rt, parts_of(&outcome), wanted);
+}
+
 // Checks that a call returned this value.
 pub fn check_value<T: PartialEq + Debug + Drop, E: Debug + Drop>(
     rt: &impl Abort,
@@ -12,7 +33,7 @@ pub fn check_value<T: PartialEq + Debug + Drop, E: Debug + Drop>(
     wanted: T,
 ) {
     match outcome {
-        Ok(value) => assert!(rt; value == wanted, "expected {wanted:?}, got {value:?}"),
+        Ok(value) => check_eq(rt, value, wanted),
         Err(error) => panic!(rt; "expected {wanted:?}, got {error:?}"),
     }
 }
@@ -24,32 +45,12 @@ pub fn check_too_big<T: Drop>(
     wanted_size: usize,
     wanted_len: usize,
 ) {
-    match outcome {
-        Err(Error::TooBig { size, len }) => {
-            assert!(rt;
-                size == wanted_size,
-                "expected the size {wanted_size}, got {size}"
-            );
-            assert!(rt;
-                len == wanted_len,
-                "expected the length {wanted_len}, got {len}"
-            );
-        }
-        Err(error) => panic!(rt; "expected TooBig, got {error:?}"),
-        Ok(_) => panic!(rt; "expected TooBig, got a value"),
-    }
+    check_error(rt, outcome, ("too big", wanted_size, wanted_len));
 }
 
 // Checks that a call returned this `BadOffset`.
 pub fn check_bad_offset<T: Drop>(rt: &impl Abort, outcome: Result<T>, wanted: usize) {
-    match outcome {
-        Err(Error::BadOffset(offset)) => assert!(rt;
-            offset == wanted,
-            "expected the offset {wanted}, got {offset}"
-        ),
-        Err(error) => panic!(rt; "expected BadOffset, got {error:?}"),
-        Ok(_) => panic!(rt; "expected BadOffset, got a value"),
-    }
+    check_error(rt, outcome, ("bad offset", wanted, 0));
 }
 
 // Checks that a call returned this `BadInput`.
@@ -59,17 +60,7 @@ pub fn check_bad_input<T: Drop>(
     wanted_size: usize,
     wanted_msg: &str,
 ) {
-    match outcome {
-        Err(Error::BadInput { size, msg }) => {
-            assert!(rt;
-                size == wanted_size,
-                "expected the size {wanted_size}, got {size}"
-            );
-            assert!(rt; msg == wanted_msg, "expected {wanted_msg}, got {msg}");
-        }
-        Err(error) => panic!(rt; "expected BadInput, got {error:?}"),
-        Ok(_) => panic!(rt; "expected BadInput, got a value"),
-    }
+    check_error(rt, outcome, (wanted_msg, wanted_size, 0));
 }
 
 // Checks that a value is the expected one, as `assert_eq!` does.
