@@ -5,7 +5,7 @@ use crate::{BE, Endian, Error, LE, Pread, Pwrite, Result};
 use std::result;
 
 #[test]
-fn numbers_in_arrays(rt: HostRuntime) {
+fn numbers_in_arrays_and_in_arrays_of_arrays(rt: HostRuntime) {
     let rt = &rt;
     let source: &[u8] = &[1, 0, 2, 0, 3, 0, 4, 0];
     let offset = &mut 0;
@@ -15,6 +15,12 @@ fn numbers_in_arrays(rt: HostRuntime) {
     let big = source.pread_with::<[u16; 3]>(2, BE);
     check_value(rt, big, [0x200, 0x300, 0x400]);
     check_bad_offset(rt, source.pread_with::<[u16; 3]>(9, LE), 9);
+    let offset = &mut 0;
+    let cut = source[..6].gread_with::<[[u16; 2]; 2]>(offset, LE);
+    check_too_big(rt, cut, 2, 0);
+    let whole = source.gread_with::<[[u16; 2]; 2]>(offset, LE);
+    check_value(rt, whole, [[1, 2], [3, 4]]);
+    check_eq(rt, *offset, 8);
 }
 
 #[test]
@@ -27,22 +33,6 @@ fn no_elements(rt: HostRuntime) {
     let mut out = [7u8; 1];
     check_value(rt, [0u16; 0].try_into_ctx(&mut out, BE), 0);
     check_eq(rt, out, [7]);
-}
-
-#[test]
-fn arrays_in_arrays(rt: HostRuntime) {
-    let rt = &rt;
-    let source: &[u8] = &[1, 0, 2, 0, 3, 0, 4, 0];
-    let offset = &mut 0;
-    check_too_big(
-        rt,
-        source[..6].gread_with::<[[u16; 2]; 2]>(offset, LE),
-        2,
-        0,
-    );
-    let whole = source.gread_with::<[[u16; 2]; 2]>(offset, LE);
-    check_value(rt, whole, [[1, 2], [3, 4]]);
-    check_eq(rt, *offset, 8);
 }
 
 #[test]

@@ -3,36 +3,35 @@
 use crate::cstr::CStr;
 use crate::ctx::StrCtx;
 use crate::tests::results::{check_bad_offset, check_eq, check_too_big, check_value};
-use crate::{BE, LE, Pread, Pwrite, Result, Sleb128, Uleb128, slice};
+use crate::{BE, LE, Pread, Pwrite, Sleb128, Uleb128, slice};
 use std::process::Abort;
 
 const MOST: usize = usize::MAX;
 
 const SOURCE: &[u8] = b"a\0b";
 
-// Checks that a call returned the error for the greatest offset.
-fn check_past<T: Drop>(rt: &impl Abort, outcome: Result<T>) {
-    check_bad_offset(rt, outcome, MOST);
-}
-
 #[test]
 fn reads(rt: HostRuntime) {
     let rt = &rt;
     let source = SOURCE;
     let mut at = MOST;
-    check_past(rt, source.pread::<u16>(MOST));
-    check_past(rt, source.pread_with::<u16>(MOST, BE));
-    check_past(rt, source.gread::<u16>(&mut at));
-    check_past(rt, source.gread_with::<u16>(&mut at, LE));
-    check_past(rt, source.gread_with::<&str>(&mut at, StrCtx::Length(0)));
-    check_past(rt, source.gread_with::<&[u8]>(&mut at, 0));
-    check_past(rt, source.gread_with::<CStr>(&mut at, ()));
-    check_past(rt, source.gread_with::<[u8; 0]>(&mut at, LE));
-    check_past(rt, Uleb128::read(source, &mut at));
-    check_past(rt, Sleb128::read(source, &mut at));
+    check_bad_offset(rt, source.pread::<u16>(MOST), MOST);
+    check_bad_offset(rt, source.pread_with::<u16>(MOST, BE), MOST);
+    check_bad_offset(rt, source.gread::<u16>(&mut at), MOST);
+    check_bad_offset(rt, source.gread_with::<u16>(&mut at, LE), MOST);
+    check_bad_offset(
+        rt,
+        source.gread_with::<&str>(&mut at, StrCtx::Length(0)),
+        MOST,
+    );
+    check_bad_offset(rt, source.gread_with::<&[u8]>(&mut at, 0), MOST);
+    check_bad_offset(rt, source.gread_with::<CStr>(&mut at, ()), MOST);
+    check_bad_offset(rt, source.gread_with::<[u8; 0]>(&mut at, LE), MOST);
+    check_bad_offset(rt, Uleb128::read(source, &mut at), MOST);
+    check_bad_offset(rt, Sleb128::read(source, &mut at), MOST);
     let mut two = [3u16, 4];
-    check_past(rt, source.gread_inout(&mut at, &mut two));
-    check_past(rt, source.gread_inout_with(&mut at, &mut two, BE));
+    check_bad_offset(rt, source.gread_inout(&mut at, &mut two), MOST);
+    check_bad_offset(rt, source.gread_inout_with(&mut at, &mut two, BE), MOST);
     check_eq(rt, two, [3, 4]);
     check_eq(rt, at, MOST);
 }
@@ -61,15 +60,19 @@ fn writes(rt: HostRuntime) {
     let mut bytes = [7u8; 3];
     let mut at = MOST;
     let mut target = &mut bytes[..];
-    check_past(rt, target.pwrite(1u16, MOST));
-    check_past(rt, target.pwrite_with(1u16, MOST, BE));
-    check_past(rt, target.gwrite(1u16, &mut at));
-    check_past(rt, target.gwrite_with(1u16, &mut at, LE));
-    check_past(rt, slice::pwrite(&mut bytes, "", MOST));
+    check_bad_offset(rt, target.pwrite(1u16, MOST), MOST);
+    check_bad_offset(rt, target.pwrite_with(1u16, MOST, BE), MOST);
+    check_bad_offset(rt, target.gwrite(1u16, &mut at), MOST);
+    check_bad_offset(rt, target.gwrite_with(1u16, &mut at, LE), MOST);
+    check_bad_offset(rt, slice::pwrite(&mut bytes, "", MOST), MOST);
     let one = Uleb128::shortest(1);
-    check_past(rt, slice::pwrite_with(&mut bytes, one, MOST, ()));
-    check_past(rt, slice::gwrite(&mut bytes, 1u8, &mut at));
-    check_past(rt, slice::gwrite_with(&mut bytes, [1u8; 0], &mut at, LE));
+    check_bad_offset(rt, slice::pwrite_with(&mut bytes, one, MOST, ()), MOST);
+    check_bad_offset(rt, slice::gwrite(&mut bytes, 1u8, &mut at), MOST);
+    check_bad_offset(
+        rt,
+        slice::gwrite_with(&mut bytes, [1u8; 0], &mut at, LE),
+        MOST,
+    );
     check_eq(rt, at, MOST);
     check_eq(rt, bytes, [7; 3]);
 }

@@ -2,12 +2,13 @@
 use crate::Error;
 use crate::tests::results::check_eq;
 use std::alloc::Global;
+use std::fmt::Display;
 use std::io;
 use std::io::ErrorKind;
 use std::process::Abort;
 
 // Checks the line that an error prints.
-fn check_line(rt: &impl Abort, alloc: Global, error: Error, wanted: &str) {
+fn check_line<E: Display + Drop>(rt: &impl Abort, alloc: Global, error: E, wanted: &str) {
     match format!(in alloc; "{error}") {
         Ok(line) => check_eq(rt, line.as_str(), wanted),
         Err(_) => panic!(rt; "out of memory"),
@@ -29,14 +30,13 @@ fn lines_of_errors(rt: HostRuntime) {
         Ok(text) => check_line(rt, alloc, Error::Custom(text), "no such field"),
         Err(_) => panic!(rt; "out of memory"),
     }
-}
-
-#[test]
-fn a_stream_error_prints_its_own_line(rt: HostRuntime) {
-    let alloc = rt.alloc();
-    let stream = io::Error::from(ErrorKind::UnexpectedEof);
-    match format!(in alloc; "{stream}") {
-        Ok(line) => check_line(&rt, alloc, Error::from(stream), line.as_str()),
-        Err(_) => panic!(rt; "out of memory"),
-    }
+    let of_stream = "unexpected end of file";
+    check_line(
+        rt,
+        alloc,
+        io::Error::from(ErrorKind::UnexpectedEof),
+        of_stream,
+    );
+    let error = Error::from(io::Error::from(ErrorKind::UnexpectedEof));
+    check_line(rt, alloc, error, of_stream);
 }

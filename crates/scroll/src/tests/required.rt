@@ -1,34 +1,26 @@
 // Strings whose delimiter the source must contain.
+use crate::Pread;
 use crate::ctx::StrCtx;
 use crate::tests::results::{check_bad_input, check_eq, check_value};
-use crate::{Pread, Result};
-use std::process::Abort;
 
 const REQUIRED: StrCtx = StrCtx::Required(0);
 
-fn check_missing<T: Drop>(rt: &impl Abort, outcome: Result<T>, len: usize) {
-    check_bad_input(rt, outcome, len, "missing delimiter");
-}
-
-#[test]
-fn context(rt: HostRuntime) {
-    check_eq(&rt, REQUIRED.len(), 1);
-    assert!(rt; !REQUIRED.is_empty());
-}
+const MISSING: &str = "missing delimiter";
 
 #[test]
 fn texts(rt: HostRuntime) {
     let rt = &rt;
+    check_eq(rt, (REQUIRED.len(), REQUIRED.is_empty()), (1, false));
     let source: &[u8] = b"ab\0";
     let offset = &mut 0;
     check_value(rt, source.gread_with(offset, REQUIRED), "ab");
-    check_missing(rt, source.gread_with::<&str>(offset, REQUIRED), 0);
+    check_bad_input(rt, source.gread_with::<&str>(offset, REQUIRED), 0, MISSING);
     check_eq(rt, *offset, 3);
     let source: &[u8] = b"ab";
-    check_missing(rt, source.pread_with::<&str>(0, REQUIRED), 2);
+    check_bad_input(rt, source.pread_with::<&str>(0, REQUIRED), 2, MISSING);
     check_value(rt, source.pread_with(0, StrCtx::Delimiter(0)), "ab");
     let source: &[u8] = b"\xffa";
-    check_missing(rt, source.pread_with::<&str>(0, REQUIRED), 2);
+    check_bad_input(rt, source.pread_with::<&str>(0, REQUIRED), 2, MISSING);
     let source: &[u8] = b"\xff\0";
     let text = source.pread_with::<&str>(0, REQUIRED);
     check_bad_input(rt, text, 2, "invalid utf8");
@@ -40,6 +32,6 @@ fn arrays_of_texts(rt: HostRuntime) {
     let source: &[u8] = b"a\0b\0";
     check_value(rt, source.pread_with(0, REQUIRED), ["a", "b"]);
     let source: &[u8] = b"a\0";
-    check_missing(rt, source.pread_with::<[&str; 2]>(0, REQUIRED), 0);
+    check_bad_input(rt, source.pread_with::<[&str; 2]>(0, REQUIRED), 0, MISSING);
     check_value(rt, source.pread_with(0, StrCtx::Delimiter(0)), ["a", ""]);
 }

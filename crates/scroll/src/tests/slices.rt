@@ -15,6 +15,10 @@ fn writes_at_a_place(rt: HostRuntime) {
     check_too_big(rt, slice::pwrite_with(&mut bytes, 7u32, 2, BE), 4, 2);
     check_bad_offset(rt, slice::pwrite(&mut bytes, 7u8, 5), 5);
     check_eq(rt, bytes, [0, 2, 3, 4]);
+    let mut made_sure = [0u8; 5];
+    slice::cwrite(&mut made_sure, 0x0102u16, 0);
+    slice::cwrite_with(&mut made_sure, 0x0304u16, 3, BE);
+    check_eq(rt, made_sure, [2, 1, 0, 3, 4]);
 }
 
 #[test]
@@ -27,14 +31,6 @@ fn writes_with_a_cursor(rt: HostRuntime) {
     check_too_big(rt, slice::gwrite_with(&mut bytes, 1u16, offset, LE), 2, 1);
     check_eq(rt, *offset, 4);
     check_eq(rt, bytes, [2, 1, 0xff, 0xfe, 0]);
-}
-
-#[test]
-fn writes_where_room_is_made_sure_of(rt: HostRuntime) {
-    let mut bytes = [0u8; 5];
-    slice::cwrite(&mut bytes, 0x0102u16, 0);
-    slice::cwrite_with(&mut bytes, 0x0304u16, 3, BE);
-    check_eq(&rt, bytes, [2, 1, 0, 3, 4]);
 }
 
 // Checks a write of the first `len` of three bytes.
