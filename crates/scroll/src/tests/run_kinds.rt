@@ -1,6 +1,6 @@
 // Runs of commands that read and write strings, byte slices, C strings, LEB128 and arrays. Each also passes where an
 // allocation fails: see `check_run`.
-use super::runs::{check_run, runs};
+use super::runs::{check_run, run_all};
 use crate::cstr::CStr;
 use crate::ctx::{NULL, StrCtx};
 use crate::runner::{Answer, Command, Kind, Place, Put, Value, Width};
@@ -10,8 +10,6 @@ use std::alloc::{AllocError, Global};
 use std::process::Abort;
 
 const HERE: Place = Place::Cursor;
-
-const LETTERS: [u8; 4096] = [b'a'; 4096];
 
 #[test]
 fn texts_and_slices(rt: HostRuntime) {
@@ -65,43 +63,46 @@ fn texts_and_slices(rt: HostRuntime) {
     );
 }
 
-const KINDS: [&str; 4] = ["a string", "a slice", "a C string", "a C string"];
-
-// Returns what was read, and the bytes that were copied.
-fn copied<'a>(rt: &impl Abort, answer: &'a Answer) -> (&'static str, &'a [u8]) {
-    match answer {
-        Answer::Read(Value::Text(text)) => ("a string", text.as_bytes()),
-        Answer::Read(Value::Bytes(bytes)) => ("a slice", bytes),
-        Answer::Read(Value::CStr(bytes)) => ("a C string", bytes),
-        _ => panic!(rt; "expected a copy, got {answer:?}"),
-    }
-}
-
-// Checks that the answers are copies of these bytes.
+// Checks that the answers are a string, a slice and two C strings of these bytes.
 fn check_copies(rt: &impl Abort, answers: &[Answer], bytes: &[u8]) {
-    check_eq(rt, answers.len(), KINDS.len());
-    for (answer, kind) in answers.iter().zip(KINDS.iter()) {
-        check_eq(rt, copied(rt, answer), (*kind, bytes));
+    let [text, slice, borrowed, owned] = answers else {
+        panic!(rt; "expected four copies, got {answers:?}");
+    };
+    match (text, slice, borrowed, owned) {
+        (
+            Answer::Read(Value::Text(text)),
+            Answer::Read(Value::Bytes(slice)),
+            Answer::Read(Value::CStr(borrowed)),
+            Answer::Read(Value::CStr(owned)),
+        ) => {
+            check_eq(rt, text.as_bytes(), bytes);
+            check_eq(rt, slice.as_slice(), bytes);
+            check_eq(rt, borrowed.as_slice(), bytes);
+            check_eq(rt, owned.as_slice(), bytes);
+        }
+        _ => panic!(rt; "expected four copies, got {answers:?}"),
     }
 }
 
-// Checks that a string, a slice and C strings of these bytes are copied.
-fn check_length(rt: &impl Abort, alloc: Global, bytes: &[u8]) -> Result<(), AllocError> {
+// Checks that a string, a slice and C strings of one length are copied.
+fn check_length(rt: &impl Abort, alloc: Global, len: usize) -> Result<(), AllocError> {
+    assert!(rt; len < 4097);
+    let mut room = [b'a'; 4097];
+    let buffer = &mut room[..len + 1];
+    buffer[len] = 0;
     let commands = [
         Command::Read(HERE, Kind::Text(StrCtx::Delimiter(NULL))),
-        Command::Read(Place::At(0), Kind::Bytes(bytes.len())),
+        Command::Read(Place::At(0), Kind::Bytes(len)),
         Command::Read(Place::At(0), Kind::CStr),
         Command::Read(Place::At(0), Kind::CString),
     ];
-    let mut buffer = Vec::from_slice(alloc, bytes)?;
-    buffer.push(0)?;
     let mut cursor = 0;
     let mut answers = Vec::new(alloc);
-    if !runs(rt, alloc, &mut buffer, &mut cursor, &commands, &mut answers) {
+    if !run_all(rt, alloc, buffer, &mut cursor, &commands, &mut answers) {
         return Err(AllocError);
     }
-    check_eq(rt, cursor.checked_sub(1), Some(bytes.len()));
-    check_copies(rt, &answers, bytes);
+    check_eq(rt, cursor, len + 1);
+    check_copies(rt, &answers, &[b'a'; 4096][..len]);
     Ok(())
 }
 
@@ -109,8 +110,7 @@ fn check_length(rt: &impl Abort, alloc: Global, bytes: &[u8]) -> Result<(), Allo
 #[test]
 fn values_of_each_length(rt: HostRuntime) -> Result<(), AllocError> {
     for len in &[0, 1, 255, 256, 4096] {
-        assert!(rt; *len <= LETTERS.len());
-        check_length(&rt, rt.alloc(), &LETTERS[..*len])?;
+        check_length(&rt, rt.alloc(), *len)?;
     }
     Ok(())
 }

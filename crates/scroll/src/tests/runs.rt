@@ -14,7 +14,7 @@ const WHOLE: Place = Place::At(0);
 const HERE: Place = Place::Cursor;
 
 // Runs the commands, and returns whether all of them ran. Expects that only a lack of memory ends the run before.
-pub fn runs(
+pub fn run_all(
     rt: &impl Abort,
     alloc: Global,
     buffer: &mut [u8],
@@ -24,19 +24,17 @@ pub fn runs(
 ) -> bool {
     match run(alloc, buffer, cursor, commands, answers) {
         Ok(()) => true,
-        Err(error) => {
-            assert!(rt; matches!(&error, Error::NoMemory), "got {error:?}");
-            false
-        }
+        Err(Error::NoMemory) => false,
+        Err(error) => panic!(rt; "expected NoMemory, got {error:?}"),
     }
 }
 
-// Checks that an answer is printed like this. No allocation is made, so none can fail.
+// Checks that an answer is printed like this. Nothing is allocated, and so no allocation can fail here. What doesn't fit
+// is cut off, and then differs from what is expected.
 fn check_answer(rt: &impl Abort, answer: &Answer, wanted: &str) {
     let mut printed: ArrayString<80> = ArrayString::new();
-    let fits = write!(printed, "{answer:?}").is_ok();
+    let _ = write!(printed, "{answer:?}");
     check_eq(rt, printed.as_str(), wanted);
-    assert!(rt; fits);
 }
 
 // Checks that the answers are printed like those that are expected, as far as there are both.
@@ -59,14 +57,42 @@ fn leaves<const N: usize>(
     let mut buffer = first;
     let mut at = cursor;
     let mut answers = Vec::new(alloc);
-    runs(rt, alloc, &mut buffer, &mut at, commands, &mut answers)
+    run_all(rt, alloc, &mut buffer, &mut at, commands, &mut answers)
         && buffer == last
         && at == last_cursor
 }
 
-// Runs the commands, and expects answers that are printed like these. After an allocation failure it expects what the
-// first commands alone return and leave, and that a second run of all commands succeeds, since at most one allocation
-// fails.
+// Runs the commands with these answers before theirs, and expects answers that are all printed like `wanted`. After an
+// allocation failure it expects what the first commands alone return and leave, and that a second run of all commands
+// succeeds, since at most one allocation fails.
+fn check_run_behind<const N: usize>(
+    rt: &impl Abort,
+    alloc: Global,
+    answers: &mut Vec<Answer>,
+    first: [u8; N],
+    cursor: usize,
+    commands: &[Command<'_>],
+    wanted: &[&str],
+    last: [u8; N],
+    last_cursor: usize,
+) {
+    let before = answers.len();
+    let mut buffer = first;
+    let mut at = cursor;
+    if run_all(rt, alloc, &mut buffer, &mut at, commands, answers) {
+        check_eq(rt, answers.len(), wanted.len());
+        check_eq(rt, buffer, last);
+        check_eq(rt, at, last_cursor);
+    } else {
+        let added = answers.len().wrapping_sub(before);
+        assert!(rt; added < commands.len());
+        assert!(rt; leaves(rt, alloc, first, cursor, &commands[..added], buffer, at));
+        assert!(rt; leaves(rt, alloc, first, cursor, commands, last, last_cursor));
+    }
+    check_answers(rt, answers, wanted);
+}
+
+// Runs the commands, and expects these answers, as `check_run_behind` does.
 pub fn check_run<const N: usize>(
     rt: &impl Abort,
     alloc: Global,
@@ -77,20 +103,18 @@ pub fn check_run<const N: usize>(
     last: [u8; N],
     last_cursor: usize,
 ) {
-    let mut buffer = first;
-    let mut at = cursor;
     let mut answers = Vec::new(alloc);
-    if runs(rt, alloc, &mut buffer, &mut at, commands, &mut answers) {
-        check_eq(rt, answers.len(), wanted.len());
-        check_eq(rt, buffer, last);
-        check_eq(rt, at, last_cursor);
-    } else {
-        assert!(rt; answers.len() < commands.len());
-        let fewer = &commands[..answers.len()];
-        assert!(rt; leaves(rt, alloc, first, cursor, fewer, buffer, at));
-        assert!(rt; leaves(rt, alloc, first, cursor, commands, last, last_cursor));
-    }
-    check_answers(rt, &answers, wanted);
+    check_run_behind(
+        rt,
+        alloc,
+        &mut answers,
+        first,
+        cursor,
+        commands,
+        wanted,
+        last,
+        last_cursor,
+    );
 }
 
 #[test]
@@ -210,36 +234,43 @@ const LEFT: [([u8; 3], usize); 4] = [
     ([0x62, 0, 0], 2),
 ];
 
-// Runs the commands behind these answers. Expects that the answers are then those from `start` on, as far as commands
-// ran, and that the buffer and the cursor are as these commands left them.
-fn check_behind(rt: &impl Abort, alloc: Global, answers: &mut Vec<Answer>, start: usize) {
-    assert!(rt; start < 5);
-    let before = answers.len();
-    let (mut buffer, mut cursor) = LEFT[0];
-    let done = runs(rt, alloc, &mut buffer, &mut cursor, &COMMANDS, answers);
-    assert!(rt; before <= answers.len());
-    let added = answers.len() - before;
-    check_eq(rt, added == 3, done);
-    check_eq(rt, LEFT.get(added), Some(&(buffer, cursor)));
-    check_answers(rt, answers, &ANSWERS[start..]);
-}
-
-// Runs the commands behind the answers from `start` to 3.
-fn check_from(rt: &impl Abort, alloc: Global, start: usize) -> Result<(), AllocError> {
+// Runs these commands with the answers from `start` to 3 before theirs.
+fn check_from(
+    rt: &impl Abort,
+    alloc: Global,
+    start: usize,
+    commands: &[Command<'_>],
+    wanted: &[&str],
+    left: ([u8; 3], usize),
+) -> Result<(), AllocError> {
     let mut answers = Vec::new(alloc);
     for size in start..4 {
         answers.push(Answer::Wrote(size))?;
     }
-    check_behind(rt, alloc, &mut answers, start);
+    check_run_behind(
+        rt,
+        alloc,
+        &mut answers,
+        LEFT[0].0,
+        0,
+        commands,
+        wanted,
+        left.0,
+        left.1,
+    );
     Ok(())
 }
 
-// The commands run with four to no other answers before theirs, so that the list of answers grows at each command in
-// turn.
+// None of the commands, the first, two and all three run with four to no other answers before theirs, so that the list
+// of answers grows at each command in turn.
 #[test]
 fn answers_stand_up_to_a_refusal(rt: HostRuntime) -> Result<(), AllocError> {
     for start in 0..5 {
-        check_from(&rt, rt.alloc(), start)?;
+        for count in 0..4 {
+            let commands = &COMMANDS[..count];
+            let wanted = &ANSWERS[start..4 + count];
+            check_from(&rt, rt.alloc(), start, commands, wanted, LEFT[count])?;
+        }
     }
     Ok(())
 }
