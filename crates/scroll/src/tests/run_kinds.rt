@@ -1,53 +1,18 @@
 // Runs of commands that read and write strings, byte slices, C strings, LEB128 and arrays. Each also passes where an
 // allocation fails: see `check_run`.
-use super::runs::{check_answers, check_run};
+use super::runs::{check_run, run_all};
 use crate::cstr::CStr;
 use crate::ctx::{NULL, StrCtx};
-use crate::runner::{Answer, Command, Kind, Place, Put, Value, Width, run};
+use crate::runner::{Answer, Command, Kind, Place, Put, Value, Width};
 use crate::tests::results::check_eq;
-use crate::{BE, Error, LE, Pread, Sleb128, Uleb128};
+use crate::{BE, LE, Pread, Sleb128, Uleb128};
 use std::alloc::{AllocError, Global};
 use std::process::Abort;
 
 const HERE: Place = Place::Cursor;
 
-fn text(alloc: Global, text: &str) -> Result<Answer, AllocError> {
-    Ok(Answer::Read(Value::Text(String::from_str(alloc, text)?)))
-}
-
-fn bytes(alloc: Global, bytes: &[u8]) -> Result<Answer, AllocError> {
-    Ok(Answer::Read(Value::Bytes(Vec::from_slice(alloc, bytes)?)))
-}
-
-fn c_string(alloc: Global, bytes: &[u8]) -> Result<Answer, AllocError> {
-    Ok(Answer::Read(Value::CStr(Vec::from_slice(alloc, bytes)?)))
-}
-
-fn too_big(size: usize, len: usize) -> Answer {
-    Answer::Refused(Error::TooBig { size, len })
-}
-
-fn bad_input(size: usize, msg: &'static str) -> Answer {
-    Answer::Refused(Error::BadInput { size, msg })
-}
-
-fn texts_wanted(alloc: Global) -> Result<Vec<Answer>, AllocError> {
-    let mut wanted = Vec::new(alloc);
-    wanted.push(text(alloc, "a")?)?;
-    wanted.push(text(alloc, "c")?)?;
-    wanted.push(Answer::Refused(Error::BadOffset(4)))?;
-    wanted.push(text(alloc, "ab")?)?;
-    wanted.push(too_big(4, 3))?;
-    wanted.push(Answer::Wrote(2))?;
-    wanted.push(bad_input(3, "invalid utf8"))?;
-    wanted.push(bytes(alloc, &[0xff, 0x7a])?)?;
-    wanted.push(bytes(alloc, &[])?)?;
-    Ok(wanted)
-}
-
 #[test]
-fn texts_and_slices(rt: HostRuntime) -> Result<(), AllocError> {
-    let wanted = texts_wanted(rt.alloc())?;
+fn texts_and_slices(rt: HostRuntime) {
     check_run(
         &rt,
         rt.alloc(),
@@ -64,7 +29,17 @@ fn texts_and_slices(rt: HostRuntime) -> Result<(), AllocError> {
             Command::Read(Place::At(1), Kind::Bytes(2)),
             Command::Read(Place::At(3), Kind::Bytes(0)),
         ],
-        &wanted,
+        &[
+            r#"Read(Text("a"))"#,
+            r#"Read(Text("c"))"#,
+            "Refused(BadOffset(4))",
+            r#"Read(Text("ab"))"#,
+            "Refused(TooBig { size: 4, len: 3 })",
+            "Wrote(2)",
+            r#"Refused(BadInput { size: 3, msg: "invalid utf8" })"#,
+            "Read(Bytes([255, 122]))",
+            "Read(Bytes([]))",
+        ],
         [0x61, 0xff, 0x7a],
         4,
     );
@@ -78,28 +53,43 @@ fn texts_and_slices(rt: HostRuntime) -> Result<(), AllocError> {
             Command::Write(HERE, Put::Text("de")),
             Command::Write(HERE, Put::Bytes(&[])),
         ],
-        &[Answer::Wrote(3), too_big(2, 1), Answer::Wrote(0)],
+        &[
+            "Wrote(3)",
+            "Refused(TooBig { size: 2, len: 1 })",
+            "Wrote(0)",
+        ],
         [0x61, 0x62, 0x63, 0],
         3,
     );
-    Ok(())
 }
 
-// Returns the answers to reads of a text of one length.
-fn copies_wanted(alloc: Global, copied: &[u8]) -> Result<Vec<Answer>, AllocError> {
-    let mut wanted = Vec::new(alloc);
-    wanted.push(text(alloc, str::from_utf8(copied).unwrap_or_default())?)?;
-    wanted.push(bytes(alloc, copied)?)?;
-    wanted.push(c_string(alloc, copied)?)?;
-    wanted.push(c_string(alloc, copied)?)?;
-    Ok(wanted)
+// Checks that the answers are a string, a slice and two C strings of these bytes.
+fn check_copies(rt: &impl Abort, answers: &[Answer], bytes: &[u8]) {
+    let [text, slice, borrowed, owned] = answers else {
+        panic!(rt; "expected four copies, got {answers:?}");
+    };
+    match (text, slice, borrowed, owned) {
+        (
+            Answer::Read(Value::Text(text)),
+            Answer::Read(Value::Bytes(slice)),
+            Answer::Read(Value::CStr(borrowed)),
+            Answer::Read(Value::CStr(owned)),
+        ) => {
+            check_eq(rt, text.as_bytes(), bytes);
+            check_eq(rt, slice.as_slice(), bytes);
+            check_eq(rt, borrowed.as_slice(), bytes);
+            check_eq(rt, owned.as_slice(), bytes);
+        }
+        _ => panic!(rt; "expected four copies, got {answers:?}"),
+    }
 }
 
 // Checks that a string, a slice and C strings of one length are copied.
 fn check_length(rt: &impl Abort, alloc: Global, len: usize) -> Result<(), AllocError> {
-    let mut buffer = vec![in alloc; b'a'; len]?;
-    let wanted = copies_wanted(alloc, &buffer)?;
-    buffer.push(0)?;
+    assert!(rt; len < 4097);
+    let mut room = [b'a'; 4097];
+    let buffer = &mut room[..len + 1];
+    buffer[len] = 0;
     let commands = [
         Command::Read(HERE, Kind::Text(StrCtx::Delimiter(NULL))),
         Command::Read(Place::At(0), Kind::Bytes(len)),
@@ -108,41 +98,25 @@ fn check_length(rt: &impl Abort, alloc: Global, len: usize) -> Result<(), AllocE
     ];
     let mut cursor = 0;
     let mut answers = Vec::new(alloc);
-    if let Err(error) = run(alloc, &mut buffer, &mut cursor, &commands, &mut answers) {
-        assert!(rt; matches!(&error, Error::NoMemory));
+    if !run_all(rt, alloc, buffer, &mut cursor, &commands, &mut answers) {
         return Err(AllocError);
     }
-    check_eq(&rt, cursor.checked_sub(1), Some(len));
-    check_eq(&rt, answers.len(), 4);
-    check_answers(rt, &answers, &wanted);
+    check_eq(rt, cursor, len + 1);
+    check_copies(rt, &answers, &[b'a'; 4096][..len]);
     Ok(())
 }
 
 // An allocation failure ends the test.
 #[test]
 fn values_of_each_length(rt: HostRuntime) -> Result<(), AllocError> {
-    for len in [0, 1, 255, 256, 4096] {
-        check_length(&rt, rt.alloc(), len)?;
+    for len in &[0, 1, 255, 256, 4096] {
+        check_length(&rt, rt.alloc(), *len)?;
     }
     Ok(())
 }
 
-const NO_ZERO: &str = "The input doesn't contain a null byte";
-
-fn c_strings_wanted(alloc: Global) -> Result<Vec<Answer>, AllocError> {
-    let mut wanted = Vec::new(alloc);
-    wanted.push(Answer::Wrote(3))?;
-    wanted.push(c_string(alloc, b"ab")?)?;
-    wanted.push(c_string(alloc, b"ab")?)?;
-    wanted.push(c_string(alloc, b"")?)?;
-    wanted.push(too_big(3, 1))?;
-    wanted.push(bad_input(0, NO_ZERO))?;
-    Ok(wanted)
-}
-
 #[test]
-fn c_strings(rt: HostRuntime) -> Result<(), AllocError> {
-    let wanted = c_strings_wanted(rt.alloc())?;
+fn c_strings(rt: HostRuntime) {
     let written = CStr::from_bytes_until_nul(b"ab\0cd").expect(&rt, "a zero stands there");
     check_run(
         &rt,
@@ -157,21 +131,26 @@ fn c_strings(rt: HostRuntime) -> Result<(), AllocError> {
             Command::Write(HERE, Put::CStr(written)),
             Command::Read(HERE, Kind::CString),
         ],
-        &wanted,
+        &[
+            "Wrote(3)",
+            "Read(CStr([97, 98]))",
+            "Read(CStr([97, 98]))",
+            "Read(CStr([]))",
+            "Refused(TooBig { size: 3, len: 1 })",
+            r#"Refused(BadInput { size: 0, msg: "The input doesn't contain a null byte" })"#,
+        ],
         [0x61, 0x62, 0, 0xff],
         3,
     );
-    Ok(())
 }
 
 #[test]
-fn numbers_in_leb128(rt: HostRuntime) -> crate::Result<()> {
-    let padded: Uleb128 = b"\x80\x00"[..].pread(0)?;
-    let below: Sleb128 = b"\xff\x7e"[..].pread(0)?;
+fn numbers_in_leb128(rt: HostRuntime) {
+    let bytes = [0x80, 0x00, 0xff, 0x7e, 0x80];
     check_run(
         &rt,
         rt.alloc(),
-        [0x80, 0x00, 0xff, 0x7e, 0x80],
+        bytes,
         0,
         &[
             Command::Read(HERE, Kind::Uleb),
@@ -181,16 +160,16 @@ fn numbers_in_leb128(rt: HostRuntime) -> crate::Result<()> {
             Command::Read(Place::At(0), Kind::Number(Width::U16, BE)),
         ],
         &[
-            Answer::Read(Value::Uleb(padded)),
-            Answer::Read(Value::Sleb(below)),
-            too_big(1, 0),
-            too_big(1, 0),
-            Answer::Read(Value::Unsigned(0x8000)),
+            "Read(Uleb(Uleb128 { value: 0, count: 2 }))",
+            "Read(Sleb(Sleb128 { value: -129, count: 2 }))",
+            "Refused(TooBig { size: 1, len: 0 })",
+            "Refused(TooBig { size: 1, len: 0 })",
+            "Read(Unsigned(32768))",
         ],
-        [0x80, 0x00, 0xff, 0x7e, 0x80],
+        bytes,
         4,
     );
-    let long = [0x80u8; 10];
+    let long = [0x80; 10];
     check_run(
         &rt,
         rt.alloc(),
@@ -201,19 +180,18 @@ fn numbers_in_leb128(rt: HostRuntime) -> crate::Result<()> {
             Command::Read(HERE, Kind::Sleb),
         ],
         &[
-            bad_input(10, "failed to parse"),
-            bad_input(10, "failed to parse"),
+            r#"Refused(BadInput { size: 10, msg: "failed to parse" })"#,
+            r#"Refused(BadInput { size: 10, msg: "failed to parse" })"#,
         ],
         long,
         0,
     );
-    Ok(())
 }
 
 #[test]
-fn numbers_in_leb128_are_written(rt: HostRuntime) -> crate::Result<()> {
-    let padded: Uleb128 = b"\x80\x00"[..].pread(0)?;
-    let below: Sleb128 = b"\xff\x7f"[..].pread(0)?;
+fn numbers_in_leb128_are_written(rt: HostRuntime) {
+    let padded = b"\x80\x00"[..].pread(0).unwrap_or(Uleb128::shortest(0));
+    let below = b"\xff\x7f"[..].pread(0).unwrap_or(Sleb128::shortest(0));
     check_run(
         &rt,
         rt.alloc(),
@@ -232,45 +210,29 @@ fn numbers_in_leb128_are_written(rt: HostRuntime) -> crate::Result<()> {
             Command::Read(Place::At(3), Kind::Sleb),
         ],
         &[
-            Answer::Wrote(2),
-            Answer::Wrote(1),
-            Answer::Wrote(2),
-            Answer::Wrote(1),
-            too_big(10, 9),
-            Answer::Refused(Error::BadOffset(11)),
-            too_big(2, 1),
-            Answer::Wrote(2),
-            Answer::Read(Value::Uleb(padded)),
-            Answer::Read(Value::Sleb(below)),
+            "Wrote(2)",
+            "Wrote(1)",
+            "Wrote(2)",
+            "Wrote(1)",
+            "Refused(TooBig { size: 10, len: 9 })",
+            "Refused(BadOffset(11))",
+            "Refused(TooBig { size: 2, len: 1 })",
+            "Wrote(2)",
+            "Read(Uleb(Uleb128 { value: 0, count: 2 }))",
+            "Read(Sleb(Sleb128 { value: -1, count: 2 }))",
         ],
         [0x80, 0, 0, 0xff, 0x7f, 0x7f, 0xc0, 0, 0xee, 0xee],
         8,
     );
-    Ok(())
-}
-
-fn arrays_wanted(alloc: Global) -> Result<Vec<Answer>, AllocError> {
-    let mut wanted = Vec::new(alloc);
-    wanted.push(Answer::Read(Value::U16x3([1, 2, 0x6100])))?;
-    wanted.push(too_big(2, 1))?;
-    wanted.push(Answer::Read(Value::Textx2(
-        String::from_str(alloc, "a")?,
-        String::from_str(alloc, "")?,
-    )))?;
-    wanted.push(Answer::Refused(Error::BadOffset(2)))?;
-    wanted.push(Answer::Read(Value::U8x0))?;
-    wanted.push(Answer::Refused(Error::BadOffset(8)))?;
-    wanted.push(too_big(2, 1))?;
-    Ok(wanted)
 }
 
 #[test]
-fn arrays(rt: HostRuntime) -> Result<(), AllocError> {
-    let wanted = arrays_wanted(rt.alloc())?;
+fn arrays(rt: HostRuntime) {
+    let bytes = [1, 0, 2, 0, 0, 0x61, 0];
     check_run(
         &rt,
         rt.alloc(),
-        [1, 0, 2, 0, 0, 0x61, 0],
+        bytes,
         0,
         &[
             Command::Read(HERE, Kind::U16x3(LE)),
@@ -281,8 +243,16 @@ fn arrays(rt: HostRuntime) -> Result<(), AllocError> {
             Command::Read(Place::At(8), Kind::U8x0(BE)),
             Command::Read(Place::At(4), Kind::Textx2(StrCtx::Length(2))),
         ],
-        &wanted,
-        [1, 0, 2, 0, 0, 0x61, 0],
+        &[
+            "Read(U16x3([1, 2, 24832]))",
+            "Refused(TooBig { size: 2, len: 1 })",
+            r#"Read(Textx2("a", ""))"#,
+            "Refused(BadOffset(2))",
+            "Read(U8x0)",
+            "Refused(BadOffset(8))",
+            "Refused(TooBig { size: 2, len: 1 })",
+        ],
+        bytes,
         6,
     );
     check_run(
@@ -295,9 +265,12 @@ fn arrays(rt: HostRuntime) -> Result<(), AllocError> {
             Command::Write(Place::At(3), Put::Bytesx2(&[7], &[8, 9])),
             Command::Write(HERE, Put::Bytesx2(&[5], &[6, 7])),
         ],
-        &[too_big(2, 1), too_big(2, 1), Answer::Wrote(3)],
+        &[
+            "Refused(TooBig { size: 2, len: 1 })",
+            "Refused(TooBig { size: 2, len: 1 })",
+            "Wrote(3)",
+        ],
         [5, 6, 7, 7, 0],
         3,
     );
-    Ok(())
 }

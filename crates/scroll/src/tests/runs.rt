@@ -1,60 +1,52 @@
 // Runs of commands. Each run also passes where an allocation fails (`rt try --test --fail-alloc N`): the answers are
 // then those of the first commands, and the buffer and the cursor are as these left them.
 use crate::ctx::StrCtx;
-use crate::runner::{Answer, Command, Kind, Place, Put, Value, Width, run};
+use crate::runner::{Answer, Command, Kind, Place, Put, Width, run};
 use crate::tests::results::check_eq;
 use crate::{BE, Error, LE};
+use arrayvec::ArrayString;
 use std::alloc::{AllocError, Global};
+use std::fmt::Write;
 use std::process::Abort;
 
-// Returns whether two answers are the same.
-pub fn is_same(a: &Answer, b: &Answer) -> bool {
-    match (a, b) {
-        (Answer::Read(Value::Unsigned(x)), Answer::Read(Value::Unsigned(y))) => x == y,
-        (Answer::Read(Value::Signed(x)), Answer::Read(Value::Signed(y))) => x == y,
-        (Answer::Read(Value::Text(x)), Answer::Read(Value::Text(y))) => x == y,
-        (Answer::Read(Value::Bytes(x)), Answer::Read(Value::Bytes(y))) => x == y,
-        (Answer::Read(Value::CStr(x)), Answer::Read(Value::CStr(y))) => x == y,
-        (Answer::Read(Value::Uleb(x)), Answer::Read(Value::Uleb(y))) => x == y,
-        (Answer::Read(Value::Sleb(x)), Answer::Read(Value::Sleb(y))) => x == y,
-        (Answer::Read(Value::U8x0), Answer::Read(Value::U8x0)) => true,
-        (Answer::Read(Value::U16x3(x)), Answer::Read(Value::U16x3(y))) => x == y,
-        (Answer::Read(Value::Textx2(x, x2)), Answer::Read(Value::Textx2(y, y2))) => {
-            x == y && x2 == y2
-        }
-        (Answer::Wrote(x), Answer::Wrote(y)) => x == y,
-        (
-            Answer::Refused(Error::TooBig { size, len }),
-            Answer::Refused(
-                Error::TooBig {
-                    size: size2,
-                    len: len2,
-                },
-            ),
-        ) => size == size2 && len == len2,
-        (Answer::Refused(Error::BadOffset(x)), Answer::Refused(Error::BadOffset(y))) => x == y,
-        (
-            Answer::Refused(Error::BadInput { size, msg }),
-            Answer::Refused(
-                Error::BadInput {
-                    size: size2,
-                    msg: msg2,
-                },
-            ),
-        ) => size == size2 && msg == msg2,
-        _ => false,
+const WHOLE: Place = Place::At(0);
+
+const HERE: Place = Place::Cursor;
+
+// Runs the commands, and returns whether all of them ran. Expects that only a lack of memory ends the run before.
+pub fn run_all(
+    rt: &impl Abort,
+    alloc: Global,
+    buffer: &mut [u8],
+    cursor: &mut usize,
+    commands: &[Command<'_>],
+    answers: &mut Vec<Answer>,
+) -> bool {
+    match run(alloc, buffer, cursor, commands, answers) {
+        Ok(()) => true,
+        Err(Error::NoMemory) => false,
+        Err(error) => panic!(rt; "expected NoMemory, got {error:?}"),
     }
 }
 
-// Compares the answers with those that are expected, as far as there are both.
-pub fn check_answers(rt: &impl Abort, answers: &[Answer], wanted: &[Answer]) {
+// Checks that an answer is printed like this. Nothing is allocated, and so no allocation can fail here. What doesn't fit
+// is cut off, and then differs from what is expected.
+fn check_answer(rt: &impl Abort, answer: &Answer, wanted: &str) {
+    let mut printed: ArrayString<80> = ArrayString::new();
+    let _ = write!(printed, "{answer:?}");
+    check_eq(rt, printed.as_str(), wanted);
+}
+
+// Checks that the answers are printed like those that are expected, as far as there are both.
+fn check_answers(rt: &impl Abort, answers: &[Answer], wanted: &[&str]) {
     for (answer, want) in answers.iter().zip(wanted.iter()) {
-        assert!(rt; is_same(answer, want), "{answer:?} for {want:?}");
+        check_answer(rt, answer, want);
     }
 }
 
 // Returns whether a run of these commands succeeds, and leaves this buffer and this cursor.
 fn leaves<const N: usize>(
+    rt: &impl Abort,
     alloc: Global,
     first: [u8; N],
     cursor: usize,
@@ -65,53 +57,76 @@ fn leaves<const N: usize>(
     let mut buffer = first;
     let mut at = cursor;
     let mut answers = Vec::new(alloc);
-    let done = run(alloc, &mut buffer, &mut at, commands, &mut answers);
-    done.is_ok() && buffer == last && at == last_cursor
+    run_all(rt, alloc, &mut buffer, &mut at, commands, &mut answers)
+        && buffer == last
+        && at == last_cursor
 }
 
-// Runs the commands, and expects these answers. After an allocation failure it expects what the first commands alone
-// return and leave, and that a second run of all commands succeeds, since at most one allocation fails.
+// Runs the commands with these answers before theirs, and expects answers that are all printed like `wanted`. After an
+// allocation failure it expects what the first commands alone return and leave, and that a second run of all commands
+// succeeds, since at most one allocation fails.
+fn check_run_behind<const N: usize>(
+    rt: &impl Abort,
+    alloc: Global,
+    answers: &mut Vec<Answer>,
+    first: [u8; N],
+    cursor: usize,
+    commands: &[Command<'_>],
+    wanted: &[&str],
+    last: [u8; N],
+    last_cursor: usize,
+) {
+    let before = answers.len();
+    let mut buffer = first;
+    let mut at = cursor;
+    if run_all(rt, alloc, &mut buffer, &mut at, commands, answers) {
+        check_eq(rt, answers.len(), wanted.len());
+        check_eq(rt, buffer, last);
+        check_eq(rt, at, last_cursor);
+    } else {
+        let added = answers.len().wrapping_sub(before);
+        assert!(rt; added < commands.len());
+        assert!(rt; leaves(rt, alloc, first, cursor, &commands[..added], buffer, at));
+        assert!(rt; leaves(rt, alloc, first, cursor, commands, last, last_cursor));
+    }
+    check_answers(rt, answers, wanted);
+}
+
+// Runs the commands, and expects these answers, as `check_run_behind` does.
 pub fn check_run<const N: usize>(
     rt: &impl Abort,
     alloc: Global,
     first: [u8; N],
     cursor: usize,
     commands: &[Command<'_>],
-    wanted: &[Answer],
+    wanted: &[&str],
     last: [u8; N],
     last_cursor: usize,
 ) {
-    let mut buffer = first;
-    let mut at = cursor;
     let mut answers = Vec::new(alloc);
-    match run(alloc, &mut buffer, &mut at, commands, &mut answers) {
-        Ok(()) => {
-            check_eq(&rt, answers.len(), wanted.len());
-            check_eq(&rt, buffer, last);
-            check_eq(&rt, at, last_cursor);
-        }
-        Err(error) => {
-            assert!(rt; matches!(&error, Error::NoMemory));
-            assert!(rt; answers.len() < commands.len());
-            let fewer = &commands[..answers.len()];
-            assert!(rt; leaves(alloc, first, cursor, fewer, buffer, at));
-            assert!(rt; leaves(alloc, first, cursor, commands, last, last_cursor));
-        }
-    }
-    check_answers(rt, &answers, wanted);
+    check_run_behind(
+        rt,
+        alloc,
+        &mut answers,
+        first,
+        cursor,
+        commands,
+        wanted,
+        last,
+        last_cursor,
+    );
 }
 
 #[test]
 fn four_numbers(rt: HostRuntime) {
-    let whole = Place::At(0);
     check_run(
         &rt,
         rt.alloc(),
         [0; 8],
         5,
         &[
-            Command::Write(whole, Put::U64(72623859790382856, BE)),
-            Command::Read(whole, Kind::Number(Width::U64, LE)),
+            Command::Write(WHOLE, Put::U64(72623859790382856, BE)),
+            Command::Read(WHOLE, Kind::Number(Width::U64, LE)),
             Command::Read(Place::At(6), Kind::Number(Width::U32, BE)),
             Command::Read(Place::At(8), Kind::Number(Width::U8, LE)),
             Command::Write(Place::At(9), Put::U8(0, LE)),
@@ -119,19 +134,19 @@ fn four_numbers(rt: HostRuntime) {
             Command::Write(Place::At(2), Put::U16(0xcafe, BE)),
             Command::Write(Place::At(4), Put::U32(1, LE)),
             Command::Read(Place::At(1), Kind::Number(Width::U16, BE)),
-            Command::Write(Place::At(0), Put::U8(255, BE)),
+            Command::Write(WHOLE, Put::U8(255, BE)),
         ],
         &[
-            Answer::Wrote(8),
-            Answer::Read(Value::Unsigned(578437695752307201)),
-            Answer::Refused(Error::TooBig { size: 4, len: 2 }),
-            Answer::Refused(Error::TooBig { size: 1, len: 0 }),
-            Answer::Refused(Error::BadOffset(9)),
-            Answer::Refused(Error::TooBig { size: 2, len: 1 }),
-            Answer::Wrote(2),
-            Answer::Wrote(4),
-            Answer::Read(Value::Unsigned(0x02ca)),
-            Answer::Wrote(1),
+            "Wrote(8)",
+            "Read(Unsigned(578437695752307201))",
+            "Refused(TooBig { size: 4, len: 2 })",
+            "Refused(TooBig { size: 1, len: 0 })",
+            "Refused(BadOffset(9))",
+            "Refused(TooBig { size: 2, len: 1 })",
+            "Wrote(2)",
+            "Wrote(4)",
+            "Read(Unsigned(714))",
+            "Wrote(1)",
         ],
         [255, 2, 0xca, 0xfe, 1, 0, 0, 0],
         5,
@@ -140,33 +155,32 @@ fn four_numbers(rt: HostRuntime) {
 
 #[test]
 fn numbers_at_the_cursor(rt: HostRuntime) {
-    let here = Place::Cursor;
     check_run(
         &rt,
         rt.alloc(),
         [0; 8],
         0,
         &[
-            Command::Write(here, Put::I32(-3000, LE)),
-            Command::Read(here, Kind::Number(Width::U8, LE)),
-            Command::Write(here, Put::I64(1, BE)),
-            Command::Read(Place::At(0), Kind::Number(Width::I32, LE)),
+            Command::Write(HERE, Put::I32(-3000, LE)),
+            Command::Read(HERE, Kind::Number(Width::U8, LE)),
+            Command::Write(HERE, Put::I64(1, BE)),
+            Command::Read(WHOLE, Kind::Number(Width::I32, LE)),
             Command::Write(Place::At(6), Put::I16(-2, BE)),
-            Command::Read(here, Kind::Number(Width::I128, LE)),
-            Command::Write(here, Put::I8(-1, BE)),
-            Command::Read(here, Kind::Number(Width::I16, BE)),
-            Command::Read(here, Kind::Number(Width::U8, BE)),
+            Command::Read(HERE, Kind::Number(Width::I128, LE)),
+            Command::Write(HERE, Put::I8(-1, BE)),
+            Command::Read(HERE, Kind::Number(Width::I16, BE)),
+            Command::Read(HERE, Kind::Number(Width::U8, BE)),
         ],
         &[
-            Answer::Wrote(4),
-            Answer::Read(Value::Unsigned(0)),
-            Answer::Refused(Error::TooBig { size: 8, len: 3 }),
-            Answer::Read(Value::Signed(-3000)),
-            Answer::Wrote(2),
-            Answer::Refused(Error::TooBig { size: 16, len: 3 }),
-            Answer::Wrote(1),
-            Answer::Read(Value::Signed(-2)),
-            Answer::Refused(Error::TooBig { size: 1, len: 0 }),
+            "Wrote(4)",
+            "Read(Unsigned(0))",
+            "Refused(TooBig { size: 8, len: 3 })",
+            "Read(Signed(-3000))",
+            "Wrote(2)",
+            "Refused(TooBig { size: 16, len: 3 })",
+            "Wrote(1)",
+            "Read(Signed(-2))",
+            "Refused(TooBig { size: 1, len: 0 })",
         ],
         [0x48, 0xf4, 0xff, 0xff, 0, 0xff, 0xff, 0xfe],
         8,
@@ -177,12 +191,12 @@ fn numbers_at_the_cursor(rt: HostRuntime) {
         [1],
         usize::MAX,
         &[
-            Command::Read(here, Kind::Number(Width::U8, LE)),
-            Command::Write(here, Put::U128(0, LE)),
+            Command::Read(HERE, Kind::Number(Width::U8, LE)),
+            Command::Write(HERE, Put::U128(0, LE)),
         ],
         &[
-            Answer::Refused(Error::BadOffset(usize::MAX)),
-            Answer::Refused(Error::BadOffset(usize::MAX)),
+            "Refused(BadOffset(18446744073709551615))",
+            "Refused(BadOffset(18446744073709551615))",
         ],
         [1],
         usize::MAX,
@@ -191,19 +205,28 @@ fn numbers_at_the_cursor(rt: HostRuntime) {
 
 #[test]
 fn no_commands(rt: HostRuntime) {
-    check_run(
-        &rt,
-        rt.alloc(),
-        [7; 2],
-        usize::MAX,
-        &[],
-        &[],
-        [7; 2],
-        usize::MAX,
-    );
+    let alloc = rt.alloc();
+    check_run(&rt, alloc, [7; 2], usize::MAX, &[], &[], [7; 2], usize::MAX);
 }
 
-// The buffer 61 00 00 and the cursor 0, after none of the commands below, after the first, after two and after all three.
+// The answers before those of the commands below, and then theirs.
+const ANSWERS: [&str; 7] = [
+    "Wrote(0)",
+    "Wrote(1)",
+    "Wrote(2)",
+    "Wrote(3)",
+    "Wrote(1)",
+    "Read(CStr([]))",
+    r#"Read(Text("b"))"#,
+];
+
+const COMMANDS: [Command<'static>; 3] = [
+    Command::Write(HERE, Put::U8(98, LE)),
+    Command::Read(HERE, Kind::CString),
+    Command::Read(WHOLE, Kind::Text(StrCtx::Length(1))),
+];
+
+// The buffer 61 00 00 and the cursor 0, after none of these commands, after the first, after two and after all three.
 const LEFT: [([u8; 3], usize); 4] = [
     ([0x61, 0, 0], 0),
     ([0x62, 0, 0], 1),
@@ -211,63 +234,42 @@ const LEFT: [([u8; 3], usize); 4] = [
     ([0x62, 0, 0], 2),
 ];
 
-// Expects that these answers are those of the first commands, and that the buffer and the cursor are as these left
-// them.
-fn check_front(
+// Runs these commands with the answers from `start` to 3 before theirs.
+fn check_from(
     rt: &impl Abort,
-    answers: &[Answer],
-    wanted: &[Answer; 3],
-    buffer: [u8; 3],
-    cursor: usize,
-) {
-    assert!(rt; answers.len() < 4);
-    let (left, left_cursor) = LEFT[answers.len()];
-    check_eq(&rt, buffer, left);
-    check_eq(&rt, cursor, left_cursor);
-    check_answers(rt, answers, wanted);
+    alloc: Global,
+    start: usize,
+    commands: &[Command<'_>],
+    wanted: &[&str],
+    left: ([u8; 3], usize),
+) -> Result<(), AllocError> {
+    let mut answers = Vec::new(alloc);
+    for size in start..4 {
+        answers.push(Answer::Wrote(size))?;
+    }
+    check_run_behind(
+        rt,
+        alloc,
+        &mut answers,
+        LEFT[0].0,
+        0,
+        commands,
+        wanted,
+        left.0,
+        left.1,
+    );
+    Ok(())
 }
 
-// The commands run with zero to four other answers before theirs, so that the list of answers grows at each command in
-// turn. An error is checked, and then the test ends with it.
+// None of the commands, the first, two and all three run with four to no other answers before theirs, so that the list
+// of answers grows at each command in turn.
 #[test]
 fn answers_stand_up_to_a_refusal(rt: HostRuntime) -> Result<(), AllocError> {
-    let text = String::from_str(rt.alloc(), "b")?;
-    let wanted = [
-        Answer::Wrote(1),
-        Answer::Read(Value::CStr(Vec::new(rt.alloc()))),
-        Answer::Read(Value::Text(text)),
-    ];
-    let commands = [
-        Command::Write(Place::Cursor, Put::U8(98, LE)),
-        Command::Read(Place::Cursor, Kind::CString),
-        Command::Read(Place::At(0), Kind::Text(StrCtx::Length(1))),
-    ];
-    for before in 0..5 {
-        let mut answers = Vec::new(rt.alloc());
-        for size in 0..before {
-            answers.push(Answer::Wrote(size))?;
-        }
-        let (mut buffer, mut cursor) = LEFT[0];
-        let done = run(
-            rt.alloc(),
-            &mut buffer,
-            &mut cursor,
-            &commands,
-            &mut answers,
-        );
-        assert!(rt; answers.len() >= before);
-        let (stood, added) = answers.split_at(before);
-        for (size, answer) in stood.iter().enumerate() {
-            assert!(rt; is_same(answer, &Answer::Wrote(size)));
-        }
-        check_front(&rt, added, &wanted, buffer, cursor);
-        match done {
-            Ok(()) => check_eq(&rt, added.len(), 3),
-            Err(error) => {
-                assert!(rt; matches!(&error, Error::NoMemory));
-                assert!(rt; added.len() < 3);
-                return Err(AllocError);
-            }
+    for start in 0..5 {
+        for count in 0..4 {
+            let commands = &COMMANDS[..count];
+            let wanted = &ANSWERS[start..4 + count];
+            check_from(&rt, rt.alloc(), start, commands, wanted, LEFT[count])?;
         }
     }
     Ok(())
