@@ -4,9 +4,10 @@ ghost use Rattle.std.proofs.Common.{rules};
 ghost use Rattle.scroll.specs.Numbers.{number, signed_number, number_bytes, signed_bytes};
 
 use crate::ctx::{FromCtx, IntoCtx};
+use crate::tests::results::check_eq;
 use crate::{BE, Cread, Cwrite, Endian, LE, slice};
 
-#[derive(Clone, Copy, Debug)]
+#[derive(Clone, Copy)]
 struct Bar {
     foo: i32,
     bar: u32,
@@ -39,33 +40,30 @@ impl IntoCtx<Endian> for Bar {
 
 #[test]
 fn two_numbers_where_there_is_room(rt: HostRuntime) {
-    let bytes: [u8; 8] = [0xff, 0xff, 0xff, 0xff, 0xef, 0xbe, 0xad, 0xde];
-    let bar: Bar = bytes[..].cread_with(0, LE);
-    assert!(rt; bar.foo == -1);
-    assert!(rt; bar.bar == 0xdeadbeef);
-}
-
-#[test]
-fn written_where_there_is_room(rt: HostRuntime) {
-    let bar = Bar {
-        foo: -1,
-        bar: 0xdeadbeef,
-    };
-    for (order, wanted) in [
-        (LE, [0xff, 0xff, 0xff, 0xff, 0xef, 0xbe, 0xad, 0xde, 7]),
-        (BE, [0xff, 0xff, 0xff, 0xff, 0xde, 0xad, 0xbe, 0xef, 7]),
-    ] {
-        let mut bytes = [7u8; 9];
-        let mut target = &mut bytes[..];
-        target.cwrite_with(bar, 0, order);
-        assert!(rt; bytes == wanted);
-    }
+    let rt = &rt;
     let mut bytes = [0u8; 8];
     let mut target = &mut bytes[..];
     target.cwrite(-1i32, 0);
     target.cwrite(0xdeadbeefu32, 4);
-    assert!(rt; bytes == [0xff, 0xff, 0xff, 0xff, 0xef, 0xbe, 0xad, 0xde]);
-    let bar: Bar = bytes[..].cread(0);
-    assert!(rt; bar.foo == -1);
-    assert!(rt; bar.bar == 0xdeadbeef);
+    check_eq(rt, bytes, [0xff, 0xff, 0xff, 0xff, 0xef, 0xbe, 0xad, 0xde]);
+    let source = &bytes[..];
+    let bar: Bar = source.cread(0);
+    check_eq(rt, (bar.foo, bar.bar), (-1, 0xdeadbeef));
+    let bar: Bar = source.cread_with(0, LE);
+    check_eq(rt, (bar.foo, bar.bar), (-1, 0xdeadbeef));
+}
+
+#[test]
+fn written_where_there_is_room(rt: HostRuntime) {
+    let rt = &rt;
+    let bar = Bar {
+        foo: -1,
+        bar: 0xdeadbeef,
+    };
+    let mut bytes = [7u8; 9];
+    let mut target = &mut bytes[..];
+    target.cwrite_with(bar, 0, LE);
+    check_eq(rt, &*target, b"\xff\xff\xff\xff\xef\xbe\xad\xde\x07");
+    target.cwrite_with(bar, 0, BE);
+    check_eq(rt, &*target, b"\xff\xff\xff\xff\xde\xad\xbe\xef\x07");
 }

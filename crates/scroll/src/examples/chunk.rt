@@ -30,13 +30,14 @@ pub fn write_header(file: &mut [u8], kind: u16, len: u32) -> Result<usize>
 
 #[test]
 fn a_header_reads_back(rt: HostRuntime) {
+    use crate::tests::results::{check_eq, check_too_big, check_value};
+    let rt = &rt;
     let mut file = [0xffu8; 7];
-    assert!(rt; matches!(&write_header(&mut file, 3, 258), Ok(6)));
-    assert_eq!(rt; file, [0, 3, 0, 0, 1, 2, 0xff]);
-    let mut offset = 0;
-    assert!(rt; matches!(&read_length(&file, &mut offset), Ok(258)));
-    assert_eq!(rt; offset, 6);
-    let cut = read_length(&file, &mut offset);
-    assert!(rt; matches!(&cut, Err(crate::Error::TooBig { size: 2, len: 1 })));
-    assert_eq!(rt; offset, 6);
+    check_value(rt, write_header(&mut file, 3, 258), 6);
+    check_eq(rt, file, [0, 3, 0, 0, 1, 2, 0xff]);
+    let offset = &mut 0;
+    check_value(rt, read_length(&file, offset), 258);
+    check_eq(rt, *offset, 6);
+    check_too_big(rt, read_length(&file, offset), 2, 1);
+    check_eq(rt, *offset, 6);
 }

@@ -26,9 +26,11 @@ pub fn write_both_ways(
 
 #[test]
 fn either_order_leaves_the_same_bytes(rt: HostRuntime) {
+    use crate::tests::results::check_eq;
+    let rt = &rt;
     let mut first = [0xffu8; 8];
     let mut second = [0xffu8; 8];
     write_both_ways(&mut first, &mut second, 258, 0, ["ab", "cde"], 4);
-    assert!(rt; first == [2, 1, 0, 0, b'a', b'b', 0xff, 0xff]);
-    assert!(rt; second == first);
+    check_eq(rt, first, [2, 1, 0, 0, b'a', b'b', 0xff, 0xff]);
+    check_eq(rt, second, first);
 }

@@ -4,12 +4,13 @@ ghost use Rattle.std.proofs.Common.{rules};
 ghost use Rattle.scroll.specs.Numbers.{ReadsNumber};
 
 use crate::ctx::TryFromCtx;
+use crate::tests::results::{check_eq, check_value};
 use crate::{BE, Endian, Error, Pread, check_room};
-use std::alloc::AllocError;
 use std::fmt;
+use std::io::Write;
 use std::result::Result;
 
-#[derive(Debug, Drop)]
+#[derive(Clone, Copy, Debug)]
 pub struct ExternalError {}
 
 impl fmt::Display for ExternalError {
@@ -30,7 +31,7 @@ impl From<Error> for ExternalError {
     }
 }
 
-#[derive(Clone, Copy, Debug)]
+#[derive(Clone, Copy)]
 struct Foo(u16);
 
 impl<'a> TryFromCtx<'a, Endian> for Foo {
@@ -51,19 +52,17 @@ impl<'a> TryFromCtx<'a, Endian> for Foo {
 }
 
 #[test]
-fn with_an_error_of_ones_own(rt: HostRuntime) -> Result<(), AllocError> {
-    let bytes: [u8; 4] = [0xde, 0xad, 0, 0];
-    let foo: Result<Foo, ExternalError> = bytes[..].pread(0);
-    assert!(rt; matches!(&foo, Ok(Foo(44510))));
-    let big: Result<Foo, ExternalError> = bytes[..].pread_with(0, BE);
-    assert!(rt; matches!(&big, Ok(Foo(57005))));
-    let cut: Result<Foo, ExternalError> = bytes[..].pread(2);
-    assert!(rt; matches!(&cut, Err(ExternalError {})));
-    let past: Result<Foo, ExternalError> = bytes[..].pread(5);
-    let line = match past {
-        Err(error) => format!(in rt.alloc(); "{error}")?,
-        Ok(_) => format!(in rt.alloc(); "a value")?,
-    };
-    assert!(rt; line.as_str() == "ExternalError");
-    Ok(())
+fn with_an_error_of_ones_own(rt: HostRuntime) {
+    let rt = &rt;
+    let source: &[u8] = &[0xde, 0xad, 0, 0];
+    let foo: Foo = source.pread(0).expect(rt, "a little-endian number");
+    check_eq(rt, foo.0, 44510);
+    let foo: Foo = source.pread_with(0, BE).expect(rt, "a big-endian number");
+    check_eq(rt, foo.0, 57005);
+    check_eq(rt, source.pread::<Foo>(2).is_err(), true);
+    let past = source.pread::<Foo>(5).err();
+    let mut line = [0u8; 13];
+    let mut target = &mut line[..];
+    check_value(rt, write!(target, "{}", past.expect(rt, "an error")), ());
+    check_eq(rt, &line, b"ExternalError");
 }

@@ -9,7 +9,7 @@ use crate::ctx::{FromCtx, IntoCtx, SizeWith, TryFromCtx, TryIntoCtx};
 use crate::{Cread, Endian, Error, Result, check_room, slice};
 
 /// How sound is stored.
-#[derive(Clone, Copy, Debug)]
+#[derive(Clone, Copy, Debug, PartialEq)]
 pub struct Format {
     pub tag: u16,
     pub channels: u16,
@@ -132,42 +132,23 @@ pub fn write_two(file: &mut [u8], first: Format, second: Format, order: Endian) 
 #[test]
 fn formats_read_back(rt: HostRuntime) {
     use crate::Pread;
-    use crate::tests::results::{check_too_big, check_value};
+    use crate::tests::results::{check_eq, check_too_big, check_value};
+    let rt = &rt;
     let format = Format {
         tag: 1,
         channels: 2,
         rate: 44100,
     };
     let mut file = [0u8; 17];
-    for order in [crate::LE, crate::BE] {
-        check_value(&rt, write_two(&mut file, format, format, order), 16);
-        assert!(rt;
-            matches!(
-                &read_format(&file, order),
-                Ok(Format {
-                    tag: 1,
-                    channels: 2,
-                    rate: 44100
-                })
-            )
-        );
-        let second: Result<Format> = file.pread_with(8, order);
-        assert!(rt;
-            matches!(
-                &second,
-                Ok(Format {
-                    tag: 1,
-                    channels: 2,
-                    rate: 44100
-                })
-            )
-        );
+    for order in &[crate::LE, crate::BE] {
+        check_value(rt, write_two(&mut file, format, format, *order), 16);
+        check_value(rt, read_format(&file, *order), format);
+        check_value(rt, file.pread_with(8, *order), format);
     }
-    assert!(rt;
-        file == [
-            0, 1, 0, 2, 0, 0, 0xac, 0x44, 0, 1, 0, 2, 0, 0, 0xac, 0x44, 0
-        ]
+    check_eq(
+        rt,
+        &file,
+        b"\x00\x01\x00\x02\x00\x00\xac\x44\x00\x01\x00\x02\x00\x00\xac\x44\x00",
     );
-    let cut: Result<Format> = file.pread_with(10, crate::LE);
-    check_too_big(&rt, cut, 8, 7);
+    check_too_big(rt, file.pread_with::<Format>(10, crate::LE), 8, 7);
 }

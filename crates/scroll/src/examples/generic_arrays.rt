@@ -41,10 +41,10 @@ pub fn try_first_values<
 
 #[test]
 fn values_of_a_file(rt: HostRuntime) {
-    use crate::tests::results::check_value;
+    use crate::tests::results::{check_too_big, check_value};
+    let rt = &rt;
     let file: [u8; 5] = [1, 0, 2, 0, 3];
-    let two: Result<[u16; 2], Error> = first_values(&file);
-    check_value(&rt, two, [1, 2]);
-    let three: Option<Result<[u16; 3], Error>> = try_first_values(&file);
-    assert!(rt; matches!(&three, Some(Err(Error::TooBig { size: 2, len: 1 }))));
+    check_value(rt, first_values::<Error, u16, 2>(&file), [1, 2]);
+    let three = try_first_values::<Error, u16, 3>(&file);
+    check_too_big(rt, three.expect(rt, "an array that fits"), 2, 1);
 }

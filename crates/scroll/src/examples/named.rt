@@ -13,7 +13,7 @@ use crate::{BE, Endian, Error, LE, Pread, Result};
 #[derive(Clone, Copy)]
 struct Context(Endian);
 
-#[derive(Clone, Copy, Debug)]
+#[derive(Clone, Copy)]
 struct Data<'a> {
     name: &'a str,
     id: u32,
@@ -44,30 +44,23 @@ impl<'a> TryFromCtx<'a, Context> for Data<'a> {
 
 #[test]
 fn a_number_and_a_name(rt: HostRuntime) {
-    use crate::tests::results::check_too_big;
-    let bytes = b"\x01\x02\x03\x04\x00\x08UserName";
-    let source = bytes.as_slice();
+    use crate::tests::results::{check_eq, check_too_big};
+    let rt = &rt;
+    let source: &[u8] = b"\x01\x02\x03\x04\x00\x08UserName";
     let data: Result<Data> = source.pread_with(0, Context(BE));
-    assert!(rt;
-        matches!(
-            &data,
-            Ok(Data {
-                name: "UserName",
-                id: 16909060
-            })
-        )
-    );
+    let data = data.expect(rt, "a number and a name");
+    check_eq(rt, (data.name, data.id), ("UserName", 16909060));
     let offset = &mut 0;
     let data: Result<Data> = source.gread_with(offset, Context(BE));
-    assert!(rt; data.is_ok());
-    assert!(rt; *offset == 14);
-    let long: Result<Data> = source.pread_with(0, Context(LE));
-    check_too_big(&rt, long, 2048, 8);
+    let data = data.expect(rt, "a number and a name at the offset");
+    check_eq(rt, (data.id, *offset), (16909060, 14));
+    check_too_big(rt, source.pread_with::<Data>(0, Context(LE)), 2048, 8);
 }
 
 #[test]
 fn cut_at_each_length(rt: HostRuntime) {
     use crate::tests::results::{check_bad_input, check_too_big};
+    let rt = &rt;
     let bytes = b"\x01\x02\x03\x04\x00\x08UserName";
     for cut in 0..14 {
         let (wanted, start) = match cut {
@@ -75,9 +68,14 @@ fn cut_at_each_length(rt: HostRuntime) {
             4..6 => (2, 4),
             _ => (8, 6),
         };
-        let read: Result<Data> = bytes[..cut].pread_with(0, Context(BE));
-        check_too_big(&rt, read, wanted, cut - start);
+        let read = bytes[..cut].pread_with::<Data>(0, Context(BE));
+        check_too_big(rt, read, wanted, cut - start);
     }
-    let no_text: Result<Data> = b"\x01\x02\x03\x04\x00\x01\xffe"[..].pread_with(0, Context(BE));
-    check_bad_input(&rt, no_text, 2, "invalid utf8");
+    let no_text: &[u8] = b"\x01\x02\x03\x04\x00\x01\xffe";
+    check_bad_input(
+        rt,
+        no_text.pread_with::<Data>(0, Context(BE)),
+        2,
+        "invalid utf8",
+    );
 }

@@ -39,16 +39,27 @@ pub fn read_version(file: &[u8]) -> Result<u16, HeaderError>
 
 #[test]
 fn each_answer_of_a_version(rt: HostRuntime) {
-    use crate::tests::results::check_value;
+    use crate::tests::results::{check_bad_input, check_too_big, check_value};
+    let rt = &rt;
     let file: [u8; 6] = [0x7f, 0x45, 0x4c, 0x46, 0, 3];
-    check_value(&rt, read_version(&file), 3);
-    let cut = read_version(&file[..5]);
-    assert!(rt;
-        matches!(
-            &cut,
-            Err(HeaderError::Cut(Error::TooBig { size: 2, len: 1 }))
-        )
+    check_value(rt, read_version(&file), 3);
+    check_too_big(rt, plain(read_version(&file[..5])), 2, 1);
+    check_bad_input(
+        rt,
+        plain(read_version(&file[1..])),
+        0x454c_4600,
+        "bad magic",
     );
-    let other = read_version(&file[1..]);
-    assert!(rt; matches!(&other, Err(HeaderError::BadMagic(0x454c_4600))));
+}
+
+// Returns an outcome with an error of the crate, for the checks.
+fn plain(outcome: Result<u16, HeaderError>) -> crate::Result<u16> {
+    match outcome {
+        Ok(version) => Ok(version),
+        Err(HeaderError::Cut(error)) => Err(error),
+        Err(HeaderError::BadMagic(magic)) => Err(Error::BadInput {
+            size: magic as usize,
+            msg: "bad magic",
+        }),
+    }
 }

@@ -35,13 +35,13 @@ pub fn greatest(file: &[u8], offset: usize) -> Result<u16> {
 
 #[test]
 fn a_point(rt: HostRuntime) {
-    use crate::tests::results::{check_too_big, check_value};
+    use crate::tests::results::{check_eq, check_too_big, check_value};
+    let rt = &rt;
     let bytes: [u8; 7] = [1, 0, 2, 0, 3, 0, 9];
-    check_value(&rt, greatest(&bytes, 0), 3);
     let offset = &mut 0;
-    check_value(&rt, read_point(&bytes, offset), [1, 2, 3]);
-    assert!(rt; *offset == 6);
-    let cut = read_line(&bytes, offset);
-    check_too_big(&rt, cut, 2, 1);
-    assert!(rt; *offset == 6);
+    check_value(rt, greatest(&bytes, 0), 3);
+    check_value(rt, read_point(&bytes, offset), [1, 2, 3]);
+    check_eq(rt, *offset, 6);
+    check_too_big(rt, read_line(&bytes, offset), 2, 1);
+    check_eq(rt, *offset, 6);
 }

@@ -9,10 +9,10 @@ ghost use Rattle.scroll.specs.Texts.{first_place, ReadsText, RefusesText};
 ghost use Rattle.scroll.specs.declared.ctx.str_ctx.StrCtx.TheVariants.{Delimiter};
 
 use crate::ctx::TryFromCtx;
-use crate::tests::results::{check_bad_input, check_bad_offset, check_too_big};
+use crate::tests::results::{check_bad_input, check_bad_offset, check_eq, check_too_big};
 use crate::{BE, Endian, Error, Pread, Result};
 
-#[derive(Clone, Copy, Debug)]
+#[derive(Clone, Copy)]
 struct Data<'a> {
     name: &'a str,
     id: u32,
@@ -42,21 +42,13 @@ impl<'a> TryFromCtx<'a, Endian> for Data<'a> {
 
 #[test]
 fn a_name_and_a_number(rt: HostRuntime) {
-    let bytes = b"UserName\x00\x01\x02\x03\x04";
-    let data: Result<Data> = bytes[..].pread_with(0, BE);
-    assert!(rt;
-        matches!(
-            &data,
-            Ok(Data {
-                name: "UserName",
-                id: 16909060
-            })
-        )
-    );
-    let no_zero: Result<Data> = bytes[..8].pread_with(0, BE);
-    check_bad_offset(&rt, no_zero, 9);
-    let no_number: Result<Data> = bytes[..12].pread_with(0, BE);
-    check_too_big(&rt, no_number, 4, 3);
-    let no_text: Result<Data> = b"\xff\x00\x01\x02\x03\x04"[..].pread_with(0, BE);
-    check_bad_input(&rt, no_text, 6, "invalid utf8");
+    let rt = &rt;
+    let source: &[u8] = b"UserName\x00\x01\x02\x03\x04";
+    let data: Result<Data> = source.pread_with(0, BE);
+    let data = data.expect(rt, "a name and a number");
+    check_eq(rt, (data.name, data.id), ("UserName", 16909060));
+    check_bad_offset(rt, source[..8].pread_with::<Data>(0, BE), 9);
+    check_too_big(rt, source[..12].pread_with::<Data>(0, BE), 4, 3);
+    let no_text: &[u8] = b"\xff\x00\x01\x02\x03\x04";
+    check_bad_input(rt, no_text.pread_with::<Data>(0, BE), 6, "invalid utf8");
 }

@@ -3,7 +3,7 @@ ghost use Rattle.std.specs.Prelude.{◌≡◌, take, OnOk, IfOk};
 ghost use Rattle.scroll.specs.Numbers.{signed_number};
 ghost use Rattle.scroll.specs.declared.endian.Endian.TheVariants.{Big};
 
-use crate::tests::results::check_value;
+use crate::tests::results::{check_eq, check_value};
 use crate::{BE, Pread, Result, slice};
 
 /// Copies an offset of 32 bits from the front of one file to the front of another, and returns it.
@@ -18,8 +18,9 @@ pub fn copy_offset(from: &[u8], to: &mut [u8]) -> Result<i32>
 
 #[test]
 fn an_offset_is_copied(rt: HostRuntime) {
+    let rt = &rt;
     let from: [u8; 5] = [0xff, 0xff, 0xff, 0xfe, 9];
     let mut to = [0u8; 5];
-    check_value(&rt, copy_offset(&from, &mut to), -2);
-    assert!(rt; to == [0xff, 0xff, 0xff, 0xfe, 0]);
+    check_value(rt, copy_offset(&from, &mut to), -2);
+    check_eq(rt, to, [0xff, 0xff, 0xff, 0xfe, 0]);
 }

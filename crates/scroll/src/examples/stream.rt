@@ -5,7 +5,6 @@ ghost use Rattle.scroll.specs.declared.endian.Endian.TheVariants.{Big};
 
 use crate::{BE, IOread, IOwrite};
 use std::io;
-use std::test::Fail;
 
 /// Reads the next measurement of a log: a station in 16 bits and a value in 32, both big-endian.
 pub fn read_measurement(source: &mut &[u8]) -> io::Result<(u16, u32)>
@@ -27,14 +26,15 @@ pub fn write_measurement(log: &mut Vec<u8>, station: u16, value: u32) -> io::Res
 }
 
 #[test]
-fn a_measurement_reads_back(rt: HostRuntime) -> Result<(), Fail> {
-    use crate::tests::results::check_value;
+fn a_measurement_reads_back(rt: HostRuntime) -> io::Result<()> {
+    use crate::tests::results::{check_eq, check_value};
+    let rt = &rt;
     let mut log = Vec::new(rt.alloc());
     write_measurement(&mut log, 3, 258)?;
     write_measurement(&mut log, 4, 0xdeadbeef)?;
     let mut source = log.as_slice();
-    check_value(&rt, read_measurement(&mut source), (3, 258));
-    check_value(&rt, read_measurement(&mut source), (4, 3735928559));
-    assert!(rt; read_measurement(&mut source).is_err());
+    check_value(rt, read_measurement(&mut source), (3, 258));
+    check_value(rt, read_measurement(&mut source), (4, 3735928559));
+    check_eq(rt, read_measurement(&mut source).ok(), None);
     Ok(())
 }

@@ -6,11 +6,11 @@ ghost use Rattle.scroll.specs.Numbers.{ReadsNumber, WritesNumber};
 
 use super::external_error::ExternalError;
 use crate::ctx::{TryFromCtx, TryIntoCtx};
-use crate::tests::results::check_value;
+use crate::tests::results::{check_eq, check_value};
 use crate::{BE, Endian, LE, Pread, Pwrite};
 use std::result::Result;
 
-#[derive(Clone, Copy, Debug)]
+#[derive(Clone, Copy)]
 struct Foo(u16);
 
 impl<'a> TryFromCtx<'a, Endian> for Foo {
@@ -50,25 +50,30 @@ impl TryIntoCtx<Endian> for Foo {
 
 #[test]
 fn at_each_offset(rt: HostRuntime) {
-    let bytes: [u8; 4] = [0xde, 0xad, 0, 0];
-    for offset in [0, 1, 3, 4, 5] {
-        let refused: Result<Foo, ExternalError> = bytes[..].pread_with(offset, LE);
-        assert!(rt; matches!(&refused, Err(ExternalError {})), "{offset}");
+    let rt = &rt;
+    let source: &[u8] = &[0xde, 0xad, 0, 0];
+    for offset in &[0, 1, 3, 4, 5] {
+        let refused = source.pread_with::<Foo>(*offset, LE);
+        check_eq(rt, (*offset, refused.is_err()), (*offset, true));
     }
-    let last: Result<Foo, ExternalError> = bytes[..].pread_with(2, LE);
-    assert!(rt; matches!(&last, Ok(Foo(0))));
-    for (order, wanted) in [(LE, 0xadde), (BE, 0xdead)] {
-        let whole: Result<Foo, ExternalError> = bytes[..2].pread_with(0, order);
-        assert!(rt; matches!(&whole, Ok(Foo(n)) if *n == wanted));
-    }
+    let last: Foo = source.pread_with(2, LE).expect(rt, "two zeros");
+    check_eq(rt, last.0, 0);
+    let source = &source[..2];
+    let little: Foo = source
+        .pread_with(0, LE)
+        .expect(rt, "a little-endian number");
+    check_eq(rt, little.0, 0xadde);
+    let big: Foo = source.pread_with(0, BE).expect(rt, "a big-endian number");
+    check_eq(rt, big.0, 0xdead);
 }
 
 #[test]
 fn written_where_there_is_room(rt: HostRuntime) {
+    let rt = &rt;
     let mut out = [0xffu8; 4];
     let mut target = &mut out[..];
-    check_value(&rt, target.pwrite_with(Foo(0x7f), 1, LE), 2);
-    assert!(rt; matches!(&target.pwrite_with(Foo(0x7f), 3, LE), Err(ExternalError {})));
-    assert!(rt; matches!(&target.pwrite_with(Foo(0x7f), 5, LE), Err(ExternalError {})));
-    assert!(rt; out == [0xff, 0x7f, 0, 0xff]);
+    check_value(rt, target.pwrite_with(Foo(0x7f), 1, LE), 2);
+    check_eq(rt, target.pwrite_with(Foo(0x7f), 3, LE).is_err(), true);
+    check_eq(rt, target.pwrite_with(Foo(0x7f), 5, LE).is_err(), true);
+    check_eq(rt, out, [0xff, 0x7f, 0, 0xff]);
 }
