@@ -1,9 +1,8 @@
 // The cursor, the default contexts and bulk reads.
 use crate::tests::results::{
-    check_bad_offset, check_eq, check_gread_gwrite, check_too_big, check_value,
+    check_bad_offset, check_eq, check_gread, check_gread_gwrite, check_too_big, check_value,
 };
 use crate::{BE, LE, Pread, Pwrite, Result};
-use std::process::Abort;
 
 #[test]
 fn pread(rt: HostRuntime) {
@@ -15,100 +14,36 @@ fn pread(rt: HostRuntime) {
     check_bad_offset(&rt, past, 3);
 }
 
-#[test]
-fn pread_with_iter_bytes(rt: HostRuntime) {
-    let bytes: [u8; 8] = [1, 2, 3, 4, 5, 6, 7, 8];
-    let mut copy = [0u8; 8];
-    for (i, byte) in copy.iter_mut().enumerate() {
-        if let Ok(read) = bytes[..].pread::<u8>(i) {
-            *byte = read;
-        }
-    }
-    check_eq(&rt, copy, bytes);
-}
+const ONE_TO_EIGHT: [u8; 8] = [1, 2, 3, 4, 5, 6, 7, 8];
 
 #[test]
-fn gread_with_iter_bytes(rt: HostRuntime) {
-    let bytes: [u8; 8] = [1, 2, 3, 4, 5, 6, 7, 8];
-    let mut copy = [0u8; 8];
+fn each_byte(rt: HostRuntime) {
     let mut offset = 0;
-    for byte in copy.iter_mut() {
-        if let Ok(read) = bytes[..].gread::<u8>(&mut offset) {
-            *byte = read;
-        }
+    for (i, byte) in ONE_TO_EIGHT.iter().enumerate() {
+        check_value(&rt, ONE_TO_EIGHT.pread(i), *byte);
+        check_value(&rt, ONE_TO_EIGHT.gread(&mut offset), *byte);
     }
-    check_eq(&rt, copy, bytes);
     check_eq(&rt, offset, 8);
 }
 
 const BYTES: [u8; 8] = [0x0f, 0x0e, 0x0e, 0x0b, 0x0d, 0x0a, 0x0e, 0x0d];
 
-// Reads a number at the cursor, which is then after it.
-macro_rules! check_simple_gread {
-    ($rt:ident, $number:ty, $value:expr, $size:expr) => {
-        let mut offset = 0;
-        let read: Result<$number> = BYTES[..].gread_with(&mut offset, LE);
-        check_value(&$rt, read, $value);
-        check_eq(&$rt, offset, $size);
-    };
+#[test]
+fn simple_gread(rt: HostRuntime) {
+    check_gread(&rt, &BYTES, (0, LE), 3599u16, 2);
+    check_gread(&rt, &BYTES, (0, LE), 185470479u32, 4);
+    check_gread(&rt, &BYTES, (0, LE), 940700423303335439u64, 8);
+    check_gread(&rt, &BYTES, (0, LE), 940700423303335439i64, 8);
 }
 
 #[test]
-fn simple_gread_u16(rt: HostRuntime) {
-    check_simple_gread!(rt, u16, 3599, 2);
-}
-
-#[test]
-fn simple_gread_u32(rt: HostRuntime) {
-    check_simple_gread!(rt, u32, 185470479, 4);
-}
-
-#[test]
-fn simple_gread_u64(rt: HostRuntime) {
-    check_simple_gread!(rt, u64, 940700423303335439, 8);
-}
-
-#[test]
-fn simple_gread_i64(rt: HostRuntime) {
-    check_simple_gread!(rt, i64, 940700423303335439, 8);
-}
-
-fn check_gread_gwrite_i64(rt: &impl Abort, value: i64) {
-    check_gread_gwrite!(rt, value, 8);
-}
-
-fn check_gread_gwrite_i32(rt: &impl Abort, value: i32) {
-    check_gread_gwrite!(rt, value, 4);
-}
-
-#[test]
-fn gread_gwrite_i64_1(rt: HostRuntime) {
-    check_gread_gwrite_i64(&rt, 0);
-}
-
-#[test]
-fn gread_gwrite_i64_2(rt: HostRuntime) {
-    check_gread_gwrite_i64(&rt, -1213213211111);
-}
-
-#[test]
-fn gread_gwrite_i64_3(rt: HostRuntime) {
-    check_gread_gwrite_i64(&rt, -3000);
-}
-
-#[test]
-fn gread_gwrite_i32_1(rt: HostRuntime) {
-    check_gread_gwrite_i32(&rt, 0);
-}
-
-#[test]
-fn gread_gwrite_i32_2(rt: HostRuntime) {
-    check_gread_gwrite_i32(&rt, -1213213232);
-}
-
-#[test]
-fn gread_gwrite_i32_3(rt: HostRuntime) {
-    check_gread_gwrite_i32(&rt, -3000);
+fn gread_gwrite(rt: HostRuntime) {
+    for value in &[0i64, -1213213211111, -3000] {
+        check_gread_gwrite(&rt, &mut [0; 16], *value, 8);
+    }
+    for value in &[0i32, -1213213232, -3000] {
+        check_gread_gwrite(&rt, &mut [0; 16], *value, 4);
+    }
 }
 
 #[test]
@@ -120,27 +55,20 @@ fn gread_with_byte(rt: HostRuntime) {
     let end: Result<u8> = bytes[..].gread(&mut offset);
     check_too_big(&rt, end, 1, 0);
     check_eq(&rt, offset, 1);
-    let dead: [u8; 2] = [0xde, 0xad];
-    let mut offset = 0;
-    check_value(&rt, dead[..].gread_with::<u16>(&mut offset, BE), 57005);
-    check_eq(&rt, offset, 2);
+    check_gread(&rt, &[0xde, 0xad], (0, BE), 57005u16, 2);
 }
 
 #[test]
 fn gread_inout(rt: HostRuntime) {
-    let bytes: [u8; 8] = [1, 2, 3, 4, 5, 6, 7, 8];
     let mut copy = [0u8; 8];
     let mut offset = 0;
-    let answer: Result<()> = bytes[..].gread_inout(&mut offset, &mut copy);
-    assert!(rt; answer.is_ok());
-    check_eq(&rt, copy, bytes);
-    check_eq(&rt, offset, 8);
+    check_value(&rt, ONE_TO_EIGHT.gread_inout(&mut offset, &mut copy), ());
+    check_eq(&rt, (copy, offset), (ONE_TO_EIGHT, 8));
     let mut two = [0u8; 2];
     let mut offset = 0;
-    let answer: Result<()> = bytes[..].gread_inout_with(&mut offset, &mut two, LE);
-    assert!(rt; answer.is_ok());
-    check_eq(&rt, two, [1, 2]);
-    check_eq(&rt, offset, 2);
+    let answer: Result<()> = ONE_TO_EIGHT.gread_inout_with(&mut offset, &mut two, LE);
+    check_value(&rt, answer, ());
+    check_eq(&rt, (two, offset), ([1, 2], 2));
 }
 
 #[test]

@@ -30,11 +30,11 @@ fn gread_f64(rt: HostRuntime) {
 }
 
 fn check_gread_gwrite_f64(rt: &impl Abort, value: f64) {
-    check_gread_gwrite!(rt, value, 8);
+    check_gread_gwrite(rt, &mut [0; 16], value, 8);
 }
 
 fn check_gread_gwrite_f32(rt: &impl Abort, value: f32) {
-    check_gread_gwrite!(rt, value, 4);
+    check_gread_gwrite(rt, &mut [0; 16], value, 4);
 }
 
 #[test]

@@ -1,86 +1,64 @@
 // LEB128 encodings, and the readers compared with each other.
+use crate::ctx::TryFromCtx;
 use crate::leb128::{plain_sleb, plain_uleb, sleb_block, sleb_loads, uleb_block, uleb_loads};
-use crate::tests::results::{check_bad_offset, check_eq, check_too_big, check_value};
+use crate::tests::results::{
+    check_bad_input, check_bad_offset, check_eq, check_too_big, check_value,
+};
 use crate::{Error, LE, Loads, Pread, Result, Sleb128, Uleb128};
+use std::fmt::Debug;
+use std::process::Abort;
 
-// The result of a read.
-#[derive(Clone, Copy, Debug, PartialEq)]
-enum Outcome {
-    Value(i128, usize),
-    Cut,
-    Bad(usize),
-    Other,
+// Returns the value and the size of the number at the start of a source.
+fn unsigned(source: &[u8]) -> Result<(u64, usize)> {
+    let number: Uleb128 = source.pread(0)?;
+    Ok((*number.as_ref(), number.size()))
 }
 
-fn refusal(error: &Error) -> Outcome {
-    match error {
-        Error::TooBig { size: 1, len: 0 } => Outcome::Cut,
-        Error::BadInput { size, msg } if *msg == "failed to parse" => Outcome::Bad(*size),
-        _ => Outcome::Other,
+fn signed(source: &[u8]) -> Result<(i64, usize)> {
+    let number: Sleb128 = source.pread(0)?;
+    Ok((*number.as_ref(), number.size()))
+}
+
+// Checks that a read of `len` bytes was refused: ten bytes or more are no number, and fewer are truncated.
+fn check_refusal<T: Drop>(rt: &impl Abort, read: Result<T>, len: usize) {
+    if len < 10 {
+        check_too_big(rt, read, 1, 0);
+    } else {
+        check_bad_input(rt, read, len, "failed to parse");
     }
 }
 
-fn unsigned(source: &[u8]) -> Outcome {
-    match source.pread::<Uleb128>(0) {
-        Ok(number) => Outcome::Value(i128::from(*number.as_ref()), number.size()),
-        Err(error) => refusal(&error),
-    }
+// Checks that both types refuse a source.
+fn check_refused(rt: &impl Abort, source: &[u8]) {
+    check_refusal(rt, unsigned(source), source.len());
+    check_refusal(rt, signed(source), source.len());
 }
 
-fn signed(source: &[u8]) -> Outcome {
-    match source.pread::<Sleb128>(0) {
-        Ok(number) => Outcome::Value(i128::from(*number.as_ref()), number.size()),
-        Err(error) => refusal(&error),
-    }
+// Reads the number that stands at the start of a source.
+pub fn read<'a, N: TryFromCtx<'a, (), Error = Error> + Drop>(
+    rt: &impl Abort,
+    source: &'a [u8],
+) -> N {
+    source.pread(0).expect(rt, "a number")
 }
 
-// Returns `count` times the byte `fill`, and `last` after them.
-fn text(fill: u8, count: usize, last: u8) -> [u8; 12] {
-    let mut bytes = [0; 12];
-    for (i, byte) in bytes.iter_mut().enumerate() {
-        if i < count {
-            *byte = fill;
-        } else if i == count {
-            *byte = last;
-        }
-    }
-    bytes
-}
+const NUMBERS: [(&[u8], u64, usize); 3] = [
+    (&[0x82, 1], 130, 2),
+    (&[0, 1], 0, 1),
+    (&[0x21, 0], 33, 1),
+];
 
 #[test]
-fn uleb_size(rt: HostRuntime) {
-    let table: [([u8; 2], u64, usize); 3] = [
-        ([0x82, 1], 130, 2),
-        ([0, 1], 0, 1),
-        ([0x21, 0], 33, 1),
-    ];
-    for (bytes, value, size) in table {
-        let number: Result<Uleb128> = bytes[..].pread(0);
-        check_value(
-            &rt,
-            number.map(|number| (u64::from(number), number.size())),
-            (value, size),
-        );
+fn single_numbers(rt: HostRuntime) {
+    for (bytes, value, size) in NUMBERS.iter() {
+        check_value(&rt, unsigned(bytes), (*value, *size));
     }
-}
-
-#[test]
-fn uleb128(rt: HostRuntime) {
     let bytes: [u8; 2] = [0x82, 1];
+    let number: Uleb128 = read(&rt, &bytes);
+    check_eq(&rt, u64::from(number), 130);
     check_value(&rt, Uleb128::read(&bytes, &mut 0), 130);
-    check_value(&rt, bytes[..].pread_with::<u16>(0, LE), 386);
-}
-
-#[test]
-fn uleb128_overflow(rt: HostRuntime) {
-    let bytes = text(0x82, 10, 1);
-    assert!(rt; unsigned(&bytes[..11]) == Outcome::Bad(11));
-}
-
-#[test]
-fn sleb128(rt: HostRuntime) {
-    let bytes: [u8; 2] = [0xff, 0x7e];
-    check_value(&rt, Sleb128::read(&bytes, &mut 0), -129);
+    check_value(&rt, bytes.pread_with::<u16>(0, LE), 386);
+    check_value(&rt, Sleb128::read(&[0xff, 0x7e], &mut 0), -129);
 }
 
 #[test]
@@ -100,98 +78,117 @@ fn reads_with_an_offset(rt: HostRuntime) {
 
 #[test]
 fn numbers_with_their_lengths_are_compared(rt: HostRuntime) {
-    let short: Result<Uleb128> = [0u8][..].pread(0);
-    let padded: Result<Uleb128> = [0x80u8, 0][..].pread(0);
-    assert!(rt; matches!((&short, &padded), (Ok(a), Ok(b)) if *a == *a && *a != *b));
-    let short: Result<Sleb128> = [0x7fu8][..].pread(0);
-    let padded: Result<Sleb128> = [0xffu8, 0x7f][..].pread(0);
-    assert!(rt; matches!((&short, &padded), (Ok(a), Ok(b)) if *a == *a && *a != *b));
+    let short: Uleb128 = read(&rt, &[0]);
+    let padded: Uleb128 = read(&rt, &[0x80, 0]);
+    check_eq(&rt, [short == short, short == padded], [true, false]);
+    let short: Sleb128 = read(&rt, &[0x7f]);
+    let padded: Sleb128 = read(&rt, &[0xff, 0x7f]);
+    check_eq(&rt, [short == short, short == padded], [true, false]);
 }
+
+const ZERO: [u8; 10] = [0x80, 0x80, 0x80, 0x80, 0x80, 0x80, 0x80, 0x80, 0x80, 0];
+
+const MINUS_ONE: [u8; 10] = [0xff, 0xff, 0xff, 0xff, 0xff, 0xff, 0xff, 0xff, 0xff, 0x7f];
 
 #[test]
 fn padded_texts(rt: HostRuntime) {
-    for count in 0..10 {
-        let bytes = text(0x80, count, 0);
-        assert!(rt; unsigned(&bytes[..count + 1]) == Outcome::Value(0, count + 1));
-        assert!(rt; signed(&bytes[..count + 1]) == Outcome::Value(0, count + 1));
-        let bytes = text(0xff, count, 0x7f);
-        assert!(rt; signed(&bytes[..count + 1]) == Outcome::Value(-1, count + 1));
+    for size in 1..11 {
+        let zero = &ZERO[10 - size..];
+        check_value(&rt, unsigned(zero), (0, size));
+        check_value(&rt, signed(zero), (0, size));
+        check_value(&rt, signed(&MINUS_ONE[10 - size..]), (-1, size));
     }
-    let bytes = text(0x80, 10, 0);
-    assert!(rt; unsigned(&bytes[..11]) == Outcome::Bad(11));
-    assert!(rt; signed(&bytes[..11]) == Outcome::Bad(11));
+    check_refused(
+        &rt,
+        &[
+            0x80, 0x80, 0x80, 0x80, 0x80, 0x80, 0x80, 0x80, 0x80, 0x80, 0,
+        ],
+    );
+    check_refused(
+        &rt,
+        &[
+            0x82, 0x82, 0x82, 0x82, 0x82, 0x82, 0x82, 0x82, 0x82, 0x82, 1,
+        ],
+    );
 }
+
+// For each number of bytes before the last one, what both types read where the last byte is 0x40, and what they read
+// where it is 0x3f.
+const SIGN_BITS: [(u64, i64, i64); 9] = [
+    (64, -64, 63),
+    (8192, -8192, 8064),
+    (1048576, -1048576, 1032192),
+    (134217728, -134217728, 132120576),
+    (17179869184, -17179869184, 16911433728),
+    (2199023255552, -2199023255552, 2164663517184),
+    (281474976710656, -281474976710656, 277076930199552),
+    (36028797018963968, -36028797018963968, 35465847065542656),
+    (
+        4611686018427387904,
+        -4611686018427387904,
+        4539628424389459968,
+    ),
+];
+
+const SET: [u8; 9] = [0x80, 0x80, 0x80, 0x80, 0x80, 0x80, 0x80, 0x80, 0x40];
+
+const CLEAR: [u8; 9] = [0x80, 0x80, 0x80, 0x80, 0x80, 0x80, 0x80, 0x80, 0x3f];
 
 #[test]
 fn sign_bits(rt: HostRuntime) {
-    let set: [i128; 9] = [
-        64,
-        8192,
-        1048576,
-        134217728,
-        17179869184,
-        2199023255552,
-        281474976710656,
-        36028797018963968,
-        4611686018427387904,
-    ];
-    let clear: [i128; 9] = [
-        63,
-        8064,
-        1032192,
-        132120576,
-        16911433728,
-        2164663517184,
-        277076930199552,
-        35465847065542656,
-        4539628424389459968,
-    ];
-    for count in 0..9 {
-        let bytes = text(0x80, count, 0x40);
-        let source = &bytes[..count + 1];
-        check_eq(&rt, unsigned(source), Outcome::Value(set[count], count + 1));
-        check_eq(
-            &rt,
-            signed(source),
-            Outcome::Value(set[count].wrapping_neg(), count + 1),
-        );
-        let bytes = text(0x80, count, 0x3f);
-        let source = &bytes[..count + 1];
-        check_eq(
-            &rt,
-            unsigned(source),
-            Outcome::Value(clear[count], count + 1),
-        );
-        check_eq(&rt, signed(source), Outcome::Value(clear[count], count + 1));
+    for (count, (as_unsigned, as_signed, clear)) in SIGN_BITS.iter().enumerate() {
+        let size = count + 1;
+        let source = &SET[8 - count..];
+        check_value(&rt, unsigned(source), (*as_unsigned, size));
+        check_value(&rt, signed(source), (*as_signed, size));
+        let source = &CLEAR[8 - count..];
+        check_value(&rt, unsigned(source), (clear.cast_unsigned(), size));
+        check_value(&rt, signed(source), (*clear, size));
+    }
+    let eight_groups: [u8; 9] = [0x80, 0x80, 0x80, 0x80, 0x80, 0x80, 0x80, 0x80, 0x7f];
+    check_value(&rt, signed(&eight_groups), (-72057594037927936, 9));
+}
+
+// Checks that a read of twelve bytes returned this number of ten bytes, or refused it where there is none.
+fn check_ten<N: PartialEq + Debug + Drop>(
+    rt: &impl Abort,
+    read: Result<(N, usize)>,
+    wanted: Option<N>,
+) {
+    match wanted {
+        Some(value) => check_value(rt, read, (value, 10)),
+        None => check_refusal(rt, read, 12),
     }
 }
 
+// The byte that stands nine times, the tenth byte, and what both types read.
+const TENTH_BYTES: [(u8, u8, Option<u64>, Option<i64>); 12] = [
+    (0x80, 0x00, Some(0), Some(0)),
+    (0x80, 0x01, Some(9223372036854775808), None),
+    (0x80, 0x02, None, None),
+    (0x80, 0x7e, None, None),
+    (0x80, 0x7f, None, Some(-9223372036854775808)),
+    (0x80, 0x80, None, None),
+    (
+        0xff,
+        0x00,
+        Some(9223372036854775807),
+        Some(9223372036854775807),
+    ),
+    (0xff, 0x01, Some(18446744073709551615), None),
+    (0xff, 0x02, None, None),
+    (0xff, 0x7e, None, None),
+    (0xff, 0x7f, None, Some(-1)),
+    (0xff, 0x80, None, None),
+];
+
 #[test]
 fn tenth_bytes(rt: HostRuntime) {
-    let bad = Outcome::Bad(12);
-    let table: [(u8, u8, Outcome, Outcome); 12] = [
-        (0x80, 0x00, Outcome::Value(0, 10), Outcome::Value(0, 10)),
-        (0x80, 0x01, Outcome::Value(9223372036854775808, 10), bad),
-        (0x80, 0x02, bad, bad),
-        (0x80, 0x7e, bad, bad),
-        (0x80, 0x7f, bad, Outcome::Value(-9223372036854775808, 10)),
-        (0x80, 0x80, bad, bad),
-        (
-            0xff,
-            0x00,
-            Outcome::Value(9223372036854775807, 10),
-            Outcome::Value(9223372036854775807, 10),
-        ),
-        (0xff, 0x01, Outcome::Value(18446744073709551615, 10), bad),
-        (0xff, 0x02, bad, bad),
-        (0xff, 0x7e, bad, bad),
-        (0xff, 0x7f, bad, Outcome::Value(-1, 10)),
-        (0xff, 0x80, bad, bad),
-    ];
-    for (fill, tenth, as_unsigned, as_signed) in table {
-        let bytes = text(fill, 9, tenth);
-        check_eq(&rt, unsigned(&bytes), as_unsigned);
-        check_eq(&rt, signed(&bytes), as_signed);
+    for (fill, tenth, as_unsigned, as_signed) in TENTH_BYTES.iter() {
+        let mut bytes = [*fill; 12];
+        bytes[9..].copy_from_slice(&[*tenth, 0, 0]);
+        check_ten(&rt, unsigned(&bytes), *as_unsigned);
+        check_ten(&rt, signed(&bytes), *as_signed);
     }
 }
 
@@ -199,13 +196,7 @@ fn tenth_bytes(rt: HostRuntime) {
 fn cuts(rt: HostRuntime) {
     let bytes = [0xffu8; 12];
     for len in 0..13 {
-        let wanted = if len < 10 {
-            Outcome::Cut
-        } else {
-            Outcome::Bad(len)
-        };
-        assert!(rt; unsigned(&bytes[..len]) == wanted);
-        assert!(rt; signed(&bytes[..len]) == wanted);
+        check_refused(&rt, &bytes[..len]);
     }
 }
 
@@ -225,53 +216,51 @@ fn blocks(rt: HostRuntime) {
 
 #[test]
 fn counted_loads(rt: HostRuntime) {
-    let bytes = text(0xff, 9, 1);
-    let mut source = Loads::new(&bytes[..10]);
+    let greatest: [u8; 10] = [0xff, 0xff, 0xff, 0xff, 0xff, 0xff, 0xff, 0xff, 0xff, 1];
+    let mut source = Loads::new(&greatest);
     check_value(&rt, uleb_loads(&mut source), (18446744073709551615, 10));
     check_eq(&rt, source.made(), 3);
-    let bytes = text(0x80, 8, 0x7f);
-    assert!(rt; signed(&bytes[..9]) == Outcome::Value(-72057594037927936, 9));
-    let mut short = Loads::new(&bytes[..2]);
+    let mut short = Loads::new(&[0x80, 0x80]);
     check_eq(&rt, short.len(), 2);
     check_eq(&rt, short.word(), None);
-    check_eq(&rt, short.byte(2), None);
-    check_eq(&rt, short.byte(1), Some(0x80));
+    check_eq(&rt, [short.byte(2), short.byte(1)], [None, Some(0x80)]);
     check_eq(&rt, short.made(), 3);
 }
 
-// Returns whether the readers by loads and those byte by byte return the same for a source.
-fn readers_agree_on(source: &[u8]) -> bool {
-    let by_loads = match uleb_loads(&mut Loads::new(source)) {
-        Ok((value, size)) => Outcome::Value(i128::from(value), size),
-        Err(error) => refusal(&error),
-    };
-    let by_bytes = match plain_uleb(source) {
-        Ok((value, size)) => Outcome::Value(i128::from(value), size),
-        Err(error) => refusal(&error),
-    };
-    let signed_by_loads = match sleb_loads(&mut Loads::new(source)) {
-        Ok((value, size)) => Outcome::Value(i128::from(value), size),
-        Err(error) => refusal(&error),
-    };
-    let signed_by_bytes = match plain_sleb(source) {
-        Ok((value, size)) => Outcome::Value(i128::from(value), size),
-        Err(error) => refusal(&error),
-    };
-    by_loads == by_bytes && signed_by_loads == signed_by_bytes && by_loads != Outcome::Other
+// Checks that two readers of `len` bytes return the same number, or that both refuse them.
+fn check_same<N: PartialEq + Debug + Drop>(
+    rt: &impl Abort,
+    one: Result<(N, usize)>,
+    other: Result<(N, usize)>,
+    len: usize,
+) {
+    match one {
+        Ok(read) => check_value(rt, other, read),
+        Err(error) => {
+            check_refusal::<N>(rt, Err(error), len);
+            check_refusal(rt, other, len);
+        }
+    }
+}
+
+// Checks that the readers by loads and those byte by byte return the same for a source.
+fn check_readers(rt: &impl Abort, source: &[u8]) {
+    let by_loads = uleb_loads(&mut Loads::new(source));
+    check_same(rt, by_loads, plain_uleb(source), source.len());
+    let by_loads = sleb_loads(&mut Loads::new(source));
+    check_same(rt, by_loads, plain_sleb(source), source.len());
 }
 
 #[test]
 fn readers_agree(rt: HostRuntime) {
     for count in 0..12 {
-        for last in [0x00, 0x01, 0x3f, 0x40, 0x7e, 0x7f] {
+        for last in &[0x00, 0x01, 0x3f, 0x40, 0x7e, 0x7f] {
             let mut bytes = [0xffu8; 19];
-            for byte in bytes[..count].iter_mut() {
-                *byte = 0x80;
-            }
-            bytes[count] = last;
-            assert!(rt; readers_agree_on(&bytes[..count]));
-            assert!(rt; readers_agree_on(&bytes[..count + 1]));
-            assert!(rt; readers_agree_on(&bytes[..count + 8]));
+            bytes[..count].fill(0x80);
+            bytes[count] = *last;
+            check_readers(&rt, &bytes[..count]);
+            check_readers(&rt, &bytes[..count + 1]);
+            check_readers(&rt, &bytes[..count + 8]);
         }
     }
 }

@@ -5,59 +5,51 @@ ghost use Rattle.scroll.specs.declared.endian.Endian.TheVariants.{Big};
 
 use crate::ctx::{FromCtx, IntoCtx, SizeWith, TryFromCtx, TryIntoCtx};
 use crate::tests::results::{check_eq, check_too_big, check_value};
-use crate::{BE, Cread, Cwrite, Endian, LE, Pread, Pwrite, Result};
+use crate::{BE, Cread, Cwrite, Endian, Error, LE, Pread, Pwrite, Result};
+use std::fmt::Debug;
+use std::process::Abort;
 
-// Writes a number in each order into zeros, and reads it back.
-macro_rules! check_roundtrip {
-    ($rt:ident, $number:ty, $value:expr, $size:expr) => {
-        for order in [LE, BE] {
-            let mut bytes = [0u8; 8];
-            let mut target = &mut bytes[..];
-            let value: $number = $value;
-            let wrote: Result<usize> = target.pwrite_with(value, 0, order);
-            check_value(&$rt, wrote, $size);
-            let read: Result<$number> = bytes[..].pread_with(0, order);
-            check_value(&$rt, read, $value);
-        }
-    };
+// Writes a number, and reads it back.
+fn check_roundtrip<'a, N>(
+    rt: &impl Abort,
+    bytes: &'a mut [u8; 8],
+    order: Endian,
+    value: N,
+    size: usize,
+)
+where
+    N: Copy
+        + PartialEq
+        + Debug
+        + TryIntoCtx<Endian, Error = Error>
+        + TryFromCtx<'a, Endian, Error = Error>,
+{
+    let mut target = &mut bytes[..];
+    check_value(rt, target.pwrite_with(value, 0, order), size);
+    check_pread(rt, bytes, order, value);
+}
+
+// Checks that a read at the start of a source returns this number.
+fn check_pread<'a, N: TryFromCtx<'a, Endian, Error = Error> + PartialEq + Debug + Drop>(
+    rt: &impl Abort,
+    source: &'a [u8],
+    order: Endian,
+    wanted: N,
+) {
+    check_value(rt, source.pread_with(0, order), wanted);
 }
 
 #[test]
-fn pwrite_and_pread_roundtrip_u16(rt: HostRuntime) {
-    check_roundtrip!(rt, u16, 0xbeef, 2);
-}
-
-#[test]
-fn pwrite_and_pread_roundtrip_i16(rt: HostRuntime) {
-    check_roundtrip!(rt, i16, 0x7eef, 2);
-}
-
-#[test]
-fn pwrite_and_pread_roundtrip_u32(rt: HostRuntime) {
-    check_roundtrip!(rt, u32, 0xbeefbeef, 4);
-}
-
-#[test]
-fn pwrite_and_pread_roundtrip_i32(rt: HostRuntime) {
-    check_roundtrip!(rt, i32, 0x7eefbeef, 4);
-}
-
-#[test]
-fn pwrite_and_pread_roundtrip_u64(rt: HostRuntime) {
-    check_roundtrip!(rt, u64, 0xbeefbeef7eef7eef, 8);
-}
-
-#[test]
-fn pwrite_and_pread_roundtrip_i64(rt: HostRuntime) {
-    check_roundtrip!(rt, i64, 0x7eefbeef7eef7eef, 8);
-}
-
-#[test]
-fn pread_with_be(rt: HostRuntime) {
-    let bytes: [u8; 2] = [0x7e, 0xef];
-    check_value(&rt, bytes[..].pread_with::<u16>(0, BE), 0x7eef);
-    let bytes: [u8; 2] = [0xde, 0xad];
-    check_value(&rt, bytes[..].pread_with::<u16>(0, BE), 0xdead);
+fn pwrite_and_pread_roundtrip(rt: HostRuntime) {
+    let mut bytes = [0; 8];
+    for order in [LE, BE] {
+        check_roundtrip(&rt, &mut bytes, order, 0xbeefu16, 2);
+        check_roundtrip(&rt, &mut bytes, order, 0x7eefi16, 2);
+        check_roundtrip(&rt, &mut bytes, order, 0xbeefbeefu32, 4);
+        check_roundtrip(&rt, &mut bytes, order, 0x7eefbeefi32, 4);
+        check_roundtrip(&rt, &mut bytes, order, 0xbeefbeef7eef7eefu64, 8);
+        check_roundtrip(&rt, &mut bytes, order, 0x7eefbeef7eef7eefi64, 8);
+    }
 }
 
 #[test]
@@ -92,18 +84,23 @@ fn test_measurable(rt: HostRuntime) {
 }
 
 #[test]
-fn signed_numbers(rt: HostRuntime) {
+fn numbers_are_read(rt: HostRuntime) {
+    check_pread(&rt, &[0x7e, 0xef], BE, 0x7eefu16);
+    check_pread(&rt, &[0xde, 0xad], BE, 0xdeadu16);
     let bytes: [u8; 4] = [0x80, 0, 0xff, 0xff];
-    let source = &bytes[..];
-    check_value(&rt, source.pread_with::<i8>(0, LE), -128);
-    check_value(&rt, source.pread_with::<i16>(0, BE), -32768);
-    check_value(&rt, source.pread_with::<i16>(0, LE), 128);
-    check_value(&rt, source.pread_with::<i32>(0, LE), -65408);
-    let short: Result<i64> = source.pread_with(0, LE);
+    check_pread(&rt, &bytes, LE, -128i8);
+    check_pread(&rt, &bytes, BE, -32768i16);
+    check_pread(&rt, &bytes, LE, 128i16);
+    check_pread(&rt, &bytes, LE, -65408i32);
+    let ones = [0xffu8; 16];
+    check_pread(&rt, &ones, BE, u128::MAX);
+    check_pread(&rt, &ones, LE, -1i128);
+    let short: Result<i64> = bytes.pread_with(0, LE);
     check_too_big(&rt, short, 8, 4);
-    let wide = [0xffu8; 16];
-    check_value(&rt, wide[..].pread_with::<u128>(0, BE), u128::MAX);
-    check_value(&rt, wide[..].pread_with::<i128>(0, LE), -1);
+}
+
+#[test]
+fn numbers_are_written(rt: HostRuntime) {
     let mut out = [0u8; 16];
     let mut target = &mut out[..];
     check_value(&rt, target.pwrite_with(i128::MIN, 0, BE), 16);
@@ -123,33 +120,30 @@ fn references_write_as_their_numbers(rt: HostRuntime) {
     check_value(&rt, target.pwrite_with(&258u16, 0, BE), 2);
     check_eq(&rt, bytes, [1, 2]);
     (&-2i16).into_ctx(&mut bytes, LE);
-    check_eq(&rt, bytes, [0xfe, 0xff]);
     let short = (&1u128).try_into_ctx(&mut bytes, LE);
     check_too_big(&rt, short, 16, 2);
+    check_eq(&rt, bytes, [0xfe, 0xff]);
 }
 
 #[test]
 fn with_room_made_sure_of(rt: HostRuntime) {
     let bytes: [u8; 12] = [1, 0, 0, 0, 0, 0, 0, 0, 0xef, 0xbe, 0, 0];
-    let source = &bytes[..];
-    check_eq(&rt, source.cread::<i64>(0), 1);
-    check_eq(&rt, source.cread::<u32>(8), 48879);
+    let read: (i64, u32) = (bytes.cread(0), bytes.cread(8));
+    check_eq(&rt, read, (1, 48879));
     let bytes: [u8; 12] = [
         0x7f, 255, 255, 255, 255, 255, 255, 255, 0xef, 0xbe, 0xad, 0xde,
     ];
-    let source = &bytes[..];
-    check_eq(&rt, source.cread_with::<i64>(0, BE), 9223372036854775807);
-    check_eq(&rt, source.cread_with::<u32>(8, LE), 3735928559);
+    let read: (i64, u32) = (bytes.cread_with(0, BE), bytes.cread_with(8, LE));
+    check_eq(&rt, read, (9223372036854775807, 3735928559));
     let mut out = [0u8; 16];
     let mut target = &mut out[..];
     target.cwrite_with(0xdeadbeefu32, 8, BE);
-    assert!(rt; out[..].cread_with::<u32>(8, LE) == 4022250974);
-    let mut out = [0u8; 12];
-    let mut target = &mut out[..];
+    check_eq(&rt, out.cread_with::<u32>(8, LE), 4022250974);
+    let mut target = &mut out[..12];
     target.cwrite(42i64, 0);
     target.cwrite(&0xdeadbeefu32, 8);
-    assert!(rt; out[..].cread::<i64>(0) == 42);
-    assert!(rt; out[..].cread::<u32>(8) == 0xdeadbeef);
+    let read: (i64, u32) = (out.cread(0), out.cread(8));
+    check_eq(&rt, read, (42, 0xdeadbeef));
 }
 
 // Returns the value after the first one of its type, big-endian.

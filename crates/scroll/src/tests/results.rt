@@ -1,6 +1,7 @@
 // What a test expects of a call's result. A `match` in each test would have a step in the proof for each part of the result
 // and each drop; a call of these is one step, and is proved in a quarter of the time.
-use crate::{Error, Result};
+use crate::ctx::{TryFromCtx, TryIntoCtx};
+use crate::{BE, Endian, Error, LE, Pread, Pwrite, Result};
 use std::fmt::Debug;
 use std::process::Abort;
 use std::result;
@@ -68,20 +69,33 @@ pub fn check_eq<T: PartialEq + Debug + Drop>(rt: &impl Abort, value: T, wanted: 
     assert!(rt; value == wanted, "expected {wanted:?}, got {value:?}");
 }
 
-// Writes a number in one order and, after it, in the other, and reads both back.
-macro_rules! check_gread_gwrite {
-    ($rt:ident, $value:ident, $size:expr) => {
-        let mut bytes = [0u8; 16];
-        let mut target = &mut bytes[..];
-        let mut offset = 0;
-        check_value(&$rt, target.gwrite_with($value, &mut offset, LE), $size);
-        check_value(&$rt, target.gwrite_with($value, &mut offset, BE), $size);
-        check_eq(&$rt, offset, 2 * $size);
-        let mut offset = 0;
-        check_value(&$rt, bytes[..].gread_with(&mut offset, LE), $value);
-        check_value(&$rt, bytes[..].gread_with(&mut offset, BE), $value);
-        check_eq(&$rt, offset, 2 * $size);
-    };
+// Checks that a read at the cursor `offset` returns this number, and where the cursor is then.
+pub fn check_gread<'a, N: TryFromCtx<'a, Endian, Error = Error> + PartialEq + Debug + Drop>(
+    rt: &impl Abort,
+    source: &'a [u8],
+    (mut offset, order): (usize, Endian),
+    wanted: N,
+    end: usize,
+) {
+    check_value(rt, source.gread_with(&mut offset, order), wanted);
+    check_eq(rt, offset, end);
 }
 
-pub(crate) use check_gread_gwrite;
+// Writes a number in one order and, after it, in the other, and reads both back.
+pub fn check_gread_gwrite<'a, N>(rt: &impl Abort, bytes: &'a mut [u8; 16], value: N, size: u8)
+where
+    N: Copy
+        + PartialEq
+        + Debug
+        + TryIntoCtx<Endian, Error = Error>
+        + TryFromCtx<'a, Endian, Error = Error>,
+{
+    let size = usize::from(size);
+    let mut target = &mut bytes[..];
+    let mut offset = 0;
+    check_value(rt, target.gwrite_with(value, &mut offset, LE), size);
+    check_value(rt, target.gwrite_with(value, &mut offset, BE), size);
+    check_eq(rt, offset, 2 * size);
+    check_gread(rt, bytes, (0, LE), value, size);
+    check_gread(rt, bytes, (size, BE), value, 2 * size);
+}
