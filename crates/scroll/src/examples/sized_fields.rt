@@ -12,24 +12,25 @@ ghost use Rattle.scroll.specs.declared.examples.sized_fields.DataError.TheVarian
 ghost use Rattle.scroll.specs.declared.examples.sized_fields.FieldSize.TheVariants.{U32, U64};
 
 use crate::ctx::{StrCtx, TryFromCtx};
-use crate::tests::results::check_too_big;
+use crate::tests::results::{check_eq, check_too_big, check_value};
 use crate::{BE, Endian, Error, Pread, Result};
+use std::process::Abort;
 use std::result;
 
 // How wide the fields are.
-#[derive(Clone, Copy, Debug)]
+#[derive(Clone, Copy)]
 enum FieldSize {
     U32,
     U64,
 }
 
-#[derive(Clone, Copy, Debug)]
+#[derive(Clone, Copy)]
 struct Context {
     fieldsize: FieldSize,
     endianess: Endian,
 }
 
-#[derive(Clone, Copy, Debug)]
+#[derive(Clone, Copy, Debug, PartialEq, Eq)]
 struct Data<'b> {
     field_a: u64,
     field_b: u64,
@@ -162,50 +163,44 @@ const NARROW: &[u8; 26] =
 const WIDE: &[u8; 38] =
     b"\0\0\0\0\x00\x02\x03\x04\0\0\0\0\x01\x02\x03\x04\0\0\0\0\xde\xad\xbe\xef\x00\x08UserName\x00\x02\xca\xfe";
 
-// Returns whether the fields, the name and the value of these bytes were read.
-fn is_data(read: result::Result<Data, DataError>) -> bool {
+const DATA: Data = Data {
+    field_a: 0x00020304,
+    field_b: 0x01020304,
+    field_c: 0xdeadbeef,
+    name: "UserName",
+    value: b"\xca\xfe",
+};
+
+// Returns whether the fields ascend, or the library's error.
+fn ascends(read: result::Result<Data, DataError>) -> Result<bool> {
     match read {
-        Ok(data) => {
-            let fields = [data.field_a, data.field_b, data.field_c];
-            fields == [0x00020304, 0x01020304, 0xdeadbeef]
-                && data.name == "UserName"
-                && data.value == [0xca, 0xfe].as_slice()
-        }
-        Err(_) => false,
+        Ok(_) => Ok(true),
+        Err(DataError::BadFieldMatchup) => Ok(false),
+        Err(DataError::Scroll(error)) => Err(error),
     }
 }
 
-// Returns the library's error of a read that failed with one.
-fn scroll_error(read: result::Result<Data, DataError>) -> Result<()> {
-    match read {
-        Err(DataError::Scroll(error)) => Err(error),
-        _ => Ok(()),
-    }
+// Checks that all of these bytes are read as `DATA`.
+fn check_data(rt: &impl Abort, bytes: &[u8], fieldsize: FieldSize) {
+    let ctx = Context {
+        fieldsize,
+        endianess: BE,
+    };
+    check_value(rt, bytes.pread_with(0, ctx), DATA);
+    let offset = &mut 0;
+    check_value(rt, bytes.gread_with(offset, ctx), DATA);
+    check_eq(rt, *offset, bytes.len());
 }
 
 #[test]
 fn by_fields_of_either_width(rt: HostRuntime) {
-    for (fieldsize, bytes) in [
-        (FieldSize::U32, NARROW.as_slice()),
-        (FieldSize::U64, WIDE.as_slice()),
-    ] {
-        let ctx = Context {
-            fieldsize,
-            endianess: BE,
-        };
-        let read: result::Result<Data, DataError> = bytes.pread_with(0, ctx);
-        assert!(rt; is_data(read));
-        let offset = &mut 0;
-        let read: result::Result<Data, DataError> = bytes.gread_with(offset, ctx);
-        assert!(rt; read.is_ok());
-        assert!(rt; *offset == bytes.len());
-    }
+    check_data(&rt, NARROW, FieldSize::U32);
+    check_data(&rt, WIDE, FieldSize::U64);
     let ctx = Context {
         fieldsize: FieldSize::U64,
         endianess: BE,
     };
-    let long: result::Result<Data, DataError> = NARROW[..].pread_with(0, ctx);
-    check_too_big(&rt, scroll_error(long), 51966, 0);
+    check_too_big(&rt, ascends(NARROW[..].pread_with(0, ctx)), 51966, 0);
 }
 
 #[test]
@@ -214,8 +209,8 @@ fn cut_or_out_of_order(rt: HostRuntime) {
         fieldsize: FieldSize::U32,
         endianess: BE,
     };
-    for (cut, wanted, left) in [
-        (0, 4, 0),
+    for (cut, wanted, left) in &[
+        (0usize, 4usize, 0usize),
         (7, 4, 3),
         (11, 4, 3),
         (13, 2, 1),
@@ -223,17 +218,15 @@ fn cut_or_out_of_order(rt: HostRuntime) {
         (22, 2, 0),
         (25, 2, 1),
     ] {
-        let read: result::Result<Data, DataError> = NARROW[..cut].pread_with(0, ctx);
-        check_too_big(&rt, scroll_error(read), wanted, left);
+        let read = NARROW[..*cut].pread_with(0, ctx);
+        check_too_big(&rt, ascends(read), *wanted, *left);
     }
-    for bytes in [
+    for bytes in &[
         b"\0\0\0\x02\0\0\0\x02\0\0\0\x03\0\0\0\0",
         b"\0\0\0\x01\0\0\0\x02\0\0\0\x02\0\0\0\0",
         b"\0\0\0\x03\0\0\0\x02\0\0\0\x01\0\0\0\0",
     ] {
-        let read: result::Result<Data, DataError> = bytes[..].pread_with(0, ctx);
-        assert!(rt; matches!(&read, Err(DataError::BadFieldMatchup)));
-        let cut: result::Result<Data, DataError> = bytes[..15].pread_with(0, ctx);
-        check_too_big(&rt, scroll_error(cut), 2, 1);
+        check_value(&rt, ascends(bytes[..].pread_with(0, ctx)), false);
+        check_too_big(&rt, ascends(bytes[..15].pread_with(0, ctx)), 2, 1);
     }
 }
