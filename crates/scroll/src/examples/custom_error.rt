@@ -8,7 +8,7 @@ ghost use Rattle.scroll.specs.Numbers.{ReadsNumber, WritesNumber};
 ghost use Rattle.scroll.specs.declared.error.Error.TheVariants.{NoMemory};
 
 use crate::ctx::{TryFromCtx, TryIntoCtx};
-use crate::tests::results::check_value;
+use crate::tests::results::{check_eq, check_value};
 use crate::{BE, Endian, Error, LE, Pread, Pwrite, Result};
 use std::alloc::Global;
 use std::process::Abort;
@@ -67,10 +67,7 @@ impl<'g> TryIntoCtx<(Endian, &'g Global)> for Foo {
 fn check_whatever<T: Drop>(rt: &impl Abort, outcome: Result<T>) -> Result<()> {
     match outcome {
         Err(Error::Custom(text)) => {
-            assert!(rt;
-                text.as_str() == "whatever",
-                "expected the text whatever, got {text}"
-            );
+            check_eq(rt, text.as_str(), "whatever");
             Ok(())
         }
         Err(error) => Err(error),

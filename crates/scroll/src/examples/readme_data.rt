@@ -76,9 +76,10 @@ fn three_numbers(rt: HostRuntime) {
 
 #[test]
 fn written_back(rt: HostRuntime) {
+    let rt = &rt;
     let mut out = [0u8; 7];
     let mut target = &mut out[..];
-    check_value(&rt, target.pwrite_with(DATA, 0, BE), 7);
+    check_value(rt, target.pwrite_with(DATA, 0, BE), 7);
     assert!(rt; out == BYTES);
     for (len, size, left, wanted) in &[
         (0usize, 4usize, 0usize, [0u8, 0, 0, 0, 0, 0, 0]),
@@ -88,7 +89,7 @@ fn written_back(rt: HostRuntime) {
     ] {
         let mut out = [0u8; 7];
         let mut target = &mut out[..*len];
-        check_too_big(&rt, target.pwrite_with(DATA, 0, BE), *size, *left);
+        check_too_big(rt, target.pwrite_with(DATA, 0, BE), *size, *left);
         assert!(rt; out == *wanted);
     }
 }

@@ -54,6 +54,19 @@ impl From<Error> for DataError {
     }
 }
 
+// Reads the field at an offset.
+fn read_field(from: &[u8], offset: &mut usize, ctx: Context) -> Result<u64>
+    requires { offset.old ≤ length from.now }
+    ensures read { IfOk result (λ x. let w : ℕ = elim ctx.fieldsize [ U32 ↦ 4 | U64 ↦ 8 ] in
+        (offset.old + w ≤ length from.now) × (x ≡ number ctx.endianess w (drop offset.old from.now)) × (offset.new ≡ offset.old + w)) }
+    ensures refused { IfErr result (RefusesShort (elim ctx.fieldsize [ U32 ↦ 4 | U64 ↦ 8 ]) (drop offset.old from.now)) }
+{
+    match ctx.fieldsize {
+        FieldSize::U32 => from.gread_with::<u32>(offset, ctx.endianess).map(u64::from),
+        FieldSize::U64 => from.gread_with(offset, ctx.endianess),
+    }
+}
+
 // Reads the three fields at the start of a source, and returns them with their size in bytes.
 fn read_fields(from: &[u8], ctx: Context) -> Result<([u64; 3], usize)>
     ensures room { IfOk result (λ x. let w : ℕ = elim ctx.fieldsize [ U32 ↦ 4 | U64 ↦ 8 ] in (3 * w ≤ length from.now) × (x.1 ≡ 3 * w)) }
@@ -64,20 +77,10 @@ fn read_fields(from: &[u8], ctx: Context) -> Result<([u64; 3], usize)>
         ⊎ ((2 * w ≤ length from.now) × RefusesShort w (drop (2 * w) from.now) e))) }
 {
     let mut offset = 0;
-    match ctx.fieldsize {
-        FieldSize::U32 => {
-            let a: u32 = from.gread_with(&mut offset, ctx.endianess)?;
-            let b: u32 = from.gread_with(&mut offset, ctx.endianess)?;
-            let c: u32 = from.gread_with(&mut offset, ctx.endianess)?;
-            Ok(([a as u64, b as u64, c as u64], offset))
-        }
-        FieldSize::U64 => {
-            let a = from.gread_with(&mut offset, ctx.endianess)?;
-            let b = from.gread_with(&mut offset, ctx.endianess)?;
-            let c = from.gread_with(&mut offset, ctx.endianess)?;
-            Ok(([a, b, c], offset))
-        }
-    }
+    let a = read_field(from, &mut offset, ctx)?;
+    let b = read_field(from, &mut offset, ctx)?;
+    let c = read_field(from, &mut offset, ctx)?;
+    Ok(([a, b, c], offset))
 }
 
 // Reads the name at an offset, after its length.
@@ -157,6 +160,16 @@ impl<'b> TryFromCtx<'b, Context> for Data<'b> {
     }
 }
 
+const NARROW_FIELDS: Context = Context {
+    fieldsize: FieldSize::U32,
+    endianess: BE,
+};
+
+const WIDE_FIELDS: Context = Context {
+    fieldsize: FieldSize::U64,
+    endianess: BE,
+};
+
 const NARROW: &[u8; 26] =
     b"\x00\x02\x03\x04\x01\x02\x03\x04\xde\xad\xbe\xef\x00\x08UserName\x00\x02\xca\xfe";
 
@@ -181,11 +194,7 @@ fn ascends(read: result::Result<Data, DataError>) -> Result<bool> {
 }
 
 // Checks that all of these bytes are read as `DATA`.
-fn check_data(rt: &impl Abort, bytes: &[u8], fieldsize: FieldSize) {
-    let ctx = Context {
-        fieldsize,
-        endianess: BE,
-    };
+fn check_data(rt: &impl Abort, bytes: &[u8], ctx: Context) {
     check_value(rt, bytes.pread_with(0, ctx), DATA);
     let offset = &mut 0;
     check_value(rt, bytes.gread_with(offset, ctx), DATA);
@@ -194,21 +203,15 @@ fn check_data(rt: &impl Abort, bytes: &[u8], fieldsize: FieldSize) {
 
 #[test]
 fn by_fields_of_either_width(rt: HostRuntime) {
-    check_data(&rt, NARROW, FieldSize::U32);
-    check_data(&rt, WIDE, FieldSize::U64);
-    let ctx = Context {
-        fieldsize: FieldSize::U64,
-        endianess: BE,
-    };
-    check_too_big(&rt, ascends(NARROW[..].pread_with(0, ctx)), 51966, 0);
+    check_data(&rt, NARROW, NARROW_FIELDS);
+    check_data(&rt, WIDE, WIDE_FIELDS);
+    let long = NARROW[..].pread_with(0, WIDE_FIELDS);
+    check_too_big(&rt, ascends(long), 51966, 0);
 }
 
 #[test]
 fn cut_or_out_of_order(rt: HostRuntime) {
-    let ctx = Context {
-        fieldsize: FieldSize::U32,
-        endianess: BE,
-    };
+    let rt = &rt;
     for (cut, wanted, left) in &[
         (0usize, 4usize, 0usize),
         (7, 4, 3),
@@ -218,15 +221,17 @@ fn cut_or_out_of_order(rt: HostRuntime) {
         (22, 2, 0),
         (25, 2, 1),
     ] {
-        let read = NARROW[..*cut].pread_with(0, ctx);
-        check_too_big(&rt, ascends(read), *wanted, *left);
+        let read = NARROW[..*cut].pread_with(0, NARROW_FIELDS);
+        check_too_big(rt, ascends(read), *wanted, *left);
     }
     for bytes in &[
         b"\0\0\0\x02\0\0\0\x02\0\0\0\x03\0\0\0\0",
         b"\0\0\0\x01\0\0\0\x02\0\0\0\x02\0\0\0\0",
         b"\0\0\0\x03\0\0\0\x02\0\0\0\x01\0\0\0\0",
     ] {
-        check_value(&rt, ascends(bytes[..].pread_with(0, ctx)), false);
-        check_too_big(&rt, ascends(bytes[..15].pread_with(0, ctx)), 2, 1);
+        let read = bytes[..].pread_with(0, NARROW_FIELDS);
+        check_value(rt, ascends(read), false);
+        let cut = bytes[..15].pread_with(0, NARROW_FIELDS);
+        check_too_big(rt, ascends(cut), 2, 1);
     }
 }
