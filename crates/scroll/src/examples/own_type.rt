@@ -112,8 +112,6 @@ fn unless_zero<T>(outcome: Result<T, VersionError>) -> Result<Option<T>, Error> 
     }
 }
 
-const BYTES: &[u8] = &[0, 3, 14, 0];
-
 const VERSION: Version = Version {
     major: 3,
     minor: 14,
@@ -121,45 +119,41 @@ const VERSION: Version = Version {
 
 #[test]
 fn a_type_of_ones_own(rt: HostRuntime) {
-    let rt = &rt;
-    check_value(rt, BYTES.pread_with(1, ()), VERSION);
-    let zero = BYTES.pread_with::<Version>(0, ());
-    check_value(rt, unless_zero(zero), None);
-    let cut = BYTES.pread_with::<Version>(3, ());
-    check_too_big(rt, unless_zero(cut), 2, 1);
-    let past = BYTES.pread_with::<Version>(5, ());
-    check_bad_offset(rt, unless_zero(past), 5);
+    let source: &[u8] = &[0, 3, 14, 0];
+    check_value(&rt, source.pread_with(1, ()), VERSION);
+    let zero = source.pread_with::<Version>(0, ());
+    check_value(&rt, unless_zero(zero), None);
+    let cut = source.pread_with::<Version>(3, ());
+    check_too_big(&rt, unless_zero(cut), 2, 1);
+    let past = source.pread_with::<Version>(5, ());
+    check_bad_offset(&rt, unless_zero(past), 5);
     let mut out = [9u8; 4];
     let mut target = &mut out[..];
     let version = Version { major: 1, minor: 2 };
-    check_value(rt, target.pwrite_with(version, 1, ()), 2);
+    check_value(&rt, target.pwrite_with(version, 1, ()), 2);
     let past = target.pwrite_with(version, 5, ());
-    check_bad_offset(rt, unless_zero(past), 5);
+    check_bad_offset(&rt, unless_zero(past), 5);
     assert!(rt; out == [9, 1, 2, 9]);
 }
 
 #[test]
-fn copied_by_the_bounds(rt: HostRuntime) {
-    let rt = &rt;
+fn through_the_bounds(rt: HostRuntime) {
+    let source: &[u8] = &[0, 3, 14, 0];
     let mut out = [9u8; 4];
-    let own = copy_value::<(), VersionError, Version>(BYTES, &mut out, ());
-    check_value(rt, own, 2);
+    let own = copy_value::<(), VersionError, Version>(source, &mut out, ());
+    check_value(&rt, own, 2);
     assert!(rt; out == [9, 9, 3, 14]);
-    let number = copy_value::<Endian, Error, u16>(BYTES, &mut out, BE);
-    check_value(rt, number, 2);
+    let number = copy_value::<Endian, Error, u16>(source, &mut out, BE);
+    check_value(&rt, number, 2);
     assert!(rt; out == [9, 9, 3, 14]);
-    let cut = copy_value::<Endian, Error, u32>(BYTES, &mut out, LE);
-    check_too_big(rt, cut, 4, 3);
-}
-
-#[test]
-fn at_the_start_by_the_bounds(rt: HostRuntime) {
-    let rt = &rt;
-    check_value::<u8, Error>(rt, at_the_start(&BYTES[2..], BE), 14);
-    check_value(rt, at_the_start(&BYTES[1..], ()), VERSION);
-    let mut out = [9u8, 9, 3, 14];
+    let cut = copy_value::<Endian, Error, u32>(source, &mut out, LE);
+    check_too_big(&rt, cut, 4, 3);
+    let source: &[u8] = &[14, 0];
+    check_value::<u8, Error>(&rt, at_the_start(source, BE), 14);
+    let source: &[u8] = &[3, 14, 0];
+    check_value(&rt, at_the_start(source, ()), VERSION);
     let mut target = &mut out[..];
     let version = Version { major: 7, minor: 8 };
-    check_value(rt, to_the_start(&mut target, version, ()), 2);
+    check_value(&rt, to_the_start(&mut target, version, ()), 2);
     assert!(rt; out == [7, 8, 3, 14]);
 }

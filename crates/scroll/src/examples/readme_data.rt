@@ -69,17 +69,17 @@ const DATA: Data = Data {
 
 #[test]
 fn three_numbers(rt: HostRuntime) {
-    check_value(&rt, BYTES[..].pread_with(0, BE), DATA);
-    let cut: Result<Data> = BYTES[..].pread_with(1, BE);
+    let source: &[u8] = &BYTES;
+    check_value(&rt, source.pread_with(0, BE), DATA);
+    let cut: Result<Data> = source.pread_with(1, BE);
     check_too_big(&rt, cut, 1, 0);
 }
 
 #[test]
 fn written_back(rt: HostRuntime) {
-    let rt = &rt;
     let mut out = [0u8; 7];
     let mut target = &mut out[..];
-    check_value(rt, target.pwrite_with(DATA, 0, BE), 7);
+    check_value(&rt, target.pwrite_with(DATA, 0, BE), 7);
     assert!(rt; out == BYTES);
     for (len, size, left, wanted) in &[
         (0usize, 4usize, 0usize, [0u8, 0, 0, 0, 0, 0, 0]),
@@ -89,7 +89,7 @@ fn written_back(rt: HostRuntime) {
     ] {
         let mut out = [0u8; 7];
         let mut target = &mut out[..*len];
-        check_too_big(rt, target.pwrite_with(DATA, 0, BE), *size, *left);
+        check_too_big(&rt, target.pwrite_with(DATA, 0, BE), *size, *left);
         assert!(rt; out == *wanted);
     }
 }

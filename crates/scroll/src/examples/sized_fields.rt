@@ -14,7 +14,6 @@ ghost use Rattle.scroll.specs.declared.examples.sized_fields.FieldSize.TheVarian
 use crate::ctx::{StrCtx, TryFromCtx};
 use crate::tests::results::{check_eq, check_too_big, check_value};
 use crate::{BE, Endian, Error, Pread, Result};
-use std::process::Abort;
 use std::result;
 
 // How wide the fields are.
@@ -193,25 +192,24 @@ fn ascends(read: result::Result<Data, DataError>) -> Result<bool> {
     }
 }
 
-// Checks that all of these bytes are read as `DATA`.
-fn check_data(rt: &impl Abort, bytes: &[u8], ctx: Context) {
-    check_value(rt, bytes.pread_with(0, ctx), DATA);
-    let offset = &mut 0;
-    check_value(rt, bytes.gread_with(offset, ctx), DATA);
-    check_eq(rt, *offset, bytes.len());
-}
-
 #[test]
 fn by_fields_of_either_width(rt: HostRuntime) {
-    check_data(&rt, NARROW, NARROW_FIELDS);
-    check_data(&rt, WIDE, WIDE_FIELDS);
+    for (bytes, ctx) in &[
+        (NARROW.as_slice(), NARROW_FIELDS),
+        (WIDE.as_slice(), WIDE_FIELDS),
+    ] {
+        check_value(&rt, bytes.pread_with(0, *ctx), DATA);
+        let offset = &mut 0;
+        check_value(&rt, bytes.gread_with(offset, *ctx), DATA);
+        check_eq(&rt, *offset, bytes.len());
+    }
     let long = NARROW[..].pread_with(0, WIDE_FIELDS);
     check_too_big(&rt, ascends(long), 51966, 0);
 }
 
 #[test]
 fn cut_or_out_of_order(rt: HostRuntime) {
-    let rt = &rt;
+    let ctx = NARROW_FIELDS;
     for (cut, wanted, left) in &[
         (0usize, 4usize, 0usize),
         (7, 4, 3),
@@ -221,17 +219,17 @@ fn cut_or_out_of_order(rt: HostRuntime) {
         (22, 2, 0),
         (25, 2, 1),
     ] {
-        let read = NARROW[..*cut].pread_with(0, NARROW_FIELDS);
-        check_too_big(rt, ascends(read), *wanted, *left);
+        let read = NARROW[..*cut].pread_with(0, ctx);
+        check_too_big(&rt, ascends(read), *wanted, *left);
     }
     for bytes in &[
         b"\0\0\0\x02\0\0\0\x02\0\0\0\x03\0\0\0\0",
         b"\0\0\0\x01\0\0\0\x02\0\0\0\x02\0\0\0\0",
         b"\0\0\0\x03\0\0\0\x02\0\0\0\x01\0\0\0\0",
     ] {
-        let read = bytes[..].pread_with(0, NARROW_FIELDS);
-        check_value(rt, ascends(read), false);
-        let cut = bytes[..15].pread_with(0, NARROW_FIELDS);
-        check_too_big(rt, ascends(cut), 2, 1);
+        let read = bytes[..].pread_with(0, ctx);
+        check_value(&rt, ascends(read), false);
+        let cut = bytes[..15].pread_with(0, ctx);
+        check_too_big(&rt, ascends(cut), 2, 1);
     }
 }

@@ -79,26 +79,25 @@ const BIG: Foo = Foo {
 
 #[test]
 fn read_one_after_the_other_and_at_once(rt: HostRuntime) {
-    let rt = &rt;
     let mut source = &BYTES[..];
-    check_value(rt, source.ioread_with::<i64>(LE), 2827);
-    check_value(rt, source.ioread_with::<u32>(LE), 48879);
+    check_value(&rt, source.ioread_with::<i64>(LE), 2827);
+    check_value(&rt, source.ioread_with::<u32>(LE), 48879);
     assert!(rt; source.ioread_with::<u64>(LE).is_err());
-    source = &BYTES;
-    check_value(rt, read_foo(&mut source, LE), LITTLE);
+    let mut source = &BYTES[..];
+    check_value(&rt, read_foo(&mut source, LE), LITTLE);
     assert!(rt; source.is_empty());
     assert!(rt; read_foo(&mut source, LE).is_err());
-    source = &BYTES;
-    check_value(rt, read_foo(&mut source, BE), BIG);
+    check_value(&rt, read_foo(&mut &BYTES[..], BE), BIG);
 }
 
 #[test]
 fn written_as_it_reads(rt: HostRuntime) -> io::Result<()> {
     let mut target = Vec::new(rt.alloc());
-    write_foo(&mut target, LITTLE, LE)?;
-    write_foo(&mut target, BIG, BE)?;
-    assert!(rt; &target[..12] == BYTES.as_slice());
-    assert!(rt; &target[12..] == BYTES.as_slice());
+    for (foo, order) in &[(LITTLE, LE), (BIG, BE)] {
+        target.clear();
+        write_foo(&mut target, *foo, *order)?;
+        assert!(rt; target.as_slice() == BYTES.as_slice());
+    }
     Ok(())
 }
 
@@ -108,5 +107,5 @@ fn written_where_it_fits(rt: HostRuntime) {
     let mut room = &mut bytes[..];
     check_value(&rt, room.iowrite_with(LITTLE, LE), ());
     assert!(rt; room.iowrite_with(LITTLE, LE).is_err());
-    assert!(rt; &bytes[..12] == BYTES.as_slice());
+    assert!(rt; bytes == [0x0b, 0x0b, 0, 0, 0, 0, 0, 0, 0xef, 0xbe, 0, 0, 0x0b]);
 }
