@@ -54,8 +54,7 @@ fn read_foo(source: &mut &[u8], order: Endian) -> io::Result<Foo>
     ensures bar { IfOk result (λ x. x.bar ≡ number order 4 (drop 8 (take 12 source.old.now))) }
     ensures rest { OnOk result (source.new.now ≡ drop 12 source.old.now) }
 {
-    let foo = source.ioread_with(order)?;
-    Ok(foo)
+    source.ioread_with(order)
 }
 
 // Appends the twelve bytes of a value.
