@@ -12,7 +12,7 @@ use crate::tests::results::check_value;
 use crate::{BE, Endian, Error, LE, Pread, Pwrite, Result};
 use std::alloc::Global;
 
-#[derive(Clone, Copy, Debug)]
+#[derive(Clone, Copy, Debug, PartialEq, Eq)]
 struct Foo(u16);
 
 // The error of the type, or `NoMemory` where its text can't be allocated.
@@ -62,28 +62,30 @@ impl<'g> TryIntoCtx<(Endian, &'g Global)> for Foo {
     }
 }
 
-// Returns the text of a call's error, or `None` where the call succeeded. Any other error, out of memory included, is
-// returned as an error and ends the test.
-fn text_of<T: Drop>(answer: Result<T>) -> Result<Option<String>> {
-    match answer {
-        Err(Error::Custom(text)) => Ok(Some(text)),
+// Returns an error unless a call failed with the text of the type: the call's own, such as `NoMemory`, if it had one.
+fn expect_whatever<T: Drop>(outcome: Result<T>) -> Result<()> {
+    match outcome {
+        Err(Error::Custom(text)) => {
+            if text.as_str() == "whatever" {
+                return Ok(());
+            }
+            Err(Error::Custom(text))
+        }
         Err(error) => Err(error),
-        Ok(_) => Ok(None),
+        Ok(_) => Err(Error::BadInput {
+            size: 0,
+            msg: "no error",
+        }),
     }
 }
 
 #[test]
 fn refused_with_its_own_text(rt: HostRuntime) -> Result<()> {
     let alloc = rt.alloc();
-    let little = (LE, &alloc);
-    let big = (BE, &alloc);
-    let bytes: [u8; 4] = [0xde, 0xad, 0, 0];
-    let source = &bytes[..];
-    assert!(rt; matches!(&source.pread_with::<Foo>(0, little), Ok(Foo(44510))));
-    assert!(rt; matches!(&source.pread_with::<Foo>(0, big), Ok(Foo(57005))));
-    let text = text_of(source.pread_with::<Foo>(3, little))?;
-    assert!(rt; matches!(&text, Some(text) if text.as_str() == "whatever"));
-    Ok(())
+    let source = &[0xde, 0xad, 0, 0][..];
+    check_value(&rt, source.pread_with(0, (LE, &alloc)), Foo(44510));
+    check_value(&rt, source.pread_with(0, (BE, &alloc)), Foo(57005));
+    expect_whatever(source.pread_with::<Foo>(3, (LE, &alloc)))
 }
 
 #[test]
@@ -93,8 +95,7 @@ fn written_and_refused(rt: HostRuntime) -> Result<()> {
     let mut out = [0u8; 4];
     let mut target = &mut out[..];
     check_value(&rt, target.pwrite_with(Foo(0x7f), 1, little), 2);
-    let text = text_of(target.pwrite_with(Foo(0x7f), 3, little))?;
-    assert!(rt; matches!(&text, Some(text) if text.as_str() == "whatever"));
+    let refused = target.pwrite_with(Foo(0x7f), 3, little);
     assert!(rt; out == [0, 0x7f, 0, 0]);
-    Ok(())
+    expect_whatever(refused)
 }

@@ -10,7 +10,7 @@ use crate::ctx::{FromCtx, IntoCtx, TryFromCtx, TryIntoCtx};
 use crate::{Cread, Endian, Error, Result, check_room, slice};
 
 /// The name of an object in a store: its kind, and a digest of its bytes.
-#[derive(Clone, Copy, Debug)]
+#[derive(Clone, Copy, Debug, PartialEq, Eq)]
 pub struct ObjectId {
     pub kind: u32,
     pub digest: [u8; 20],
@@ -81,20 +81,18 @@ impl TryIntoCtx<Endian> for ObjectId {
 fn ids_read_back(rt: HostRuntime) {
     use crate::tests::results::check_value;
     use crate::{BE, Pread};
-    let mut file = [0u8; 26];
-    for i in 0..26 {
-        file[i] = i as u8;
-    }
-    let read: Result<ObjectId> = file.pread_with(1, BE);
-    let Ok(id) = read else {
-        assert!(rt; false);
-        return;
+    const FILE: [u8; 26] = [
+        0xff, 1, 2, 3, 4, 5, 6, 7, 8, 9, 10, 11, 12, 13, 14, 15, 16, 17, 18, 19, 20, 21, 22, 23,
+        24, 0xff,
+    ];
+    let id = ObjectId {
+        kind: 0x01020304,
+        digest: [
+            5, 6, 7, 8, 9, 10, 11, 12, 13, 14, 15, 16, 17, 18, 19, 20, 21, 22, 23, 24,
+        ],
     };
-    assert!(rt; id.kind == 0x01020304);
-    assert!(rt; id.digest[0] == 5);
-    assert!(rt; id.digest[19] == 24);
+    check_value(&rt, FILE.pread_with(1, BE), id);
     let mut out = [0xffu8; 26];
     check_value(&rt, slice::pwrite_with(&mut out, id, 1, BE), 24);
-    assert!(rt; out[1..25] == file[1..25]);
-    assert!(rt; [out[0], out[25]] == [0xff, 0xff]);
+    assert!(rt; out == FILE);
 }

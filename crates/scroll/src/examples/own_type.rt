@@ -6,7 +6,7 @@ ghost use Rattle.scroll.specs.declared.error.Error.TheVariants.{TooBig, BadOffse
 ghost use Rattle.scroll.specs.declared.examples.own_type.VersionError.TheVariants.{Zero, Scroll};
 
 use crate::ctx::{TryFromCtx, TryIntoCtx};
-use crate::tests::results::{check_too_big, check_value};
+use crate::tests::results::{check_bad_offset, check_too_big, check_value};
 use crate::{BE, Endian, Error, LE, Pread, Pwrite, ReadFrom, check_room};
 use std::result::Result;
 
@@ -25,7 +25,7 @@ impl From<Error> for VersionError {
 }
 
 // A version: its major number, which isn't 0, and its minor number.
-#[derive(Clone, Copy, Debug)]
+#[derive(Clone, Copy, Debug, PartialEq, Eq)]
 struct Version {
     major: u8,
     minor: u8,
@@ -103,70 +103,57 @@ fn to_the_start<Ctx: Copy, E, T: Pwrite<Ctx, E>, N: TryIntoCtx<Ctx, Error = E> +
     target.pwrite_with(n, 0, ctx)
 }
 
-// Returns whether a version was read, with these numbers.
-fn is_version(read: Result<Version, VersionError>, major: u8, minor: u8) -> bool {
-    matches!(&read, Ok(version) if version.major == major && version.minor == minor)
+// Returns the library's error of a call that failed with one, or `None` where it failed with `Zero`.
+fn unless_zero<T>(outcome: Result<T, VersionError>) -> Result<Option<T>, Error> {
+    match outcome {
+        Ok(value) => Ok(Some(value)),
+        Err(VersionError::Zero) => Ok(None),
+        Err(VersionError::Scroll(error)) => Err(error),
+    }
 }
 
-// Returns whether a call failed with the library's `TooBig`.
-fn is_too_big<T: Drop>(
-    outcome: Result<T, VersionError>,
-    wanted_size: usize,
-    wanted_len: usize,
-) -> bool {
-    matches!(&outcome, Err(VersionError::Scroll(Error::TooBig { size, len })) if *size == wanted_size && *len == wanted_len)
-}
-
-// Returns whether a call failed with the library's `BadOffset`.
-fn is_bad_offset<T: Drop>(outcome: Result<T, VersionError>, wanted: usize) -> bool {
-    matches!(&outcome, Err(VersionError::Scroll(Error::BadOffset(offset))) if *offset == wanted)
-}
+const VERSION: Version = Version {
+    major: 3,
+    minor: 14,
+};
 
 #[test]
 fn a_type_of_ones_own(rt: HostRuntime) {
-    let bytes: [u8; 4] = [0, 3, 14, 0];
-    let source = &bytes[..];
-    let read: Result<Version, VersionError> = source.pread_with(1, ());
-    assert!(rt; is_version(read, 3, 14));
-    let zero: Result<Version, VersionError> = source.pread_with(0, ());
-    assert!(rt; matches!(&zero, Err(VersionError::Zero)));
-    let cut: Result<Version, VersionError> = source.pread_with(3, ());
-    assert!(rt; is_too_big(cut, 2, 1));
-    let past: Result<Version, VersionError> = source.pread_with(5, ());
-    assert!(rt; is_bad_offset(past, 5));
+    let source: &[u8] = &[0, 3, 14, 0];
+    check_value(&rt, source.pread_with(1, ()), VERSION);
+    let zero = source.pread_with::<Version>(0, ());
+    check_value(&rt, unless_zero(zero), None);
+    let cut = source.pread_with::<Version>(3, ());
+    check_too_big(&rt, unless_zero(cut), 2, 1);
+    let past = source.pread_with::<Version>(5, ());
+    check_bad_offset(&rt, unless_zero(past), 5);
     let mut out = [9u8; 4];
     let mut target = &mut out[..];
     let version = Version { major: 1, minor: 2 };
     check_value(&rt, target.pwrite_with(version, 1, ()), 2);
     let past = target.pwrite_with(version, 5, ());
-    assert!(rt; is_bad_offset(past, 5));
+    check_bad_offset(&rt, unless_zero(past), 5);
     assert!(rt; out == [9, 1, 2, 9]);
 }
 
 #[test]
 fn through_the_bounds(rt: HostRuntime) {
-    let bytes: [u8; 4] = [0, 3, 14, 0];
+    let source: &[u8] = &[0, 3, 14, 0];
     let mut out = [9u8; 4];
-    let own = copy_value::<(), VersionError, Version>(&bytes, &mut out, ());
+    let own = copy_value::<(), VersionError, Version>(source, &mut out, ());
     check_value(&rt, own, 2);
     assert!(rt; out == [9, 9, 3, 14]);
-    let number = copy_value::<Endian, Error, u16>(&bytes, &mut out, BE);
+    let number = copy_value::<Endian, Error, u16>(source, &mut out, BE);
     check_value(&rt, number, 2);
     assert!(rt; out == [9, 9, 3, 14]);
-    let cut = copy_value::<Endian, Error, u32>(&bytes, &mut out, LE);
+    let cut = copy_value::<Endian, Error, u32>(source, &mut out, LE);
     check_too_big(&rt, cut, 4, 3);
-    let mut source = &bytes[2..];
-    let first: Result<u8, Error> = at_the_start(source, BE);
-    check_value(&rt, first, 14);
-    source = &bytes[1..];
-    let version: Result<Version, VersionError> = at_the_start(source, ());
-    assert!(rt; is_version(version, 3, 14));
+    let source: &[u8] = &[14, 0];
+    check_value::<u8, Error>(&rt, at_the_start(source, BE), 14);
+    let source: &[u8] = &[3, 14, 0];
+    check_value(&rt, at_the_start(source, ()), VERSION);
     let mut target = &mut out[..];
-    let wrote: Result<usize, VersionError> = to_the_start(
-        &mut target,
-        Version { major: 7, minor: 8 },
-        (),
-    );
-    check_value(&rt, wrote, 2);
+    let version = Version { major: 7, minor: 8 };
+    check_value(&rt, to_the_start(&mut target, version, ()), 2);
     assert!(rt; out == [7, 8, 3, 14]);
 }

@@ -9,7 +9,7 @@ use crate::ctx::{TryFromCtx, TryIntoCtx};
 use crate::tests::results::{check_too_big, check_value};
 use crate::{BE, Endian, Error, Pread, Pwrite, Result, slice};
 
-#[derive(Clone, Copy, Debug)]
+#[derive(Clone, Copy, Debug, PartialEq, Eq)]
 struct Data {
     one: u32,
     two: u16,
@@ -59,46 +59,37 @@ impl TryIntoCtx<Endian> for Data {
     }
 }
 
+const BYTES: [u8; 7] = [0xde, 0xad, 0xbe, 0xef, 0xfa, 0xce, 0xff];
+
+const DATA: Data = Data {
+    one: 0xdeadbeef,
+    two: 0xface,
+    three: 0xff,
+};
+
 #[test]
 fn three_numbers(rt: HostRuntime) {
-    let bytes: [u8; 7] = [0xde, 0xad, 0xbe, 0xef, 0xfa, 0xce, 0xff];
-    let data: Result<Data> = bytes[..].pread_with(0, BE);
-    assert!(rt;
-        matches!(
-            &data,
-            Ok(Data {
-                one: 0xdeadbeef,
-                two: 0xface,
-                three: 0xff
-            })
-        )
-    );
-    let cut: Result<Data> = bytes[..].pread_with(1, BE);
+    let source: &[u8] = &BYTES;
+    check_value(&rt, source.pread_with(0, BE), DATA);
+    let cut: Result<Data> = source.pread_with(1, BE);
     check_too_big(&rt, cut, 1, 0);
 }
 
 #[test]
 fn written_back(rt: HostRuntime) {
-    let bytes: [u8; 7] = [0xde, 0xad, 0xbe, 0xef, 0xfa, 0xce, 0xff];
-    let data = Data {
-        one: 0xdeadbeef,
-        two: 0xface,
-        three: 0xff,
-    };
     let mut out = [0u8; 7];
     let mut target = &mut out[..];
-    check_value(&rt, target.pwrite_with(data, 0, BE), 7);
-    assert!(rt; out == bytes);
-    for (len, size, left, wanted) in [
-        (0, 4, 0, [0, 0, 0, 0, 0, 0, 0]),
+    check_value(&rt, target.pwrite_with(DATA, 0, BE), 7);
+    assert!(rt; out == BYTES);
+    for (len, size, left, wanted) in &[
+        (0usize, 4usize, 0usize, [0u8, 0, 0, 0, 0, 0, 0]),
         (3, 4, 3, [0, 0, 0, 0, 0, 0, 0]),
         (5, 2, 1, [0xde, 0xad, 0xbe, 0xef, 0, 0, 0]),
         (6, 1, 0, [0xde, 0xad, 0xbe, 0xef, 0xfa, 0xce, 0]),
     ] {
         let mut out = [0u8; 7];
-        let mut target = &mut out[..len];
-        let cut = target.pwrite_with(data, 0, BE);
-        check_too_big(&rt, cut, size, left);
-        assert!(rt; out == wanted);
+        let mut target = &mut out[..*len];
+        check_too_big(&rt, target.pwrite_with(DATA, 0, BE), *size, *left);
+        assert!(rt; out == *wanted);
     }
 }

@@ -12,24 +12,24 @@ ghost use Rattle.scroll.specs.declared.examples.sized_fields.DataError.TheVarian
 ghost use Rattle.scroll.specs.declared.examples.sized_fields.FieldSize.TheVariants.{U32, U64};
 
 use crate::ctx::{StrCtx, TryFromCtx};
-use crate::tests::results::check_too_big;
+use crate::tests::results::{check_eq, check_too_big, check_value};
 use crate::{BE, Endian, Error, Pread, Result};
 use std::result;
 
 // How wide the fields are.
-#[derive(Clone, Copy, Debug)]
+#[derive(Clone, Copy)]
 enum FieldSize {
     U32,
     U64,
 }
 
-#[derive(Clone, Copy, Debug)]
+#[derive(Clone, Copy)]
 struct Context {
     fieldsize: FieldSize,
     endianess: Endian,
 }
 
-#[derive(Clone, Copy, Debug)]
+#[derive(Clone, Copy, Debug, PartialEq, Eq)]
 struct Data<'b> {
     field_a: u64,
     field_b: u64,
@@ -53,6 +53,19 @@ impl From<Error> for DataError {
     }
 }
 
+// Reads the field at an offset.
+fn read_field(from: &[u8], offset: &mut usize, ctx: Context) -> Result<u64>
+    requires { offset.old ≤ length from.now }
+    ensures read { IfOk result (λ x. let w : ℕ = elim ctx.fieldsize [ U32 ↦ 4 | U64 ↦ 8 ] in
+        (offset.old + w ≤ length from.now) × (x ≡ number ctx.endianess w (drop offset.old from.now)) × (offset.new ≡ offset.old + w)) }
+    ensures refused { IfErr result (RefusesShort (elim ctx.fieldsize [ U32 ↦ 4 | U64 ↦ 8 ]) (drop offset.old from.now)) }
+{
+    match ctx.fieldsize {
+        FieldSize::U32 => from.gread_with::<u32>(offset, ctx.endianess).map(u64::from),
+        FieldSize::U64 => from.gread_with(offset, ctx.endianess),
+    }
+}
+
 // Reads the three fields at the start of a source, and returns them with their size in bytes.
 fn read_fields(from: &[u8], ctx: Context) -> Result<([u64; 3], usize)>
     ensures room { IfOk result (λ x. let w : ℕ = elim ctx.fieldsize [ U32 ↦ 4 | U64 ↦ 8 ] in (3 * w ≤ length from.now) × (x.1 ≡ 3 * w)) }
@@ -63,20 +76,10 @@ fn read_fields(from: &[u8], ctx: Context) -> Result<([u64; 3], usize)>
         ⊎ ((2 * w ≤ length from.now) × RefusesShort w (drop (2 * w) from.now) e))) }
 {
     let mut offset = 0;
-    match ctx.fieldsize {
-        FieldSize::U32 => {
-            let a: u32 = from.gread_with(&mut offset, ctx.endianess)?;
-            let b: u32 = from.gread_with(&mut offset, ctx.endianess)?;
-            let c: u32 = from.gread_with(&mut offset, ctx.endianess)?;
-            Ok(([a as u64, b as u64, c as u64], offset))
-        }
-        FieldSize::U64 => {
-            let a = from.gread_with(&mut offset, ctx.endianess)?;
-            let b = from.gread_with(&mut offset, ctx.endianess)?;
-            let c = from.gread_with(&mut offset, ctx.endianess)?;
-            Ok(([a, b, c], offset))
-        }
-    }
+    let a = read_field(from, &mut offset, ctx)?;
+    let b = read_field(from, &mut offset, ctx)?;
+    let c = read_field(from, &mut offset, ctx)?;
+    Ok(([a, b, c], offset))
 }
 
 // Reads the name at an offset, after its length.
@@ -156,66 +159,59 @@ impl<'b> TryFromCtx<'b, Context> for Data<'b> {
     }
 }
 
+const NARROW_FIELDS: Context = Context {
+    fieldsize: FieldSize::U32,
+    endianess: BE,
+};
+
+const WIDE_FIELDS: Context = Context {
+    fieldsize: FieldSize::U64,
+    endianess: BE,
+};
+
 const NARROW: &[u8; 26] =
     b"\x00\x02\x03\x04\x01\x02\x03\x04\xde\xad\xbe\xef\x00\x08UserName\x00\x02\xca\xfe";
 
 const WIDE: &[u8; 38] =
     b"\0\0\0\0\x00\x02\x03\x04\0\0\0\0\x01\x02\x03\x04\0\0\0\0\xde\xad\xbe\xef\x00\x08UserName\x00\x02\xca\xfe";
 
-// Returns whether the fields, the name and the value of these bytes were read.
-fn is_data(read: result::Result<Data, DataError>) -> bool {
-    match read {
-        Ok(data) => {
-            let fields = [data.field_a, data.field_b, data.field_c];
-            fields == [0x00020304, 0x01020304, 0xdeadbeef]
-                && data.name == "UserName"
-                && data.value == [0xca, 0xfe].as_slice()
-        }
-        Err(_) => false,
-    }
-}
+const DATA: Data = Data {
+    field_a: 0x00020304,
+    field_b: 0x01020304,
+    field_c: 0xdeadbeef,
+    name: "UserName",
+    value: b"\xca\xfe",
+};
 
-// Returns the library's error of a read that failed with one.
-fn scroll_error(read: result::Result<Data, DataError>) -> Result<()> {
+// Returns whether the fields ascend, or the library's error.
+fn ascends(read: result::Result<Data, DataError>) -> Result<bool> {
     match read {
+        Ok(_) => Ok(true),
+        Err(DataError::BadFieldMatchup) => Ok(false),
         Err(DataError::Scroll(error)) => Err(error),
-        _ => Ok(()),
     }
 }
 
 #[test]
 fn by_fields_of_either_width(rt: HostRuntime) {
-    for (fieldsize, bytes) in [
-        (FieldSize::U32, NARROW.as_slice()),
-        (FieldSize::U64, WIDE.as_slice()),
+    for (bytes, ctx) in &[
+        (NARROW.as_slice(), NARROW_FIELDS),
+        (WIDE.as_slice(), WIDE_FIELDS),
     ] {
-        let ctx = Context {
-            fieldsize,
-            endianess: BE,
-        };
-        let read: result::Result<Data, DataError> = bytes.pread_with(0, ctx);
-        assert!(rt; is_data(read));
+        check_value(&rt, bytes.pread_with(0, *ctx), DATA);
         let offset = &mut 0;
-        let read: result::Result<Data, DataError> = bytes.gread_with(offset, ctx);
-        assert!(rt; read.is_ok());
-        assert!(rt; *offset == bytes.len());
+        check_value(&rt, bytes.gread_with(offset, *ctx), DATA);
+        check_eq(&rt, *offset, bytes.len());
     }
-    let ctx = Context {
-        fieldsize: FieldSize::U64,
-        endianess: BE,
-    };
-    let long: result::Result<Data, DataError> = NARROW[..].pread_with(0, ctx);
-    check_too_big(&rt, scroll_error(long), 51966, 0);
+    let long = NARROW[..].pread_with(0, WIDE_FIELDS);
+    check_too_big(&rt, ascends(long), 51966, 0);
 }
 
 #[test]
 fn cut_or_out_of_order(rt: HostRuntime) {
-    let ctx = Context {
-        fieldsize: FieldSize::U32,
-        endianess: BE,
-    };
-    for (cut, wanted, left) in [
-        (0, 4, 0),
+    let ctx = NARROW_FIELDS;
+    for (cut, wanted, left) in &[
+        (0usize, 4usize, 0usize),
         (7, 4, 3),
         (11, 4, 3),
         (13, 2, 1),
@@ -223,17 +219,17 @@ fn cut_or_out_of_order(rt: HostRuntime) {
         (22, 2, 0),
         (25, 2, 1),
     ] {
-        let read: result::Result<Data, DataError> = NARROW[..cut].pread_with(0, ctx);
-        check_too_big(&rt, scroll_error(read), wanted, left);
+        let read = NARROW[..*cut].pread_with(0, ctx);
+        check_too_big(&rt, ascends(read), *wanted, *left);
     }
-    for bytes in [
+    for bytes in &[
         b"\0\0\0\x02\0\0\0\x02\0\0\0\x03\0\0\0\0",
         b"\0\0\0\x01\0\0\0\x02\0\0\0\x02\0\0\0\0",
         b"\0\0\0\x03\0\0\0\x02\0\0\0\x01\0\0\0\0",
     ] {
-        let read: result::Result<Data, DataError> = bytes[..].pread_with(0, ctx);
-        assert!(rt; matches!(&read, Err(DataError::BadFieldMatchup)));
-        let cut: result::Result<Data, DataError> = bytes[..15].pread_with(0, ctx);
-        check_too_big(&rt, scroll_error(cut), 2, 1);
+        let read = bytes[..].pread_with(0, ctx);
+        check_value(&rt, ascends(read), false);
+        let cut = bytes[..15].pread_with(0, ctx);
+        check_too_big(&rt, ascends(cut), 2, 1);
     }
 }

@@ -7,7 +7,6 @@ use crate::ctx::{FromCtx, IntoCtx, SizeWith};
 use crate::tests::results::check_value;
 use crate::{BE, Cread, Endian, IOread, IOwrite, LE, slice};
 use std::io;
-use std::test::Fail;
 
 #[derive(Clone, Copy, Debug, PartialEq, Eq)]
 struct Foo {
@@ -55,8 +54,7 @@ fn read_foo(source: &mut &[u8], order: Endian) -> io::Result<Foo>
     ensures bar { IfOk result (λ x. x.bar ≡ number order 4 (drop 8 (take 12 source.old.now))) }
     ensures rest { OnOk result (source.new.now ≡ drop 12 source.old.now) }
 {
-    let foo = source.ioread_with(order)?;
-    Ok(foo)
+    source.ioread_with(order)
 }
 
 // Appends the twelve bytes of a value.
@@ -68,44 +66,45 @@ fn write_foo(target: &mut Vec<u8>, foo: Foo, order: Endian) -> io::Result<()>
 
 const BYTES: [u8; 12] = [0x0b, 0x0b, 0, 0, 0, 0, 0, 0, 0xef, 0xbe, 0, 0];
 
+const LITTLE: Foo = Foo {
+    foo: 2827,
+    bar: 48879,
+};
+
+const BIG: Foo = Foo {
+    foo: 0x0b0b_0000_0000_0000,
+    bar: 0xefbe_0000,
+};
+
 #[test]
-fn read_one_after_the_other_and_at_once(rt: HostRuntime) -> Result<(), Fail> {
+fn read_one_after_the_other_and_at_once(rt: HostRuntime) {
     let mut source = &BYTES[..];
-    let foo: i64 = source.ioread_with(LE)?;
-    let bar: u32 = source.ioread_with(LE)?;
-    assert!(rt; foo == 2827);
-    assert!(rt; bar == 48879);
+    check_value(&rt, source.ioread_with::<i64>(LE), 2827);
+    check_value(&rt, source.ioread_with::<u32>(LE), 48879);
     assert!(rt; source.ioread_with::<u64>(LE).is_err());
     let mut source = &BYTES[..];
-    check_value(&rt, read_foo(&mut source, LE), Foo { foo, bar });
+    check_value(&rt, read_foo(&mut source, LE), LITTLE);
     assert!(rt; source.is_empty());
     assert!(rt; read_foo(&mut source, LE).is_err());
-    let mut source = &BYTES[..];
-    let big = Foo {
-        foo: 0x0b0b_0000_0000_0000,
-        bar: 0xefbe_0000,
-    };
-    check_value(&rt, read_foo(&mut source, BE), big);
+    check_value(&rt, read_foo(&mut &BYTES[..], BE), BIG);
+}
+
+#[test]
+fn written_as_it_reads(rt: HostRuntime) -> io::Result<()> {
+    let mut target = Vec::new(rt.alloc());
+    for (foo, order) in &[(LITTLE, LE), (BIG, BE)] {
+        target.clear();
+        write_foo(&mut target, *foo, *order)?;
+        assert!(rt; target.as_slice() == BYTES.as_slice());
+    }
     Ok(())
 }
 
 #[test]
-fn written_as_it_reads(rt: HostRuntime) -> Result<(), Fail> {
-    for order in [LE, BE] {
-        let mut source = &BYTES[..];
-        let foo = read_foo(&mut source, order)?;
-        let mut target = Vec::new(rt.alloc());
-        write_foo(&mut target, foo, order)?;
-        assert!(rt; target.as_slice() == BYTES.as_slice());
-    }
+fn written_where_it_fits(rt: HostRuntime) {
     let mut bytes = [7u8; 13];
     let mut room = &mut bytes[..];
-    let foo = Foo {
-        foo: 2827,
-        bar: 48879,
-    };
-    room.iowrite_with(foo, LE)?;
-    assert!(rt; room.iowrite_with(foo, LE).is_err());
-    assert!(rt; &bytes[..12] == BYTES.as_slice());
-    Ok(())
+    check_value(&rt, room.iowrite_with(LITTLE, LE), ());
+    assert!(rt; room.iowrite_with(LITTLE, LE).is_err());
+    assert!(rt; bytes == [0x0b, 0x0b, 0, 0, 0, 0, 0, 0, 0xef, 0xbe, 0, 0, 0x0b]);
 }
