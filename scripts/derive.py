@@ -19,6 +19,9 @@ MOST_NUMBERS = 64
 MOST_AT_ONCE = 14
 MOST_SIGNED = 6
 
+# The numbers of such a struct are written in groups of this many.
+GROUP = 8
+
 # A struct of more bytes than this states by a lemma that the bytes after it are unchanged.
 MOST_BYTES_COUNTED = 64
 
@@ -164,6 +167,12 @@ def parts_of(type: Type, code: str, value: str) -> list[Part]:
             return [part for field in type.fields for part in parts_of(field.type, f"{code}.{field.name}", f"{value}.{field.name}")]
 
 
+def groups_of(items: list[str]) -> list[list[str]]:
+    """Returns the items of a struct's numbers in one group, or in several if there are many."""
+    length = len(items) if len(items) <= MOST_AT_ONCE else GROUP
+    return [items[at : at + length] for at in range(0, len(items), length)]
+
+
 # --- The layout of the blocks ---
 
 
@@ -199,8 +208,11 @@ def field_lines(field: Field, source: str, place: int, indent: int) -> list[str]
 
 
 def bytes_clause(head: str, first: str, parts: list[Part], tail: str) -> str:
-    """Returns a clause that holds the struct's bytes, on one line if that is short."""
-    lists = [first + parts[0].bytes, *(part.bytes for part in parts[1:])]
+    """Returns a clause that holds the struct's bytes, grouped as they are written, on one line if that is short."""
+    groups = groups_of([part.bytes for part in parts])
+    groups = [groups[0], *(group if len(group) == 1 else [f"({group[0]}", *group[1:-1], f"{group[-1]})"] for group in groups[1:])]
+    lists = [list for group in groups for list in group]
+    lists[0] = first + lists[0]
     line = f"{head} {' ++ '.join(lists)}{tail}"
     if len(line) <= CLAUSE_WIDTH:
         return line
@@ -322,15 +334,23 @@ def try_from_ctx(source: Source, struct: Struct) -> str:
 
 
 def write_lines(parts: list[Part]) -> list[str]:
-    """Returns pairs of what is written, each with what comes before it."""
-    if len(parts) == 1:
-        return [f"        {parts[0].code}.into_ctx(dst, ctx)"]
+    """Returns the pairs that are written: of the numbers, or of groups of them if there are many."""
+    groups = groups_of([part.code for part in parts])
+    lines = pair_lines("fields", groups[0])
+    for group in groups[1:]:
+        lines += pair_lines("group", group)
+        lines += pair_lines("fields", ["fields", "group" if len(group) > 1 else group[0]])
+    return [*lines, f"        {'fields' if len(parts) > 1 else parts[0].code}.into_ctx(dst, ctx)"]
+
+
+def pair_lines(name: str, codes: list[str]) -> list[str]:
+    """Returns the pairs of values, each with what comes before it, under a name."""
     lines = []
-    before = parts[0].code
-    for part in parts[1:]:
-        lines += within("let fields = ", "(", [before, part.code], ";", 8)
-        before = "fields"
-    return [*lines, "        fields.into_ctx(dst, ctx)"]
+    before = codes[0]
+    for code in codes[1:]:
+        lines += within(f"let {name} = ", "(", [before, code], ";", 8)
+        before = name
+    return lines
 
 
 def into_ctx(source: Source, struct: Struct) -> str:

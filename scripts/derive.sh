@@ -11,10 +11,10 @@
 # them.
 #
 # The first lines printed are the `use` lines that the rest needs, followed by the blocks in the layout of `rt fmt`. They
-# are proved with no proof file; structs of forty mixed fields were tried. (Forty fields that are all signed are not proved
-# to be written, and arrays of some eight numbers or more in such a struct are not proved to be read.) A struct of more than
-# 14 numbers, or of more than six signed ones, is read by a function with a clause for each field. With --check nothing is
-# printed if each block is in FILE as it would be printed.
+# are proved with no proof file; structs of forty fields were tried, mixed and all signed. (Arrays of some eight numbers or
+# more in such a struct are not proved, except of bytes.) A struct of more than 14 numbers, or of more than six signed ones,
+# is read by a function with a clause for each field. With --check nothing is printed if each block is in FILE as it would be
+# printed.
 #
 # The exit status is 0, or 1 if --check finds a block that differs, or 2 with one line on standard error if FILE or
 # STRUCT can't be read or has a field that is none of these.
