@@ -1,6 +1,21 @@
 // Sessions of numbers of each type.
 use crate::tests::sessions::expect_session;
+use std::alloc::Global;
+use std::process::Abort;
 use std::test::Fail;
+
+// Runs a session for each type and word, in which the line that writes the word is bad.
+fn expect_bad_words(rt: &impl Abort, alloc: Global, words: &[(&str, &str)]) -> Result<(), Fail> {
+    for (width, word) in words {
+        for order in &["le", "be"] {
+            let input = format!(in alloc;
+                "buffer 00\ncursor 0\npwrite 0 {width} {order} {word}\n"
+            )?;
+            expect_session(rt, alloc, input.as_bytes(), "bad line 3\n", 2)?;
+        }
+    }
+    Ok(())
+}
 
 #[test]
 fn least_and_greatest_of_each_type(rt: HostRuntime) -> Result<(), Fail> {
@@ -64,29 +79,29 @@ fn least_and_greatest_of_each_type(rt: HostRuntime) -> Result<(), Fail> {
 
 #[test]
 fn one_past_the_range_of_each_type_is_bad(rt: HostRuntime) -> Result<(), Fail> {
-    for (width, value) in &[
-        ("u8", "256"),
-        ("i8", "-129"),
-        ("i8", "128"),
-        ("u16", "65536"),
-        ("i16", "-32769"),
-        ("i16", "32768"),
-        ("u32", "4294967296"),
-        ("i32", "-2147483649"),
-        ("i32", "2147483648"),
-        ("u64", "18446744073709551616"),
-        ("i64", "-9223372036854775809"),
-        ("i64", "9223372036854775808"),
-        ("u128", "340282366920938463463374607431768211456"),
-        ("i128", "-170141183460469231731687303715884105729"),
-        ("i128", "170141183460469231731687303715884105728"),
-        ("i128", "-340282366920938463463374607431768211456"),
-        ("i128", "340282366920938463463374607431768211456"),
-    ] {
-        let input = format!(in rt.alloc(); "buffer 00\ncursor 0\npwrite 0 {width} le {value}\n")?;
-        expect_session(&rt, rt.alloc(), input.as_bytes(), "bad line 3\n", 2)?;
-    }
-    Ok(())
+    expect_bad_words(
+        &rt,
+        rt.alloc(),
+        &[
+            ("u8", "256"),
+            ("i8", "-129"),
+            ("i8", "128"),
+            ("u16", "65536"),
+            ("i16", "-32769"),
+            ("i16", "32768"),
+            ("u32", "4294967296"),
+            ("i32", "-2147483649"),
+            ("i32", "2147483648"),
+            ("u64", "18446744073709551616"),
+            ("i64", "-9223372036854775809"),
+            ("i64", "9223372036854775808"),
+            ("u128", "340282366920938463463374607431768211456"),
+            ("i128", "-170141183460469231731687303715884105729"),
+            ("i128", "170141183460469231731687303715884105728"),
+            ("i128", "-340282366920938463463374607431768211456"),
+            ("i128", "340282366920938463463374607431768211456"),
+        ],
+    )
 }
 
 #[test]
@@ -130,26 +145,26 @@ fn numbers_with_a_minus(rt: HostRuntime) -> Result<(), Fail> {
 
 #[test]
 fn signs_that_spell_no_number(rt: HostRuntime) -> Result<(), Fail> {
-    for (width, value) in &[
-        ("i8", "-"),
-        ("i8", "--1"),
-        ("i8", "-+1"),
-        ("i8", "+1"),
-        ("i8", "+-1"),
-        ("i8", "1-"),
-        ("i8", "-1-"),
-        ("i8", "-0x1"),
-        ("i64", "- 1"),
-        ("i128", "-"),
-        ("i128", "--0"),
-        ("u8", "-0"),
-        ("u64", "-1"),
-        ("u128", "-0"),
-        ("u128", "-1"),
-        ("u128", "+1"),
-    ] {
-        let input = format!(in rt.alloc(); "buffer 00\ncursor 0\npwrite 0 {width} be {value}\n")?;
-        expect_session(&rt, rt.alloc(), input.as_bytes(), "bad line 3\n", 2)?;
-    }
-    Ok(())
+    expect_bad_words(
+        &rt,
+        rt.alloc(),
+        &[
+            ("i8", "-"),
+            ("i8", "--1"),
+            ("i8", "-+1"),
+            ("i8", "+1"),
+            ("i8", "+-1"),
+            ("i8", "1-"),
+            ("i8", "-1-"),
+            ("i8", "-0x1"),
+            ("i64", "- 1"),
+            ("i128", "-"),
+            ("i128", "--0"),
+            ("u8", "-0"),
+            ("u64", "-1"),
+            ("u128", "-0"),
+            ("u128", "-1"),
+            ("u128", "+1"),
+        ],
+    )
 }

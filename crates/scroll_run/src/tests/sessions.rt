@@ -20,81 +20,100 @@ pub(crate) fn expect_session(
     Ok(())
 }
 
-#[test]
-fn commands_are_answered(rt: HostRuntime) -> Result<(), Fail> {
-    for (input, wanted) in &[
-        ("buffer -\ncursor 0\n", "buffer -\ncursor 0\n"),
-        (
-            "buffer deadbeef\ncursor 0\npread 0 u32 be\npread 0 u32 le\npread 1 u16 be\n",
-            "number 3735928559\nnumber 4022250974\nnumber 44478\nbuffer deadbeef\ncursor 0\n",
-        ),
-        (
-            "buffer 0000000000000000\ncursor 0\npwrite 0 u64 be 72623859790382856\npread 0 u64 le\npread 6 u32 be\npread 8 u8 le\npwrite 9 u8 le 0\n",
-            "wrote 8\nnumber 578437695752307201\nerror type is too big (4) for 2\nerror type is too big (1) for 0\nerror bad offset 9\nbuffer 0102030405060708\ncursor 0\n",
-        ),
-        (
-            "buffer 000000000000000000000000\ncursor 7\npwrite 11 u8 be 255\npwrite 0 u16 le 258\npwrite 2 u32 le 16909060\npwrite 4 u64 be 0\npread 0 u64 be\n",
-            "wrote 1\nwrote 2\nwrote 4\nwrote 8\nnumber 144401073983979520\nbuffer 020104030000000000000000\ncursor 7\n",
-        ),
-    ] {
-        expect_session(&rt, rt.alloc(), input.as_bytes(), wanted, 0)?;
+// Runs sessions that all end with the same status, each an input and its output.
+pub(crate) fn expect_sessions(
+    rt: &impl Abort,
+    alloc: Global,
+    sessions: &[(&str, &str)],
+    wanted_status: u8,
+) -> Result<(), Fail> {
+    for (input, wanted) in sessions {
+        expect_session(rt, alloc, input.as_bytes(), wanted, wanted_status)?;
     }
     Ok(())
+}
+
+#[test]
+fn commands_are_answered(rt: HostRuntime) -> Result<(), Fail> {
+    expect_sessions(
+        &rt,
+        rt.alloc(),
+        &[
+            ("buffer -\ncursor 0\n", "buffer -\ncursor 0\n"),
+            (
+                "buffer deadbeef\ncursor 0\npread 0 u32 be\npread 0 u32 le\npread 1 u16 be\n",
+                "number 3735928559\nnumber 4022250974\nnumber 44478\nbuffer deadbeef\ncursor 0\n",
+            ),
+            (
+                "buffer 0000000000000000\ncursor 0\npwrite 0 u64 be 72623859790382856\npread 0 u64 le\npread 6 u32 be\npread 8 u8 le\npwrite 9 u8 le 0\n",
+                "wrote 8\nnumber 578437695752307201\nerror type is too big (4) for 2\nerror type is too big (1) for 0\nerror bad offset 9\nbuffer 0102030405060708\ncursor 0\n",
+            ),
+            (
+                "buffer 000000000000000000000000\ncursor 7\npwrite 11 u8 be 255\npwrite 0 u16 le 258\npwrite 2 u32 le 16909060\npwrite 4 u64 be 0\npread 0 u64 be\n",
+                "wrote 1\nwrote 2\nwrote 4\nwrote 8\nnumber 144401073983979520\nbuffer 020104030000000000000000\ncursor 7\n",
+            ),
+        ],
+        0,
+    )
 }
 
 #[test]
 fn numerals_and_bytes_in_other_spellings(rt: HostRuntime) -> Result<(), Fail> {
-    for (input, wanted) in &[
-        ("buffer -\ncursor 0", "buffer -\ncursor 0\n"),
-        (
-            "buffer Aa0F\ncursor 0000000000000000000000018446744073709551615",
-            "buffer aa0f\ncursor 18446744073709551615\n",
-        ),
-        (
-            "buffer 0000\ncursor 00\npwrite 00000000000000000000000000000001 u8 le 00000000000000000000000000000000000000000000255\npread 01 u8 be",
-            "wrote 1\nnumber 255\nbuffer 00ff\ncursor 0\n",
-        ),
-        (
-            "buffer 0000000000000000\ncursor 0\npwrite 0 u64 be 18446744073709551615\npread 18446744073709551615 u8 le\n",
-            "wrote 8\nerror bad offset 18446744073709551615\nbuffer ffffffffffffffff\ncursor 0\n",
-        ),
-    ] {
-        expect_session(&rt, rt.alloc(), input.as_bytes(), wanted, 0)?;
-    }
-    Ok(())
+    expect_sessions(
+        &rt,
+        rt.alloc(),
+        &[
+            ("buffer -\ncursor 0", "buffer -\ncursor 0\n"),
+            (
+                "buffer Aa0F\ncursor 0000000000000000000000018446744073709551615",
+                "buffer aa0f\ncursor 18446744073709551615\n",
+            ),
+            (
+                "buffer 0000\ncursor 00\npwrite 00000000000000000000000000000001 u8 le 00000000000000000000000000000000000000000000255\npread 01 u8 be",
+                "wrote 1\nnumber 255\nbuffer 00ff\ncursor 0\n",
+            ),
+            (
+                "buffer 0000000000000000\ncursor 0\npwrite 0 u64 be 18446744073709551615\npread 18446744073709551615 u8 le\n",
+                "wrote 8\nerror bad offset 18446744073709551615\nbuffer ffffffffffffffff\ncursor 0\n",
+            ),
+        ],
+        0,
+    )
 }
 
 #[test]
 fn first_two_lines_are_bad(rt: HostRuntime) -> Result<(), Fail> {
-    for (input, wanted) in &[
-        ("", "bad line 1\n"),
-        ("\n", "bad line 1\n"),
-        ("\nbuffer -\ncursor 0\n", "bad line 1\n"),
-        ("buffer 0\ncursor 0\n", "bad line 1\n"),
-        ("buffer 0g\ncursor 0\n", "bad line 1\n"),
-        ("buffer --\ncursor 0\n", "bad line 1\n"),
-        ("buffer \ncursor 0\n", "bad line 1\n"),
-        ("buffer\ncursor 0\n", "bad line 1\n"),
-        ("buffer  -\ncursor 0\n", "bad line 1\n"),
-        (" buffer -\ncursor 0\n", "bad line 1\n"),
-        ("buffer - \ncursor 0\n", "bad line 1\n"),
-        ("buffer - -\ncursor 0\n", "bad line 1\n"),
-        ("buffer -\r\ncursor 0\n", "bad line 1\n"),
-        ("Buffer -\ncursor 0\n", "bad line 1\n"),
-        ("cursor 0\nbuffer -\n", "bad line 1\n"),
-        ("buffer -\n", "bad line 2\n"),
-        ("buffer -\n\n", "bad line 2\n"),
-        ("buffer 00\ncursor 18446744073709551616\n", "bad line 2\n"),
-        ("buffer -\ncursor +0\n", "bad line 2\n"),
-        ("buffer -\ncursor -0\n", "bad line 2\n"),
-        ("buffer -\ncursor\n", "bad line 2\n"),
-        ("buffer -\ncursor 0 \n", "bad line 2\n"),
-        ("buffer -\ncursor 0\r\n", "bad line 2\n"),
-        ("buffer -\ncursor 0x1\n", "bad line 2\n"),
-    ] {
-        expect_session(&rt, rt.alloc(), input.as_bytes(), wanted, 2)?;
-    }
-    Ok(())
+    expect_sessions(
+        &rt,
+        rt.alloc(),
+        &[
+            ("", "bad line 1\n"),
+            ("\n", "bad line 1\n"),
+            ("\nbuffer -\ncursor 0\n", "bad line 1\n"),
+            ("buffer 0\ncursor 0\n", "bad line 1\n"),
+            ("buffer 0g\ncursor 0\n", "bad line 1\n"),
+            ("buffer --\ncursor 0\n", "bad line 1\n"),
+            ("buffer \ncursor 0\n", "bad line 1\n"),
+            ("buffer\ncursor 0\n", "bad line 1\n"),
+            ("buffer  -\ncursor 0\n", "bad line 1\n"),
+            (" buffer -\ncursor 0\n", "bad line 1\n"),
+            ("buffer - \ncursor 0\n", "bad line 1\n"),
+            ("buffer - -\ncursor 0\n", "bad line 1\n"),
+            ("buffer -\r\ncursor 0\n", "bad line 1\n"),
+            ("Buffer -\ncursor 0\n", "bad line 1\n"),
+            ("cursor 0\nbuffer -\n", "bad line 1\n"),
+            ("buffer -\n", "bad line 2\n"),
+            ("buffer -\n\n", "bad line 2\n"),
+            ("buffer 00\ncursor 18446744073709551616\n", "bad line 2\n"),
+            ("buffer -\ncursor +0\n", "bad line 2\n"),
+            ("buffer -\ncursor -0\n", "bad line 2\n"),
+            ("buffer -\ncursor\n", "bad line 2\n"),
+            ("buffer -\ncursor 0 \n", "bad line 2\n"),
+            ("buffer -\ncursor 0\r\n", "bad line 2\n"),
+            ("buffer -\ncursor 0x1\n", "bad line 2\n"),
+        ],
+        2,
+    )
 }
 
 #[test]

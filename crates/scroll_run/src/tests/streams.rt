@@ -36,6 +36,11 @@ impl Cause {
     }
 }
 
+// Returns whether a session succeeded, with the status 0.
+fn is_done(answer: &io::Result<u8>) -> bool {
+    matches!(answer, Ok(0))
+}
+
 // The operating system's number for an interrupted call.
 const INTERRUPTED: i32 = 4;
 
@@ -177,7 +182,7 @@ fn check_reader(rt: &impl Abort, alloc: Global, at: usize, cause: Cause) {
         assert_eq!(rt; input.calls, at, "{at} {cause:?}");
         assert!(rt; output.is_empty(), "{at} {cause:?}");
     } else {
-        assert!(rt; matches!(&answer, Ok(0)), "{at}");
+        assert!(rt; is_done(&answer), "{at}");
     }
 }
 
@@ -195,7 +200,7 @@ fn check_writer(rt: &impl Abort, alloc: Global, at: usize, cause: Cause) {
         );
         assert!(rt; !output.is_flushed, "{at} {cause:?}");
     } else {
-        assert!(rt; matches!(&answer, Ok(0)), "{at}");
+        assert!(rt; is_done(&answer), "{at}");
     }
 }
 
@@ -234,57 +239,54 @@ fn each_error_of_a_stream(rt: HostRuntime) {
 }
 
 #[test]
-fn writer_takes_nothing(rt: HostRuntime) -> Result<(), Fail> {
+fn writer_takes_nothing(rt: HostRuntime) {
     let mut input = INPUT;
     let mut output = make_sink(Vec::new(rt.alloc()), 0, Fault::Never);
     let answer = session(rt.alloc(), &mut input, &mut output);
-    assert!(rt; matches!(&answer, Err(e) if e.kind() == ErrorKind::WriteZero));
+    assert!(rt; Cause::Kind(ErrorKind::WriteZero).is_answer(&answer));
     assert!(rt; output.held.is_empty());
-    assert_eq!(rt; output.calls, 1);
-    Ok(())
+    assert!(rt; output.calls == 1);
 }
 
 // The maximum number of calls of a reader, of a writer beyond one per byte, and of flushes.
 const CALLS: usize = 131_072;
 
 #[test]
-fn interrupted_for_ever(rt: HostRuntime) -> Result<(), Fail> {
+fn interrupted_for_ever(rt: HostRuntime) {
     let mut input = make_source(1, Fault::From(1));
     let mut output = make_sink(Vec::new(rt.alloc()), 1, Fault::Never);
     let answer = session(rt.alloc(), &mut input, &mut output);
-    assert!(rt; matches!(&answer, Err(e) if e.kind() == ErrorKind::Other));
-    assert_eq!(rt; input.calls, CALLS);
-    assert_eq!(rt; output.calls, 0);
+    assert!(rt; Cause::Kind(ErrorKind::Other).is_answer(&answer));
+    assert!(rt; input.calls == CALLS);
+    assert!(rt; output.calls == 0);
     // from the first byte, from the last byte, and from the flush
     for first in [1, OUTPUT.len(), OUTPUT.len() + 1] {
         let mut input = INPUT;
         let mut output = make_sink(Vec::new(rt.alloc()), 1, Fault::From(first));
         let answer = session(rt.alloc(), &mut input, &mut output);
-        assert!(rt; matches!(&answer, Err(e) if e.kind() == ErrorKind::Other));
+        assert!(rt; Cause::Kind(ErrorKind::Other).is_answer(&answer));
         assert!(rt; output.held.as_slice() == &OUTPUT[..first - 1], "{first}");
-        assert_eq!(rt; output.calls, OUTPUT.len() + CALLS);
+        assert!(rt; output.calls == OUTPUT.len() + CALLS);
     }
-    Ok(())
 }
 
 #[test]
-fn interrupted_as_often_as_may_be(rt: HostRuntime) -> Result<(), Fail> {
+fn interrupted_as_often_as_may_be(rt: HostRuntime) {
     // (a last call finds the end of the input)
     let spare = CALLS - INPUT.len() - 1;
     for (more, is_read) in [(0, true), (1, false)] {
         let mut input = make_source(1, Fault::UpTo(spare + more));
         let mut output = Vec::new(rt.alloc());
         let answer = session(rt.alloc(), &mut input, &mut output);
-        assert!(rt; is_read == matches!(&answer, Ok(0)));
+        assert!(rt; is_read == is_done(&answer));
         assert!(rt; output.as_slice() == if is_read { OUTPUT } else { b"" });
     }
     for (more, is_written) in [(0, true), (1, false)] {
         let mut input = INPUT;
         let mut output = make_sink(Vec::new(rt.alloc()), 1, Fault::UpTo(CALLS + more));
         let answer = session(rt.alloc(), &mut input, &mut output);
-        assert!(rt; is_written == matches!(&answer, Ok(0)));
-        assert_eq!(rt; output.held.len(), OUTPUT.len() - more);
-        assert_eq!(rt; output.is_flushed, is_written);
+        assert!(rt; is_written == is_done(&answer));
+        assert!(rt; output.held.len() == OUTPUT.len() - more);
+        assert!(rt; output.is_flushed == is_written);
     }
-    Ok(())
 }
