@@ -14,8 +14,9 @@ function, in a copy of the crate with what the tree's own checks kept. An edit
 - is tried alone if its function is proved, or if the check can't read it. It then passes if another function is refused
   by a proper note, and the edit's line `breaks:` names that function; otherwise it fails.
 
-A check has two jobs. As many checks run in parallel as there are pairs of processors, or fewer, so that each has 6 GB of
-memory. The variable WORKERS sets another number of jobs. `--self-test` tries the script itself (scripts/edits_test.py).
+A check has two jobs, and three checks run in parallel on four processors, since parts of a check run on one. Each has 4 GB
+of memory. The variable WORKERS sets another number of processors. `--self-test` tries the script itself
+(scripts/edits_test.py).
 
 The last line is `N passed, M failed`. The exit status is 0 if M is 0 and N is not.
 """
@@ -163,7 +164,7 @@ def prepare(crates: List[Path], room: Path, workers: int) -> Optional[Gate]:
 
 def count_checks() -> int:
     """Returns how many checks run in parallel."""
-    return max(1, count_workers() // JOBS)
+    return max(1, 3 * count_workers() // 4)
 
 
 def processor_seconds() -> float:

@@ -6,19 +6,19 @@ use std::fmt::Debug;
 use std::process::Abort;
 use std::result;
 
-// The words of an error and its numbers, or 0 for those that it lacks.
+// The variant of an error, or its message, and its numbers, or 0 for those that it lacks.
 type Parts<'a> = (&'a str, usize, usize);
 
 // Returns the parts of a call's error.
 fn parts_of<T>(outcome: &Result<T>) -> Parts<'_> {
     match outcome {
-        Err(Error::TooBig { size, len }) => ("too big", *size, *len),
-        Err(Error::BadOffset(offset)) => ("bad offset", *offset, 0),
+        Err(Error::TooBig { size, len }) => ("TooBig", *size, *len),
+        Err(Error::BadOffset(offset)) => ("BadOffset", *offset, 0),
         Err(Error::BadInput { size, msg }) => (msg, *size, 0),
         Err(Error::Custom(text)) => (text, 0, 0),
-        Err(Error::IO(_)) => ("stream error", 0, 0),
-        Err(Error::NoMemory) => ("out of memory", 0, 0),
-        Ok(_) => ("a value", 0, 0),
+        Err(Error::IO(_)) => ("IO", 0, 0),
+        Err(Error::NoMemory) => ("NoMemory", 0, 0),
+        Ok(_) => ("Ok", 0, 0),
     }
 }
 
@@ -46,12 +46,12 @@ pub fn check_too_big<T: Drop>(
     wanted_size: usize,
     wanted_len: usize,
 ) {
-    check_error(rt, outcome, ("too big", wanted_size, wanted_len));
+    check_error(rt, outcome, ("TooBig", wanted_size, wanted_len));
 }
 
 // Checks that a call returned this `BadOffset`.
 pub fn check_bad_offset<T: Drop>(rt: &impl Abort, outcome: Result<T>, wanted: usize) {
-    check_error(rt, outcome, ("bad offset", wanted, 0));
+    check_error(rt, outcome, ("BadOffset", wanted, 0));
 }
 
 // Checks that a call returned this `BadInput`.
