@@ -182,7 +182,7 @@ def list_steps(groups: Sequence[str], workers: int) -> List[Step]:
             steps.append(Step(f"python3 scripts/{name}.py", 1))
         steps += [
             Step(PROVE, workers),
-            Step(f"{PROVE} tests", half + 1, (PROVE,), "tests", "crates/scroll/out/scroll_tests"),
+            Step(f"{PROVE} tests", half, (PROVE,), "tests", "crates/scroll/out/scroll_tests"),
             Step(PROGRAM, half, (PROVE,)),
             Step(f"{PROGRAM} tests", half, (PROGRAM,)),
         ]
