@@ -1,6 +1,7 @@
 // What a test expects of a call's result. A `match` in each test would have a step in the proof for each part of the result
 // and each drop; a call of these is one step, and is proved in a quarter of the time.
-use crate::{Error, Result};
+use crate::ctx::TryFromCtx;
+use crate::{Error, Pread, Result};
 use std::fmt::Debug;
 use std::process::Abort;
 use std::result;
@@ -94,3 +95,15 @@ macro_rules! check_gread_gwrite {
 }
 
 pub(crate) use check_gread_gwrite;
+
+// Checks that this value is read at an offset, and at a cursor, which then is `to`.
+pub fn check_read<
+    'a,
+    Ctx: Copy,
+    T: TryFromCtx<'a, Ctx, Error = Error> + Copy + PartialEq + Debug + Drop,
+>(rt: &impl Abort, bytes: &'a [u8], from: usize, ctx: Ctx, wanted: T, to: usize) {
+    check_value(rt, bytes.pread_with::<T>(from, ctx), wanted);
+    let mut offset = from;
+    check_value(rt, bytes.gread_with::<T>(&mut offset, ctx), wanted);
+    check_eq(rt, offset, to);
+}
