@@ -21,35 +21,45 @@ fn contexts(rt: HostRuntime) {
     check_eq(&rt, [NULL, SPACE, RET, TAB], *b"\0 \n\t");
 }
 
-// Checks the size of a value in bytes.
+// Checks the size of a value in bytes, if there was memory for the value.
 fn check_measure<Ctx: Drop, T: MeasureWith<Ctx> + Drop>(
     rt: &impl Abort,
-    value: T,
+    value: result::Result<T, AllocError>,
     ctx: Ctx,
     wanted: usize,
-) {
-    check_eq(rt, value.measure_with(&ctx), wanted);
+) -> result::Result<(), AllocError> {
+    match value {
+        Ok(value) => {
+            check_eq(rt, value.measure_with(&ctx), wanted);
+            Ok(())
+        }
+        Err(error) => Err(error),
+    }
 }
 
 #[test]
 fn test_measure_with_bytes(rt: HostRuntime) -> result::Result<(), AllocError> {
+    let rt = &rt;
+    let alloc = rt.alloc();
     let bytes: [u8; 4] = [0xef, 0xbe, 0xad, 0xde];
-    check_measure(&rt, bytes, (), 4);
-    check_measure(&rt, &bytes[1..], LE, 3);
-    let vector = Vec::from_slice(rt.alloc(), &bytes[1..])?;
-    check_measure(&rt, vector, StrCtx::Length(9), 3);
-    check_measure(&rt, "h\u{e9}", (), 3);
-    let string = String::from_str(rt.alloc(), "h\u{e9}")?;
-    check_measure(&rt, string, BE, 3);
-    Ok(())
+    check_eq(rt, bytes.measure_with(&()), 4);
+    let slice = &bytes[1..];
+    check_eq(rt, slice.measure_with(&LE), 3);
+    let text = "h\u{e9}";
+    check_eq(rt, text.measure_with(&()), 3);
+    let vector = Vec::from_slice(alloc, slice);
+    let string = String::from_str(alloc, text);
+    let vector = check_measure(rt, vector, StrCtx::Length(9), 3);
+    vector.and(check_measure(rt, string, BE, 3))
 }
 
 #[test]
 fn pread_slice(rt: HostRuntime) {
+    let rt = &rt;
     let bytes: &[u8] = &[0x7e, 0xef];
-    check_value(&rt, bytes.pread::<&[u8]>(1), &[]);
-    check_bad_offset(&rt, bytes.pread::<&[u8]>(3), 3);
-    check_read(&rt, bytes, 0, 2, bytes, 2);
+    check_value(rt, bytes.pread::<&[u8]>(1), &[]);
+    check_bad_offset(rt, bytes.pread::<&[u8]>(3), 3);
+    check_read(rt, bytes, 0, 2, bytes, 2);
 }
 
 const HELLO: &[u8] = b"hello, world!\0some_other_things";
@@ -83,10 +93,13 @@ const READ: [(&[u8], usize, StrCtx, &str, usize); 17] = [
 
 #[test]
 fn texts_at_the_cursor(rt: HostRuntime) {
-    check_value(&rt, b".\0"[..].pread::<&str>(0), ".");
-    check_value(&rt, b"\0"[..].pread::<&str>(0), "");
-    for (bytes, from, ctx, wanted, to) in &READ {
-        check_read(&rt, bytes, *from, *ctx, *wanted, *to);
+    let rt = &rt;
+    let dot: &[u8] = b".\0";
+    check_value(rt, dot.pread::<&str>(0), ".");
+    let zero: &[u8] = b"\0";
+    check_value(rt, zero.pread::<&str>(0), "");
+    for &(bytes, from, ctx, wanted, to) in &READ {
+        check_read(rt, bytes, from, ctx, wanted, to);
     }
 }
 
@@ -100,63 +113,66 @@ fn refused<'a>(rt: &impl Abort, bytes: &'a [u8], ctx: StrCtx) -> Result<&'a str>
 
 #[test]
 fn refused_texts(rt: HostRuntime) {
+    let rt = &rt;
     let none: &[u8] = b"";
     let two: &[u8] = &[0x7e, 0xef];
     let past: Result<&str> = none.pread_with(7, StrCtx::Delimiter(SPACE));
-    check_bad_offset(&rt, past, 7);
+    check_bad_offset(rt, past, 7);
     let long: Result<&str> = two.pread_with(0, StrCtx::Length(3));
-    check_too_big(&rt, long, 3, 2);
-    check_too_big(&rt, refused(&rt, two, StrCtx::Length(3)), 3, 2);
-    let short = refused(&rt, b"a\0c", StrCtx::DelimiterUntil(NULL, 4));
-    check_too_big(&rt, short, 4, 3);
-    let invalid = refused(&rt, b"\xffa\0", StrCtx::Delimiter(NULL));
-    check_bad_input(&rt, invalid, 3, "invalid utf8");
-    let cut = refused(&rt, b"\xc3\xa9", StrCtx::Length(1));
-    check_bad_input(&rt, cut, 2, "invalid utf8");
+    check_too_big(rt, long, 3, 2);
+    check_too_big(rt, refused(rt, two, StrCtx::Length(3)), 3, 2);
+    let short = refused(rt, b"a\0c", StrCtx::DelimiterUntil(NULL, 4));
+    check_too_big(rt, short, 4, 3);
+    let invalid = refused(rt, b"\xffa\0", StrCtx::Delimiter(NULL));
+    check_bad_input(rt, invalid, 3, "invalid utf8");
+    let cut = refused(rt, b"\xc3\xa9", StrCtx::Length(1));
+    check_bad_input(rt, cut, 2, "invalid utf8");
 }
 
 #[test]
 fn pwrite_str_and_bytes(rt: HostRuntime) {
+    let rt = &rt;
+    let bytes: &[u8] = b"more\0bytes";
     let mut buffer = [0u8; 33];
-    let mut target = &mut buffer[..];
+    let mut target: &mut [u8] = &mut buffer;
     check_value(
-        &rt,
+        rt,
         target.pwrite("lol hello_world lal\0ala imabytes", 0),
         32,
     );
-    check_read(&rt, &buffer, 4, StrCtx::Delimiter(SPACE), "hello_world", 16);
-    let mut target = &mut buffer[..];
-    check_value(&rt, target.pwrite(b"more\0bytes".as_slice(), 0), 10);
-    check_read(&rt, &buffer, 8, StrCtx::Length(6), "esworl", 14);
+    check_read(rt, &buffer, 4, StrCtx::Delimiter(SPACE), "hello_world", 16);
+    let mut target: &mut [u8] = &mut buffer;
+    check_value(rt, target.pwrite(bytes, 0), 10);
+    check_read(rt, &buffer, 8, StrCtx::Length(6), "esworl", 14);
 }
 
 #[test]
 fn bulk_read_of_texts(rt: HostRuntime) {
-    let bytes = b"ab\0cd";
+    let rt = &rt;
+    let bytes: &[u8] = b"ab\0cd";
     let mut texts = ["as", "before", "this"];
     let mut offset = 0;
-    check_bad_offset(&rt, bytes[..].gread_inout(&mut offset, &mut texts), 6);
-    check_eq(&rt, texts, ["ab", "cd", "this"]);
-    check_eq(&rt, offset, 6);
+    check_bad_offset(rt, bytes.gread_inout(&mut offset, &mut texts), 6);
+    check_eq(rt, texts, ["ab", "cd", "this"]);
+    check_eq(rt, offset, 6);
 }
 
 #[test]
 fn short_targets(rt: HostRuntime) {
+    let rt = &rt;
+    let two: &[u8] = &[1, 2];
     let mut bytes = [0xffu8; 3];
-    let mut target = &mut bytes[..];
-    check_too_big(&rt, target.pwrite("ab", 2), 2, 1);
-    check_too_big(&rt, target.pwrite(b"\x01\x02".as_slice(), 3), 2, 0);
-    check_eq(&rt, bytes, [0xff; 3]);
+    let mut target: &mut [u8] = &mut bytes;
+    check_too_big(rt, target.pwrite("ab", 2), 2, 1);
+    check_too_big(rt, target.pwrite(two, 3), 2, 0);
+    check_eq(rt, bytes, [0xff; 3]);
 }
 
 // Checks whether these bytes are read whole as a string.
 fn check_is_text(rt: &impl Abort, bytes: &[u8], wanted: bool) {
     let text: Result<&str> = bytes.pread_with(0, StrCtx::Length(bytes.len()));
-    let is_text = match text {
-        Ok(text) => text.as_bytes() == bytes,
-        Err(_) => false,
-    };
-    assert!(rt; is_text == wanted, "{bytes:?}");
+    let is_text = text.unwrap_or_default().as_bytes() == bytes;
+    check_eq(rt, (bytes, is_text), (bytes, wanted));
 }
 
 // Bytes that are one character, and bytes that are none, as Rust's `str::from_utf8` says.
@@ -231,22 +247,20 @@ const FORMS: [&[(u8, u8)]; 9] = [
 
 // Returns whether these bytes have one form.
 fn has_form(bytes: &[u8], form: &[(u8, u8)]) -> bool {
-    for (range, byte) in form.iter().zip(bytes.iter()) {
-        if *byte < range.0 || range.1 < *byte {
-            return false;
-        }
+    let mut fits = form.len() == bytes.len();
+    for (&(low, high), &byte) in form.iter().zip(bytes.iter()) {
+        fits &= (low <= byte) & (byte <= high);
     }
-    form.len() == bytes.len()
+    fits
 }
 
 // Returns whether these bytes are one character.
 fn is_character(bytes: &[u8]) -> bool {
+    let mut is_one = false;
     for form in &FORMS {
-        if has_form(bytes, form) {
-            return true;
-        }
+        is_one |= has_form(bytes, form);
     }
-    false
+    is_one
 }
 
 // Returns whether these bytes are one or two characters.
@@ -261,6 +275,7 @@ fn is_characters(bytes: &[u8]) -> bool {
 
 #[test]
 fn characters_of_utf8(rt: HostRuntime) {
+    let rt = &rt;
     for first in 0x80..=u8::MAX {
         for second in 0..=u8::MAX {
             for bytes in [
@@ -272,7 +287,7 @@ fn characters_of_utf8(rt: HostRuntime) {
                 &[first, 0x90, second, 0x80],
                 &[first, second, 0xbf, 0x80],
             ] {
-                check_is_text(&rt, bytes, is_characters(bytes));
+                check_is_text(rt, bytes, is_characters(bytes));
             }
         }
     }
