@@ -7,9 +7,8 @@ use crate::tests::results::{
     check_bad_input, check_bad_offset, check_eq, check_read, check_too_big, check_value,
 };
 use crate::{Error, Pread, Pwrite, Result};
-use std::alloc::{AllocError, Global};
+use std::alloc::Global;
 use std::process::Abort;
-use std::result;
 
 pub const NO_ZERO: &str = "The input doesn't contain a null byte";
 
@@ -37,12 +36,12 @@ fn read_once<'a, T: TryFromCtx<'a, &'a Global, Error = Error> + Drop>(
     source: &'a [u8],
     from: usize,
     to: usize,
-) -> Result<T> {
+) -> Option<T> {
     let mut offset = from;
     let value = source.gread_with(&mut offset, alloc);
     check_memory(rt, &value);
     check_eq(rt, offset, if value.is_ok() { to } else { from });
-    value
+    value.ok()
 }
 
 // Reads a value at a cursor, which then is `to`, by one of two calls.
@@ -63,17 +62,24 @@ pub fn borrow<'a>(rt: &impl Abort, bytes: &'a [u8]) -> CStr<'a> {
     CStr::from_bytes_until_nul(bytes).expect(rt, "no zero")
 }
 
-// Checks that a C string is copied at a cursor, which then is `to`.
-fn check_copy(
+// Checks that C strings are read at a cursor, which then is `to`, and that no zero is found there.
+fn check_reads(
     rt: &impl Abort,
-    alloc: Global,
+    alloc: &Global,
     source: &[u8],
     from: usize,
     wanted: &[u8],
     to: usize,
 ) {
-    let copy: CString = read_copy(rt, &alloc, source, from, to);
+    check_read(rt, source, from, (), borrow(rt, wanted), to);
+    let copy: CString = read_copy(rt, alloc, source, from, to);
     check_eq(rt, copy.as_bytes_with_nul(), wanted);
+    let mut offset = to;
+    let cut = source.gread_with::<CStr>(&mut offset, ());
+    check_bad_input(rt, cut, 0, NO_ZERO);
+    let cut = source.gread_with::<CString>(&mut offset, alloc);
+    check_bad_input(rt, cut, 0, NO_ZERO);
+    check_eq(rt, offset, to);
 }
 
 // Checks that a C string is made of a text, and has these bytes with its zero.
@@ -117,22 +123,18 @@ fn texts_that_are_held(rt: HostRuntime) {
     }
 }
 
-// Checks that a text is held, and copied from the bytes of its C string.
-fn check_text(rt: &impl Abort, alloc: Global, text: &[u8]) {
-    let string = make(rt, alloc, text);
-    check_eq(rt, string.as_bytes(), text);
-    let source = string.as_bytes_with_nul();
-    check_copy(rt, alloc, source, 0, source, source.len());
-}
-
 #[test]
-fn texts_of_each_length(rt: HostRuntime) -> result::Result<(), AllocError> {
+fn texts_of_each_length(rt: HostRuntime) {
+    let rt = &rt;
     let alloc = rt.alloc();
     for len in [0, 1, 255, 256, 4096, 65_535, 65_536] {
-        let text = vec![in alloc; b'a'; len]?;
-        check_text(&rt, alloc, &text);
+        let text = vec![in alloc; b'a'; len].or(vec![in alloc; b'a'; len]);
+        let text = text.expect(rt, "no memory twice");
+        let string = make(rt, alloc, &text);
+        check_eq(rt, string.as_bytes(), text.as_slice());
+        let source = string.as_bytes_with_nul();
+        check_reads(rt, &alloc, source, 0, source, len + 1);
     }
-    Ok(())
 }
 
 // Checks whether the C strings at the front of these bytes are equal.
@@ -156,29 +158,12 @@ fn up_to_the_first_zero(rt: HostRuntime) {
 #[test]
 fn reads(rt: HostRuntime) {
     let rt = &rt;
-    let alloc = rt.alloc();
+    let alloc = &rt.alloc();
     let source: &[u8] = b"hello world\0more words";
-    check_read(rt, source, 6, (), borrow(rt, b"world\0"), 12);
-    check_copy(rt, alloc, source, 6, b"world\0", 12);
-    let mut offset = 12;
-    let cut = source.gread_with::<CStr>(&mut offset, ());
-    check_bad_input(rt, cut, 0, NO_ZERO);
-    let cut = source.gread_with::<CString>(&mut offset, &alloc);
-    check_bad_input(rt, cut, 0, NO_ZERO);
-    check_eq(rt, offset, 12);
-    check_bad_offset(rt, source.pread_with::<CString>(23, &alloc), 23);
-}
-
-#[test]
-fn the_empty_text(rt: HostRuntime) {
-    let rt = &rt;
-    let source: &[u8] = b"\0";
-    check_read(rt, source, 0, (), borrow(rt, source), 1);
-    check_copy(rt, rt.alloc(), source, 0, source, 1);
-    let mut offset = 1;
-    let cut = source.gread_with::<CStr>(&mut offset, ());
-    check_bad_input(rt, cut, 0, NO_ZERO);
-    check_eq(rt, offset, 1);
+    check_reads(rt, alloc, source, 6, b"world\0", 12);
+    check_bad_offset(rt, source.pread_with::<CString>(23, alloc), 23);
+    // the empty text
+    check_reads(rt, alloc, b"\0", 0, b"\0", 1);
 }
 
 #[test]

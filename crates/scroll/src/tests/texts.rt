@@ -4,53 +4,40 @@ use crate::tests::results::{
     check_bad_input, check_bad_offset, check_eq, check_read, check_too_big, check_value,
 };
 use crate::{BE, LE, Pread, Pwrite, Result};
-use std::alloc::AllocError;
 use std::process::Abort;
-use std::result;
 
 #[test]
 fn contexts(rt: HostRuntime) {
+    let rt = &rt;
     assert!(rt; matches!(StrCtx::default(), StrCtx::Delimiter(0)));
-    for (ctx, len) in &[
-        (StrCtx::Delimiter(NULL), 1),
-        (StrCtx::DelimiterUntil(SPACE, 4), 1),
-        (StrCtx::Length(3), 0),
+    for (ctx, len, is_empty) in &[
+        (StrCtx::Delimiter(NULL), 1, false),
+        (StrCtx::DelimiterUntil(SPACE, 4), 1, false),
+        (StrCtx::Length(3), 0, true),
     ] {
-        check_eq(&rt, (ctx.len(), ctx.is_empty()), (*len, *len == 0));
+        check_eq(rt, ctx.len(), *len);
+        check_eq(rt, ctx.is_empty(), *is_empty);
     }
-    check_eq(&rt, [NULL, SPACE, RET, TAB], *b"\0 \n\t");
+    check_eq(rt, [NULL, SPACE, RET, TAB], *b"\0 \n\t");
 }
 
-// Checks the size of a value in bytes, if there was memory for the value.
-fn check_measure<Ctx: Drop, T: MeasureWith<Ctx> + Drop>(
-    rt: &impl Abort,
-    value: result::Result<T, AllocError>,
-    ctx: Ctx,
-    wanted: usize,
-) -> result::Result<(), AllocError> {
-    match value {
-        Ok(value) => {
-            check_eq(rt, value.measure_with(&ctx), wanted);
-            Ok(())
-        }
-        Err(error) => Err(error),
-    }
-}
-
+// (One allocation may fail, so what allocates is called twice.)
 #[test]
-fn test_measure_with_bytes(rt: HostRuntime) -> result::Result<(), AllocError> {
+fn test_measure_with_bytes(rt: HostRuntime) {
     let rt = &rt;
     let alloc = rt.alloc();
     let bytes: [u8; 4] = [0xef, 0xbe, 0xad, 0xde];
     check_eq(rt, bytes.measure_with(&()), 4);
     let slice = &bytes[1..];
     check_eq(rt, slice.measure_with(&LE), 3);
+    let vector = Vec::from_slice(alloc, slice).or(Vec::from_slice(alloc, slice));
+    let vector = vector.expect(rt, "no memory twice");
+    check_eq(rt, vector.measure_with(&StrCtx::Length(9)), 3);
     let text = "h\u{e9}";
     check_eq(rt, text.measure_with(&()), 3);
-    let vector = Vec::from_slice(alloc, slice);
-    let string = String::from_str(alloc, text);
-    let vector = check_measure(rt, vector, StrCtx::Length(9), 3);
-    vector.and(check_measure(rt, string, BE, 3))
+    let string = String::from_str(alloc, text).or(String::from_str(alloc, text));
+    let string = string.expect(rt, "no memory twice");
+    check_eq(rt, string.measure_with(&BE), 3);
 }
 
 #[test]
@@ -103,30 +90,28 @@ fn texts_at_the_cursor(rt: HostRuntime) {
     }
 }
 
-// Returns the error of a read at the cursor, which stays.
-fn refused<'a>(rt: &impl Abort, bytes: &'a [u8], ctx: StrCtx) -> Result<&'a str> {
-    let mut offset = 0;
-    let text = bytes.gread_with(&mut offset, ctx);
-    check_eq(rt, offset, 0);
-    text
-}
-
 #[test]
 fn refused_texts(rt: HostRuntime) {
     let rt = &rt;
+    let mut at = 0;
     let none: &[u8] = b"";
-    let two: &[u8] = &[0x7e, 0xef];
     let past: Result<&str> = none.pread_with(7, StrCtx::Delimiter(SPACE));
     check_bad_offset(rt, past, 7);
+    let two: &[u8] = &[0x7e, 0xef];
     let long: Result<&str> = two.pread_with(0, StrCtx::Length(3));
     check_too_big(rt, long, 3, 2);
-    check_too_big(rt, refused(rt, two, StrCtx::Length(3)), 3, 2);
-    let short = refused(rt, b"a\0c", StrCtx::DelimiterUntil(NULL, 4));
+    let long: Result<&str> = two.gread_with(&mut at, StrCtx::Length(3));
+    check_too_big(rt, long, 3, 2);
+    let three: &[u8] = b"a\0c";
+    let short: Result<&str> = three.gread_with(&mut at, StrCtx::DelimiterUntil(NULL, 4));
     check_too_big(rt, short, 4, 3);
-    let invalid = refused(rt, b"\xffa\0", StrCtx::Delimiter(NULL));
+    let invalid: &[u8] = b"\xffa\0";
+    let invalid: Result<&str> = invalid.gread_with(&mut at, StrCtx::Delimiter(NULL));
     check_bad_input(rt, invalid, 3, "invalid utf8");
-    let cut = refused(rt, b"\xc3\xa9", StrCtx::Length(1));
+    let cut: &[u8] = b"\xc3\xa9";
+    let cut: Result<&str> = cut.gread_with(&mut at, StrCtx::Length(1));
     check_bad_input(rt, cut, 2, "invalid utf8");
+    check_eq(rt, at, 0);
 }
 
 #[test]
@@ -168,11 +153,10 @@ fn short_targets(rt: HostRuntime) {
     check_eq(rt, bytes, [0xff; 3]);
 }
 
-// Checks whether these bytes are read whole as a string.
-fn check_is_text(rt: &impl Abort, bytes: &[u8], wanted: bool) {
+// Checks that reading these bytes whole as a string returns these, or is refused where these are none.
+fn check_text(rt: &impl Abort, bytes: &[u8], wanted: &[u8]) {
     let text: Result<&str> = bytes.pread_with(0, StrCtx::Length(bytes.len()));
-    let is_text = text.unwrap_or_default().as_bytes() == bytes;
-    check_eq(rt, (bytes, is_text), (bytes, wanted));
+    check_eq(rt, text.unwrap_or_default().as_bytes(), wanted);
 }
 
 // Bytes that are one character, and bytes that are none, as Rust's `str::from_utf8` says.
@@ -224,11 +208,12 @@ const NOT_CHARACTERS: [&[u8]; 25] = [
 
 #[test]
 fn edges_of_utf8(rt: HostRuntime) {
-    for bytes in &CHARACTERS {
-        check_is_text(&rt, bytes, true);
+    let rt = &rt;
+    for &bytes in &CHARACTERS {
+        check_text(rt, bytes, bytes);
     }
-    for bytes in &NOT_CHARACTERS {
-        check_is_text(&rt, bytes, false);
+    for &bytes in &NOT_CHARACTERS {
+        check_text(rt, bytes, b"");
     }
 }
 
@@ -247,30 +232,32 @@ const FORMS: [&[(u8, u8)]; 9] = [
 
 // Returns whether these bytes have one form.
 fn has_form(bytes: &[u8], form: &[(u8, u8)]) -> bool {
-    let mut fits = form.len() == bytes.len();
     for (&(low, high), &byte) in form.iter().zip(bytes.iter()) {
-        fits &= (low <= byte) & (byte <= high);
+        if byte < low || high < byte {
+            return false;
+        }
     }
-    fits
+    true
 }
 
 // Returns whether these bytes are one character.
 fn is_character(bytes: &[u8]) -> bool {
-    let mut is_one = false;
     for form in &FORMS {
-        is_one |= has_form(bytes, form);
-    }
-    is_one
-}
-
-// Returns whether these bytes are one or two characters.
-fn is_characters(bytes: &[u8]) -> bool {
-    for n in 1..bytes.len() {
-        if is_character(&bytes[..n]) && is_character(&bytes[n..]) {
+        if form.len() == bytes.len() && has_form(bytes, form) {
             return true;
         }
     }
-    is_character(bytes)
+    false
+}
+
+// Returns these bytes if they are one or two characters, and else none.
+fn characters(bytes: &[u8]) -> &[u8] {
+    for n in 1..bytes.len() {
+        if is_character(&bytes[..n]) && is_character(&bytes[n..]) {
+            return bytes;
+        }
+    }
+    if is_character(bytes) { bytes } else { b"" }
 }
 
 #[test]
@@ -287,7 +274,7 @@ fn characters_of_utf8(rt: HostRuntime) {
                 &[first, 0x90, second, 0x80],
                 &[first, second, 0xbf, 0x80],
             ] {
-                check_is_text(rt, bytes, is_characters(bytes));
+                check_text(rt, bytes, characters(bytes));
             }
         }
     }
