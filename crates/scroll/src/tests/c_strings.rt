@@ -4,214 +4,198 @@
 use crate::cstr::{CStr, CString};
 use crate::ctx::{TryFromCtx, TryIntoCtx};
 use crate::tests::results::{
-    check_bad_input, check_bad_offset, check_eq, check_too_big, check_value,
+    check_bad_input, check_bad_offset, check_eq, check_read, check_too_big, check_value,
 };
 use crate::{Error, Pread, Pwrite, Result};
-use std::alloc::{AllocError, Global};
+use std::alloc::Global;
 use std::process::Abort;
 
-const NO_ZERO: &str = "The input doesn't contain a null byte";
+pub const NO_ZERO: &str = "The input doesn't contain a null byte";
 
-// Returns whether a C string was made. Any error except out of memory ends the test.
-fn is_held(rt: &impl Abort, made: Result<CString>, wanted: &[u8]) -> bool {
-    match made {
-        Ok(string) => {
-            check_eq(&rt, string.as_bytes_with_nul(), wanted);
-            true
-        }
-        Err(error) => {
-            assert!(rt; matches!(&error, Error::NoMemory));
-            false
-        }
+// Checks that a call has no error except out of memory.
+fn check_memory<T>(rt: &impl Abort, outcome: &Result<T>) {
+    match outcome {
+        Ok(_) | Err(Error::NoMemory) => {}
+        Err(error) => panic!(rt; "expected a value or NoMemory, got {error:?}"),
     }
 }
 
-// Returns whether a C string was read, and has these bytes before its zero.
-fn is_text(read: Result<CStr>, wanted: &[u8]) -> bool {
-    match read {
-        Ok(text) => text.to_bytes() == wanted,
-        Err(_) => false,
-    }
-}
-
-// Returns the C string of a text, from a second call where the first runs out of memory.
+// Returns the C string of a text, from one of two calls.
 fn make(rt: &impl Abort, alloc: Global, text: &[u8]) -> CString {
-    match CString::new(alloc, text) {
-        Ok(string) => string,
-        Err(_) => CString::new(alloc, text).expect(rt, "no memory twice"),
-    }
+    let first = CString::new(alloc, text);
+    check_memory(rt, &first);
+    first
+        .or(CString::new(alloc, text))
+        .expect(rt, "no memory twice")
 }
 
-#[test]
-fn parse_a_cstr(rt: HostRuntime) {
-    let string = make(&rt, rt.alloc(), b"Hello World");
-    let read = CStr::try_from_ctx(string.as_bytes_with_nul(), ());
-    check_value(&rt, read, (string.as_c_str(), 12));
+// Reads a value at a cursor, which then is `to`, or unchanged where the call runs out of memory.
+fn read_once<'a, T: TryFromCtx<'a, &'a Global, Error = Error> + Drop>(
+    rt: &impl Abort,
+    alloc: &'a Global,
+    source: &'a [u8],
+    from: usize,
+    to: usize,
+) -> Option<T> {
+    let mut offset = from;
+    let value = source.gread_with(&mut offset, alloc);
+    check_memory(rt, &value);
+    check_eq(rt, offset, if value.is_ok() { to } else { from });
+    value.ok()
+}
+
+// Reads a value at a cursor, which then is `to`, by one of two calls.
+pub fn read_copy<'a, T: TryFromCtx<'a, &'a Global, Error = Error> + Drop>(
+    rt: &impl Abort,
+    alloc: &'a Global,
+    source: &'a [u8],
+    from: usize,
+    to: usize,
+) -> T {
+    let first = read_once(rt, alloc, source, from, to);
+    let second = read_once(rt, alloc, source, from, to);
+    first.or(second).expect(rt, "no memory twice")
+}
+
+// Returns the C string at the front of these bytes.
+pub fn borrow<'a>(rt: &impl Abort, bytes: &'a [u8]) -> CStr<'a> {
+    CStr::from_bytes_until_nul(bytes).expect(rt, "no zero")
+}
+
+// Checks that C strings are read at a cursor, which then is `to`, and that no zero is found there.
+fn check_reads(
+    rt: &impl Abort,
+    alloc: &Global,
+    source: &[u8],
+    from: usize,
+    wanted: &[u8],
+    to: usize,
+) {
+    check_read(rt, source, from, (), borrow(rt, wanted), to);
+    let copy: CString = read_copy(rt, alloc, source, from, to);
+    check_eq(rt, copy.as_bytes_with_nul(), wanted);
+    let mut offset = to;
+    let cut = source.gread_with::<CStr>(&mut offset, ());
+    check_bad_input(rt, cut, 0, NO_ZERO);
+    let cut = source.gread_with::<CString>(&mut offset, alloc);
+    check_bad_input(rt, cut, 0, NO_ZERO);
+    check_eq(rt, offset, to);
+}
+
+// Checks that a C string is made of a text, and has these bytes with its zero.
+fn check_held(rt: &impl Abort, alloc: Global, text: &[u8], wanted: &[u8]) {
+    let string = make(rt, alloc, text);
+    check_eq(rt, string.as_bytes(), text);
+    check_eq(rt, string.as_bytes_with_nul(), wanted);
+    check_eq(rt, string.as_c_str().to_bytes(), text);
+    check_eq(rt, string.as_c_str().to_bytes_with_nul(), wanted);
 }
 
 #[test]
 fn round_trip_a_c_str(rt: HostRuntime) {
-    let string = make(&rt, rt.alloc(), b"Hello World");
+    let rt = &rt;
+    let text = borrow(rt, b"Hello World\0");
     let mut bytes = [0u8; 12];
-    check_value(&rt, string.as_c_str().try_into_ctx(&mut bytes, ()), 12);
-    let read = CStr::try_from_ctx(&bytes, ());
-    check_value(&rt, read, (string.as_c_str(), 12));
+    check_value(rt, text.try_into_ctx(&mut bytes, ()), 12);
+    check_value(rt, CStr::try_from_ctx(&bytes, ()), (text, 12));
 }
+
+// Texts that contain a zero, and where.
+const REFUSED: [(&[u8], usize); 3] = [(b"a\0b", 1), (b"\0", 0), (b"ab\0\0", 2)];
+
+// Texts, and the bytes of their C strings.
+const HELD: [(&[u8], &[u8]); 4] = [
+    (b"", b"\0"),
+    (b"a", b"a\0"),
+    (b"\xff\x01 \xc3", b"\xff\x01 \xc3\0"),
+    (b"Hello World", b"Hello World\0"),
+];
 
 #[test]
 fn texts_that_are_held(rt: HostRuntime) {
+    let rt = &rt;
     let alloc = rt.alloc();
-    for (text, place) in [
-        (b"a\0b".as_slice(), 1),
-        (b"\0".as_slice(), 0),
-        (b"ab\0\0".as_slice(), 2),
-    ] {
-        for _ in 0..2 {
-            check_bad_input(&rt, CString::new(alloc, text), place, "nul byte in text");
-        }
+    for &(text, place) in &REFUSED {
+        check_bad_input(rt, CString::new(alloc, text), place, "nul byte in text");
     }
-    for (text, wanted) in [
-        (b"".as_slice(), b"\0".as_slice()),
-        (b"a".as_slice(), b"a\0".as_slice()),
-        (b"\xff\x01 \xc3".as_slice(), b"\xff\x01 \xc3\0".as_slice()),
-    ] {
-        let first = is_held(&rt, CString::new(alloc, text), wanted);
-        let second = is_held(&rt, CString::new(alloc, text), wanted);
-        assert!(rt; first || second);
-        let string = make(&rt, alloc, text);
-        check_eq(&rt, string.as_bytes(), text);
-        check_eq(&rt, string.as_c_str().to_bytes(), text);
-        check_eq(&rt, string.as_c_str().to_bytes_with_nul(), wanted);
+    for &(text, wanted) in &HELD {
+        check_held(rt, alloc, text, wanted);
     }
 }
 
 #[test]
-fn texts_of_each_length(rt: HostRuntime) -> std::result::Result<(), AllocError> {
+fn texts_of_each_length(rt: HostRuntime) {
+    let rt = &rt;
     let alloc = rt.alloc();
     for len in [0, 1, 255, 256, 4096, 65_535, 65_536] {
-        let text = vec![in alloc; b'a'; len]?;
-        let string = make(&rt, alloc, &text);
-        check_eq(&rt, string.as_bytes(), text.as_slice());
+        let text = vec![in alloc; b'a'; len].or(vec![in alloc; b'a'; len]);
+        let text = text.expect(rt, "no memory twice");
+        let string = make(rt, alloc, &text);
+        check_eq(rt, string.as_bytes(), text.as_slice());
         let source = string.as_bytes_with_nul();
-        let mut offset = 0;
-        let copy: Result<CString> = source.gread_with(&mut offset, &alloc);
-        if !is_held(&rt, copy, source) {
-            check_eq(&rt, offset, 0);
-            let again: Result<CString> = source.gread_with(&mut offset, &alloc);
-            assert!(rt; is_held(&rt, again, source));
-        }
-        check_eq(&rt, offset, len + 1);
+        check_reads(rt, &alloc, source, 0, source, len + 1);
     }
-    Ok(())
+}
+
+// Checks whether the C strings at the front of these bytes are equal.
+fn check_same(rt: &impl Abort, bytes: &[u8], other: &[u8], wanted: bool) {
+    let same = borrow(rt, bytes) == borrow(rt, other);
+    check_eq(rt, (bytes, same), (bytes, wanted));
 }
 
 #[test]
 fn up_to_the_first_zero(rt: HostRuntime) {
-    let front = CStr::from_bytes_until_nul(b"a\0b\0");
-    assert!(rt; matches!(&front, Some(text) if text.to_bytes() == b"a".as_slice()));
-    assert!(rt; CStr::from_bytes_until_nul(b"a").is_none());
-    assert!(rt; CStr::from_bytes_until_nul(b"").is_none());
-    let other = [b'a', 0, 0];
-    let same = CStr::from_bytes_until_nul(&other);
-    check_eq(&rt, front, same);
-    assert!(rt; CStr::from_bytes_until_nul(b"b\0") != same);
-    assert!(rt; CStr::from_bytes_until_nul(b"aa\0") != same);
+    let rt = &rt;
+    check_eq(rt, borrow(rt, b"a\0b\0").to_bytes(), b"a");
+    check_eq(rt, CStr::from_bytes_until_nul(b"a"), None);
+    check_eq(rt, CStr::from_bytes_until_nul(b""), None);
+    let other: &[u8] = &[b'a', 0, 0];
+    check_same(rt, b"a\0b\0", other, true);
+    check_same(rt, b"b\0", other, false);
+    check_same(rt, b"aa\0", other, false);
 }
 
 #[test]
 fn reads(rt: HostRuntime) {
-    let alloc = rt.alloc();
-    let bytes = b"hello world\0more words";
-    let source = bytes.as_slice();
-    for _ in 0..2 {
-        let mut offset = 6;
-        assert!(rt; is_text(source.gread_with(&mut offset, ()), b"world"));
-        check_eq(&rt, offset, 12);
-        let cut: Result<CStr> = source.gread_with(&mut offset, ());
-        check_bad_input(&rt, cut, 0, NO_ZERO);
-        let cut: Result<CString> = source.gread_with(&mut offset, &alloc);
-        check_bad_input(&rt, cut, 0, NO_ZERO);
-        check_eq(&rt, offset, 12);
-        let past: Result<CString> = source.pread_with(23, &alloc);
-        check_bad_offset(&rt, past, 23);
-    }
-    let mut offset = 6;
-    let first = is_held(&rt, source.gread_with(&mut offset, &alloc), b"world\0");
-    check_eq(&rt, offset, if first { 12 } else { 6 });
-    offset = 6;
-    let second = is_held(&rt, source.gread_with(&mut offset, &alloc), b"world\0");
-    check_eq(&rt, offset, if second { 12 } else { 6 });
-    assert!(rt; first || second);
-}
-
-#[test]
-fn the_empty_text(rt: HostRuntime) {
-    let alloc = rt.alloc();
-    let source = b"\0".as_slice();
-    assert!(rt; is_text(source.pread_with(0, ()), b""));
-    let mut offset = 0;
-    let empty: Result<CString> = source.gread_with(&mut offset, &alloc);
-    if !is_held(&rt, empty, b"\0") {
-        check_eq(&rt, offset, 0);
-        let again: Result<CString> = source.gread_with(&mut offset, &alloc);
-        assert!(rt; is_held(&rt, again, b"\0"));
-    }
-    check_eq(&rt, offset, 1);
-    let cut: Result<CStr> = source.gread_with(&mut offset, ());
-    check_bad_input(&rt, cut, 0, NO_ZERO);
-    check_eq(&rt, offset, 1);
-}
-
-// Returns whether two C strings were made. Any error except out of memory ends the test.
-fn are_held(rt: &impl Abort, made: Result<[CString; 2]>, wanted: [&[u8]; 2]) -> bool {
-    match made {
-        Ok(strings) => {
-            let [first, second] = &strings;
-            assert!(rt; [first.as_bytes(), second.as_bytes()] == wanted);
-            true
-        }
-        Err(error) => {
-            assert!(rt; matches!(&error, Error::NoMemory));
-            false
-        }
-    }
+    let rt = &rt;
+    let alloc = &rt.alloc();
+    let source: &[u8] = b"hello world\0more words";
+    check_reads(rt, alloc, source, 6, b"world\0", 12);
+    check_bad_offset(rt, source.pread_with::<CString>(23, alloc), 23);
+    // the empty text
+    check_reads(rt, alloc, b"\0", 0, b"\0", 1);
 }
 
 #[test]
 fn arrays_of_c_strings(rt: HostRuntime) {
-    let alloc = rt.alloc();
-    let source = b"ab\0\0c".as_slice();
-    let cut: Result<[CString; 2]> = source.pread_with(4, &alloc);
-    check_bad_input(&rt, cut, 0, NO_ZERO);
-    let cut: Result<[CStr; 3]> = source.pread_with(0, ());
-    check_bad_input(&rt, cut, 0, NO_ZERO);
-    let wanted = [b"ab".as_slice(), b"".as_slice()];
-    let mut offset = 0;
-    let first = are_held(&rt, source.gread_with(&mut offset, &alloc), wanted);
-    check_eq(&rt, offset, if first { 4 } else { 0 });
-    offset = 0;
-    let second = are_held(&rt, source.gread_with(&mut offset, &alloc), wanted);
-    check_eq(&rt, offset, if second { 4 } else { 0 });
-    assert!(rt; first || second);
+    let rt = &rt;
+    let alloc = &rt.alloc();
+    let source: &[u8] = b"ab\0\0c";
+    let cut = source.pread_with::<[CString; 2]>(4, alloc);
+    check_bad_input(rt, cut, 0, NO_ZERO);
+    let cut = source.pread_with::<[CStr; 3]>(0, ());
+    check_bad_input(rt, cut, 0, NO_ZERO);
+    let strings: [CString; 2] = read_copy(rt, alloc, source, 0, 4);
+    let [first, second] = &strings;
+    check_eq(rt, first.as_bytes(), b"ab");
+    check_eq(rt, second.as_bytes(), b"");
 }
 
 #[test]
 fn writes(rt: HostRuntime) {
+    let rt = &rt;
     let alloc = rt.alloc();
     let mut bytes = [0xffu8; 4];
-    let mut target = &mut bytes[..];
+    let mut target: &mut [u8] = &mut bytes;
     let mut offset = 0;
-    let two = make(&rt, alloc, b"ab");
-    check_value(&rt, target.gwrite_with(two.as_c_str(), &mut offset, ()), 3);
-    let one = make(&rt, alloc, b"a");
-    let cut: Result<usize> = target.gwrite_with(one.as_c_str(), &mut offset, ());
-    check_too_big(&rt, cut, 2, 1);
-    check_eq(&rt, offset, 3);
-    check_eq(&rt, bytes, [0x61, 0x62, 0, 0xff]);
-    let mut bytes = [0xffu8; 4];
-    let mut target = &mut bytes[..];
-    check_value(&rt, target.pwrite(two, 1), 3);
-    let cut: Result<usize> = target.pwrite(one, 3);
-    check_too_big(&rt, cut, 2, 1);
-    check_eq(&rt, bytes, [0xff, 0x61, 0x62, 0]);
+    let two = borrow(rt, b"ab\0");
+    check_value(rt, target.gwrite_with(two, &mut offset, ()), 3);
+    let one = borrow(rt, b"a\0");
+    check_too_big(rt, target.gwrite_with(one, &mut offset, ()), 2, 1);
+    check_eq(rt, offset, 3);
+    check_eq(rt, bytes, *b"ab\0\xff");
+    let mut target: &mut [u8] = &mut bytes;
+    check_value(rt, target.pwrite(make(rt, alloc, b"ab"), 1), 3);
+    check_too_big(rt, target.pwrite(make(rt, alloc, b"a"), 3), 2, 1);
+    check_eq(rt, bytes, *b"aab\0");
 }

@@ -99,3 +99,15 @@ where
     check_gread(rt, bytes, (0, LE), value, size);
     check_gread(rt, bytes, (size, BE), value, 2 * size);
 }
+
+// Checks that this value is read at an offset, and at a cursor, which then is `to`.
+pub fn check_read<
+    'a,
+    Ctx: Copy,
+    T: TryFromCtx<'a, Ctx, Error = Error> + Copy + PartialEq + Debug + Drop,
+>(rt: &impl Abort, bytes: &'a [u8], from: usize, ctx: Ctx, wanted: T, to: usize) {
+    check_value(rt, bytes.pread_with::<T>(from, ctx), wanted);
+    let mut offset = from;
+    check_value(rt, bytes.gread_with::<T>(&mut offset, ctx), wanted);
+    check_eq(rt, offset, to);
+}

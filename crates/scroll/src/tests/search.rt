@@ -10,18 +10,14 @@ const DELIMITERS: [u8; 5] = [0x00, 0x01, 0x7f, 0x80, 0xff];
 // delimiter.
 const DIFFERENCES: [(u8, u8); 4] = [(0x80, 0x80), (0x01, 0x01), (0x80, 0x01), (0x01, 0x00)];
 
-fn plain_place(delimiter: u8, source: &[u8]) -> usize {
-    source
-        .iter()
-        .position(|byte| *byte == delimiter)
-        .unwrap_or(source.len())
-}
-
-fn plain_stop(delimiter: u8, source: &[u8]) -> usize {
-    source
-        .iter()
-        .position(|byte| *byte == delimiter || *byte > 0x7f)
-        .unwrap_or(source.len())
+// Returns the offset of the first byte that is the delimiter or above `most`, or the length if there is none.
+fn plain_place(delimiter: u8, most: u8, source: &[u8]) -> usize {
+    for (place, byte) in source.iter().enumerate() {
+        if *byte == delimiter || *byte > most {
+            return place;
+        }
+    }
+    source.len()
 }
 
 // Writes the delimiter at `place`, and bytes that differ from it everywhere else.
@@ -39,26 +35,24 @@ fn fill(bytes: &mut [u8; 70], delimiter: u8, place: usize, before: u8, behind: u
 
 // Expects that each search stops where a plain one does.
 fn check_searches(rt: &impl Abort, delimiter: u8, place: usize, source: &[u8]) {
-    let len = source.len();
-    let plain = plain_place(delimiter, source);
-    check_eq(&rt, plain, place.min(len));
-    assert!(rt;
-        first_place(delimiter, source) == plain,
-        "{delimiter} at {place} of {len}"
-    );
+    let wanted = place.min(source.len());
+    check_eq(rt, plain_place(delimiter, u8::MAX, source), wanted);
     check_eq(
-        &rt,
-        first_stop(delimiter, source),
-        plain_stop(delimiter, source),
+        rt,
+        (delimiter, source, first_place(delimiter, source)),
+        (delimiter, source, wanted),
     );
-    assert!(rt; text_before(delimiter, source) == str::from_utf8(&source[..plain]).ok());
+    let plain_stop = plain_place(delimiter, 0x7f, source);
+    check_eq(rt, first_stop(delimiter, source), plain_stop);
+    let text = str::from_utf8(&source[..wanted]).ok();
+    check_eq(rt, text_before(delimiter, source), text);
 }
 
 #[test]
 fn every_length_and_place(rt: HostRuntime) {
     let mut bytes = [0u8; 70];
-    for delimiter in DELIMITERS {
-        for (before, behind) in DIFFERENCES {
+    for &delimiter in &DELIMITERS {
+        for &(before, behind) in &DIFFERENCES {
             for place in 0..71 {
                 fill(&mut bytes, delimiter, place, before, behind);
                 for len in 0..71 {
@@ -73,15 +67,15 @@ fn every_length_and_place(rt: HostRuntime) {
 fn texts_that_are_not_ascii(rt: HostRuntime) {
     // One character of two bytes, at each offset of a vector and after it; then the same, truncated after its first
     // byte.
+    let rt = &rt;
     for place in 0..40 {
         let mut bytes = [b'a'; 50];
         bytes[place] = 0xc3;
         bytes[place + 1] = 0xa4;
         bytes[place + 5] = 0;
-        let source = &bytes[..];
-        let text = text_before(0, source);
-        assert!(rt; text.map(|text| text.as_bytes()) == source.get(..place + 5));
-        check_eq(&rt, text_before(0xa4, source), None);
-        check_eq(&rt, first_stop(0, source), place);
+        let text = text_before(0, &bytes).unwrap_or_default();
+        check_eq(rt, text.as_bytes(), &bytes[..place + 5]);
+        check_eq(rt, text_before(0xa4, &bytes), None);
+        check_eq(rt, first_stop(0, &bytes), place);
     }
 }
