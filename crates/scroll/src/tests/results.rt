@@ -108,3 +108,11 @@ where
     check_gread(rt, bytes, (0, LE), value, size);
     check_gread(rt, bytes, (size, BE), value, 2 * size);
 }
+
+// Returns the value of a call that succeeded.
+pub fn expect_value<T, E: Debug + Drop>(rt: &impl Abort, outcome: result::Result<T, E>) -> T {
+    match outcome {
+        Ok(value) => value,
+        Err(error) => panic!(rt; "expected a value, got {error:?}"),
+    }
+}
