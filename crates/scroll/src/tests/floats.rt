@@ -213,6 +213,7 @@ fn a_stream_that_ends(rt: HostRuntime) {
     check_kind(rt, reader.ioread_with::<f64>(LE), ErrorKind::UnexpectedEof);
 }
 
+// Checks what a writer holds that two floats were written to, and reads them back.
 fn check_stream(rt: &impl Abort, written: &mut Vec<u8>) -> io::Result<()> {
     written.iowrite_with(0.1f32, BE)?;
     written.iowrite(-0.064f64)?;

@@ -197,7 +197,8 @@ fn each_error_of_a_stream(rt: HostRuntime) {
     // (the operating system numbers its errors from 1 to 133)
     for number in 1..134 {
         if number != INTERRUPTED {
-            check_cause(&rt, cause_of(io::Error::from_raw_os_error(number)));
+            let kind = io::Error::from_raw_os_error(number).kind();
+            check_cause(&rt, (Some(number), kind));
         }
     }
     for kind in &KINDS {
@@ -249,6 +250,9 @@ fn numbers_to_memory(rt: HostRuntime) {
         check_value(rt, write_number(&mut target, *order), ());
         check_eq(rt, &bytes, held);
     }
-    let mut target: &mut [u8] = &mut [0];
+    let mut bytes = [0u8; 5];
+    let mut target: &mut [u8] = &mut bytes;
+    check_value(rt, target.iowrite(0xdeadbeefu32), ());
     check_kind(rt, target.iowrite(1u16), ErrorKind::WriteZero);
+    check_eq(rt, &bytes[..4], &[0xef, 0xbe, 0xad, 0xde]);
 }
