@@ -111,3 +111,11 @@ pub fn check_read<
     check_value(rt, bytes.gread_with::<T>(&mut offset, ctx), wanted);
     check_eq(rt, offset, to);
 }
+
+// Returns the value of a call that succeeded.
+pub fn expect_value<T, E: Debug + Drop>(rt: &impl Abort, outcome: result::Result<T, E>) -> T {
+    match outcome {
+        Ok(value) => value,
+        Err(error) => panic!(rt; "expected a value, got {error:?}"),
+    }
+}

@@ -4,13 +4,15 @@ ghost use Rattle.scroll.specs.Numbers.{number, number_bytes};
 ghost use Rattle.scroll.specs.lemmas.Frames.{number_bytes-keeps, drop-front};
 
 use crate::ctx::{FromCtx, IntoCtx, SizeWith};
-use crate::tests::results::check_eq;
+use crate::tests::results::{check_eq, check_value, expect_value};
+use crate::tests::streams::check_kind;
 use crate::{BE, Endian, IOread, IOwrite};
+use std::io;
+use std::io::ErrorKind;
 use std::process::Abort;
-use std::test::Fail;
 
 // `N` bytes.
-#[derive(Clone, Copy, Debug)]
+#[derive(Clone, Copy)]
 struct Block<const N: usize>([u8; N]);
 
 impl<const N: usize> FromCtx<()> for Block<N> {
@@ -45,52 +47,66 @@ impl<const N: usize> SizeWith<()> for Block<N> {
     }
 }
 
+// Checks that a read gave the first bytes, and left the others.
+fn check_read<const N: usize>(
+    rt: &impl Abort,
+    read: io::Result<Block<N>>,
+    rest: &[u8],
+    bytes: &[u8; 257],
+) {
+    let block = expect_value(rt, read);
+    check_eq(rt, Some((&block.0, rest)), bytes.split_first_chunk());
+}
+
 // Checks that the first bytes were written, and no others.
 fn check_held<const N: usize>(rt: &impl Abort, held: &[u8; 257], bytes: &[u8; 257])
     requires { N ≤ 256 }
 {
-    assert!(rt; held[..N] == bytes[..N]);
-    assert!(rt; held[N..].iter().all(|byte| *byte == 0x77));
+    let mut wanted = [0x77u8; 257];
+    wanted[..N].copy_from_slice(&bytes[..N]);
+    check_eq(rt, held, &wanted);
 }
 
 // Reads a block from more bytes than it takes, and writes it to more bytes than it needs.
-fn check_block<const N: usize>(rt: &impl Abort) -> Result<(), Fail>
+fn check_block<const N: usize>(rt: &impl Abort, bytes: &[u8; 257])
     requires { N ≤ 256 }
 {
-    let mut bytes = [0u8; 257];
-    for (byte, i) in bytes.iter_mut().zip(1u8..=255) {
-        *byte = i;
-    }
-    let mut source = &bytes[..];
-    let block: Block<N> = source.ioread_with(())?;
-    assert!(rt; block.0.as_slice() == &bytes[..N]);
-    assert!(rt; source == &bytes[N..]);
-    let mut again = &bytes[..];
-    let same: Block<N> = again.ioread()?;
-    check_eq(&rt, same.0.as_slice(), block.0.as_slice());
-    check_eq(&rt, again, source);
+    let mut source: &[u8] = bytes;
+    let read = source.ioread_with::<Block<N>>(());
+    check_read(rt, read, source, bytes);
+    let mut source: &[u8] = bytes;
+    let read = source.ioread::<Block<N>>();
+    check_read(rt, read, source, bytes);
     let mut held = [0x77u8; 257];
-    let mut target = &mut held[..];
-    target.iowrite_with(block, ())?;
-    check_held::<N>(rt, &held, &bytes);
+    let mut target: &mut [u8] = &mut held;
+    check_value(
+        rt,
+        target.iowrite_with(Block::<N>::from_ctx(bytes, ()), ()),
+        (),
+    );
+    check_held::<N>(rt, &held, bytes);
     let mut held = [0x77u8; 257];
-    let mut target = &mut held[..];
-    target.iowrite(block)?;
-    check_held::<N>(rt, &held, &bytes);
-    Ok(())
+    let mut target: &mut [u8] = &mut held;
+    check_value(rt, target.iowrite(Block::<N>::from_ctx(bytes, ())), ());
+    check_held::<N>(rt, &held, bytes);
 }
 
 #[test]
-fn blocks_of_each_size(rt: HostRuntime) -> Result<(), Fail> {
-    check_block::<0>(&rt)?;
-    check_block::<1>(&rt)?;
-    check_block::<2>(&rt)?;
-    check_block::<255>(&rt)?;
-    check_block::<256>(&rt)
+fn blocks_of_each_size(rt: HostRuntime) {
+    let rt = &rt;
+    let mut bytes = [0u8; 257];
+    for i in 0..255u8 {
+        bytes[usize::from(i)] = i + 1;
+    }
+    check_block::<0>(rt, &bytes);
+    check_block::<1>(rt, &bytes);
+    check_block::<2>(rt, &bytes);
+    check_block::<255>(rt, &bytes);
+    check_block::<256>(rt, &bytes);
 }
 
 // A number of two bytes that occupies four.
-#[derive(Clone, Copy, Debug)]
+#[derive(Clone, Copy)]
 struct Wide {
     number: u16,
 }
@@ -128,15 +144,15 @@ impl SizeWith<Endian> for Wide {
 }
 
 #[test]
-fn a_type_that_needs_less_than_its_size(rt: HostRuntime) -> Result<(), Fail> {
-    let bytes: [u8; 5] = [1, 2, 0xff, 0xff, 9];
-    let mut source = &bytes[..];
-    check_eq(&rt, source.ioread_with::<Wide>(BE)?.number, 258);
-    check_eq(&rt, source, [9u8].as_slice());
-    assert!(rt; source.ioread_with::<Wide>(BE).is_err());
+fn a_type_that_needs_less_than_its_size(rt: HostRuntime) {
+    let rt = &rt;
+    let mut source: &[u8] = &[1, 2, 0xff, 0xff, 9];
+    let wide: Wide = expect_value(rt, source.ioread_with(BE));
+    check_eq(rt, wide.number, 258);
+    check_eq(rt, source, &[9]);
+    check_kind(rt, source.ioread_with::<Wide>(BE), ErrorKind::UnexpectedEof);
     let mut bytes = [7u8; 6];
-    let mut target = &mut bytes[..];
-    target.iowrite_with(Wide { number: 258 }, BE)?;
-    check_eq(&rt, bytes, [1, 2, 0, 0, 7, 7]);
-    Ok(())
+    let mut target: &mut [u8] = &mut bytes;
+    check_value(rt, target.iowrite_with(wide, BE), ());
+    check_eq(rt, bytes, [1, 2, 0, 0, 7, 7]);
 }

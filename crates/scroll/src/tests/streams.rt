@@ -1,35 +1,31 @@
 // Readers and writers that are slow, end early, fail or are interrupted.
+ghost use Rattle.std.specs.Prelude.{◌≤◌};
+
 use crate::tests::results::{check_eq, check_value};
-use crate::{BE, IOread, IOwrite, LE};
-use std::io;
+use crate::{BE, Endian, IOread, IOwrite, LE};
 use std::io::{ErrorKind, Read, Write};
 use std::process::Abort;
-use std::test::Fail;
+use std::{io, result};
 
-// An error of a stream: one of the operating system, by its number, or one of a kind.
-#[derive(Clone, Copy, Debug)]
-enum Cause {
-    Number(i32),
-    Kind(ErrorKind),
+// An error of a stream: its number, if it is one of the operating system, and its kind.
+type Cause = (Option<i32>, ErrorKind);
+
+type Outcome<T> = result::Result<T, Cause>;
+
+// The error of a read past the end of a reader.
+const ENDED: Cause = (None, ErrorKind::UnexpectedEof);
+
+// The error of a write past the end of a writer.
+const FULL: Cause = (None, ErrorKind::WriteZero);
+
+fn cause_of(error: io::Error) -> Cause {
+    (error.raw_os_error(), error.kind())
 }
 
-impl Cause {
-    fn make_error(self) -> io::Error {
-        match self {
-            Cause::Number(number) => io::Error::from_raw_os_error(number),
-            Cause::Kind(kind) => io::Error::from(kind),
-        }
-    }
-
-    // Returns whether a call failed with this error.
-    fn failed<T: Drop>(self, outcome: io::Result<T>) -> bool {
-        let Err(error) = outcome else {
-            return false;
-        };
-        match self {
-            Cause::Number(number) => error.raw_os_error() == Some(number),
-            Cause::Kind(kind) => error.kind() == kind,
-        }
+fn make_error((number, kind): Cause) -> io::Error {
+    match number {
+        Some(number) => io::Error::from_raw_os_error(number),
+        None => io::Error::from(kind),
     }
 }
 
@@ -49,8 +45,8 @@ impl Fault {
     // Returns how a call fails, if it does.
     fn at(self, call: usize) -> Option<io::Error> {
         match self {
-            Fault::At(at, cause) if at == call => Some(cause.make_error()),
-            Fault::Interrupted(cause) if call % 3 != 0 => Some(cause.make_error()),
+            Fault::At(at, cause) if at == call => Some(make_error(cause)),
+            Fault::Interrupted(cause) if call % 3 != 0 => Some(make_error(cause)),
             _ => None,
         }
     }
@@ -75,28 +71,22 @@ impl<'a> Read for Source<'a> {
     }
 }
 
-// A writer that takes one byte per call, has room for a number of bytes, and fails when it is flushed.
+// A writer that takes one byte per call, ends early, and fails when it is flushed.
 #[derive(Drop)]
-struct Sink {
-    held: [u8; 5],
-    len: usize,
-    room: usize,
+struct Sink<'a> {
+    rest: &'a mut [u8],
     fault: Fault,
     calls: usize,
 }
 
-impl Write for Sink {
+impl<'a> Write for Sink<'a> {
     fn write(&mut self, buf: &[u8]) -> io::Result<usize> {
         self.calls = self.calls.saturating_add(1);
         if let Some(error) = self.fault.at(self.calls) {
             return Err(error);
         }
-        if buf.is_empty() || self.len >= self.room || self.len >= 5 {
-            return Ok(0);
-        }
-        self.held[self.len] = buf[0];
-        self.len += 1;
-        Ok(1)
+        let count = buf.len().min(1);
+        self.rest.write(&buf[..count])
     }
 
     fn flush(&mut self) -> io::Result<()> {
@@ -114,111 +104,91 @@ const KINDS: [ErrorKind; 4] = [
     ErrorKind::Other,
 ];
 
-// Interruptions of both sorts.
-const INTERRUPTIONS: [Fault; 2] = [
-    Fault::Interrupted(Cause::Kind(ErrorKind::Interrupted)),
-    Fault::Interrupted(Cause::Number(INTERRUPTED)),
+// Faults that no call returns: there is none, each is an interruption, or it comes after the last byte.
+const HARMLESS: [Fault; 4] = [
+    Fault::Never,
+    Fault::Interrupted((None, ErrorKind::Interrupted)),
+    Fault::Interrupted((Some(INTERRUPTED), ErrorKind::Interrupted)),
+    Fault::At(5, (None, ErrorKind::Other)),
 ];
 
-fn make_source(rest: &[u8], fault: Fault) -> Source<'_> {
-    Source {
+// Orders, where none is the default one, with the number that `BYTES` hold in each, and the bytes that a writer holds
+// which was given 0xdeadbeef.
+const ORDERS: [(Option<Endian>, u32, [u8; 5]); 3] = [
+    (Some(BE), 3735928559, [0xde, 0xad, 0xbe, 0xef, 0x11]),
+    (Some(LE), 4022250974, [0xef, 0xbe, 0xad, 0xde, 0x11]),
+    (None, 4022250974, [0xef, 0xbe, 0xad, 0xde, 0x11]),
+];
+
+// Reads a number a byte at a time. Returns it, or the cause of the error, and how often the reader was called.
+fn read_slowly(rest: &[u8], fault: Fault, order: Option<Endian>) -> (Outcome<u32>, usize) {
+    let mut source = Source {
         rest,
         fault,
         calls: 0,
+    };
+    let read = match order {
+        Some(order) => source.ioread_with::<u32>(order),
+        None => source.ioread::<u32>(),
+    };
+    match read {
+        Ok(number) => (Ok(number), source.calls),
+        Err(error) => (Err(cause_of(error)), source.calls),
     }
 }
 
-fn make_sink(room: usize, fault: Fault) -> Sink {
-    Sink {
-        held: [0x11; 5],
-        len: 0,
-        room,
+fn write_number(target: &mut impl Write, order: Option<Endian>) -> io::Result<()> {
+    match order {
+        Some(order) => target.iowrite_with(0xdeadbeefu32, order),
+        None => target.iowrite(0xdeadbeefu32),
+    }
+}
+
+// Writes 0xdeadbeef a byte at a time. Returns what the writer holds, or the cause of the error, and how often the writer
+// was called.
+fn write_slowly(room: usize, fault: Fault, order: Option<Endian>) -> (Outcome<[u8; 5]>, usize)
+    requires { room ≤ 5 }
+{
+    let mut held = [0x11; 5];
+    let mut target = Sink {
+        rest: &mut held[..room],
         fault,
         calls: 0,
+    };
+    let written = write_number(&mut target, order);
+    let calls = target.calls;
+    match written {
+        Ok(()) => (Ok(held), calls),
+        Err(error) => (Err(cause_of(error)), calls),
     }
-}
-
-#[test]
-fn readers_of_one_byte_a_call(rt: HostRuntime) -> Result<(), Fail> {
-    for fault in [
-        Fault::Never,
-        INTERRUPTIONS[0],
-        INTERRUPTIONS[1],
-        Fault::At(5, Cause::Kind(ErrorKind::Other)),
-    ] {
-        let mut source = make_source(&BYTES, fault);
-        check_value(&rt, source.ioread_with::<u32>(BE), 3735928559);
-        let mut source = make_source(&BYTES, fault);
-        check_value(&rt, source.ioread::<u32>(), 4022250974);
-    }
-    let ended = Cause::Kind(ErrorKind::UnexpectedEof);
-    for len in 0..4 {
-        for fault in [Fault::Never, INTERRUPTIONS[0], INTERRUPTIONS[1]] {
-            let mut source = make_source(&BYTES[..len], fault);
-            assert!(rt; ended.failed(source.ioread_with::<u32>(LE)), "{len}");
-            let mut source = make_source(&BYTES[..len], fault);
-            assert!(rt; ended.failed(source.ioread::<u32>()), "{len}");
-        }
-    }
-    Ok(())
 }
 
 // Nothing is flushed: the writer would fail.
 #[test]
-fn writers_of_one_byte_a_call(rt: HostRuntime) -> Result<(), Fail> {
-    for (room, fault) in [
-        (5, Fault::Never),
-        (5, INTERRUPTIONS[0]),
-        (5, INTERRUPTIONS[1]),
-        (4, Fault::At(5, Cause::Kind(ErrorKind::Other))),
-    ] {
-        let mut target = make_sink(room, fault);
-        target.iowrite_with(0xdeadbeefu32, BE)?;
-        check_eq(&rt, target.held, [0xde, 0xad, 0xbe, 0xef, 0x11]);
-        let mut target = make_sink(room, fault);
-        target.iowrite(0xdeadbeefu32)?;
-        check_eq(&rt, target.held, [0xef, 0xbe, 0xad, 0xde, 0x11]);
-    }
-    let full = Cause::Kind(ErrorKind::WriteZero);
-    for room in 0..4 {
-        for fault in [Fault::Never, INTERRUPTIONS[0], INTERRUPTIONS[1]] {
-            let mut target = make_sink(room, fault);
-            assert!(rt; full.failed(target.iowrite_with(1u32, LE)), "{room}");
-            let mut target = make_sink(room, fault);
-            assert!(rt; full.failed(target.iowrite(1u32)), "{room}");
+fn streams_of_one_byte_a_call(rt: HostRuntime) {
+    let rt = &rt;
+    for (order, number, held) in &ORDERS {
+        for fault in &HARMLESS {
+            check_eq(rt, read_slowly(&BYTES, *fault, *order).0, Ok(*number));
+            check_eq(rt, write_slowly(4, *fault, *order).0, Ok(*held));
+            check_eq(rt, write_slowly(5, *fault, *order).0, Ok(*held));
+            for len in 0..4 {
+                let source = &BYTES[..len];
+                check_eq(rt, read_slowly(source, *fault, *order).0, Err(ENDED));
+                check_eq(rt, write_slowly(len, *fault, *order).0, Err(FULL));
+            }
         }
     }
-    Ok(())
-}
-
-// Checks that a call failed with this error, and wasn't repeated.
-fn check_failure<T: Drop>(
-    rt: &impl Abort,
-    cause: Cause,
-    outcome: io::Result<T>,
-    calls: usize,
-    at: usize,
-) {
-    assert!(rt; cause.failed(outcome), "{cause:?}");
-    assert!(rt; calls == at, "{cause:?}");
 }
 
 // Each stream call returns the error of the reader or the writer, and doesn't repeat the call that failed.
 fn check_cause(rt: &impl Abort, cause: Cause) {
-    for at in 1..5 {
-        let fault = Fault::At(at, cause);
-        let mut source = make_source(&BYTES, fault);
-        let read: io::Result<u32> = source.ioread_with(BE);
-        check_failure(rt, cause, read, source.calls, at);
-        let mut source = make_source(&BYTES, fault);
-        let read: io::Result<u32> = source.ioread();
-        check_failure(rt, cause, read, source.calls, at);
-        let mut target = make_sink(5, fault);
-        let written = target.iowrite_with(1u32, BE);
-        check_failure(rt, cause, written, target.calls, at);
-        let mut target = make_sink(5, fault);
-        let written = target.iowrite(1u32);
-        check_failure(rt, cause, written, target.calls, at);
+    for (order, _, _) in &ORDERS {
+        for at in 1..5 {
+            let fault = Fault::At(at, cause);
+            check_eq(rt, read_slowly(&BYTES, fault, *order), (Err(cause), at));
+            check_eq(rt, write_slowly(5, fault, *order), (Err(cause), at));
+        }
     }
 }
 
@@ -227,61 +197,62 @@ fn each_error_of_a_stream(rt: HostRuntime) {
     // (the operating system numbers its errors from 1 to 133)
     for number in 1..134 {
         if number != INTERRUPTED {
-            check_cause(&rt, Cause::Number(number));
+            let kind = io::Error::from_raw_os_error(number).kind();
+            check_cause(&rt, (Some(number), kind));
         }
     }
-    for kind in KINDS {
-        check_cause(&rt, Cause::Kind(kind));
+    for kind in &KINDS {
+        check_cause(&rt, (None, *kind));
+    }
+}
+
+// Checks that a call failed with an error of this kind.
+pub fn check_kind<T: Drop>(rt: &impl Abort, outcome: io::Result<T>, wanted: ErrorKind) {
+    match outcome {
+        Err(error) => check_eq(rt, error.kind(), wanted),
+        Ok(_) => panic!(rt; "expected {wanted:?}, got a value"),
     }
 }
 
 #[test]
-fn numbers_from_memory(rt: HostRuntime) -> Result<(), Fail> {
-    let bytes: [u8; 8] = [0xef, 0xbe, 0xb0, 0xb0, 0xfe, 0xed, 0xde, 0xad];
-    let mut source = &bytes[..];
-    check_value(&rt, source.ioread_with::<u16>(LE), 48879);
-    check_value(&rt, source.ioread::<u8>(), 176);
-    check_value(&rt, source.ioread::<u8>(), 176);
-    check_value(&rt, source.ioread_with::<u32>(BE), 4277001901);
-    assert!(rt; source.ioread::<u8>().is_err());
-    let mut source = &bytes[..2];
-    check_value(&rt, source.ioread::<u16>(), 48879);
-    assert!(rt; source.is_empty());
-    let bytes: [u8; 12] = [1, 0, 0, 0, 0, 0, 0, 0, 0xef, 0xbe, 0, 0];
-    let mut source = &bytes[..];
-    check_value(&rt, source.ioread::<u64>(), 1);
-    check_value(&rt, source.ioread::<u32>(), 48879);
-    let mut source = &bytes[..];
-    check_value(&rt, source.ioread_with::<u64>(LE), 1);
-    check_eq(&rt, source.len(), 4);
-    assert!(rt; source.ioread_with::<u64>(LE).is_err());
-    Ok(())
+fn numbers_from_memory(rt: HostRuntime) {
+    let rt = &rt;
+    let mut source: &[u8] = &[0xef, 0xbe, 0xb0, 0xb0, 0xfe, 0xed, 0xde, 0xad];
+    check_value(rt, source.ioread_with::<u16>(LE), 48879);
+    check_value(rt, source.ioread::<u8>(), 176);
+    check_value(rt, source.ioread::<u8>(), 176);
+    check_value(rt, source.ioread_with::<u32>(BE), 4277001901);
+    check_kind(rt, source.ioread::<u8>(), ErrorKind::UnexpectedEof);
+    let mut source: &[u8] = &[0xef, 0xbe];
+    check_value(rt, source.ioread::<u16>(), 48879);
+    check_eq(rt, source.len(), 0);
+    let bytes: &[u8] = &[1, 0, 0, 0, 0, 0, 0, 0, 0xef, 0xbe, 0, 0];
+    let mut source = bytes;
+    check_value(rt, source.ioread::<u64>(), 1);
+    check_value(rt, source.ioread::<u32>(), 48879);
+    let mut source = bytes;
+    check_value(rt, source.ioread_with::<u64>(LE), 1);
+    check_eq(rt, source.len(), 4);
+    check_kind(rt, source.ioread_with::<u64>(LE), ErrorKind::UnexpectedEof);
 }
 
 #[test]
-fn numbers_to_memory(rt: HostRuntime) -> Result<(), Fail> {
+fn numbers_to_memory(rt: HostRuntime) {
+    let rt = &rt;
     let mut bytes = [0u8; 10];
-    let mut target = &mut bytes[..];
-    target.write_all(b"hello")?;
-    target.iowrite_with(0xdeadbeefu32, BE)?;
-    check_eq(
-        &rt,
-        bytes,
-        [0x68, 0x65, 0x6c, 0x6c, 0x6f, 0xde, 0xad, 0xbe, 0xef, 0],
-    );
-    for (order, wanted) in [
-        (BE, [0xde, 0xad, 0xbe, 0xef, 0]),
-        (LE, [0xef, 0xbe, 0xad, 0xde, 0]),
-    ] {
-        let mut bytes = [0u8; 5];
-        let mut target = &mut bytes[..];
-        target.iowrite_with(0xdeadbeefu32, order)?;
-        check_eq(&rt, bytes, wanted);
+    let mut target: &mut [u8] = &mut bytes;
+    check_value(rt, target.write_all(b"hello"), ());
+    check_value(rt, target.iowrite_with(0xdeadbeefu32, BE), ());
+    check_eq(rt, &bytes, b"hello\xde\xad\xbe\xef\0");
+    for (order, _, held) in &ORDERS {
+        let mut bytes = [0x11u8; 5];
+        let mut target: &mut [u8] = &mut bytes;
+        check_value(rt, write_number(&mut target, *order), ());
+        check_eq(rt, &bytes, held);
     }
     let mut bytes = [0u8; 5];
-    let mut target = &mut bytes[..];
-    target.iowrite(0xdeadbeefu32)?;
-    assert!(rt; target.iowrite(1u16).is_err());
-    assert!(rt; bytes[..4] == [0xef, 0xbe, 0xad, 0xde]);
-    Ok(())
+    let mut target: &mut [u8] = &mut bytes;
+    check_value(rt, target.iowrite(0xdeadbeefu32), ());
+    check_kind(rt, target.iowrite(1u16), ErrorKind::WriteZero);
+    check_eq(rt, &bytes[..4], &[0xef, 0xbe, 0xad, 0xde]);
 }
