@@ -2,7 +2,7 @@
 ghost use Rattle.std.specs.Prelude.{◌<◌};
 
 use crate::tests::results::{check_bad_offset, check_eq, check_too_big, check_value};
-use crate::{BE, LE, Pread, Pwrite, Result, slice};
+use crate::{BE, Error, LE, Pread, Pwrite, Result, slice};
 use std::process::Abort;
 
 #[test]
@@ -54,13 +54,14 @@ fn the_first_bytes_of_a_slice(rt: HostRuntime) {
 }
 
 #[test]
-fn arrays_and_vectors_are_read_as_they_are(rt: HostRuntime) {
+fn arrays_and_vectors_are_read_as_they_are(rt: HostRuntime) -> Result<()> {
     let bytes: [u8; 3] = [1, 2, 3];
     check_value(&rt, bytes.pread_with::<u16>(1, BE), 0x0203);
-    match vec![in rt.alloc(); 1u8, 2, 3] {
-        Ok(bytes) => check_value(&rt, bytes.pread_with::<u16>(1, BE), 0x0203),
-        Err(_) => panic!(rt; "out of memory"),
-    }
+    let Ok(bytes) = vec![in rt.alloc(); 1u8, 2, 3] else {
+        return Err(Error::NoMemory);
+    };
+    check_value(&rt, bytes.pread_with::<u16>(1, BE), 0x0203);
+    Ok(())
 }
 
 #[test]
