@@ -1,44 +1,26 @@
 // Readers and writers that are slow, interrupted or faulty.
 use crate::session::session;
 use std::alloc::Global;
-use std::io;
 use std::io::{ErrorKind, Read, Write};
 use std::process::Abort;
-use std::test::Fail;
+use std::{io, result};
 
 const INPUT: &[u8] = b"buffer deadbeef\ncursor 0\npread 0 u32 be\npread 0 u32 le\npread 1 u16 be\n";
 
 const OUTPUT: &[u8] =
     b"number 3735928559\nnumber 4022250974\nnumber 44478\nbuffer deadbeef\ncursor 0\n";
 
-// An error of a stream: one of the operating system, by its number, or one of a kind.
-#[derive(Clone, Copy, Debug)]
-enum Cause {
-    Number(i32),
-    Kind(ErrorKind),
-}
+// An error of a stream: its number, if it is one of the operating system, and its kind.
+type Cause = (Option<i32>, ErrorKind);
 
-impl Cause {
-    fn make_error(self) -> io::Error {
-        match self {
-            Cause::Number(number) => io::Error::from_raw_os_error(number),
-            Cause::Kind(kind) => io::Error::from(kind),
-        }
+// The error of a stream whose calls are interrupted too often.
+const OTHER: Cause = (None, ErrorKind::Other);
+
+fn make_error((number, kind): Cause) -> io::Error {
+    match number {
+        Some(number) => io::Error::from_raw_os_error(number),
+        None => io::Error::from(kind),
     }
-
-    // Returns whether a session ended with this error.
-    fn is_answer(self, answer: &io::Result<u8>) -> bool {
-        match (self, answer) {
-            (Cause::Number(number), Err(error)) => error.raw_os_error() == Some(number),
-            (Cause::Kind(kind), Err(error)) => error.kind() == kind,
-            (_, Ok(_)) => false,
-        }
-    }
-}
-
-// Returns whether a session succeeded, with the status 0.
-fn is_done(answer: &io::Result<u8>) -> bool {
-    matches!(answer, Ok(0))
 }
 
 // The operating system's number for an interrupted call.
@@ -67,8 +49,8 @@ impl Fault {
     // Returns how a call fails, if it does.
     fn at(self, call: usize) -> Option<io::Error> {
         match self {
-            Fault::At(at, cause) if at == call => Some(cause.make_error()),
-            Fault::Odd(cause) if call % 2 == 1 => Some(cause.make_error()),
+            Fault::At(at, cause) if at == call => Some(make_error(cause)),
+            Fault::Odd(cause) if call % 2 == 1 => Some(make_error(cause)),
             Fault::UpTo(last) if call <= last => Some(io::Error::from(ErrorKind::Interrupted)),
             Fault::From(first) if call >= first => Some(io::Error::from(ErrorKind::Interrupted)),
             _ => None,
@@ -128,31 +110,55 @@ impl Write for Sink {
     }
 }
 
-// Returns a reader of the input.
-fn make_source(step: usize, fault: Fault) -> Source<'static> {
-    Source {
-        rest: INPUT,
-        step,
-        fault,
-        calls: 0,
-    }
-}
+// How a session ended: its status, or the cause of its error; how often the reader and the writer were called; how many
+// bytes of the output were written, or `None` if others were; and whether they were flushed.
+type Run = (result::Result<u8, Cause>, [usize; 2], Option<usize>, bool);
 
-// Returns a writer that holds nothing yet.
-fn make_sink(held: Vec<u8>, step: usize, fault: Fault) -> Sink {
-    Sink {
-        held,
-        step,
-        fault,
+// The calls that read the whole input a byte at a time, the last of which finds its end, and those that write the whole
+// output so, and flush it.
+const READS: usize = INPUT.len() + 1;
+
+const WRITES: usize = OUTPUT.len() + 1;
+
+// Runs a session with a reader and a writer of so many bytes per call, which fail so.
+fn run(alloc: Global, reader: (usize, Fault), writer: (usize, Fault)) -> Run {
+    let mut input = Source {
+        rest: INPUT,
+        step: reader.0,
+        fault: reader.1,
+        calls: 0,
+    };
+    let mut output = Sink {
+        held: Vec::new(alloc),
+        step: writer.0,
+        fault: writer.1,
         calls: 0,
         is_flushed: false,
-    }
+    };
+    let ended = match session(alloc, &mut input, &mut output) {
+        Ok(status) => Ok(status),
+        Err(error) => Err((error.raw_os_error(), error.kind())),
+    };
+    let held = OUTPUT
+        .starts_with(&output.held)
+        .then_some(output.held.len());
+    (ended, [input.calls, output.calls], held, output.is_flushed)
+}
+
+// Checks how a session ended.
+fn check_run(rt: &impl Abort, run: Run, wanted: Run) {
+    assert!(rt; run == wanted, "expected {wanted:?}, got {run:?}");
+}
+
+// Checks that a session with streams of one byte per call succeeded, with so many calls.
+fn check_done(rt: &impl Abort, run: Run, calls: [usize; 2]) {
+    check_run(rt, run, (Ok(0), calls, Some(OUTPUT.len()), true));
 }
 
 #[test]
-fn in_pieces(rt: HostRuntime) -> Result<(), Fail> {
-    let by_kind = Fault::Odd(Cause::Kind(ErrorKind::Interrupted));
-    let by_number = Fault::Odd(Cause::Number(INTERRUPTED));
+fn in_pieces(rt: HostRuntime) {
+    let by_kind = Fault::Odd((None, ErrorKind::Interrupted));
+    let by_number = Fault::Odd((Some(INTERRUPTED), ErrorKind::Interrupted));
     for (step, fault) in [
         (1, Fault::Never),
         (7, Fault::Never),
@@ -162,65 +168,53 @@ fn in_pieces(rt: HostRuntime) -> Result<(), Fail> {
         (1, by_number),
         (4096, by_number),
     ] {
-        let mut input = make_source(step, fault);
-        let mut output = make_sink(Vec::new(rt.alloc()), step, fault);
-        assert_eq!(rt; session(rt.alloc(), &mut input, &mut output)?, 0);
-        assert!(rt; output.held.as_slice() == OUTPUT, "{step}");
-        assert!(rt; output.is_flushed, "{step}");
+        let run = run(rt.alloc(), (step, fault), (step, fault));
+        check_done(&rt, run, run.1);
     }
-    Ok(())
 }
 
 // Runs the session with a reader that fails at a call. If that call is made, its error is the session's, and it isn't
 // repeated.
 fn check_reader(rt: &impl Abort, alloc: Global, at: usize, cause: Cause) {
-    let mut input = make_source(1, Fault::At(at, cause));
-    let mut output = Vec::new(alloc);
-    let answer = session(alloc, &mut input, &mut output);
-    if at <= INPUT.len() + 1 {
-        assert!(rt; cause.is_answer(&answer), "{at} {cause:?}");
-        assert_eq!(rt; input.calls, at, "{at} {cause:?}");
-        assert!(rt; output.is_empty(), "{at} {cause:?}");
+    let run = run(alloc, (1, Fault::At(at, cause)), (1, Fault::Never));
+    if at <= READS {
+        check_run(rt, run, (Err(cause), [at, 0], Some(0), false));
     } else {
-        assert!(rt; is_done(&answer), "{at}");
+        check_done(rt, run, [READS, WRITES]);
     }
 }
 
 // The same for the writer, whose last call is the flush.
 fn check_writer(rt: &impl Abort, alloc: Global, at: usize, cause: Cause) {
-    let mut input = INPUT;
-    let mut output = make_sink(Vec::new(alloc), 1, Fault::At(at, cause));
-    let answer = session(alloc, &mut input, &mut output);
-    if at <= OUTPUT.len() + 1 {
-        assert!(rt; cause.is_answer(&answer), "{at} {cause:?}");
-        assert_eq!(rt; output.calls, at, "{at} {cause:?}");
-        assert!(rt;
-            output.held.as_slice() == &OUTPUT[..at.saturating_sub(1)],
-            "{at} {cause:?}"
+    let run = run(alloc, (1, Fault::Never), (1, Fault::At(at, cause)));
+    if at <= WRITES {
+        check_run(
+            rt,
+            run,
+            (Err(cause), [READS, at], Some(at.saturating_sub(1)), false),
         );
-        assert!(rt; !output.is_flushed, "{at} {cause:?}");
     } else {
-        assert!(rt; is_done(&answer), "{at}");
+        check_done(rt, run, [READS, WRITES]);
     }
 }
 
 #[test]
 fn each_call_fails(rt: HostRuntime) {
-    let denied = Cause::Kind(ErrorKind::PermissionDenied);
-    for at in 1..INPUT.len() + 3 {
+    let denied = (None, ErrorKind::PermissionDenied);
+    for at in 1..READS + 2 {
         check_reader(&rt, rt.alloc(), at, denied);
     }
-    for at in 1..OUTPUT.len() + 3 {
+    for at in 1..WRITES + 2 {
         check_writer(&rt, rt.alloc(), at, denied);
     }
 }
 
 // The first call, the last one and the flush each fail with an error.
 fn check_cause(rt: &impl Abort, alloc: Global, cause: Cause) {
-    for at in [1, INPUT.len() + 1] {
+    for at in [1, READS] {
         check_reader(rt, alloc, at, cause);
     }
-    for at in [1, OUTPUT.len(), OUTPUT.len() + 1] {
+    for at in [1, OUTPUT.len(), WRITES] {
         check_writer(rt, alloc, at, cause);
     }
 }
@@ -230,22 +224,20 @@ fn each_error_of_a_stream(rt: HostRuntime) {
     // (the operating system numbers its errors from 1 to 133)
     for number in 1..134 {
         if number != INTERRUPTED {
-            check_cause(&rt, rt.alloc(), Cause::Number(number));
+            let kind = io::Error::from_raw_os_error(number).kind();
+            check_cause(&rt, rt.alloc(), (Some(number), kind));
         }
     }
     for kind in KINDS {
-        check_cause(&rt, rt.alloc(), Cause::Kind(kind));
+        check_cause(&rt, rt.alloc(), (None, kind));
     }
 }
 
 #[test]
 fn writer_takes_nothing(rt: HostRuntime) {
-    let mut input = INPUT;
-    let mut output = make_sink(Vec::new(rt.alloc()), 0, Fault::Never);
-    let answer = session(rt.alloc(), &mut input, &mut output);
-    assert!(rt; Cause::Kind(ErrorKind::WriteZero).is_answer(&answer));
-    assert!(rt; output.held.is_empty());
-    assert!(rt; output.calls == 1);
+    let run = run(rt.alloc(), (1, Fault::Never), (0, Fault::Never));
+    let full = (None, ErrorKind::WriteZero);
+    check_run(&rt, run, (Err(full), [READS, 1], Some(0), false));
 }
 
 // The maximum number of calls of a reader, of a writer beyond one per byte, and of flushes.
@@ -253,40 +245,28 @@ const CALLS: usize = 131_072;
 
 #[test]
 fn interrupted_for_ever(rt: HostRuntime) {
-    let mut input = make_source(1, Fault::From(1));
-    let mut output = make_sink(Vec::new(rt.alloc()), 1, Fault::Never);
-    let answer = session(rt.alloc(), &mut input, &mut output);
-    assert!(rt; Cause::Kind(ErrorKind::Other).is_answer(&answer));
-    assert!(rt; input.calls == CALLS);
-    assert!(rt; output.calls == 0);
+    let of_reader = run(rt.alloc(), (1, Fault::From(1)), (1, Fault::Never));
+    check_run(&rt, of_reader, (Err(OTHER), [CALLS, 0], Some(0), false));
     // from the first byte, from the last byte, and from the flush
-    for first in [1, OUTPUT.len(), OUTPUT.len() + 1] {
-        let mut input = INPUT;
-        let mut output = make_sink(Vec::new(rt.alloc()), 1, Fault::From(first));
-        let answer = session(rt.alloc(), &mut input, &mut output);
-        assert!(rt; Cause::Kind(ErrorKind::Other).is_answer(&answer));
-        assert!(rt; output.held.as_slice() == &OUTPUT[..first - 1], "{first}");
-        assert!(rt; output.calls == OUTPUT.len() + CALLS);
+    for first in [1, OUTPUT.len(), WRITES] {
+        let run = run(rt.alloc(), (1, Fault::Never), (1, Fault::From(first)));
+        let calls = [READS, OUTPUT.len() + CALLS];
+        check_run(&rt, run, (Err(OTHER), calls, Some(first - 1), false));
     }
 }
 
 #[test]
 fn interrupted_as_often_as_may_be(rt: HostRuntime) {
-    // (a last call finds the end of the input)
-    let spare = CALLS - INPUT.len() - 1;
-    for (more, is_read) in [(0, true), (1, false)] {
-        let mut input = make_source(1, Fault::UpTo(spare + more));
-        let mut output = Vec::new(rt.alloc());
-        let answer = session(rt.alloc(), &mut input, &mut output);
-        assert!(rt; is_read == is_done(&answer));
-        assert!(rt; output.as_slice() == if is_read { OUTPUT } else { b"" });
-    }
-    for (more, is_written) in [(0, true), (1, false)] {
-        let mut input = INPUT;
-        let mut output = make_sink(Vec::new(rt.alloc()), 1, Fault::UpTo(CALLS + more));
-        let answer = session(rt.alloc(), &mut input, &mut output);
-        assert!(rt; is_written == is_done(&answer));
-        assert!(rt; output.held.len() == OUTPUT.len() - more);
-        assert!(rt; output.is_flushed == is_written);
-    }
+    let never = (1, Fault::Never);
+    let spare = CALLS - READS;
+    let of_reader = run(rt.alloc(), (1, Fault::UpTo(spare)), never);
+    check_done(&rt, of_reader, [CALLS, WRITES]);
+    let of_reader = run(rt.alloc(), (1, Fault::UpTo(spare + 1)), never);
+    check_run(&rt, of_reader, (Err(OTHER), [CALLS, 0], Some(0), false));
+    let of_writer = run(rt.alloc(), never, (1, Fault::UpTo(CALLS)));
+    check_done(&rt, of_writer, [READS, CALLS + WRITES]);
+    let of_writer = run(rt.alloc(), never, (1, Fault::UpTo(CALLS + 1)));
+    let calls = [READS, OUTPUT.len() + CALLS];
+    let held = Some(OUTPUT.len() - 1);
+    check_run(&rt, of_writer, (Err(OTHER), calls, held, false));
 }
