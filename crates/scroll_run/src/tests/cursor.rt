@@ -1,9 +1,8 @@
 // Sessions of reads and writes at the cursor.
 use crate::tests::sessions::expect_sessions;
-use std::test::Fail;
 
 #[test]
-fn cursor_moves_with_accepted_commands(rt: HostRuntime) -> Result<(), Fail> {
+fn cursor_moves_with_accepted_commands(rt: HostRuntime) {
     expect_sessions(
         &rt,
         rt.alloc(),

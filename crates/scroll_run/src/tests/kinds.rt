@@ -1,9 +1,8 @@
 // Sessions of strings, slices, C strings, numbers in LEB128 and arrays.
 use crate::tests::sessions::expect_sessions;
-use std::test::Fail;
 
 #[test]
-fn each_kind_is_answered(rt: HostRuntime) -> Result<(), Fail> {
+fn each_kind_is_answered(rt: HostRuntime) {
     expect_sessions(
         &rt,
         rt.alloc(),

@@ -2,23 +2,22 @@
 use crate::tests::sessions::expect_session;
 use std::alloc::Global;
 use std::process::Abort;
-use std::test::Fail;
 
 // Runs a session for each type and word, in which the line that writes the word is bad.
-fn expect_bad_words(rt: &impl Abort, alloc: Global, words: &[(&str, &str)]) -> Result<(), Fail> {
+fn expect_bad_words(rt: &impl Abort, alloc: Global, words: &[(&str, &str)]) {
     for (width, word) in words {
         for order in &["le", "be"] {
             let input = format!(in alloc;
                 "buffer 00\ncursor 0\npwrite 0 {width} {order} {word}\n"
-            )?;
-            expect_session(rt, alloc, input.as_bytes(), "bad line 3\n", 2)?;
+            ).expect(rt, "memory");
+            expect_session(rt, alloc, input.as_bytes(), "bad line 3\n", 2);
         }
     }
-    Ok(())
 }
 
 #[test]
-fn least_and_greatest_of_each_type(rt: HostRuntime) -> Result<(), Fail> {
+fn least_and_greatest_of_each_type(rt: HostRuntime) {
+    let rt = &rt;
     for (width, value, size, bytes) in &[
         ("u8", "255", 1, "ff000000000000000000000000000000"),
         ("i8", "-128", 1, "80000000000000000000000000000000"),
@@ -68,17 +67,16 @@ fn least_and_greatest_of_each_type(rt: HostRuntime) -> Result<(), Fail> {
     ] {
         let input = format!(in rt.alloc();
             "buffer 00000000000000000000000000000000\ncursor 0\npwrite 0 {width} be {value}\npread 0 {width} be\n"
-        )?;
+        ).expect(rt, "memory");
         let wanted = format!(in rt.alloc();
             "wrote {size}\nnumber {value}\nbuffer {bytes}\ncursor 0\n"
-        )?;
-        expect_session(&rt, rt.alloc(), input.as_bytes(), wanted.as_str(), 0)?;
+        ).expect(rt, "memory");
+        expect_session(rt, rt.alloc(), input.as_bytes(), wanted.as_str(), 0);
     }
-    Ok(())
 }
 
 #[test]
-fn one_past_the_range_of_each_type_is_bad(rt: HostRuntime) -> Result<(), Fail> {
+fn one_past_the_range_of_each_type_is_bad(rt: HostRuntime) {
     expect_bad_words(
         &rt,
         rt.alloc(),
@@ -105,7 +103,8 @@ fn one_past_the_range_of_each_type_is_bad(rt: HostRuntime) -> Result<(), Fail> {
 }
 
 #[test]
-fn numbers_with_a_minus(rt: HostRuntime) -> Result<(), Fail> {
+fn numbers_with_a_minus(rt: HostRuntime) {
+    let rt = &rt;
     for (width, value, size, number) in &[
         ("i8", "-0", 1, "0"),
         ("i8", "0", 1, "0"),
@@ -134,17 +133,16 @@ fn numbers_with_a_minus(rt: HostRuntime) -> Result<(), Fail> {
     ] {
         let input = format!(in rt.alloc();
             "buffer ffffffffffffffffffffffffffffffff\ncursor 3\npwrite 0 {width} le {value}\npread 0 {width} le\npwrite 0 u128 le 0\n"
-        )?;
+        ).expect(rt, "memory");
         let wanted = format!(in rt.alloc();
             "wrote {size}\nnumber {number}\nwrote 16\nbuffer 00000000000000000000000000000000\ncursor 3\n"
-        )?;
-        expect_session(&rt, rt.alloc(), input.as_bytes(), wanted.as_str(), 0)?;
+        ).expect(rt, "memory");
+        expect_session(rt, rt.alloc(), input.as_bytes(), wanted.as_str(), 0);
     }
-    Ok(())
 }
 
 #[test]
-fn signs_that_spell_no_number(rt: HostRuntime) -> Result<(), Fail> {
+fn signs_that_spell_no_number(rt: HostRuntime) {
     expect_bad_words(
         &rt,
         rt.alloc(),

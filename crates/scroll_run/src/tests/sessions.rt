@@ -2,22 +2,20 @@
 use crate::session::session;
 use std::alloc::Global;
 use std::process::Abort;
-use std::test::Fail;
 
-// Runs the session of an input, and asserts its output and its status.
+// Runs the session of an input, and expects its output and its status.
 pub(crate) fn expect_session(
     rt: &impl Abort,
     alloc: Global,
     input: &[u8],
     wanted: &str,
     wanted_status: u8,
-) -> Result<(), Fail> {
+) {
     let mut input = input;
     let mut output = Vec::new(alloc);
-    let status = session(alloc, &mut input, &mut output)?;
+    let status = session(alloc, &mut input, &mut output).expect(rt, wanted);
+    assert!(rt; status == wanted_status, "{status} with {wanted}");
     assert!(rt; output.as_slice() == wanted.as_bytes(), "{wanted}");
-    assert_eq!(rt; status, wanted_status, "{wanted}");
-    Ok(())
 }
 
 // Runs sessions that all end with the same status, each an input and its output.
@@ -26,15 +24,14 @@ pub(crate) fn expect_sessions(
     alloc: Global,
     sessions: &[(&str, &str)],
     wanted_status: u8,
-) -> Result<(), Fail> {
+) {
     for (input, wanted) in sessions {
-        expect_session(rt, alloc, input.as_bytes(), wanted, wanted_status)?;
+        expect_session(rt, alloc, input.as_bytes(), wanted, wanted_status);
     }
-    Ok(())
 }
 
 #[test]
-fn commands_are_answered(rt: HostRuntime) -> Result<(), Fail> {
+fn commands_are_answered(rt: HostRuntime) {
     expect_sessions(
         &rt,
         rt.alloc(),
@@ -58,7 +55,7 @@ fn commands_are_answered(rt: HostRuntime) -> Result<(), Fail> {
 }
 
 #[test]
-fn numerals_and_bytes_in_other_spellings(rt: HostRuntime) -> Result<(), Fail> {
+fn numerals_and_bytes_in_other_spellings(rt: HostRuntime) {
     expect_sessions(
         &rt,
         rt.alloc(),
@@ -82,7 +79,7 @@ fn numerals_and_bytes_in_other_spellings(rt: HostRuntime) -> Result<(), Fail> {
 }
 
 #[test]
-fn first_two_lines_are_bad(rt: HostRuntime) -> Result<(), Fail> {
+fn first_two_lines_are_bad(rt: HostRuntime) {
     expect_sessions(
         &rt,
         rt.alloc(),
@@ -117,7 +114,8 @@ fn first_two_lines_are_bad(rt: HostRuntime) -> Result<(), Fail> {
 }
 
 #[test]
-fn a_command_is_bad(rt: HostRuntime) -> Result<(), Fail> {
+fn a_command_is_bad(rt: HostRuntime) {
+    let rt = &rt;
     for line in &[
         "",
         "pread",
@@ -208,52 +206,55 @@ fn a_command_is_bad(rt: HostRuntime) -> Result<(), Fail> {
         "pwrite 0 bytesx2 61 0",
         "pwrite 0 bytesx2 61 62 63",
     ] {
-        let input = format!(in rt.alloc(); "buffer 00\ncursor 0\npwrite 0 u8 le 1\n{line}\n")?;
-        expect_session(&rt, rt.alloc(), input.as_bytes(), "bad line 4\n", 2)?;
+        let input = format!(in rt.alloc();
+            "buffer 00\ncursor 0\npwrite 0 u8 le 1\n{line}\n"
+        ).expect(rt, "memory");
+        expect_session(rt, rt.alloc(), input.as_bytes(), "bad line 4\n", 2);
     }
-    Ok(())
 }
 
 #[test]
-fn the_first_bad_line_is_told(rt: HostRuntime) -> Result<(), Fail> {
+fn the_first_bad_line_is_told(rt: HostRuntime) {
     let input = "buffer 00\ncursor 0\npread 0 u8 le\n\npread 0 u8\n";
     expect_session(&rt, rt.alloc(), input.as_bytes(), "bad line 4\n", 2)
 }
 
 #[test]
-fn length_is_tested_before_the_lines(rt: HostRuntime) -> Result<(), Fail> {
+fn length_is_tested_before_the_lines(rt: HostRuntime) {
+    let rt = &rt;
     for (length, wanted) in [
         (65_536, "bad line 1\n"),
         (65_537, "input too long\n"),
         (65_538, "input too long\n"),
     ] {
-        let input = vec![in rt.alloc(); b'0'; length]?;
-        expect_session(&rt, rt.alloc(), input.as_slice(), wanted, 2)?;
+        let input = vec![in rt.alloc(); b'0'; length].expect(rt, "memory");
+        expect_session(rt, rt.alloc(), input.as_slice(), wanted, 2);
     }
-    Ok(())
 }
 
 #[test]
-fn good_inputs_of_each_length(rt: HostRuntime) -> Result<(), Fail> {
+fn good_inputs_of_each_length(rt: HostRuntime) {
+    let rt = &rt;
     for length in [17, 18, 255, 256, 4095, 4096, 4097, 8192, 65_535, 65_536] {
-        let mut input = Vec::from_slice(rt.alloc(), b"buffer -\ncursor 0")?;
-        input.resize(length, b'0')?;
-        expect_session(&rt, rt.alloc(), input.as_slice(), "buffer -\ncursor 0\n", 0)?;
+        let mut input = Vec::from_slice(rt.alloc(), b"buffer -\ncursor 0").expect(rt, "memory");
+        input.resize(length, b'0').expect(rt, "memory");
+        expect_session(rt, rt.alloc(), input.as_slice(), "buffer -\ncursor 0\n", 0);
     }
-    Ok(())
 }
 
 #[test]
-fn runs_of_each_length(rt: HostRuntime) -> Result<(), Fail> {
+fn runs_of_each_length(rt: HostRuntime) {
+    let rt = &rt;
     for count in [0, 1, 255, 256, 257, 4096] {
-        let mut input = String::from_str(rt.alloc(), "buffer 07\ncursor 0\n")?;
+        let mut input = String::from_str(rt.alloc(), "buffer 07\ncursor 0\n").expect(rt, "memory");
         let mut wanted = String::new(rt.alloc());
         for _ in 0..count {
-            input.push_str("pread 0 u8 le\n")?;
-            wanted.push_str("number 7\n")?;
+            input.push_str("pread 0 u8 le\n").expect(rt, "memory");
+            wanted.push_str("number 7\n").expect(rt, "memory");
         }
-        wanted.push_str("buffer 07\ncursor 0\n")?;
-        expect_session(&rt, rt.alloc(), input.as_bytes(), wanted.as_str(), 0)?;
+        wanted
+            .push_str("buffer 07\ncursor 0\n")
+            .expect(rt, "memory");
+        expect_session(rt, rt.alloc(), input.as_bytes(), wanted.as_str(), 0);
     }
-    Ok(())
 }
