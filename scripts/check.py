@@ -22,9 +22,9 @@ Several of these words may be given; .ci/run gives `all verdict`. The steps are:
     faults.sh       the sessions and the tests where memory is refused and streams fail, by what was proved
     edits.py        the edits, many in one check
 
-Steps run side by side, and a step starts when those that it needs have ended. In all they have one job more than there are
+Steps run side by side, and a step starts when those that it needs have ended. In all they have two jobs more than there are
 workers (scripts/workers.py), since parts of a check run on one processor. The tests of the library and rt ci run in copies of
-their own.
+their own; rt ci, which nothing waits for, runs at a low priority.
 
 Each step is named at the end with its counts, its time and the processor time that it took. The last line is
 `N passed, M failed`, the sums of the counts, with `, K skipped` after it where something was left out. A step that ends
@@ -43,7 +43,7 @@ import time
 from dataclasses import dataclass, field
 from pathlib import Path
 from queue import Queue
-from typing import Dict, List, Sequence, Tuple
+from typing import Any, Dict, List, Sequence, Tuple
 
 from workers import count_workers
 
@@ -52,6 +52,9 @@ GROUPS = ("stands", "edits", "verdict")
 COUNTS = re.compile(r"(\d+) passed, (\d+) failed(?:, (\d+) skipped)?")
 PROVE = "sh scripts/prove.sh scroll"
 PROGRAM = "sh scripts/prove.sh scroll_run"
+# A step is a group of processes, which is ended as one. (In a session of its own it would share the processors evenly with the
+# other sessions, whatever its priority.)
+GROUP: Dict[str, Any] = {"process_group": 0} if sys.version_info >= (3, 11) else {"start_new_session": True}
 
 
 @dataclass
@@ -122,7 +125,7 @@ class Gate:
             stdin=subprocess.DEVNULL,
             stdout=subprocess.PIPE,
             stderr=subprocess.STDOUT,
-            start_new_session=True,
+            **GROUP,
         )
         self.running[step.command] = process
         self.free -= step.jobs
@@ -182,7 +185,7 @@ def list_steps(groups: Sequence[str], workers: int) -> List[Step]:
             steps.append(Step(f"python3 scripts/{name}.py", 1))
         steps += [
             Step(PROVE, workers),
-            Step(f"{PROVE} tests", half, (PROVE,), "tests", "crates/scroll/out/scroll_tests"),
+            Step(f"{PROVE} tests", half + 1, (PROVE,), "tests", "crates/scroll/out/scroll_tests"),
             Step(PROGRAM, half, (PROVE,)),
             Step(f"{PROGRAM} tests", half, (PROGRAM,)),
         ]
@@ -205,7 +208,7 @@ def main(words: List[str]) -> int:
     workers = count_workers()
     steps = list_steps(groups, workers)
     with tempfile.TemporaryDirectory(prefix="check-") as room:
-        gate = Gate(Path(room), workers + 1)
+        gate = Gate(Path(room), workers + 2)
         for number in (signal.SIGHUP, signal.SIGINT, signal.SIGTERM):
             signal.signal(number, lambda *_: sys.exit(1))
         try:

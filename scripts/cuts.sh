@@ -15,13 +15,9 @@
 set -u
 
 top=$(CDPATH='' cd -- "$(dirname -- "$0")/.." && pwd) || exit 1
+# shellcheck source=scripts/lib.sh
+. "$top/scripts/lib.sh"
 program=${1:-$top/crates/scroll_run/out/scroll_run}
-
-stop() {
-    echo "cuts: $1"
-    echo "0 passed, 1 failed"
-    exit 1
-}
 
 command -v "$program" >/dev/null || stop "there is no program $program"
 room=$(mktemp -d) || stop "no folder for the outputs can be made"

@@ -22,6 +22,8 @@
 set -u
 
 top=$(CDPATH='' cd -- "$(dirname -- "$0")/.." && pwd) || exit 1
+# shellcheck source=scripts/lib.sh
+. "$top/scripts/lib.sh"
 sessions=$top/sessions
 program=$top/crates/scroll_run/out/scroll_run
 
@@ -29,7 +31,9 @@ program=$top/crates/scroll_run/out/scroll_run
 first_calls=8
 
 room=$(mktemp -d) || exit 1
-trap 'rm -rf "$room"' EXIT
+# (thousands of runs write small files: in memory if there is a folder for that)
+files=$(mktemp -d -p /dev/shm 2>/dev/null) || files=$room
+trap 'rm -rf "$room" "$files"' EXIT
 trap 'exit 1' HUP INT TERM
 echo 'out of memory' >"$room/no_memory"
 : >"$room/nothing"
@@ -223,9 +227,9 @@ try_test() {
     done
 }
 
-# Tries the sessions or tests of one lane, and leaves its counts.
-run_lane() {
-    work=$room/lane$1
+# Tries the sessions or tests of one worker, and leaves its counts.
+run_worker() {
+    work=$files/$1.work
     mkdir "$work"
     failed=0
     while read -r kind name; do
@@ -242,8 +246,8 @@ run_lane() {
         else
             failed=$((failed + 1))
         fi
-    done <"$work.list"
-    echo "$passed $failed $runs" >"$work.counts"
+    done <"$room/$1.list"
+    echo "$passed $failed $runs" >"$room/$1.counts"
 }
 
 list_libraries() {
@@ -264,12 +268,6 @@ list_all() {
     done
 }
 
-stop() {
-    echo "faults: $1"
-    echo "0 passed, 1 failed"
-    exit 1
-}
-
 [ -x "$program" ] || stop "there is no program $program: rt run in crates/scroll_run proves and builds it"
 compile_library || stop "scripts/faults.c does not compile"
 if [ -z "$library" ]; then
@@ -284,27 +282,26 @@ for name in $(list_libraries); do
     fi
 done
 
-lanes=$(nproc)
-list_all | awk -v lanes="$lanes" -v room="$room" '{ print >(room "/lane" (NR % lanes) ".list") }'
-for list in "$room"/lane*.list; do
+list_all | awk -v workers="$(count_workers)" -v room="$room" '{ print >(room "/worker" (NR % workers) ".list") }'
+for list in "$room"/worker*.list; do
     [ -f "$list" ] || continue
-    lane=${list%.list}
-    run_lane "${lane##*lane}" >"$lane.said" &
+    worker=${list%.list}
+    run_worker "${worker##*/}" >"$worker.said" &
 done
 wait
 
-cat "$room"/lane*.said
+cat "$room"/worker*.said
 tried=0
-while read -r lane_passed lane_failed lane_runs; do
-    tried=$((tried + lane_passed + lane_failed))
-    passed=$((passed + lane_passed))
-    failed=$((failed + lane_failed))
-    runs=$((runs + lane_runs))
+while read -r its_passed its_failed its_runs; do
+    tried=$((tried + its_passed + its_failed))
+    passed=$((passed + its_passed))
+    failed=$((failed + its_failed))
+    runs=$((runs + its_runs))
 done <<END
-$(cat "$room"/lane*.counts)
+$(cat "$room"/worker*.counts)
 END
-sessions_tried=$(cat "$room"/lane*.list | grep -c '^session ')
-tests_tried=$(cat "$room"/lane*.list | grep -vc '^session ')
+sessions_tried=$(cat "$room"/worker*.list | grep -c '^session ')
+tests_tried=$(cat "$room"/worker*.list | grep -vc '^session ')
 lost=$((sessions_tried + tests_tried - tried))
 if [ "$lost" -ne 0 ]; then
     failed=$((failed + 1))

@@ -19,14 +19,9 @@ LC_ALL=C
 export LC_ALL
 
 top=$(CDPATH='' cd -- "$(dirname -- "$0")/.." && pwd) || exit 1
+# shellcheck source=scripts/lib.sh
+. "$top/scripts/lib.sh"
 sessions=$top/sessions
-
-# Ends if there is nothing to replay, or no program to replay it with.
-stop() {
-    echo "sessions: $1"
-    echo "0 passed, 1 failed"
-    exit 1
-}
 
 # Tests whether the proved program exists, and no file that it is made of is newer.
 is_current() {
