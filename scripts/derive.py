@@ -19,7 +19,7 @@ MOST_NUMBERS = 64
 MOST_AT_ONCE = 14
 MOST_SIGNED = 6
 
-# The numbers of such a struct are written in groups of this many.
+# The numbers of a struct that has more than MOST_AT_ONCE are written in groups of this many.
 GROUP = 8
 
 # A struct of more bytes than this states by a lemma that the bytes after it are unchanged.

@@ -15,7 +15,7 @@ fn parts_of<T>(outcome: &Result<T>) -> Parts<'_> {
         Err(Error::TooBig { size, len }) => ("TooBig", *size, *len),
         Err(Error::BadOffset(offset)) => ("BadOffset", *offset, 0),
         Err(Error::BadInput { size, msg }) => (msg, *size, 0),
-        Err(Error::Custom(text)) => (text, 0, 0),
+        Err(Error::Custom(_)) => ("Custom", 0, 0),
         Err(Error::IO(_)) => ("IO", 0, 0),
         Err(Error::NoMemory) => ("NoMemory", 0, 0),
         Ok(_) => ("Ok", 0, 0),
