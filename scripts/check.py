@@ -188,11 +188,11 @@ def list_steps(groups: Sequence[str], workers: int) -> List[Step]:
             Step(f"{PROVE} tests", half + 1, (PROVE,), "tests", "crates/scroll/out/scroll_tests"),
             Step(PROGRAM, half, (PROVE,)),
             Step(f"{PROGRAM} tests", half, (PROGRAM,)),
+            Step("sh scripts/faults.sh", half, (PROGRAM, f"{PROVE} tests")),
         ]
         steps += [Step(f"sh scripts/clients.sh {it}", 1, (PROVE,)) for it in list_clients()]
         steps += [Step(f"sh scripts/{it}.sh", 1, (PROVE,)) for it in ("depending", "misuse")]
         steps += [Step(f"sh scripts/{it}.sh", 1, (PROGRAM,)) for it in ("sessions", "cuts")]
-        steps.append(Step("sh scripts/faults.sh", workers, (PROGRAM, f"{PROVE} tests")))
     if "edits" in groups:
         steps.append(Step("python3 scripts/edits.py", workers, tuple(it.command for it in steps if it.jobs)))
     return steps

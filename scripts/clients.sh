@@ -9,8 +9,8 @@
 # workers (scripts/workers.py), and they share the jobs.
 #
 # A client passes if it has the layout of `rt fmt`, names no proofs of the library except its lemmas for callers, and
-# `rt check --test`, which proves its code and its tests, and `rt test` succeed, with at least one test. It is printed with
-# its counts: functions (those of its tests too), tests, lines that aren't empty, and seconds. The last line is
+# `rt test`, which proves its code and its tests and runs these, succeeds, with at least one test. It is printed with its
+# counts: functions (those of its tests too), tests, lines that aren't empty, and seconds. The last line is
 # `N passed, M failed`. The exit status is 0 if M is 0 and N is not.
 set -u
 
@@ -70,7 +70,7 @@ count_lines() {
 # Says why the client failed, with the end of the last output.
 fail() {
     echo "FAILED $name: $1"
-    grep -v ': proved' "$said" | tail -n 20 | cut -c 1-200 | sed 's/^/    /'
+    grep -vE ': proved|modules loaded=' "$said" | tail -n 20 | cut -c 1-200 | sed 's/^/    /'
 }
 
 try_client() {
@@ -86,10 +86,12 @@ try_client() {
         fail 'it names a proof of the library that is not for callers'
         return
     fi
-    run check --test --jobs "$jobs" || { fail 'it is not proved, or its tests are not'; return; }
+    if ! run test --jobs "$jobs"; then
+        fail 'it is not proved, or a test fails'
+        return
+    fi
     functions=$(count_of functions)
     tests=$(count_of tests)
-    run test || { fail 'a test fails'; return; }
     if [ "${tests:-0}" -eq 0 ] || ! grep -q "^test result: ok\. $tests passed; 0 failed; 0 ignored" "$said"; then
         fail 'not every test ran'
         return

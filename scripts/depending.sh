@@ -32,7 +32,7 @@ step() {
     else
         failed=$((failed + 1))
         echo "depending: $name: FAILED"
-        grep -v ': proved' "$room/said" | tail -n 20 | cut -c 1-200 | sed 's/^/    /'
+        grep -vE ': proved|modules loaded=' "$room/said" | tail -n 20 | cut -c 1-200 | sed 's/^/    /'
     fi
 }
 
@@ -108,9 +108,8 @@ in_first() {
 }
 
 example_ran() {
-    in_first test || return
-    cat "$room/said"
-    grep -q '^test result: ok\. 1 passed; 0 failed; 0 ignored' "$room/said"
+    in_first test && grep -q '^logic=proved' "$room/said" &&
+        grep -q '^test result: ok\. 1 passed; 0 failed; 0 ignored' "$room/said"
 }
 
 step 'copy the library' copy_library
@@ -119,7 +118,6 @@ step 'write the first example' write_example
 [ "${FROM_NOTHING:-}" = 1 ] || step 'build the library' build_library
 git -C "$room/own" init -q
 step 'check' in_first check
-step 'check the first example' in_first check --test
-step 'run the first example' example_ran
+step 'prove and run the first example' example_ran
 echo "$passed passed, $failed failed"
 [ "$failed" -eq 0 ] && [ "$passed" -gt 0 ]

@@ -22,7 +22,7 @@ trap 'exit 1' HUP INT TERM
 
 # Ends the script, and shows the end of the last check's output.
 stop_check() {
-    grep -v ': proved$' "$room/said" | tail -n 20 | cut -c 1-200 | sed 's/^/    /'
+    grep -vE ': proved$|modules loaded=' "$room/said" | tail -n 20 | cut -c 1-200 | sed 's/^/    /'
     stop "$1"
 }
 

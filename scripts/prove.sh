@@ -8,8 +8,8 @@
 # as there are workers (scripts/lib.sh).
 #
 # These count as one each: the layout of `rt fmt`; the proof; a library, built for those that use it, or a program,
-# whose output for the crate's file `stdin` is its file `stdout`; the proof of the tests; the tests, none of which is
-# ignored. The last line is `N passed, M failed`. The exit status is 0 if M is 0 and N is not.
+# whose output for the crate's file `stdin` is its file `stdout`; the tests, proved and run, none of which is ignored.
+# The last line is `N passed, M failed`. The exit status is 0 if M is 0 and N is not.
 set -u
 
 top=$(CDPATH='' cd -- "$(dirname -- "$0")/.." && pwd) || exit 1
@@ -39,7 +39,7 @@ count() {
     else
         failed=$((failed + 1))
         echo "FAILED $name: $what"
-        grep -v ': proved' "$room/said" | tail -n 40 | cut -c 1-300 | sed 's/^/    /'
+        grep -vE ': proved|modules loaded=' "$room/said" | tail -n 40 | cut -c 1-300 | sed 's/^/    /'
     fi
 }
 
@@ -59,12 +59,12 @@ run_program() {
 }
 
 run_tests() {
-    run_rt test && grep '^test result: ok\.' "$room/said" | grep -q ' 0 failed; 0 ignored'
+    run_rt test --jobs "$jobs" && grep -q '^logic=proved' "$room/said" &&
+        grep '^test result: ok\.' "$room/said" | grep -q ' 0 failed; 0 ignored'
 }
 
 if [ "${2:-}" = tests ]; then
-    count 'its tests are proved' run_rt check --test --jobs "$jobs"
-    count 'its tests pass' run_tests
+    count 'its tests are proved and pass' run_tests
 else
     count 'it is laid out by rt fmt' is_laid_out "$crate"
     count 'it is proved' prove
