@@ -1,9 +1,10 @@
 -- What the first bytes of a source, however they were loaded, say of its encoding.
-use Rattle.std.proofs.Common.{◌≡◌, ℕ, ◌+◌, ◌-◌, ◌*◌, ◌%◌, ◌^◌, ◌<◌, ◌≤◌, ◌⊎◌, suc, Some, inl, inr, true, false, nat_lt, if◌then◌else◌, List, length, take, bit_and, bit_or, refl, sym, ap, ◌∙◌, arith, ℤ, pos, negsuc, ◌-ℤ◌, FitsSigned, to_z}
+use Rattle.std.proofs.Common.{◌≡◌, ℕ, ◌+◌, ◌-◌, ◌*◌, ◌%◌, ◌^◌, ◌<◌, ◌≤◌, ◌⊎◌, suc, Some, inl, inr, true, false, nat_lt, if◌then◌else◌, List, length, take, get_or, bit_and, bit_or, refl, sym, ap, ◌∙◌, arith, ℤ, pos, negsuc, ◌-ℤ◌, FitsSigned, to_z}
 use Rattle.std.proofs.Math.Nat.{mod-eq_of_lt, pow-le-pow_right}
 use Rattle.std.proofs.Math.Facts.{to_z-neg}
 use Rattle.std.proofs.lemmas.Nat.{and_mask}
 use Rattle.std.proofs.lemmas.Int.{ints, to_z_pos}
+use Rattle.std.proofs.lemmas.List.{get_or-take}
 use Rattle.std.proofs.lemmas.Option.{get_or_from_slice_get, slice_get_within}
 use Rattle.std.proofs.lemmas.Bool.{cases_lt}
 use Rattle.std.proofs.lemmas.Bool.Decides.{nat_tests}
@@ -11,7 +12,8 @@ use Rattle.std.specs.Int.{w64}
 use Rattle.std.specs.Int.Bits.{or_shifted_r, or_zero_r}
 use Rattle.std.specs.List.{slice_get}
 use Rattle.scroll.specs.Leb128.{IsCut, IsComplete, end_of, group, groups_value, unsigned_of, count_of, signed_of, ReadsUleb, ReadsSleb, ReadsGroups, EndsInBlock, EndsInSignedBlock}
-use Rattle.scroll.proofs.lemmas.leb128.LebLemmas.{groups_lt, groups_more, end_at, end_below, open_before, gives_front, sign_is_top}
+use Rattle.scroll.specs.Loads.{Loading, Loaded, most_loads}
+use Rattle.scroll.proofs.lemmas.leb128.LebLemmas.{groups_lt, groups_more, groups_same, end_at, end_below, late_end, open_before, gives_front, sign_is_top}
 use Rattle.scroll.proofs.lemmas.leb128.SignedLemmas.{less_whole}
 use Rattle.scroll.proofs.lemmas.leb128.SignedSpellingLemmas.{sign_of_groups}
 
@@ -35,6 +37,19 @@ block_reads_signed s b z n eight front whole fits e =
     e.value ∙ ap (λ t. if t then pos (unsigned_of b) else pos (unsigned_of b) -ℤ pos (128 ^ count_of b)) (sym top) in
     let value = sign_of_groups s (unsigned_of b) (count_of b) z g.complete.0 g.value g.size form in
     record { complete = g.complete; fits = rw value at fits; value = value; size = e.size ∙ g.size }
+
+-- a block that ends no encoding
+pub block_open : (s b : List ℕ) → 8 ≤ length s → b ≡ take 8 s → 8 ≤ end_of b → (8 ≤ end_of s) × (groups_value b 8 ≡ groups_value s 8)
+block_open s b eight front open_to =
+    let same : (k : ℕ) → k < 8 → get_or b k 0 ≡ get_or s k 0 = λ k h. ap (λ l. get_or l k 0) front ∙ get_or-take 8 s k 0 h in
+    (late_end s 8 eight (λ k h. rw (← same k h) (open_before b k (omega (arith, h, open_to)))), groups_same b s 8 same)
+
+-- a load of a block, and at most two more
+pub block_loads : (old new later : Loading) → new ≡ record old { made = old.made + 1 } → 8 ≤ length old.bytes → Loaded new later 2 → Loaded old later (most_loads old.bytes)
+block_loads old new later counted eight l =
+    let long : nat_lt (length old.bytes) 8 ≡ false = grind (arith, nat_tests) in
+    let made : new.made ≡ old.made + 1 = ap (λ (m : Loading). m.made) counted in
+    rw long (record { same = l.same ∙ ap (λ (m : Loading). m.bytes) counted; few = omega (arith, l.few, made) })
 
 -- groups and their sign
 pub groups_read_signed : (s : List ℕ) (g n : ℕ) (z : ℤ) → ReadsGroups s g n → FitsSigned w64 z

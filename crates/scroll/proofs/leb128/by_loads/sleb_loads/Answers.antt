@@ -5,7 +5,7 @@ use Rattle.std.proofs.lemmas.Int.{to_z-of_z}
 use Rattle.scroll.specs.Leb128.{end_of, groups_value}
 use Rattle.scroll.specs.Loads.{Loading}
 use Rattle.scroll.proofs.lemmas.leb128.LebLemmas.{groups_lt}
-use Rattle.scroll.proofs.lemmas.leb128.LoadLemmas.{block_reads_signed, groups_read_signed, nine_read, tenth_reads_signed, tenth_is_cut, tenth_refused_signed}
+use Rattle.scroll.proofs.lemmas.leb128.LoadLemmas.{block_reads_signed, block_open, block_loads, groups_read_signed, nine_read, tenth_reads_signed, tenth_is_cut, tenth_refused_signed}
 use Rattle.scroll.proofs.leb128.by_loads.sleb_loads.Goals as goal
 
 pub sign_extend-requires-clause-low : goal.sign_extend-requires-clause-low
@@ -58,3 +58,25 @@ returns-in-Some-2-clause-refused c =
       c.len-in-Some-2.ensures ∙ ap length (c.in_ok-groups-2.ensures.loads.same ∙ same),
       refl,
     )
+
+pub nine_groups-requires-clause-eight : goal.nine_groups-requires-clause-eight
+nine_groups-requires-clause-eight c =
+    let first = c.in-Some.ensures.first in
+    rw c.word.ensures.counted (first.0, (block_open c.args.src.now.bytes c.in-Some.block first.0 first.1 c.in_default-sleb_block.ensures.none).0)
+
+pub nine_groups-requires-clause-low : goal.nine_groups-requires-clause-low
+nine_groups-requires-clause-low c =
+    let first = c.in-Some.ensures.first in
+    rw c.word.ensures.counted (c.block_groups.ensures ∙ (block_open c.args.src.now.bytes c.in-Some.block first.0 first.1 c.in_default-sleb_block.ensures.none).1)
+
+pub returns-in_err-groups-2-clause-loads : goal.returns-in_err-groups-2-clause-loads
+returns-in_err-groups-2-clause-loads c = block_loads c.args.src.now _ _ c.word.ensures.counted c.in-Some.ensures.first.0 c.in_err-groups-2.ensures.loads
+
+pub returns-in-None-clause-loads : goal.returns-in-None-clause-loads
+returns-in-None-clause-loads c = block_loads c.args.src.now _ _ c.word.ensures.counted c.in-Some.ensures.first.0 c.in_ok-groups-2.ensures.loads
+
+pub returns-in-Some-tenth-clause-loads : goal.returns-in-Some-tenth-clause-loads
+returns-in-Some-tenth-clause-loads c = block_loads c.args.src.now _ _ c.word.ensures.counted c.in-Some.ensures.first.0 c.in_ok-groups-2.ensures.loads
+
+pub returns-in-Some-2-clause-loads : goal.returns-in-Some-2-clause-loads
+returns-in-Some-2-clause-loads c = block_loads c.args.src.now _ _ c.word.ensures.counted c.in-Some.ensures.first.0 c.in_ok-groups-2.ensures.loads

@@ -1,8 +1,8 @@
-use Rattle.std.proofs.Common.{◌≡◌, ◌≤◌, Some, ◌∙◌, ap, refl, length}
+use Rattle.std.proofs.Common.{◌≡◌, ◌≤◌, arith, Some, ◌∙◌, ap, refl, length}
 use Rattle.std.specs.List.{slice_get}
 use Rattle.scroll.specs.Leb128.{end_of, groups_value}
 use Rattle.scroll.specs.Loads.{Loading}
-use Rattle.scroll.proofs.lemmas.leb128.LoadLemmas.{block_reads, tenth_reads, tenth_is_cut, tenth_refused}
+use Rattle.scroll.proofs.lemmas.leb128.LoadLemmas.{block_reads, block_open, block_loads, groups_read, nine_read, tenth_reads, tenth_is_cut, tenth_refused}
 use Rattle.scroll.proofs.leb128.by_loads.uleb_loads.Goals as goal
 
 pub returns-in-Some-uleb_block-clause-read : goal.returns-in-Some-uleb_block-clause-read
@@ -30,3 +30,31 @@ returns-in-Some-2-clause-refused c =
       c.len-in-Some-2.ensures ∙ ap length (c.in_ok-groups.ensures.loads.same ∙ same),
       refl,
     )
+
+pub nine_groups-requires-clause-eight : goal.nine_groups-requires-clause-eight
+nine_groups-requires-clause-eight c =
+    let first = c.in-Some.ensures.first in
+    rw c.word.ensures.counted (first.0, (block_open c.args.src.now.bytes c.in-Some.block first.0 first.1 c.in_default-uleb_block.ensures.none).0)
+
+pub nine_groups-requires-clause-low : goal.nine_groups-requires-clause-low
+nine_groups-requires-clause-low c =
+    let first = c.in-Some.ensures.first in
+    rw c.word.ensures.counted (c.block_groups.ensures ∙ (block_open c.args.src.now.bytes c.in-Some.block first.0 first.1 c.in_default-uleb_block.ensures.none).1)
+
+pub returns-in_err-groups-clause-loads : goal.returns-in_err-groups-clause-loads
+returns-in_err-groups-clause-loads c = block_loads c.args.src.now _ _ c.word.ensures.counted c.in-Some.ensures.first.0 c.in_err-groups.ensures.loads
+
+pub returns-in-None-clause-loads : goal.returns-in-None-clause-loads
+returns-in-None-clause-loads c = block_loads c.args.src.now _ _ c.word.ensures.counted c.in-Some.ensures.first.0 c.in_ok-groups.ensures.loads
+
+pub returns-in-Some-tenth-clause-loads : goal.returns-in-Some-tenth-clause-loads
+returns-in-Some-tenth-clause-loads c = block_loads c.args.src.now _ _ c.word.ensures.counted c.in-Some.ensures.first.0 c.in_ok-groups.ensures.loads
+
+pub returns-in-Some-2-clause-loads : goal.returns-in-Some-2-clause-loads
+returns-in-Some-2-clause-loads c = block_loads c.args.src.now _ _ c.word.ensures.counted c.in-Some.ensures.first.0 c.in_ok-groups.ensures.loads
+
+pub returns-in-None-clause-read : goal.returns-in-None-clause-read
+returns-in-None-clause-read c =
+    let same : c.word.new.self.bytes ≡ c.args.src.now.bytes = ap (λ (l : Loading). l.bytes) c.word.ensures.counted in
+    let nine = c.in_ok-groups.ensures.read in
+    rw (← same) (groups_read _ _ 9 (omega arith) (nine_read c.word.new.self.bytes _ nine.within nine.value (rw c.in-None.is at nine.last)))

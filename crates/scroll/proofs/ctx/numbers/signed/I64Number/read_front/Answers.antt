@@ -1,0 +1,20 @@
+use Rattle.std.proofs.Common.{◌≡◌, ◌∙◌, ap, refl, arith, to_z, rules}
+use Rattle.std.specs.Int.{w64, from_le_bytes, from_be_bytes}
+use Rattle.std.proofs.lemmas.Int.{to_z-of_z}
+use Rattle.scroll.proofs.lemmas.callers.Cursors.{number-bound, number-take}
+use Rattle.scroll.proofs.lemmas.numbers.NumberLemmas.{signed-bits}
+use Rattle.scroll.specs.Numbers.{number}
+use Rattle.scroll.specs.declared.endian.Endian.TheVariants.{Little, Big}
+use Rattle.scroll.proofs.ctx.numbers.signed.I64Number.read_front.Goals as goal
+
+pub returns-in-Little : goal.returns-in-Little
+returns-in-Little c =
+    let s = c.args.from.now in
+    let value : from_le_bytes w64 c.front.result ≡ number Little 8 s = ap (from_le_bytes w64) c.front.ensures ∙ omega (arith, number-take Little 8 8 s) in
+    rw c.in-Little.is (to_z-of_z w64 _ (search rules) ∙ c.from_le_bytes.ensures ∙ ap (to_z w64) value ∙ signed-bits w64 _ _ refl refl (number-bound Little 8 0 s c.type_inv.from))
+
+pub returns-in-Big : goal.returns-in-Big
+returns-in-Big c =
+    let s = c.args.from.now in
+    let value : from_be_bytes w64 c.front-in-Big.result ≡ number Big 8 s = ap (from_be_bytes w64) c.front-in-Big.ensures ∙ omega (arith, number-take Big 8 8 s) in
+    rw c.in-Big.is (to_z-of_z w64 _ (search rules) ∙ c.from_be_bytes.ensures ∙ ap (to_z w64) value ∙ signed-bits w64 _ _ refl refl (number-bound Big 8 0 s c.type_inv.from))
