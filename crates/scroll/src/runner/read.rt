@@ -58,22 +58,18 @@ fn read_value(
 {
     match kind {
         Kind::Number(width, order) => read_number(buffer, cursor, place, width, order),
-        Kind::Text(ctx) => {
-            let text: &str = read_at(buffer, cursor, place, ctx)?;
-            Ok(Value::Text(copy_text(alloc, text)?))
-        }
-        Kind::Bytes(len) => {
-            let bytes: &[u8] = read_at(buffer, cursor, place, len)?;
-            Ok(Value::Bytes(copy_bytes(alloc, bytes)?))
-        }
-        Kind::CStr => {
-            let text: CStr = read_at(buffer, cursor, place, ())?;
-            Ok(Value::CStr(copy_bytes(alloc, text.to_bytes())?))
-        }
-        Kind::CString => {
-            let text: CString = read_at(buffer, cursor, place, &alloc)?;
-            Ok(Value::CStr(copy_bytes(alloc, text.as_bytes())?))
-        }
+        Kind::Text(ctx) => read_at(buffer, cursor, place, ctx)
+            .and_then(|text: &str| copy_text(alloc, text))
+            .map(Value::Text),
+        Kind::Bytes(len) => read_at(buffer, cursor, place, len)
+            .and_then(|bytes: &[u8]| copy_bytes(alloc, bytes))
+            .map(Value::Bytes),
+        Kind::CStr => read_at(buffer, cursor, place, ())
+            .and_then(|text: CStr| copy_bytes(alloc, text.to_bytes()))
+            .map(Value::CStr),
+        Kind::CString => read_at(buffer, cursor, place, &alloc)
+            .and_then(|text: CString| copy_bytes(alloc, text.as_bytes()))
+            .map(Value::CStr),
         Kind::Uleb => read_at(buffer, cursor, place, ()).map(Value::Uleb),
         Kind::Sleb => read_at(buffer, cursor, place, ()).map(Value::Sleb),
         Kind::U8x0(order) => {
@@ -81,11 +77,10 @@ fn read_value(
             Ok(Value::U8x0)
         }
         Kind::U16x3(order) => read_at(buffer, cursor, place, order).map(Value::U16x3),
-        Kind::Textx2(ctx) => {
-            let (first, second) = read_texts(buffer, cursor, place, ctx)?;
+        Kind::Textx2(ctx) => read_texts(buffer, cursor, place, ctx).and_then(|(first, second)| {
             let first = copy_text(alloc, first)?;
             Ok(Value::Textx2(first, copy_text(alloc, second)?))
-        }
+        }),
     }
 }
 
