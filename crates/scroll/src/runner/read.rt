@@ -77,10 +77,9 @@ fn read_value(
             Ok(Value::U8x0)
         }
         Kind::U16x3(order) => read_at(buffer, cursor, place, order).map(Value::U16x3),
-        Kind::Textx2(ctx) => read_texts(buffer, cursor, place, ctx).and_then(|(first, second)| {
-            let first = copy_text(alloc, first)?;
-            Ok(Value::Textx2(first, copy_text(alloc, second)?))
-        }),
+        Kind::Textx2(ctx) => read_texts(buffer, cursor, place, ctx)
+            .and_then(|(first, second)| copy_texts(alloc, first, second))
+            .map(|(first, second)| Value::Textx2(first, second)),
     }
 }
 
@@ -140,6 +139,15 @@ fn copy_text(alloc: Global, text: &str) -> Result<String>
         Ok(copy) => Ok(copy),
         Err(_) => Err(Error::NoMemory),
     }
+}
+
+fn copy_texts(alloc: Global, first: &str, second: &str) -> Result<(String, String)>
+    ensures copied { IfOk result (λ copy.
+        (string_bytes copy.0 ≡ first.now) × (string_bytes copy.1 ≡ second.now)) }
+    ensures only_memory { IfErr result (λ e. e ≡ NoMemory) }
+{
+    let first = copy_text(alloc, first)?;
+    Ok((first, copy_text(alloc, second)?))
 }
 
 fn copy_bytes(alloc: Global, bytes: &[u8]) -> Result<Vec<u8>>
