@@ -58,22 +58,18 @@ fn read_value(
 {
     match kind {
         Kind::Number(width, order) => read_number(buffer, cursor, place, width, order),
-        Kind::Text(ctx) => {
-            let text: &str = read_at(buffer, cursor, place, ctx)?;
-            Ok(Value::Text(copy_text(alloc, text)?))
-        }
-        Kind::Bytes(len) => {
-            let bytes: &[u8] = read_at(buffer, cursor, place, len)?;
-            Ok(Value::Bytes(copy_bytes(alloc, bytes)?))
-        }
-        Kind::CStr => {
-            let text: CStr = read_at(buffer, cursor, place, ())?;
-            Ok(Value::CStr(copy_bytes(alloc, text.to_bytes())?))
-        }
-        Kind::CString => {
-            let text: CString = read_at(buffer, cursor, place, &alloc)?;
-            Ok(Value::CStr(copy_bytes(alloc, text.as_bytes())?))
-        }
+        Kind::Text(ctx) => read_at(buffer, cursor, place, ctx)
+            .and_then(|text: &str| copy_text(alloc, text))
+            .map(Value::Text),
+        Kind::Bytes(len) => read_at(buffer, cursor, place, len)
+            .and_then(|bytes: &[u8]| copy_bytes(alloc, bytes))
+            .map(Value::Bytes),
+        Kind::CStr => read_at(buffer, cursor, place, ())
+            .and_then(|text: CStr| copy_bytes(alloc, text.to_bytes()))
+            .map(Value::CStr),
+        Kind::CString => read_at(buffer, cursor, place, &alloc)
+            .and_then(|text: CString| copy_bytes(alloc, text.as_bytes()))
+            .map(Value::CStr),
         Kind::Uleb => read_at(buffer, cursor, place, ()).map(Value::Uleb),
         Kind::Sleb => read_at(buffer, cursor, place, ()).map(Value::Sleb),
         Kind::U8x0(order) => {
@@ -81,11 +77,9 @@ fn read_value(
             Ok(Value::U8x0)
         }
         Kind::U16x3(order) => read_at(buffer, cursor, place, order).map(Value::U16x3),
-        Kind::Textx2(ctx) => {
-            let (first, second) = read_texts(buffer, cursor, place, ctx)?;
-            let first = copy_text(alloc, first)?;
-            Ok(Value::Textx2(first, copy_text(alloc, second)?))
-        }
+        Kind::Textx2(ctx) => read_texts(buffer, cursor, place, ctx)
+            .and_then(|(first, second)| copy_texts(alloc, first, second))
+            .map(|(first, second)| Value::Textx2(first, second)),
     }
 }
 
@@ -145,6 +139,15 @@ fn copy_text(alloc: Global, text: &str) -> Result<String>
         Ok(copy) => Ok(copy),
         Err(_) => Err(Error::NoMemory),
     }
+}
+
+fn copy_texts(alloc: Global, first: &str, second: &str) -> Result<(String, String)>
+    ensures copied { IfOk result (λ copy.
+        (string_bytes copy.0 ≡ first.now) × (string_bytes copy.1 ≡ second.now)) }
+    ensures only_memory { IfErr result (λ e. e ≡ NoMemory) }
+{
+    let first = copy_text(alloc, first)?;
+    Ok((first, copy_text(alloc, second)?))
 }
 
 fn copy_bytes(alloc: Global, bytes: &[u8]) -> Result<Vec<u8>>

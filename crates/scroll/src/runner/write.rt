@@ -29,24 +29,24 @@ fn write_value(buffer: &mut [u8], cursor: &mut usize, place: Place, put: &Put<'_
     ensures moves { IfOk result (λ n. cursor.new ≡ moved place cursor.old n) }
     ensures stays { OnErr result (cursor.new ≡ cursor.old) }
 {
-    match put {
-        Put::U8(x, order) => write_at(buffer, cursor, place, *x, *order),
-        Put::I8(x, order) => write_at(buffer, cursor, place, *x, *order),
-        Put::U16(x, order) => write_at(buffer, cursor, place, *x, *order),
-        Put::I16(x, order) => write_at(buffer, cursor, place, *x, *order),
-        Put::U32(x, order) => write_at(buffer, cursor, place, *x, *order),
-        Put::I32(x, order) => write_at(buffer, cursor, place, *x, *order),
-        Put::U64(x, order) => write_at(buffer, cursor, place, *x, *order),
-        Put::I64(x, order) => write_at(buffer, cursor, place, *x, *order),
-        Put::U128(x, order) => write_at(buffer, cursor, place, *x, *order),
-        Put::I128(x, order) => write_at(buffer, cursor, place, *x, *order),
-        Put::Text(text) => write_at(buffer, cursor, place, *text, ()),
-        Put::Bytes(bytes) => write_at(buffer, cursor, place, *bytes, ()),
-        Put::CStr(text) => write_at(buffer, cursor, place, *text, ()),
-        Put::Uleb(number) => write_at(buffer, cursor, place, *number, ()),
-        Put::Sleb(number) => write_at(buffer, cursor, place, *number, ()),
-        Put::U16x3(xs, order) => write_at(buffer, cursor, place, *xs, *order),
-        Put::Bytesx2(first, second) => write_at(buffer, cursor, place, [*first, *second], ()),
+    match *put {
+        Put::U8(x, order) => write_at(buffer, cursor, place, x, order),
+        Put::I8(x, order) => write_at(buffer, cursor, place, x, order),
+        Put::U16(x, order) => write_at(buffer, cursor, place, x, order),
+        Put::I16(x, order) => write_at(buffer, cursor, place, x, order),
+        Put::U32(x, order) => write_at(buffer, cursor, place, x, order),
+        Put::I32(x, order) => write_at(buffer, cursor, place, x, order),
+        Put::U64(x, order) => write_at(buffer, cursor, place, x, order),
+        Put::I64(x, order) => write_at(buffer, cursor, place, x, order),
+        Put::U128(x, order) => write_at(buffer, cursor, place, x, order),
+        Put::I128(x, order) => write_at(buffer, cursor, place, x, order),
+        Put::Text(text) => write_at(buffer, cursor, place, text, ()),
+        Put::Bytes(bytes) => write_at(buffer, cursor, place, bytes, ()),
+        Put::CStr(text) => write_at(buffer, cursor, place, text, ()),
+        Put::Uleb(number) => write_at(buffer, cursor, place, number, ()),
+        Put::Sleb(number) => write_at(buffer, cursor, place, number, ()),
+        Put::U16x3(xs, order) => write_at(buffer, cursor, place, xs, order),
+        Put::Bytesx2(first, second) => write_at(buffer, cursor, place, [first, second], ()),
     }
 }
 
