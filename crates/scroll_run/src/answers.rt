@@ -46,18 +46,9 @@ fn print_value(alloc: Global, text: &mut String, value: &Value) -> Result<(), Al
     match value {
         Value::Unsigned(number) => writeln!(text, "number {number}"),
         Value::Signed(number) => writeln!(text, "number {number}"),
-        Value::Text(found) => {
-            let bytes = print_bytes(alloc, found.as_bytes())?;
-            writeln!(text, "text {bytes}")
-        }
-        Value::Bytes(found) => {
-            let bytes = print_bytes(alloc, found)?;
-            writeln!(text, "bytes {bytes}")
-        }
-        Value::CStr(found) => {
-            let bytes = print_bytes(alloc, found)?;
-            writeln!(text, "cstr {bytes}")
-        }
+        Value::Text(found) => print_named(alloc, text, "text", found.as_bytes()),
+        Value::Bytes(found) => print_named(alloc, text, "bytes", found),
+        Value::CStr(found) => print_named(alloc, text, "cstr", found),
         Value::Uleb(found) => {
             let number = u64::from(*found);
             let size = found.size();
@@ -74,11 +65,34 @@ fn print_value(alloc: Global, text: &mut String, value: &Value) -> Result<(), Al
             writeln!(text, "numbers {first} {second} {third}")
         }
         Value::Textx2(first, second) => {
-            let first = print_bytes(alloc, first.as_bytes())?;
-            let second = print_bytes(alloc, second.as_bytes())?;
-            writeln!(text, "texts {first} {second}")
+            print_texts(alloc, text, first.as_bytes(), second.as_bytes())
         }
     }
+}
+
+// Appends a line of a name and bytes.
+fn print_named(alloc: Global, text: &mut String, name: &str, bytes: &[u8]) -> Result<(), AllocError>
+    ensures { OnOk result (string_bytes text.new
+        ≡ string_bytes text.old ++ name.now ++ codes " " ++ hex_text bytes.now ++ codes "\n") }
+{
+    let bytes = print_bytes(alloc, bytes)?;
+    writeln!(text, "{name} {bytes}")
+}
+
+// Appends the line of two texts.
+fn print_texts(
+    alloc: Global,
+    text: &mut String,
+    first: &[u8],
+    second: &[u8],
+) -> Result<(), AllocError>
+    ensures { OnOk result (string_bytes text.new
+        ≡ string_bytes text.old ++ codes "texts " ++ hex_text first.now
+        ++ codes " " ++ hex_text second.now ++ codes "\n") }
+{
+    let first = print_bytes(alloc, first)?;
+    let second = print_bytes(alloc, second)?;
+    writeln!(text, "texts {first} {second}")
 }
 
 // Returns the bytes in hexadecimal, or `-` if there are none.

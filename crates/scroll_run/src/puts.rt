@@ -127,12 +127,12 @@ fn parse_number_put(width: Width, order: Endian, word: &[u8]) -> Option<Put<'sta
     match width {
         Width::U8 => Some(Put::U8(u8::try_from(parse_number(word)?).ok()?, order)),
         Width::I8 => Some(Put::I8(i8::try_from(parse_signed(word)?).ok()?, order)),
-        Width::U16 => Some(Put::U16(u16::try_from(parse_number(word)?).ok()?, order)),
+        Width::U16 => Some(Put::U16(parse_u16(word)?, order)),
         Width::I16 => Some(Put::I16(i16::try_from(parse_signed(word)?).ok()?, order)),
         Width::U32 => Some(Put::U32(u32::try_from(parse_number(word)?).ok()?, order)),
         Width::I32 => Some(Put::I32(i32::try_from(parse_signed(word)?).ok()?, order)),
-        Width::U64 => Some(Put::U64(u64::try_from(parse_number(word)?).ok()?, order)),
-        Width::I64 => Some(Put::I64(i64::try_from(parse_signed(word)?).ok()?, order)),
+        Width::U64 => Some(Put::U64(parse_u64(word)?, order)),
+        Width::I64 => Some(Put::I64(parse_i64(word)?, order)),
         Width::U128 => Some(Put::U128(parse_number(word)?, order)),
         Width::I128 => Some(Put::I128(parse_signed(word)?, order)),
     }

@@ -14,9 +14,9 @@ pub returns-in_err-parse_signed-in-I32 : goal.returns-in_err-parse_signed-in-I32
 returns-in_err-parse_signed-in-I32 c =
     rw (c.from_residual-in_err-parse_signed-in-I32.ensures, c.in-I32.is) (λ put s. c.in_err-parse_signed-in-I32.ensures s.0 (widen (2 ^ 31) _ _ _ (omega arith) s.1))
 
-pub returns-in_err-parse_signed-in-I64 : goal.returns-in_err-parse_signed-in-I64
-returns-in_err-parse_signed-in-I64 c =
-    rw (c.from_residual-in_err-parse_signed-in-I64.ensures, c.in-I64.is) (λ put s. c.in_err-parse_signed-in-I64.ensures s.0 (widen (2 ^ 63) _ _ _ (omega arith) s.1))
+pub returns-in_err-parse_i64-in-I64 : goal.returns-in_err-parse_i64-in-I64
+returns-in_err-parse_i64-in-I64 c =
+    rw (c.from_residual-in_err-parse_i64-in-I64.ensures, c.in-I64.is) (λ put s. c.in_err-parse_i64-in-I64.ensures s.0 s.1)
 
 pub returns-in_err-parse_signed-in-I128 : goal.returns-in_err-parse_signed-in-I128
 returns-in_err-parse_signed-in-I128 c =
