@@ -4,26 +4,21 @@
 #
 #     scripts/calling.sh
 #
-# Above each block of Rust or of antt is a line that begins with the file's name, such as "From `src/examples/chunk.rt`"
-# or "From `clients/object_files/src/sections.rt.txt`". The parts of the block, separated by empty lines, are in that
-# file in the same order; in a file of src/ with `crate::` in place of `scroll::`. In README.md only the blocks below such a
-# line are compared, such as "From `crates/scroll/src/pread.rt`", and lines may be broken in another way; its first example
-# is run by scripts/depending.sh. The last line is `N passed, M failed`, which counts blocks. The exit status is 0 if M is 0
-# and N is not.
+# Above each block of Rust or of antt is a line that begins with the file's name, such as
+# "From `clients/examples/src/chunk.rt.txt`". The parts of the block, separated by empty lines, are in that file in the same
+# order. In README.md only the blocks below such a line are compared, such as "From `crates/scroll/src/pread.rt`", and lines
+# may be broken in another way; its first example is run by scripts/depending.sh. The last line is `N passed, M failed`,
+# which counts blocks. The exit status is 0 if M is 0 and N is not.
 set -u
 
 top=$(CDPATH='' cd -- "$(dirname -- "$0")/.." && pwd) || exit 1
 cd "$top/crates/scroll" || exit 1
 
 awk '
-function load(name,    line, is_client) {
-    is_client = name ~ /^clients\//
-    if (name ~ /^(clients|crates)\//) name = "../../" name
+function load(name,    line) {
+    name = "../../" name
     text = "\n"
-    while ((getline line < name) > 0) {
-        if (!is_client) sub(/^use crate::/, "use scroll::", line)
-        text = text line "\n"
-    }
+    while ((getline line < name) > 0) text = text line "\n"
     close(name)
     if (is_readme) text = "\n" on_one_line(text)
 }
@@ -53,7 +48,7 @@ FNR == 1 {
     is_readme = document == "README.md"
     file = ""
 }
-!code && /^From `(src|proofs|clients|crates)\// {
+!code && /^From `(clients|crates)\// {
     split($0, words, "`")
     file = words[2]
 }

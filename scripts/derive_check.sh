@@ -32,7 +32,7 @@ while read -r line; do
     sh scripts/derive.sh --check $line
     count $?
 done <<'END'
-crates/scroll/src/examples/format.rt Format
+clients/examples/src/format.rt.txt Format
 clients/derived/src/shapes.rt.txt Data
 clients/derived/src/shapes.rt.txt Data2
 clients/derived/src/shapes.rt.txt Data3

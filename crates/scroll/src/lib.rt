@@ -26,8 +26,6 @@ pub mod cstr;
 pub mod ctx;
 mod endian;
 mod error;
-#[cfg(test)]
-mod examples;
 mod greater;
 pub mod laws;
 mod leb128;
