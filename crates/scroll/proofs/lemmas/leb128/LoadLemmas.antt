@@ -38,11 +38,14 @@ block_reads_signed s b z n eight front whole fits e =
     let value = sign_of_groups s (unsigned_of b) (count_of b) z g.complete.0 g.value g.size form in
     record { complete = g.complete; fits = rw value at fits; value = value; size = e.size ∙ g.size }
 
--- a block that ends no encoding
-pub block_open : (s b : List ℕ) → 8 ≤ length s → b ≡ take 8 s → 8 ≤ end_of b → (8 ≤ end_of s) × (groups_value b 8 ≡ groups_value s 8)
-block_open s b eight front open_to =
-    let same : (k : ℕ) → k < 8 → get_or b k 0 ≡ get_or s k 0 = λ k h. ap (λ l. get_or l k 0) front ∙ get_or-take 8 s k 0 h in
-    (late_end s 8 eight (λ k h. rw (← same k h) (open_before b k (omega (arith, h, open_to)))), groups_same b s 8 same)
+-- a block that ends no encoding, and its source after the load
+pub block_open : (old new : Loading) (b : List ℕ) → new ≡ record old { made = old.made + 1 } → (8 ≤ length old.bytes) × (b ≡ take 8 old.bytes) → 8 ≤ end_of b
+    → ((8 ≤ length new.bytes) × (8 ≤ end_of new.bytes)) × (groups_value b 8 ≡ groups_value new.bytes 8)
+block_open old new b counted first open_to =
+    let s = old.bytes in
+    let same : (k : ℕ) → k < 8 → get_or b k 0 ≡ get_or s k 0 = λ k h. ap (λ l. get_or l k 0) first.1 ∙ get_or-take 8 s k 0 h in
+    let late : 8 ≤ end_of s = late_end s 8 first.0 (λ k h. rw (← same k h) (open_before b k (omega (arith, h, open_to)))) in
+    rw counted ((first.0, late), groups_same b s 8 same)
 
 -- a load of a block, and at most two more
 pub block_loads : (old new later : Loading) → new ≡ record old { made = old.made + 1 } → 8 ≤ length old.bytes → Loaded new later 2 → Loaded old later (most_loads old.bytes)

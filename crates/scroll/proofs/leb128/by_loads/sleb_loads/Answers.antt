@@ -60,14 +60,11 @@ returns-in-Some-2-clause-refused c =
     )
 
 pub nine_groups-requires-clause-eight : goal.nine_groups-requires-clause-eight
-nine_groups-requires-clause-eight c =
-    let first = c.in-Some.ensures.first in
-    rw c.word.ensures.counted (first.0, (block_open c.args.src.now.bytes c.in-Some.block first.0 first.1 c.in_default-sleb_block.ensures.none).0)
+nine_groups-requires-clause-eight c = (block_open c.args.src.now _ _ c.word.ensures.counted c.in-Some.ensures.first c.in_default-sleb_block.ensures.none).0
 
 pub nine_groups-requires-clause-low : goal.nine_groups-requires-clause-low
 nine_groups-requires-clause-low c =
-    let first = c.in-Some.ensures.first in
-    rw c.word.ensures.counted (c.block_groups.ensures ∙ (block_open c.args.src.now.bytes c.in-Some.block first.0 first.1 c.in_default-sleb_block.ensures.none).1)
+    c.block_groups.ensures ∙ (block_open c.args.src.now _ _ c.word.ensures.counted c.in-Some.ensures.first c.in_default-sleb_block.ensures.none).1
 
 pub returns-in_err-groups-2-clause-loads : goal.returns-in_err-groups-2-clause-loads
 returns-in_err-groups-2-clause-loads c = block_loads c.args.src.now _ _ c.word.ensures.counted c.in-Some.ensures.first.0 c.in_err-groups-2.ensures.loads
