@@ -7,14 +7,18 @@
 # Above each block of Rust or of antt is a line that begins with the file's name, such as
 # "From `clients/examples/src/chunk.rt.txt`". The parts of the block, separated by empty lines, are in that file in the same
 # order. In README.md only the blocks below such a line are compared, such as "From `crates/scroll/src/pread.rt`", and lines
-# may be broken in another way; its first example is run by scripts/depending.sh. The last line is `N passed, M failed`,
-# which counts blocks. The exit status is 0 if M is 0 and N is not.
+# may be broken in another way; its first example is run by scripts/depending.sh. The checks of the tests, which callers copy
+# from the client `examples`, are those of the library too. The last line is `N passed, M failed`, which counts blocks, and
+# the checks as one. The exit status is 0 if M is 0 and N is not.
 set -u
 
 top=$(CDPATH='' cd -- "$(dirname -- "$0")/.." && pwd) || exit 1
 cd "$top/crates/scroll" || exit 1
 
-awk '
+is_copy=1
+sed 's/^use crate::/use scroll::/' src/tests/results.rt | diff - ../../clients/examples/src/results.rt.txt || is_copy=0
+
+awk -v is_copy="$is_copy" '
 function load(name,    line) {
     name = "../../" name
     text = "\n"
@@ -80,7 +84,9 @@ code && $0 == "" {
 code { part = part $0 "\n" }
 END {
     print "calling: " blocks + 0 " blocks of CALLING.md and README.md were compared"
-    print blocks - bad " passed, " bad + 0 " failed"
+    if (!is_copy) print "calling: clients/examples/src/results.rt.txt is no copy of src/tests/results.rt"
+    bad += !is_copy
+    print blocks + 1 - bad " passed, " bad + 0 " failed"
     exit (bad > 0 || blocks == 0)
 }
 ' CALLING.md ../../README.md

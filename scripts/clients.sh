@@ -8,10 +8,10 @@
 # its build is copied, so it isn't proved again for the clients. As many clients are tried in parallel as there are
 # workers (scripts/workers.py), and they share the jobs.
 #
-# A client passes if it has the layout of `rt fmt`, names no proofs of the library except its lemmas for callers, and
-# `rt test`, which proves its code and its tests and runs these, succeeds, with at least one test. It is printed with its
-# counts: functions (those of its tests too), tests, lines that aren't empty, and seconds. The last line is
-# `N passed, M failed`. The exit status is 0 if M is 0 and N is not.
+# A client passes if it has the layout of `rt fmt` and names no proofs of the library except its lemmas for callers; if
+# `rt test`, which proves its code and its tests and runs these, succeeds, with at least one test; and if scripts/faults.sh
+# passes these tests where memory is refused. It is printed with its counts: functions (those of its tests too), tests,
+# lines that aren't empty, and seconds. The last line is `N passed, M failed`. The exit status is 0 if M is 0 and N is not.
 set -u
 
 top=$(CDPATH='' cd -- "$(dirname -- "$0")/.." && pwd) || exit 1
@@ -94,6 +94,10 @@ try_client() {
     tests=$(count_of tests)
     if [ "${tests:-0}" -eq 0 ] || ! grep -q "^test result: ok\. $tests passed; 0 failed; 0 ignored" "$said"; then
         fail 'not every test ran'
+        return
+    fi
+    if ! sh "$top/scripts/faults.sh" "$crate/out/${name}_tests" >"$said" 2>&1; then
+        fail 'a test fails where memory is refused'
         return
     fi
     code=$(count_lines "$crate/src" ! -name 'tests.rt' ! -path '*/tests/*')

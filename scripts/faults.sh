@@ -3,9 +3,11 @@
 # of a library with failing allocations. scripts/faults.c replaces malloc, realloc, read and write of the C library.
 #
 #     sh scripts/faults.sh
+#     sh scripts/faults.sh TESTS
 #
 # The program is crates/scroll_run/out/scroll_run, and the tests are crates/NAME/out/NAME_tests, as rt ci leaves them,
-# or rt run and rt test.
+# or rt run and rt test. With TESTS, such a program of tests, only its tests are tried: so does scripts/clients.sh for
+# each client.
 #
 # | one allocation fails, or all from one on       | status 3 and the one line `out of memory` |
 # | a read fails; input is a folder, or closed     | status 4, and nothing is printed |
@@ -13,12 +15,12 @@
 # | reads and writes move one byte                 | as usual |
 # | the first reads and writes are interrupted     | as usual |
 # | each read, or each write, is interrupted       | status 4, and nothing is printed |
-# | an allocation of a test fails                  | the test passes, or ends with the error of an allocation failure |
+# | an allocation of a test fails                  | the test passes, or says that it got this error |
 #
 # The first allocation fails, then the second, and so on until a run allocates no more; likewise for reads and writes. A
 # session, or a test, passes if all its runs are as in this table. Without a C compiler only the folder and the closed
 # and full streams are tried, and the rest is one skipped check. The last line is `N passed, M failed`, with
-# `, 1 skipped` after it in that case. The exit status is 0 if M is 0 and N is not.
+# `, 1 skipped` after it in that case. The exit status is 0 if M is 0, and N is not or tests were skipped.
 set -u
 
 top=$(CDPATH='' cd -- "$(dirname -- "$0")/.." && pwd) || exit 1
@@ -124,44 +126,38 @@ want_met() {
     is_met || complain "$1" "no call went wrong: the program doesn't make it by the C library"
 }
 
-try_memory() {
-    try FAULT_MEMORY=1
-    want_met 'the first call for memory is refused'
+# Lets each call fail in turn, by the variable $1, until a run makes no more of them. $2 names the call, $3 says what to
+# expect where it fails, `want` or `want_front`, and the words after it are what that takes.
+try_each() {
+    variable=$1
+    call=$2
+    wanted=$3
+    shift 3
     number=1
+    try "$variable=1"
+    want_met "the first $call fails"
     while is_met && [ -n "$is_well" ]; do
-        want "call $number for memory is refused" 3 "$room/no_memory"
+        "$wanted" "$call $number fails" "$@"
         number=$((number + 1))
-        try "FAULT_MEMORY=$number"
+        try "$variable=$number"
     done
-    want_as_ever 'no call for memory is refused'
+    want_as_ever "no $call fails"
+}
+
+try_memory() {
+    try_each FAULT_MEMORY allocation want 3 "$room/no_memory"
     number=1
     while [ "$number" -le "$first_calls" ]; do
         try "FAULT_GONE=$number"
         is_met || break
-        want "each call for memory from call $number on is refused" 3 "$room/no_memory"
+        want "each allocation from number $number on fails" 3 "$room/no_memory"
         number=$((number + 1))
     done
 }
 
 try_streams() {
-    try FAULT_READ=1
-    want_met 'the first read fails'
-    number=1
-    while is_met && [ -n "$is_well" ]; do
-        want "read $number fails" 4 "$room/nothing"
-        number=$((number + 1))
-        try "FAULT_READ=$number"
-    done
-    want_as_ever 'no read fails'
-    try FAULT_WRITE=1
-    want_met 'the first write fails'
-    number=1
-    while is_met && [ -n "$is_well" ]; do
-        want_front "write $number fails"
-        number=$((number + 1))
-        try "FAULT_WRITE=$number"
-    done
-    want_as_ever 'no write fails'
+    try_each FAULT_READ read want 4 "$room/nothing"
+    try_each FAULT_WRITE write want_front
 }
 
 try_pieces() {
@@ -214,13 +210,14 @@ try_session() {
     try_interruptions
 }
 
-# Runs one test of a crate, with each allocation failing in turn. A test that doesn't allocate passes unchanged.
+# Runs one test of a crate, with each allocation failing in turn. A test that doesn't allocate passes unchanged. One that
+# fails says at the end of a line which error it got: `Error: NoMemory`, or `expected BadChildren(2), got NoMemory`.
 try_test() {
     number=1
     while [ -n "$is_well" ]; do
         run_with "FAULT_MEMORY=$number" "$tests" "$name" >"$work/out" 2>&1 </dev/null
-        if [ "$status" -ne 0 ] && ! { is_met && grep -Eqx '[Ee]rror: (AllocError|NoMemory|Kind\(OutOfMemory\))' "$work/out"; }; then
-            complain "call $number for memory is refused" "the test ends with status $status"
+        if [ "$status" -ne 0 ] && ! { is_met && grep -Eq '(^|[ (])(AllocError|NoMemory|OutOfMemory)\)*$' "$work/out"; }; then
+            complain "allocation $number fails" "the test ends with status $status"
         fi
         is_met || break
         number=$((number + 1))
@@ -232,15 +229,13 @@ run_worker() {
     work=$files/$1.work
     mkdir "$work"
     failed=0
-    while read -r kind name; do
+    while read -r name tests; do
         is_well=yes
-        case $kind in
-            session) try_session ;;
-            *)
-                tests=$top/crates/$kind/out/${kind}_tests
-                try_test
-                ;;
-        esac
+        if [ -z "$tests" ]; then
+            try_session
+        else
+            try_test
+        fi
         if [ -n "$is_well" ]; then
             passed=$((passed + 1))
         else
@@ -250,39 +245,47 @@ run_worker() {
     echo "$passed $failed $runs" >"$room/$1.counts"
 }
 
-list_libraries() {
+# Prints the program of the tests of each library that has tests.
+list_programs() {
     for crate in "$top"/crates/*; do
-        [ ! -f "$crate/src/lib.rt" ] || basename "$crate"
+        name=$(basename "$crate")
+        [ ! -f "$crate/src/lib.rt" ] || ! grep -rqF '#[test]' "$crate/src" || echo "$crate/out/${name}_tests"
     done
 }
 
-# Prints one line for each session, the longest first, and for each test: `session` or the name of the crate, and the
-# name.
-list_all() {
+# Prints the name of each session, the longest first.
+list_sessions() {
     # shellcheck disable=SC2012 # the names are words
-    (cd "$sessions" && ls -S -- */*.in) | sed -n 's/^\(.*\)\.in$/session \1/p'
-    [ -n "$library" ] || return
-    for kind in $(list_libraries); do
-        tests=$top/crates/$kind/out/${kind}_tests
-        [ -x "$tests" ] && "$tests" --list | sed -n "s|^\(.*\): test\$|$kind \1|p"
-    done
+    (cd "$sessions" && ls -S -- */*.in) | sed 's/\.in$//'
 }
 
-[ -x "$program" ] || stop "there is no program $program: rt run in crates/scroll_run proves and builds it"
+# Prints one line for each test of a program: the name of the test, and the program.
+list_tests() {
+    "$1" --list | sed -n "s|^\(.*\): test\$|\1 $1|p"
+}
+
 compile_library || stop "scripts/faults.c does not compile"
 if [ -z "$library" ]; then
     skipped=1
     echo "faults: left out, since there is no C compiler (cc, gcc or clang): refused memory, and reads and writes that fail"
+    [ $# -eq 0 ] || { echo '0 passed, 0 failed, 1 skipped'; exit 0; }
 fi
-for name in $(list_libraries); do
-    crate=$top/crates/$name
-    if [ -n "$library" ] && [ ! -x "$crate/out/${name}_tests" ] && grep -rqF '#[test]' "$crate/src"; then
-        failed=$((failed + 1))
-        echo "FAILED $name: there is no program of its tests: rt test proves and builds it"
-    fi
+if [ $# -eq 0 ]; then
+    [ -x "$program" ] || stop "there is no program $program: rt run in crates/scroll_run proves and builds it"
+    list_sessions >"$room/all"
+    # shellcheck disable=SC2046 # no path of a crate has a space
+    set -- $(list_programs)
+else
+    : >"$room/all"
+fi
+for tests in "$@"; do
+    [ -n "$library" ] || break
+    [ -x "$tests" ] || stop "there is no program $tests: rt test proves and builds it"
+    list_tests "$tests" >>"$room/all"
 done
+[ -s "$room/all" ] || stop 'there is nothing to try'
 
-list_all | awk -v workers="$(count_workers)" -v room="$room" '{ print >(room "/worker" (NR % workers) ".list") }'
+awk -v workers="$(count_workers)" -v room="$room" '{ print >(room "/worker" (NR % workers) ".list") }' "$room/all"
 for list in "$room"/worker*.list; do
     [ -f "$list" ] || continue
     worker=${list%.list}
@@ -300,8 +303,8 @@ while read -r its_passed its_failed its_runs; do
 done <<END
 $(cat "$room"/worker*.counts)
 END
-sessions_tried=$(cat "$room"/worker*.list | grep -c '^session ')
-tests_tried=$(cat "$room"/worker*.list | grep -vc '^session ')
+sessions_tried=$(grep -vc ' ' "$room/all")
+tests_tried=$(grep -c ' ' "$room/all")
 lost=$((sessions_tried + tests_tried - tried))
 if [ "$lost" -ne 0 ]; then
     failed=$((failed + 1))

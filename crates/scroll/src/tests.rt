@@ -11,6 +11,7 @@ mod leb128;
 mod leb128_writes;
 mod numbers;
 mod printed;
+pub mod reads;
 mod required;
 pub mod results;
 mod run_kinds;

@@ -3,8 +3,9 @@
 // of the two calls must succeed.
 use crate::cstr::{CStr, CString};
 use crate::ctx::{TryFromCtx, TryIntoCtx};
+use crate::tests::reads::check_read;
 use crate::tests::results::{
-    check_bad_input, check_bad_offset, check_eq, check_read, check_too_big, check_value,
+    check_bad_input, check_bad_offset, check_eq, check_too_big, check_value,
 };
 use crate::{Error, Pread, Pwrite, Result};
 use std::alloc::Global;

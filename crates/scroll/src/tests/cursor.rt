@@ -1,7 +1,6 @@
 // The cursor, the default contexts and bulk reads.
-use crate::tests::results::{
-    check_bad_offset, check_eq, check_gread, check_gread_gwrite, check_too_big, check_value,
-};
+use crate::tests::reads::{check_gread_gwrite, check_read};
+use crate::tests::results::{check_bad_offset, check_eq, check_too_big, check_value};
 use crate::{BE, LE, Pread, Pwrite, Result};
 
 #[test]
@@ -30,10 +29,10 @@ const BYTES: [u8; 8] = [0x0f, 0x0e, 0x0e, 0x0b, 0x0d, 0x0a, 0x0e, 0x0d];
 
 #[test]
 fn simple_gread(rt: HostRuntime) {
-    check_gread(&rt, &BYTES, (0, LE), 3599u16, 2);
-    check_gread(&rt, &BYTES, (0, LE), 185470479u32, 4);
-    check_gread(&rt, &BYTES, (0, LE), 940700423303335439u64, 8);
-    check_gread(&rt, &BYTES, (0, LE), 940700423303335439i64, 8);
+    check_read(&rt, &BYTES, 0, LE, 3599u16, 2);
+    check_read(&rt, &BYTES, 0, LE, 185470479u32, 4);
+    check_read(&rt, &BYTES, 0, LE, 940700423303335439u64, 8);
+    check_read(&rt, &BYTES, 0, LE, 940700423303335439i64, 8);
 }
 
 #[test]
@@ -55,7 +54,7 @@ fn gread_with_byte(rt: HostRuntime) {
     let end: Result<u8> = bytes[..].gread(&mut offset);
     check_too_big(&rt, end, 1, 0);
     check_eq(&rt, offset, 1);
-    check_gread(&rt, &[0xde, 0xad], (0, BE), 57005u16, 2);
+    check_read(&rt, &[0xde, 0xad], 0, BE, 57005u16, 2);
 }
 
 #[test]

@@ -3,10 +3,8 @@
 ghost use Rattle.std.specs.Prelude.{◌≤◌};
 
 use crate::ctx::{FromCtx, IntoCtx, SizeWith, TryFromCtx, TryIntoCtx};
-use crate::tests::results::{
-    check_bad_offset, check_eq, check_gread, check_gread_gwrite, check_too_big, check_value,
-    expect_value,
-};
+use crate::tests::reads::{check_gread_gwrite, check_read};
+use crate::tests::results::{check_bad_offset, check_eq, check_too_big, check_value, expect_value};
 use crate::tests::streams::check_kind;
 use crate::{BE, Cread, Cwrite, Endian, Error, IOread, IOwrite, LE, Pread, Pwrite, Result};
 use std::fmt::Debug;
@@ -19,8 +17,8 @@ use std::process::Abort;
 fn gread_and_gwrite(rt: HostRuntime) {
     let rt = &rt;
     let bytes: &[u8] = &[0, 0, 0, 0, 0, 0, 224, 63];
-    check_gread(rt, bytes, (0, LE), 0f32, 4);
-    check_gread(rt, bytes, (0, LE), 0.5f64, 8);
+    check_read(rt, bytes, 0, LE, 0f32, 4);
+    check_read(rt, bytes, 0, LE, 0.5f64, 8);
     for value in &[0.25f64, 0.5, 0.064] {
         check_gread_gwrite(rt, &mut [0; 16], *value, 8);
     }

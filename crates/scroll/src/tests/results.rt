@@ -1,7 +1,6 @@
 // What a test expects of a call's result. A `match` in each test would have a step in the proof for each part of the result
 // and each drop; a call of these is one step, and is proved in a quarter of the time.
-use crate::ctx::{TryFromCtx, TryIntoCtx};
-use crate::{BE, Endian, Error, LE, Pread, Pwrite, Result};
+use crate::{Error, Result};
 use std::fmt::Debug;
 use std::process::Abort;
 use std::result;
@@ -64,58 +63,15 @@ pub fn check_bad_input<T: Drop>(
     check_error(rt, outcome, (wanted_msg, wanted_size, 0));
 }
 
-// Checks that a value is the expected one, as `assert_eq!` does.
-pub fn check_eq<T: PartialEq + Debug + Drop>(rt: &impl Abort, value: T, wanted: T) {
-    assert!(rt; value == wanted, "expected {wanted:?}, got {value:?}");
-}
-
-// Checks that a read at the cursor `offset` returns this number, and where the cursor is then.
-pub fn check_gread<'a, N: TryFromCtx<'a, Endian, Error = Error> + PartialEq + Debug + Drop>(
-    rt: &impl Abort,
-    source: &'a [u8],
-    (mut offset, order): (usize, Endian),
-    wanted: N,
-    end: usize,
-) {
-    check_value(rt, source.gread_with(&mut offset, order), wanted);
-    check_eq(rt, offset, end);
-}
-
-// Writes a number in one order and, after it, in the other, and reads both back.
-pub fn check_gread_gwrite<'a, N>(rt: &impl Abort, bytes: &'a mut [u8; 16], value: N, size: u8)
-where
-    N: Copy
-        + PartialEq
-        + Debug
-        + TryIntoCtx<Endian, Error = Error>
-        + TryFromCtx<'a, Endian, Error = Error>,
-{
-    let size = usize::from(size);
-    let mut target = &mut bytes[..];
-    let mut offset = 0;
-    check_value(rt, target.gwrite_with(value, &mut offset, LE), size);
-    check_value(rt, target.gwrite_with(value, &mut offset, BE), size);
-    check_eq(rt, offset, 2 * size);
-    check_gread(rt, bytes, (0, LE), value, size);
-    check_gread(rt, bytes, (size, BE), value, 2 * size);
-}
-
-// Checks that this value is read at an offset, and at a cursor, which then is `to`.
-pub fn check_read<
-    'a,
-    Ctx: Copy,
-    T: TryFromCtx<'a, Ctx, Error = Error> + Copy + PartialEq + Debug + Drop,
->(rt: &impl Abort, bytes: &'a [u8], from: usize, ctx: Ctx, wanted: T, to: usize) {
-    check_value(rt, bytes.pread_with::<T>(from, ctx), wanted);
-    let mut offset = from;
-    check_value(rt, bytes.gread_with::<T>(&mut offset, ctx), wanted);
-    check_eq(rt, offset, to);
-}
-
 // Returns the value of a call that succeeded.
 pub fn expect_value<T, E: Debug + Drop>(rt: &impl Abort, outcome: result::Result<T, E>) -> T {
     match outcome {
         Ok(value) => value,
         Err(error) => panic!(rt; "expected a value, got {error:?}"),
     }
+}
+
+// Checks that a value is the expected one, as `assert_eq!` does.
+pub fn check_eq<T: PartialEq + Debug + Drop>(rt: &impl Abort, value: T, wanted: T) {
+    assert!(rt; value == wanted, "expected {wanted:?}, got {value:?}");
 }

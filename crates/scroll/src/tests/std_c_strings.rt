@@ -2,7 +2,8 @@
 use crate::cstr::{CStr, CString};
 use crate::ctx::TryIntoCtx;
 use crate::tests::c_strings::{NO_ZERO, borrow, read_copy};
-use crate::tests::results::{check_bad_input, check_eq, check_read, check_too_big, check_value};
+use crate::tests::reads::check_read;
+use crate::tests::results::{check_bad_input, check_eq, check_too_big, check_value};
 use crate::{Pread, Pwrite};
 use std::ffi;
 

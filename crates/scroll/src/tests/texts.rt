@@ -1,7 +1,8 @@
 // Strings, byte slices and measures: the calls for them, and which bytes are strings.
 use crate::ctx::{MeasureWith, NULL, RET, SPACE, StrCtx, TAB};
+use crate::tests::reads::check_read;
 use crate::tests::results::{
-    check_bad_input, check_bad_offset, check_eq, check_read, check_too_big, check_value,
+    check_bad_input, check_bad_offset, check_eq, check_too_big, check_value,
 };
 use crate::{BE, LE, Pread, Pwrite, Result};
 use std::process::Abort;
