@@ -38,21 +38,13 @@ need rt "the library and the loops over it are proved and built by the Rattle ki
 need cc "the files that the set files reads are made by a C compiler"
 need python3 "the table and the charts are made by a script in Python"
 
-# The sets include floats as soon as the library has them.
-has_floats() {
-    grep -rqw f32 "$top/crates/scroll/src/ctx"
-}
-
 if [ $# -gt 0 ]; then
     sets=$*
     for set in $sets; do
         [ -f "$here/sets/$set.rt.txt" ] || fail "$set: no such set; there are: $all"
     done
 else
-    sets=
-    for set in $all; do
-        [ "$set" = floats ] && ! has_floats || sets="${sets:+$sets }$set"
-    done
+    sets=$all
 fi
 
 if [ -n "${ROOM:-}" ]; then

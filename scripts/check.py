@@ -31,6 +31,7 @@ Each step is named at the end with its counts, its time and the processor time t
 without its counts, or that fails without counting a failure, is one failure more. The exit status is 0 where M is 0.
 """
 
+import contextlib
 import os
 import re
 import shutil
@@ -122,6 +123,7 @@ class Gate:
             cwd=tree,
             env=variables,
             text=True,
+            errors="replace",
             stdin=subprocess.DEVNULL,
             stdout=subprocess.PIPE,
             stderr=subprocess.STDOUT,
@@ -161,7 +163,9 @@ class Gate:
     def stop(self) -> None:
         """Ends what still runs, and waits for it."""
         for process in self.running.values():
-            os.killpg(process.pid, signal.SIGTERM)
+            # (one that has ended may still be in the list)
+            with contextlib.suppress(ProcessLookupError):
+                os.killpg(process.pid, signal.SIGTERM)
         while self.running:
             del self.running[self.ended.get().command]
 

@@ -4,8 +4,8 @@
     python3 scripts/cited.py
 
 A name is a word between backticks, or words joined by `::`, such as `Pread::gread_with`; in the tables of LAWS.md and
-PROVED.md it may also be a lemma, such as `ReadsAll-push`. Each of its words must be in the code of a crate or a client,
-outside of comments, or be the name of an edit, a session, a script or a document, or one of the words below, of Rust or
+PROVED.md it may also be a lemma, such as `ReadsAll-push`. Each of its words must be in a file of code or in a session,
+outside of the comments of Rattle code, or be the name of an edit, a session, a script or a document, or one of the words below, of Rust or
 of a tool. CHANGELOG.md may name what no longer exists. A link to a file of the repository must lead to one, and its part
 after `#` to a heading there. The last line is `N passed, M failed`, which counts documents. The exit status is 0 if M is
 0 and N is not.

@@ -116,7 +116,6 @@ step 'copy the library' copy_library
 step 'write crates.txt' list_crates
 step 'write the first example' write_example
 [ "${FROM_NOTHING:-}" = 1 ] || step 'build the library' build_library
-git -C "$room/own" init -q
 step 'check' in_first check
 step 'prove and run the first example' example_ran
 echo "$passed passed, $failed failed"

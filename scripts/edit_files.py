@@ -2,11 +2,11 @@
 
 The folders `must-fail/` and `bugs/` of a crate hold a file BUG.edit for each bug:
 
-    file: src/pwrite.rt
-    old: if offset > self.len() {
-    new: if offset >= self.len() {
+    file: src/slice.rt
+    old:     if offset > dst.len() {
+    new:     if offset >= dst.len() {
     bug: a write at the end of the slice is past the end
-    breaks: `Pwrite::pwrite_with`, `wrote`
+    breaks: `slice::pwrite_with`, `refused`
 
 `rt` reads the first three words, and ignores the last two. The text after `old:` occurs exactly once in its file. More
 pairs of `old:` and `new:` may follow, and another `file:` before them.

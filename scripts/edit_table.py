@@ -17,9 +17,9 @@ TOP = Path(__file__).resolve().parents[1]
 
 HEAD = """# Edits that the prover must refuse
 
-Each edit is one bug in the code, named as the bug. The prover must refuse it for what the named function promises, whatever
-the tests say. The edits in bold stand in this folder, and `rt ci` and `rt must-fail` try them one after the other; the others
-stand in `../bugs/`. `scripts/edits.py` tries all of them, many in one check.
+Each edit is one bug in the code, named after the bug. The prover must refuse it for what the named function promises, whatever
+the tests say. The edits in bold are in this folder, and `rt ci` and `rt must-fail` try them one after the other; the others
+are in `../bugs/`. `scripts/edits.py` tries all of them, many in one check.
 
 `python3 scripts/edit_table.py write` makes this page from the lines `bug:` and `breaks:` of the edits.
 """

@@ -9,7 +9,8 @@
        FAULT_WRITES=N   the first N writes of standard output are interrupted
        FAULT_PIECES=1   a read and a write move at most one byte
 
-   N counts from 1. At the first call that fails a byte is written to descriptor 3, if that is open. */
+   N counts from 1. To descriptor 3, if that is open, a `.` is written as the program starts, and a `!` at the first call
+   that fails. */
 #define _GNU_SOURCE
 #include <errno.h>
 #include <stdlib.h>
@@ -39,6 +40,7 @@ __attribute__((constructor)) static void read_environment(void) {
     refused = number_of("FAULT_MEMORY");
     gone = number_of("FAULT_GONE");
     requests = 0;
+    syscall(SYS_write, 3, ".", 1);
 }
 
 /* Sets the error of a call that fails, and reports the first one. */

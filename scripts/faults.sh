@@ -6,8 +6,8 @@
 #     sh scripts/faults.sh TESTS
 #
 # The program is crates/scroll_run/out/scroll_run, and the tests are crates/NAME/out/NAME_tests, as rt ci leaves them,
-# or rt run and rt test. With TESTS, such a program of tests, only its tests are tried: so does scripts/clients.sh for
-# each client.
+# or rt run and rt test leave them. With TESTS, the path of such a program of tests, only its tests are tried, as
+# scripts/clients.sh does for each client.
 #
 # | one allocation fails, or all from one on       | status 3 and the one line `out of memory` |
 # | a read fails; input is a folder, or closed     | status 4, and nothing is printed |
@@ -35,7 +35,8 @@ first_calls=8
 room=$(mktemp -d) || exit 1
 # (thousands of runs write small files: in memory if there is a folder for that)
 files=$(mktemp -d -p /dev/shm 2>/dev/null) || files=$room
-trap 'rm -rf "$room" "$files"' EXIT
+running=
+trap '[ -z "$running" ] || kill $running 2>/dev/null; wait; rm -rf "$room" "$files"' EXIT
 trap 'exit 1' HUP INT TERM
 echo 'out of memory' >"$room/no_memory"
 : >"$room/nothing"
@@ -74,6 +75,7 @@ run_with() {
     ) 3>"$work/met"
     status=$?
     runs=$((runs + 1))
+    [ -z "$library" ] || [ -s "$work/met" ] || complain "$faults" 'scripts/faults.c was not loaded'
 }
 
 # Runs the session with these faults, in its own folder `work`.
@@ -83,7 +85,8 @@ try() {
 
 # Tests whether a call failed in the last run.
 is_met() {
-    [ -s "$work/met" ]
+    read -r marks <"$work/met"
+    [ "$marks" = '.!' ]
 }
 
 # Says that the last run went wrong, once for each session or test.
@@ -245,14 +248,6 @@ run_worker() {
     echo "$passed $failed $runs" >"$room/$1.counts"
 }
 
-# Prints the program of the tests of each library that has tests.
-list_programs() {
-    for crate in "$top"/crates/*; do
-        name=$(basename "$crate")
-        [ ! -f "$crate/src/lib.rt" ] || ! grep -rqF '#[test]' "$crate/src" || echo "$crate/out/${name}_tests"
-    done
-}
-
 # Prints the name of each session, the longest first.
 list_sessions() {
     # shellcheck disable=SC2012 # the names are words
@@ -273,25 +268,31 @@ fi
 if [ $# -eq 0 ]; then
     [ -x "$program" ] || stop "there is no program $program: rt run in crates/scroll_run proves and builds it"
     list_sessions >"$room/all"
-    # shellcheck disable=SC2046 # no path of a crate has a space
-    set -- $(list_programs)
+    for crate in "$top"/crates/*; do
+        if [ -f "$crate/src/lib.rt" ] && grep -rqF '#[test]' "$crate/src"; then
+            set -- "$@" "$crate/out/${crate##*/}_tests"
+        fi
+    done
 else
     : >"$room/all"
 fi
 for tests in "$@"; do
     [ -n "$library" ] || break
     [ -x "$tests" ] || stop "there is no program $tests: rt test proves and builds it"
-    list_tests "$tests" >>"$room/all"
+    list_tests "$tests" >"$room/tests"
+    [ -s "$room/tests" ] || stop "$tests lists no tests"
+    cat "$room/tests" >>"$room/all"
 done
-[ -s "$room/all" ] || stop 'there is nothing to try'
 
 awk -v workers="$(count_workers)" -v room="$room" '{ print >(room "/worker" (NR % workers) ".list") }' "$room/all"
 for list in "$room"/worker*.list; do
     [ -f "$list" ] || continue
     worker=${list%.list}
     run_worker "${worker##*/}" >"$worker.said" &
+    running="$running $!"
 done
 wait
+running=
 
 cat "$room"/worker*.said
 tried=0

@@ -59,8 +59,7 @@ run_program() {
 }
 
 run_tests() {
-    run_rt test --jobs "$jobs" && grep -q '^logic=proved' "$room/said" &&
-        grep '^test result: ok\.' "$room/said" | grep -q ' 0 failed; 0 ignored'
+    run_rt test --jobs "$jobs" && all_tests_passed "$room/said"
 }
 
 if [ "${2:-}" = tests ]; then
