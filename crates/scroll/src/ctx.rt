@@ -114,7 +114,7 @@ pub trait SizeWith<Ctx> {
     // The size of a value in bytes.
     ghost size: { Ctx → ℕ };
 
-    /// Returns the size of a value in bytes in the context `ctx`.
+    /// Returns the size of a value in bytes in the context `ctx`. The caller ensures that it fits into a `usize`.
     ///
     /// ```rust
     /// assert_eq!(rt; u64::size_with(&LE), 8);

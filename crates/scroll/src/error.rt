@@ -9,11 +9,13 @@ use std::{fmt, io, result};
 /// No error allocates memory except [`Custom`](Error::Custom), whose creator allocates its text.
 #[derive(Debug, Drop)]
 pub enum Error {
-    /// A value of `size` bytes doesn't fit the `len` bytes of the source or of the target.
+    /// A value of `size` bytes doesn't fit the `len` bytes that are left of the source or of the target. For a truncated
+    /// number in LEB128, these are 1 and 0.
     TooBig { size: usize, len: usize },
     /// This offset, in bytes, is past the end.
     BadOffset(usize),
-    /// The bytes are not a valid value; `msg` says why. The type that was read says what `size` counts.
+    /// The bytes are not a valid value; `msg` says why. The type that was read, or
+    /// [`CString::new`](crate::cstr::CString::new), says what `size` counts.
     BadInput { size: usize, msg: &'static str },
     /// A message of a caller's own type.
     Custom(String),

@@ -2,7 +2,7 @@
 //! the Rust crate `scroll` 0.13.0.
 //!
 //! ```rust
-//! use scroll::{BE, LE, Pread, Pwrite};
+//! use scroll::{BE, Pread, Pwrite};
 //!
 //! let mut bytes: [u8; 4] = [0xde, 0xad, 0xbe, 0xef];
 //! let offset = &mut 1;
@@ -18,8 +18,13 @@
 //! [`Pread`] and [`Pwrite`] check that there is room, and return an error where there is none. [`Cread`] and [`Cwrite`]
 //! return no error: the caller ensures that there is room, and the prover checks it. Any type that implements the
 //! traits of [`ctx`] can be read and written: the ten integer types, `f32` and `f64`, strings, byte slices, C strings,
-//! numbers in LEB128, arrays, and your own types. [`runner`] runs lists of such reads and writes, and [`laws`] states
-//! laws of the definitions that the contracts use.
+//! numbers in LEB128, zeros, arrays, and your own types; pairs of numbers can be written. [`runner`] runs lists of such
+//! reads and writes, and [`laws`] states laws of the definitions that the contracts use.
+//!
+//! `CALLING.md`, in the folder of this crate, shows callers and types of your own with their proofs. The examples of the
+//! Rust crate's documentation are in `clients/examples/src` of the repository: `sized_fields` has a context of its own,
+//! `custom_error` and `external_error` implement [`TryFromCtx`](ctx::TryFromCtx) and [`TryIntoCtx`](ctx::TryIntoCtx), `bar`
+//! uses [`Cread`] and [`Cwrite`], and `stream_fields` uses [`IOread`] and [`IOwrite`].
 #![tactic(auto)]
 
 pub mod cstr;

@@ -53,7 +53,8 @@ impl<'a> Loads<'a> {
         self.made
     }
 
-    /// Loads the first eight bytes at once. Returns `None` where there are fewer. Both count as one load.
+    /// Loads the first eight bytes at once. Returns `None` where there are fewer. Both count as one load. The caller ensures
+    /// that fewer than 2^63 loads were made before.
     #[inline]
     pub fn word(&mut self) -> Option<[u8; 8]>
         requires { self.old.made < 2 ^ 63 }
@@ -66,7 +67,8 @@ impl<'a> Loads<'a> {
         self.src.first_chunk::<8>().copied()
     }
 
-    /// Loads the byte at offset `i`. Returns `None` where `i` is out of bounds. Both count as one load.
+    /// Loads the byte at offset `i`. Returns `None` where `i` is out of bounds. Both count as one load. The caller ensures
+    /// that fewer than 2^63 loads were made before.
     #[inline]
     pub fn byte(&mut self, i: usize) -> Option<u8>
         requires { self.old.made < 2 ^ 63 }

@@ -32,8 +32,7 @@ pub trait LocateError<T, E>: Sized {
 
     /// Returns the value, or the error together with `offset`.
     ///
-    /// A read or a write that fails leaves its cursor unchanged, so the cursor is then the offset at which the value
-    /// should start:
+    /// After a failed call with a cursor, the cursor is the offset at which the value that failed should start:
     ///
     /// ```rust
     /// let section: Section = file.gread_with(&mut offset, LE).at(offset)?;

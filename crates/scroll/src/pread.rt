@@ -10,7 +10,8 @@ use crate::source::{ReadFrom, Source};
 ///
 /// Offsets and sizes are in bytes, and an offset counts from the start of the slice. An offset past the end returns
 /// `E::from(Error::BadOffset(offset))`, which for `E = Error` is that error itself; an offset at the end reads an empty
-/// source. Every other error is the type's own.
+/// source. Every other error is the type's own. The elements of a bulk read are `Drop`, since it replaces them. An array or a
+/// vector is read as it is.
 pub trait Pread<'a, Ctx: Copy, E>: Source {
     // Holds of an offset past the end and each error that may be returned for it.
     ghost past_end: { ℕ → E → Type 0 };
@@ -110,8 +111,8 @@ pub trait Pread<'a, Ctx: Copy, E>: Source {
     /// Fills `inout` with values that are read one after another from the cursor `offset` in the context `ctx`, and
     /// advances the cursor past the last one.
     ///
-    /// On an error the elements already read have their new values, the others are unchanged, and the cursor is where
-    /// the value that failed starts. An empty `inout` succeeds at any offset.
+    /// Returns the error of the first value that can't be read. The elements before it then have their new values, the others
+    /// are unchanged, and the cursor is where that value starts. An empty `inout` succeeds at any offset.
     ///
     /// ```rust
     /// let bytes: [u8; 2] = [0x48, 0x49];

@@ -8,7 +8,7 @@ use crate::ctx::TryIntoCtx;
 use crate::error::Error;
 use crate::slice;
 
-/// Writes values of any type that implements [`TryIntoCtx`] to a byte slice.
+/// Writes values of any type that implements [`TryIntoCtx`] and `Drop` to a byte slice.
 ///
 /// Offsets and sizes are in bytes, and an offset counts from the start of the slice. An offset past the end returns
 /// `E::from(Error::BadOffset(offset))`, which for `E = Error` is that error itself, and leaves the slice unchanged; an

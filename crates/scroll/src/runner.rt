@@ -1,7 +1,7 @@
 //! Lists of commands over one buffer and one cursor.
 //!
-//! [`run`] runs the commands in turn, and returns an [`Answer`] for each. Its contract states all results and all that
-//! it leaves, over the history of what was written.
+//! [`run`] runs the commands in turn, and appends an [`Answer`] for each to a vector. Its contract states all results and
+//! all that it leaves, over the history of what was written.
 ghost use Rattle.std.specs.Prelude.{◌≡◌, OnOk, OnErr, IfOk, IfErr};
 ghost use Rattle.scroll.specs.Runs.{IsStep, IsRun, IsFrontRun};
 ghost use Rattle.scroll.specs.declared.error.Error.TheVariants.{NoMemory};
@@ -162,12 +162,13 @@ pub enum Answer {
 /// Runs the commands in turn, each over the buffer as the ones before it left it, and appends an answer for each to
 /// `answers`.
 ///
-/// A command that fails appends its error, and the next one runs. The offset of `Place::At` counts bytes from the start
-/// of the buffer, and a command at such an offset leaves the cursor unchanged.
+/// A command that fails appends its error, and the next one runs. It leaves the cursor unchanged, and the buffer too,
+/// except that the elements of an array before the one that failed remain written. The offset of `Place::At` counts bytes
+/// from the start of the buffer, and a command at such an offset leaves the cursor unchanged.
 ///
-/// The only error is [`Error::NoMemory`]. The answers of some first commands, but not of all, are then appended, and
-/// the buffer and the cursor are as these commands left them: memory for an answer is reserved before its command runs,
-/// and what a read copies is copied before the cursor moves.
+/// The only error is [`Error::NoMemory`]. The answers of the first commands, fewer than all, are then appended, and the
+/// buffer and the cursor are as these commands left them: memory for an answer is reserved before its command runs, and
+/// what a read copies is copied before the cursor moves.
 pub fn run(
     alloc: Global,
     buffer: &mut [u8],

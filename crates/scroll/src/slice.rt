@@ -126,7 +126,9 @@ pub fn gwrite_with<Ctx: Copy, E: From<Error>, N: TryIntoCtx<Ctx, Error = E> + Dr
     Ok(size)
 }
 
-/// Writes `n` at `offset` in the default context. This can't fail: the caller ensures that there is room.
+/// Writes `n` at `offset` in the default context, which for numbers is the machine's byte order. This can't fail: the caller
+/// ensures that `offset` plus the number of bytes that the type needs is at most the length of the slice. The bytes before
+/// the offset, and those after the bytes that the type needs, are unchanged.
 ///
 /// ```rust
 /// let mut bytes = [0u8; 12];
@@ -144,7 +146,9 @@ pub fn cwrite<Ctx: Copy + Default, N: IntoCtx<Ctx>>(dst: &mut [u8], n: N, offset
     cwrite_with(dst, n, offset, Ctx::default())
 }
 
-/// Writes `n` at `offset` in the context `ctx`. This can't fail: the caller ensures that there is room.
+/// Writes `n` at `offset` in the context `ctx`. This can't fail: the caller ensures that `offset` plus the number of bytes
+/// that the type needs is at most the length of the slice. The bytes before the offset, and those after the bytes that the
+/// type needs, are unchanged.
 ///
 /// ```rust
 /// let mut bytes = [0u8; 16];

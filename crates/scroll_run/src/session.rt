@@ -30,7 +30,7 @@ struct Outcome {
 
 /// Runs the session that the reader gives, writes its output, and returns its status.
 ///
-/// An error is one of the reader or of the writer. Nothing was then written, or only some first bytes of the output.
+/// An error is one of the reader or of the writer. None, some or all of the output was then written.
 pub fn session<R: Read, W: Write>(alloc: Global, input: &mut R, output: &mut W) -> io::Result<u8>
     ensures answered { IfOk result (λ status. (text : List ℕ)
         × Appends (W.contents output.old) (W.contents output.new) text

@@ -84,8 +84,8 @@ fn write_next<Ctx: Copy, T: TryIntoCtx<Ctx, Error = Error> + Drop>(
 /// `E::from(Error::BadOffset(offset))`, where the offset counts from the start of the array; every other error is that
 /// of the first element that fails. The contract states the errors of arrays that fit in memory: see [`array_fits`].
 ///
-/// Take an array of borrowed values out of a result by a function that is passed to `map`: the borrow checker's part of
-/// a proof doesn't cover `?` or `match` on such a result today.
+/// To take an array of borrowed values out of a result, pass a function to `map`: the prover can't yet follow `?` or
+/// `match` on such a result.
 ///
 /// ```rust
 /// fn take_apart<'a>(names: [&'a str; 2]) -> (&'a str, &'a str) {
@@ -154,8 +154,8 @@ impl<Ctx: Copy, T: TryIntoCtx<Ctx, Error = Error> + Drop, const N: usize> TryInt
     }
 }
 
-/// Reads the elements one after another, each [`SizeWith`] bytes after the one before it. An array of numbers needs as
-/// many bytes as its elements have together.
+/// Reads the elements, each of which starts an element's size ([`SizeWith`]) after the one before it. `this` must have `N`
+/// times as many bytes as an element needs or has as its size, whichever is more; for numbers that is the size of the array.
 impl<Ctx: Copy, T: FromCtx<Ctx> + SizeWith<Ctx>, const N: usize> FromCtx<Ctx> for [T; N] {
     ghost need = { λ ctx. max (T.size ctx) (T.need ctx) * N };
 
@@ -186,7 +186,8 @@ fn element<Ctx: Copy, T: FromCtx<Ctx> + SizeWith<Ctx>>(
     T::from_ctx(&this[T::size_with(&ctx) * index..], ctx)
 }
 
-/// Writes the elements one after another, each [`SizeWith`] bytes after the one before it.
+/// Writes the elements, each of which starts an element's size ([`SizeWith`]) after the one before it. `dst` must have `N`
+/// times as many bytes as an element needs or has as its size, whichever is more; those after them are unchanged.
 impl<Ctx: Copy, T: IntoCtx<Ctx> + SizeWith<Ctx> + Copy, const N: usize> IntoCtx<Ctx> for [T; N] {
     ghost need = { λ ctx. max (T.size ctx) (T.need ctx) * N };
 

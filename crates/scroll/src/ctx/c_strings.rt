@@ -22,7 +22,7 @@ impl<'a> TryFromCtx<'a, ()> for CStr<'a> {
     ghost reads_bounded = { λ _ source s. ReadsCString-bounded source (c_str_text s) };
 
     /// Reads up to the first zero of `from`, zero-copy; the size in bytes counts the zero. A source without a zero
-    /// returns [`Error::BadInput`] with the size 0.
+    /// returns [`Error::BadInput`] with the size 0 and the message `The input doesn't contain a null byte`.
     #[inline(always)]
     fn try_from_ctx(from: &'a [u8], _ctx: ()) -> Result<(CStr<'a>, usize)> {
         match CStr::from_bytes_until_nul(from) {
@@ -45,8 +45,8 @@ impl<'a, 'm> TryFromCtx<'a, &'m Global> for CString {
     ghost reads_bounded = { λ _ source s. ReadsCString-bounded source (c_string_text s) };
 
     /// Copies the text before the first zero of `from`; the size in bytes counts the zero. A source without a zero
-    /// returns [`Error::BadInput`] with the size 0, before memory is allocated. An allocation failure returns
-    /// [`Error::NoMemory`].
+    /// returns [`Error::BadInput`] with the size 0 and the message `The input doesn't contain a null byte`, before memory
+    /// is allocated. An allocation failure returns [`Error::NoMemory`].
     fn try_from_ctx(from: &'a [u8], ctx: &'m Global) -> Result<(CString, usize)> {
         let (text, size) = CStr::try_from_ctx(from, ())?;
         let text = CString::new(*ctx, text.to_bytes())?;
@@ -65,7 +65,8 @@ impl<'s> TryIntoCtx<()> for CStr<'s> {
 
     ghost writes_keeps = { λ _ s. WritesFront-keeps (c_str_text s ++ 0 ∷ []) };
 
-    /// Writes the text and its zero. A shorter target returns [`Error::TooBig`], and is unchanged.
+    /// Writes the text and its zero. A shorter target returns [`Error::TooBig`] with the length of the text and its zero and
+    /// that of the target, and is unchanged.
     fn try_into_ctx(self, dst: &mut [u8], _ctx: ()) -> Result<usize> {
         self.to_bytes_with_nul().try_into_ctx(dst, ())
     }
@@ -82,7 +83,8 @@ impl TryIntoCtx<()> for CString {
 
     ghost writes_keeps = { λ _ s. WritesFront-keeps (c_string_text s ++ 0 ∷ []) };
 
-    /// Writes the text and its zero. A shorter target returns [`Error::TooBig`], and is unchanged.
+    /// Writes the text and its zero. A shorter target returns [`Error::TooBig`] with the length of the text and its zero and
+    /// that of the target, and is unchanged.
     fn try_into_ctx(self, dst: &mut [u8], _ctx: ()) -> Result<usize> {
         self.as_c_str().try_into_ctx(dst, ())
     }

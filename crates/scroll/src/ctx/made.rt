@@ -8,8 +8,8 @@ use crate::error::{Result, check_room};
 
 /// Returns the value at the front of `from`, and `size`, which is how many bytes the type needs.
 ///
-/// It is a body of [`TryFromCtx::try_from_ctx`](crate::ctx::TryFromCtx::try_from_ctx) for a type that has [`FromCtx`].
-/// A shorter `from` is a `TooBig`.
+/// Use it as the body of [`TryFromCtx::try_from_ctx`](crate::ctx::TryFromCtx::try_from_ctx) for a type that implements
+/// [`FromCtx`]. A shorter `from` returns [`Error::TooBig`](crate::Error::TooBig) with `size` and the length of `from`.
 pub fn read_made<Ctx: Copy, T: FromCtx<Ctx>>(
     from: &[u8],
     ctx: Ctx,

@@ -68,8 +68,8 @@ impl<N: Number> FromCtx<Endian> for N {
     }
 }
 
-/// Reads a number in a byte order. A source with fewer bytes than the type has returns [`Error::TooBig`] with both
-/// lengths.
+/// Reads a number in a byte order. If the source is shorter than the number, returns [`Error::TooBig`] with the number's
+/// width and the length of the source. The bits of any NaN are read as a NaN.
 impl<'a, N: Number> TryFromCtx<'a, Endian> for N {
     type Error = Error;
 
@@ -97,8 +97,9 @@ impl<N: Written> IntoCtx<Endian> for N {
     }
 }
 
-/// Writes a number in a byte order. A target with fewer bytes than the type has returns [`Error::TooBig`] with both
-/// lengths, and is unchanged.
+/// Writes a number in a byte order. If the target is shorter than the number, returns [`Error::TooBig`] with the number's
+/// width and the length of the target, and leaves the target unchanged. A NaN is written as the quiet NaN with no sign and no
+/// payload.
 impl<N: Written> TryIntoCtx<Endian> for N {
     type Error = Error;
 

@@ -62,7 +62,8 @@ fn write_behind<B: Fields>(fields: B, dst: &mut [u8], offset: usize, order: Endi
     fields.write_fields(&mut dst[offset..], order)
 }
 
-/// Writes the first value of the pair and, after it, the second.
+/// Writes the first part of the pair and, after it, the second. Each part is a number or another such pair. `dst` must have as
+/// many bytes as both; those after them are unchanged.
 impl<A: Fields, B: Fields> IntoCtx<Endian> for (A, B) {
     ghost need = { λ _. A.width + B.width };
 

@@ -37,7 +37,7 @@ pub fn array_depends_on_its_bytes<'a, Ctx: Copy, T: TryFromCtx<'a, Ctx>>()
         → IsLocal (ReadsArray (T.reads ctx) count) }
 {}
 
-/// The size of a read is at most the length of its source. A string whose delimiter is missing may be one byte longer.
+/// The size of a read is at most the length of its source; that of a string whose delimiter is missing may be one more.
 pub fn read_size_is_bounded()
     ensures number { (w : ℕ) (order : Endian) → IsWithin (ReadsNumber w order) }
     ensures signed { (w : ℕ) (order : Endian) → IsWithin (ReadsSigned w order) }

@@ -10,7 +10,8 @@ use crate::error::{Error, Result};
 use crate::loads::Loads;
 
 /// Reads the unsigned number at the front of a source, and returns its value and its size in bytes. It makes at most
-/// three loads, or one load per byte if the source has fewer than eight bytes.
+/// three loads or, if the source has fewer than eight bytes, at most one for each byte. The caller ensures that fewer than
+/// 2^62 loads were made before.
 ///
 /// It returns what a read of a [`Uleb128`](super::Uleb128) returns, errors included.
 #[inline(always)]
@@ -41,7 +42,8 @@ pub fn uleb_loads(src: &mut Loads<'_>) -> Result<(u64, usize)>
 }
 
 /// Reads the signed number at the front of a source, and returns its value and its size in bytes. It makes at most
-/// three loads, or one load per byte if the source has fewer than eight bytes.
+/// three loads or, if the source has fewer than eight bytes, at most one for each byte. The caller ensures that fewer than
+/// 2^62 loads were made before.
 ///
 /// It returns what a read of a [`Sleb128`](super::Sleb128) returns, errors included.
 #[inline(always)]

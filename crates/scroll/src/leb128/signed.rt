@@ -25,9 +25,9 @@ use std::marker::Model;
 /// The groups of the encoding are in two's complement: the value is negative if the second highest bit of the last byte
 /// is set.
 ///
-/// It is read and written in the context `()`. A truncated source, which ends before its encoding does and within the
-/// first ten bytes, returns `TooBig { size: 1, len: 0 }`. An encoding of more than ten bytes, or of a value that
-/// doesn't fit an `i64`, returns `BadInput { size, msg: "failed to parse" }`, whose `size` is the length of the source.
+/// It is read and written in the context `()`. A source of fewer than ten bytes, none of which ends the encoding, returns
+/// `TooBig { size: 1, len: 0 }`. If none of the first ten bytes ends the encoding, or the value doesn't fit an `i64`, the
+/// read returns `BadInput { size, msg: "failed to parse" }`, whose `size` is the length of the source.
 ///
 /// ```rust
 /// let bytes: [u8; 3] = [0xff, 0x7e, 0x00];

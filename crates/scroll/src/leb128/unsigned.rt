@@ -21,9 +21,9 @@ use std::marker::Model;
 
 /// An unsigned number in LEB128, with the length of its encoding in bytes.
 ///
-/// It is read and written in the context `()`. A truncated source, which ends before its encoding does and within the
-/// first ten bytes, returns `TooBig { size: 1, len: 0 }`. An encoding of more than ten bytes, or of a value that
-/// doesn't fit a `u64`, returns `BadInput { size, msg: "failed to parse" }`, whose `size` is the length of the source.
+/// It is read and written in the context `()`. A source of fewer than ten bytes, none of which ends the encoding, returns
+/// `TooBig { size: 1, len: 0 }`. If none of the first ten bytes ends the encoding, or the value doesn't fit a `u64`, the
+/// read returns `BadInput { size, msg: "failed to parse" }`, whose `size` is the length of the source.
 ///
 /// ```rust
 /// let bytes: [u8; 3] = [0x82, 0x01, 0xff];
