@@ -56,11 +56,8 @@ pub fn read_input<R: Read>(alloc: Global, input: &mut R) -> Result<Vec<u8>, Read
                     return Ok(bytes);
                 }
             }
-            Err(e) => {
-                if e.kind() != ErrorKind::Interrupted {
-                    return Err(ReadError::Io(e));
-                }
-            }
+            Err(e) if e.kind() == ErrorKind::Interrupted => {}
+            Err(e) => return Err(ReadError::Io(e)),
         }
     }
     Err(ReadError::Io(io::Error::from(ErrorKind::Other)))
