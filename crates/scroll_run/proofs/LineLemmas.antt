@@ -87,6 +87,7 @@ stops_here lines d xs i k h lt e bad =
 pub first_bad : (lines : List (List ℕ)) (first : List ℕ) (rest : List (List ℕ)) → lines ≡ first ∷ rest → ((bytes : List ℕ) → ¬ (SpellsBuffer first bytes)) → IsFirstBadLine lines 1
 first_bad lines first rest e h = record {
   counted = omega arith;
+  needed = omega arith;
   good = λ i lt. absurd (omega arith);
   bad = λ s. let t = rw e at s in h t.1.0 t.1.1;
 }
@@ -94,6 +95,7 @@ first_bad lines first rest e h = record {
 pub second_bad : (lines : List (List ℕ)) (first second : List ℕ) (rest : List (List ℕ)) (bytes : List ℕ) → lines ≡ first ∷ second ∷ rest → SpellsBuffer first bytes → ((n : ℕ) → ¬ (SpellsCursor second n)) → IsFirstBadLine lines 2
 second_bad lines first second rest bytes e b h = record {
   counted = omega arith;
+  needed = omega arith;
   good = λ i lt. rw e (good i lt);
   bad = λ s. let t = rw e at s in h t.1.0 t.1.1;
 }
@@ -107,6 +109,7 @@ pub stops_lines : (lines : List (List ℕ)) (first second : List ℕ) (rest : Li
 stops_lines lines first second rest bytes n NoMemory e b c h = tt
 stops_lines lines first second rest bytes n (BadLine k) e b c h = record {
   counted = let q = h.1 in omega arith;
+  needed = rw e (let q = h.1 in let short = h.2 in omega arith);
   good = λ i lt. rw e (good i (let q = h.1 in omega arith));
   bad = λ s. let t = rw e at s in bad h.0 h.1 h.4 t;
 }

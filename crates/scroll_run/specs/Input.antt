@@ -1,11 +1,11 @@
--- Failed input. A call of the reader that was interrupted is made again.
+-- Failed input. A call of the reader that was interrupted is retried.
 use Rattle.std.specs.Prelude.{◌≢◌, ⊤}
 use Rattle.std.specs.IoError.{error_kind}
 use Rattle.std.specs.declared.io.ErrorKind.TheVariants as kind
 use Rattle.scroll_run.specs.declared.input.ReadError.{ReadError}
 use Rattle.scroll_run.specs.declared.input.ReadError.TheVariants.{NoMemory, Io}
 
--- `IsTold e`: the error is out of memory, or an error of the reader other than that of an interrupted call
-abbrev pub IsTold : ReadError → Type 0
-IsTold NoMemory = ⊤
-IsTold (Io e) = error_kind e ≢ kind.Interrupted
+-- `IsNotInterrupted e`: the error is out of memory, or an error of the reader other than that of an interrupted call
+abbrev pub IsNotInterrupted : ReadError → Type 0
+IsNotInterrupted NoMemory = ⊤
+IsNotInterrupted (Io e) = error_kind e ≢ kind.Interrupted

@@ -1,5 +1,5 @@
 -- Lines. The first line of an input spells the buffer, the second the cursor, and each further line a command.
-use Rattle.std.specs.Prelude.{◌≡◌, ◌<◌, ◌+◌, ◌-◌, ◌^◌, ◌++◌, ◌==◌, ⊤, ℕ, zero, suc, List, [], ◌∷◌, length, slice_index, slice_index_or, take, codes, if◌then◌else◌}
+use Rattle.std.specs.Prelude.{◌≡◌, ◌<◌, ◌≤◌, ◌+◌, ◌-◌, ◌^◌, ◌++◌, ◌==◌, ⊤, ℕ, zero, suc, List, [], ◌∷◌, length, max, slice_index, slice_index_or, take, codes, if◌then◌else◌}
 use Rattle.std.specs.List.{slice_split, AllZip}
 use Rattle.scroll.specs.declared.runner.Command.{Command}
 use Rattle.scroll_run.specs.Commands.{IsCommandOf, SpellsCommand}
@@ -61,9 +61,10 @@ IsGoodLine (suc (suc i)) line = IsCommand line
 abbrev pub HasGoodLine : List (List ℕ) → ℕ → Type 0
 HasGoodLine lines i = (i < length lines) × IsGoodLine i (slice_index_or lines i [])
 
--- line `k`, counted from 1, is the first that is missing where it has to be there, or that spells nothing
+-- line `k`, counted from 1, is the first bad one: it spells nothing, or it is one of the first two lines and missing
 pub record IsFirstBadLine (lines : List (List ℕ)) (k : ℕ) : Type 0 where
   pub counted : 0 < k
+  pub needed : k ≤ max 2 (length lines)
   pub good : (i : ℕ) → i + 1 < k → HasGoodLine lines i
   pub bad : ¬ (HasGoodLine lines (k - 1))
 

@@ -65,7 +65,8 @@ SpellTwo words x y =
 abbrev pub SpellLastSigned : List (List ℕ) → ℤ → Type 0
 SpellLastSigned words x = (word : List ℕ) × (words ≡ word ∷ []) × SpellsSigned (2 ^ 63) word x
 
--- there is one word, which spells the number of `x`, unsigned or signed; its length is that of the shortest encoding
+-- there is one word, which spells the number of `x`, unsigned or signed, and `x.count` is the length of the shortest
+-- encoding
 abbrev pub SpellUleb : List (List ℕ) → Counted ℕ → Type 0
 SpellUleb words x = SpellLastNumber words x.value × IsLeast (HasSpelling x.value) x.count
 

@@ -18,7 +18,8 @@ words_of line = slice_split (λ b. b == 32) line
 abbrev pub SpellsNumber : ℕ → List ℕ → ℕ → Type 0
 SpellsNumber limit word x = IsNumeral 10 word × (digits_value 10 word < limit) × (x ≡ digits_value 10 word)
 
--- the word spells a signed number: digits below `half` their value, and `-` and digits up to `half` the negative of it
+-- the word spells the signed number `x`: digits with a value below `half` spell that value, and `-` before digits with a
+-- value of at most `half` spells its negative
 abbrev pub SpellsSigned : ℕ → List ℕ → ℤ → Type 0
 SpellsSigned half word x =
     ((n : ℕ) × SpellsNumber half word n × (x ≡ pos n))

@@ -1,7 +1,7 @@
 //! The bytes of the input.
 ghost use Rattle.std.specs.Prelude.{◌≡◌, ◌≤◌, ◌<◌, IfOk, IfErr, vec_len};
 ghost use Rattle.std.specs.Io.KnownBytes.{Consumes, IsAtEnd};
-ghost use Rattle.scroll_run.specs.Input.{IsTold};
+ghost use Rattle.scroll_run.specs.Input.{IsNotInterrupted};
 ghost use Rattle.scroll_run.specs.declared.input.ReadError.TheVariants.{NoMemory};
 
 use std::alloc::{AllocError, Global};
@@ -42,7 +42,7 @@ pub fn read_input<R: Read>(alloc: Global, input: &mut R) -> Result<Vec<u8>, Read
     ensures taken { IfOk result (λ bytes.
         Consumes (R.remaining input.old) (R.remaining input.new) bytes.items) }
     ensures whole { IfOk result (λ bytes. vec_len bytes < 65537 → IsAtEnd (R.remaining input.new)) }
-    ensures told { IfErr result IsTold }
+    ensures not_interrupted { IfErr result IsNotInterrupted }
 {
     let mut bytes = Vec::new(alloc);
     let mut chunk = [0u8; CHUNK];
@@ -56,11 +56,8 @@ pub fn read_input<R: Read>(alloc: Global, input: &mut R) -> Result<Vec<u8>, Read
                     return Ok(bytes);
                 }
             }
-            Err(e) => {
-                if e.kind() != ErrorKind::Interrupted {
-                    return Err(ReadError::Io(e));
-                }
-            }
+            Err(e) if e.kind() == ErrorKind::Interrupted => {}
+            Err(e) => return Err(ReadError::Io(e)),
         }
     }
     Err(ReadError::Io(io::Error::from(ErrorKind::Other)))

@@ -38,11 +38,8 @@ fn write_all<W: Write>(output: &mut W, bytes: &[u8]) -> io::Result<()>
         match output.write(rest) {
             Ok(0) => return Err(io::Error::from(ErrorKind::WriteZero)),
             Ok(count) => rest = &rest[count..],
-            Err(e) => {
-                if e.kind() != ErrorKind::Interrupted {
-                    return Err(e);
-                }
-            }
+            Err(e) if e.kind() == ErrorKind::Interrupted => {}
+            Err(e) => return Err(e),
         }
     }
     if rest.is_empty() {
@@ -59,11 +56,8 @@ fn flush<W: Write>(output: &mut W) -> io::Result<()>
     for _ in 0..MORE_CALLS {
         match output.flush() {
             Ok(()) => return Ok(()),
-            Err(e) => {
-                if e.kind() != ErrorKind::Interrupted {
-                    return Err(e);
-                }
-            }
+            Err(e) if e.kind() == ErrorKind::Interrupted => {}
+            Err(e) => return Err(e),
         }
     }
     Err(io::Error::from(ErrorKind::Other))

@@ -37,7 +37,7 @@ pub fn session<R: Read, W: Write>(alloc: Global, input: &mut R, output: &mut W) 
         × AnswersSession (R.remaining input.old) (R.remaining input.new) text status) }
     ensures broken_off { OnErr result (BreaksOff (R.remaining input.old) (R.remaining input.new)
         (W.contents output.old) (W.contents output.new)) }
-    ensures fault { IfErr result (λ e. error_kind e ≢ ErrorKind.Interrupted) }
+    ensures not_interrupted { IfErr result (λ e. error_kind e ≢ ErrorKind.Interrupted) }
 {
     let outcome = match read_input(alloc, input) {
         Ok(bytes) => answer_input(alloc, &bytes),

@@ -1,8 +1,8 @@
-use Rattle.std.proofs.Common.{◌++◌, take}
+use Rattle.std.proofs.Common.{◌++◌, take, rules}
 use Rattle.std.proofs.KnownBytes.{Appends-trans, Appends-kept}
 use Rattle.scroll_run.proofs.Fronts.{front_moves, appends_front, appends_more}
 use Rattle.scroll_run.proofs.output.write_all.Goals as goal
-use Rattle.scroll_run.proofs.output.write_all.Goals.{in-Ok, in-Err+else-ne}
+use Rattle.scroll_run.proofs.output.write_all.Goals.{in-Ok, in-Err}
 
 pub loop-preserved : goal.loop-preserved
 loop-preserved g c = elim c.match-write.branch [
@@ -11,7 +11,7 @@ loop-preserved g c = elim c.match-write.branch [
     whole = rw w.rest-is (front_moves _ _ _ w.in-Ok.count c.loop.invariant.whole);
     appended = Appends-trans _ _ _ _ _ c.loop.invariant.appended w.in-Ok.ensures.bytes;
   }
-  | in-Err+else-ne w ↦ record {
+  | in-Err w ↦ record {
     done = c.loop.invariant.done;
     whole = rw w.rest-is c.loop.invariant.whole;
     appended = Appends-kept _ _ _ _ c.loop.invariant.appended w.in-Err.ensures.bytes;
@@ -23,8 +23,8 @@ returns-clause-front g c = appends_front _ _ _ _ _ c.loop.invariant.whole c.loop
 
 pub returns-in-Ok-eq0-clause-front : goal.returns-in-Ok-eq0-clause-front
 returns-in-Ok-eq0-clause-front g c =
-    appends_more _ _ _ _ _ _ c.in-Ok-eq0.field-0 c.loop.invariant.whole c.loop.invariant.appended c.in-Ok-eq0.ensures.bytes
+    appends_more _ _ _ _ _ _ c.in-Ok-eq0.field-0 c.loop.invariant.whole c.loop.invariant.appended (search rules)
 
-pub returns-then-ne-clause-front : goal.returns-then-ne-clause-front
-returns-then-ne-clause-front g c =
-    appends_front _ _ _ _ _ c.loop.invariant.whole (Appends-kept _ _ _ _ c.loop.invariant.appended c.in-Err.ensures.bytes)
+pub returns-in-Err-2-clause-front : goal.returns-in-Err-2-clause-front
+returns-in-Err-2-clause-front g c =
+    appends_front _ _ _ _ _ c.loop.invariant.whole (Appends-kept _ _ _ _ c.loop.invariant.appended c.in-Err-2.ensures.bytes)
