@@ -19,3 +19,8 @@ SlotsFit T N = OptionFits (vec.the_row (option.the_row T) N unit)
 -- the same of the iterator that holds the elements while an array is written
 abbrev pub ItemsFit : RattleType → RattleType → Type 0
 ItemsFit T N = OptionFits (items.the_row T N)
+
+-- both fit with one `Option` more: an optional value of an optional such vector takes fewer than 2^63 bytes, and so does
+-- one of an optional such iterator. Then `array_fits` returns `true`.
+abbrev pub HoldersFit : RattleType → RattleType → Type 0
+HoldersFit T N = OptionFits (option.the_row (vec.the_row (option.the_row T) N unit)) × OptionFits (option.the_row (items.the_row T N))

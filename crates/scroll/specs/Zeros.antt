@@ -4,7 +4,7 @@ use Rattle.scroll.specs.Bytes.{RefusesShort}
 use Rattle.scroll.specs.Errors.{IsBadInput}
 use Rattle.scroll.specs.declared.error.Error.{Error}
 
--- how many bytes there are from an offset to the next multiple; none at a multiple
+-- how many bytes there are from an offset to the next multiple; none at a multiple, and none if `multiple` is 0
 abbrev pub padding_len : ℕ → ℕ → ℕ
 padding_len offset multiple = (multiple - offset % multiple) % multiple
 

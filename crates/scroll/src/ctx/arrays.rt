@@ -1,7 +1,7 @@
 // Arrays of values that can be read or written, in the context of the elements.
 ghost use Rattle.std.specs.Prelude.{◌≡◌, ℕ, ◌+◌, ◌*◌, ◌<◌, ◌≤◌, List, length, drop, map, max, Some, None, IfOk, IfErr, IsTrue, slice_index_or, slice_set};
 ghost use Rattle.std.specs.Mem.{FitsInMemory};
-ghost use Rattle.scroll.specs.Fits.{OptionFits, SlotsFit, ItemsFit};
+ghost use Rattle.scroll.specs.Fits.{OptionFits, SlotsFit, ItemsFit, HoldersFit};
 ghost use Rattle.scroll.specs.Arrays.{ReadsArray, RefusesArray, WritesArray, LeavesArray, MakesArray, LeavesValue, FillsArray};
 ghost use Rattle.scroll.specs.lemmas.Sizes.{ReadsArray-bounded, WritesArray-bounded};
 ghost use Rattle.scroll.specs.lemmas.Frames.{WritesArray-keeps, FillsArray-keeps};
@@ -17,7 +17,7 @@ use std::{array, mem, result};
 // Whether a value of type `X` fits in memory, as every value that exists does.
 fn fits<X>() -> bool
     ensures fits { IsTrue result → FitsInMemory X.row }
-    ensures too_big { OptionFits X.row → IsTrue result }
+    ensures small { OptionFits X.row → IsTrue result }
 {
     let none: Option<X> = None;
     let small = mem::size_of_val(&none) <= isize::MAX as usize;
@@ -35,6 +35,7 @@ fn fits<X>() -> bool
 pub fn array_fits<T, const N: usize>() -> bool
     ensures read { IsTrue result → SlotsFit T.row N.row }
     ensures written { IsTrue result → ItemsFit T.row N.row }
+    ensures found { HoldersFit T.row N.row → IsTrue result }
 {
     fits::<Option<ArrayVec<Option<T>, N>>>() && fits::<Option<array::IntoIter<T, N>>>()
 }

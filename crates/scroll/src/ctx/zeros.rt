@@ -1,5 +1,5 @@
 // Zero bytes, such as padding.
-ghost use Rattle.std.specs.Prelude.{◌≡◌, ◌≢◌, ℕ, ◌≤◌, ◌<◌, ◌++◌, length, drop, slice_index, IfSome, IfNone};
+ghost use Rattle.std.specs.Prelude.{◌≡◌, ◌≢◌, ℕ, ◌≤◌, ◌<◌, ◌+◌, ◌%◌, ◌++◌, length, drop, slice_index, IfSome, IfNone};
 ghost use Rattle.std.proofs.Common.{rules};
 ghost use Rattle.scroll.specs.Bytes.{WritesFront, LeavesShort};
 ghost use Rattle.scroll.specs.Zeros.{padding_len, zeros, ReadsZeros, RefusesZeros};
@@ -31,7 +31,10 @@ pub struct Zeros;
 /// ```
 #[inline]
 pub fn padding(offset: usize, multiple: usize) -> usize
-    ensures { result ≡ padding_len offset multiple }
+    ensures value { result ≡ padding_len offset multiple }
+    ensures next { 0 < multiple → (offset + result) % multiple ≡ 0 }
+    ensures least { 0 < multiple → result < multiple }
+    ensures none { multiple ≡ 0 → result ≡ 0 }
 {
     if multiple == 0 {
         return 0;
