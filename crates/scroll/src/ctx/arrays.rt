@@ -165,23 +165,18 @@ impl<Ctx: Copy, T: FromCtx<Ctx> + SizeWith<Ctx>, const N: usize> FromCtx<Ctx> fo
     fn from_ctx(this: &[u8], ctx: Ctx) -> [T; N] {
         array::from_fn(
             |i| -> T
-                requires { (max (T.size ctx) (T.need ctx) * N ≤ length this.now) × (i < N) }
+                requires { max (T.size ctx) (T.need ctx) * (i + 1) ≤ length this.now }
                 ensures made { T.makes ctx (drop (T.size ctx * i) this.entry.now) result }
                 ensures same { this.exit.now ≡ this.entry.now }
-            { element(this, i, N, ctx) },
+            { element(this, i, ctx) },
         )
     }
 }
 
-// Reads the element at `index` of `count`.
+// Reads the element at `index`.
 #[inline(always)]
-fn element<Ctx: Copy, T: FromCtx<Ctx> + SizeWith<Ctx>>(
-    this: &[u8],
-    index: usize,
-    count: usize,
-    ctx: Ctx,
-) -> T
-    requires { (max (T.size ctx) (T.need ctx) * count ≤ length this.now) × (index < count) }
+fn element<Ctx: Copy, T: FromCtx<Ctx> + SizeWith<Ctx>>(this: &[u8], index: usize, ctx: Ctx) -> T
+    requires { max (T.size ctx) (T.need ctx) * (index + 1) ≤ length this.now }
     ensures { T.makes ctx (drop (T.size ctx * index) this.now) result }
 {
     T::from_ctx(&this[T::size_with(&ctx) * index..], ctx)
@@ -198,7 +193,7 @@ impl<Ctx: Copy, T: IntoCtx<Ctx> + SizeWith<Ctx> + Copy, const N: usize> IntoCtx<
 
     fn into_ctx(self, dst: &mut [u8], ctx: Ctx) {
         for i in 0..N {
-            put_element(self[i], dst, i, N, ctx);
+            put_element(self[i], dst, i, ctx);
         }
     }
 }
@@ -209,10 +204,9 @@ fn put_element<Ctx: Copy, T: IntoCtx<Ctx> + SizeWith<Ctx>>(
     value: T,
     dst: &mut [u8],
     index: usize,
-    count: usize,
     ctx: Ctx,
 )
-    requires { (max (T.size ctx) (T.need ctx) * count ≤ length dst.old) × (index < count) }
+    requires { max (T.size ctx) (T.need ctx) * (index + 1) ≤ length dst.old }
     ensures { LeavesValue (T.leaves ctx value) dst.old (T.size ctx * index) dst.new }
 {
     value.into_ctx(&mut dst[T::size_with(&ctx) * index..], ctx)

@@ -1,4 +1,5 @@
-use Rattle.std.proofs.Common.{rules, ◌≡◌, ◌≤◌, ◌*◌, ℕ, List, length, max, drop, ap, arith}
+use Rattle.std.proofs.Math.Nat.{le_trans, mul-le-mul_left}
+use Rattle.std.proofs.Common.{rules, ◌≡◌, ◌≤◌, ◌+◌, ◌*◌, ℕ, List, length, max, drop, ap, arith}
 use Rattle.scroll.proofs.lemmas.arrays.CallLemmas.{callable-same, each-made}
 use Rattle.scroll.proofs.ctx.arrays.ArrayFromCtx.from_ctx.Goals as goal
 
@@ -9,7 +10,8 @@ from_fn-requires g c = (
       let this : p.0.now ≡ c.args.this.now = ap (λ (v : List ℕ × g.row.Ctx.Denot). v.0) same in
       let ctx : p.1.now ≡ c.args.ctx = ap (λ (v : List ℕ × g.row.Ctx.Denot). v.1) same in
       let room : max (g.T.SizeWith.size p.1.now) (g.T.FromCtx.need p.1.now) * g.row.N ≤ length p.0.now = rw (this, ctx) c.requires in
-      search rules),
+      let next : i + 1 ≤ g.row.N = omega (arith, lt) in
+      le_trans (mul-le-mul_left _ next) room),
 )
 
 pub returns : goal.returns
