@@ -3,5 +3,6 @@ pub mod FrontLemmas
 pub mod HalfLemmas
 pub mod LocalLemmas
 pub mod NumberLemmas
+pub mod PaddingLemmas
 pub mod ReverseLemmas
 pub mod SumLemmas

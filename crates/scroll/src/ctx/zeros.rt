@@ -7,7 +7,6 @@ ghost use Rattle.scroll.specs.lemmas.Frames.{zeros-keeps, WritesZeros-keeps};
 
 use crate::ctx::{IntoCtx, TryFromCtx, TryIntoCtx};
 use crate::error::{Error, Result, check_room};
-use crate::slice;
 
 /// Bytes that are all zero, as many as the context says: padding, or what a format reserves. The default context is 0.
 ///
@@ -80,9 +79,7 @@ impl IntoCtx<usize> for Zeros {
     ghost leaves_keeps = { λ n _. zeros-keeps n };
 
     fn into_ctx(self, dst: &mut [u8], ctx: usize) {
-        for place in 0..ctx {
-            slice::cwrite_with(dst, 0u8, place, crate::LE);
-        }
+        dst[..ctx].fill(0);
     }
 }
 

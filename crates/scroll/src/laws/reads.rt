@@ -13,6 +13,8 @@ ghost use Rattle.scroll.specs.Errors.{IsBadOffset};
 ghost use Rattle.scroll.specs.Texts.{ReadsText, RefusesText, ReadsSlice, RefusesSlice};
 ghost use Rattle.scroll.specs.declared.ctx.str_ctx.StrCtx.{StrCtx};
 ghost use Rattle.scroll.specs.declared.ctx.str_ctx.StrCtx.TheVariants.{Length};
+ghost use Rattle.scroll.specs.Zeros.{ReadsZeros, RefusesZeros};
+ghost use Rattle.scroll.specs.declared.ctx.zeros.Zeros.{Zeros};
 ghost use Rattle.scroll.specs.declared.endian.Endian.{Endian};
 
 use crate::ctx::TryFromCtx;
@@ -29,6 +31,7 @@ pub fn read_depends_on_its_bytes()
     ensures c_string { IsLocal ReadsCString }
     ensures uleb { IsLocal ReadsUleb }
     ensures sleb { IsLocal ReadsSleb }
+    ensures zeros { (n : ℕ) → IsLocal (λ source (_ : Zeros) size. ReadsZeros n source size) }
 {}
 
 /// The same for an array, if it holds for the elements.
@@ -48,6 +51,7 @@ pub fn read_size_is_bounded()
     ensures c_string { IsWithin ReadsCString }
     ensures uleb { IsWithin ReadsUleb }
     ensures sleb { IsWithin ReadsSleb }
+    ensures zeros { (n : ℕ) → IsWithin (λ source (_ : Zeros) size. ReadsZeros n source size) }
 {}
 
 /// The size of an array that was read is at most one byte more than the length of its source. It is at most that length
@@ -74,6 +78,8 @@ pub fn place_has_one_answer()
     ensures c_string { AllowsOneAtEach ReadsCString RefusesCString }
     ensures uleb { AllowsOneAtEach ReadsUleb RefusesUleb }
     ensures sleb { AllowsOneAtEach ReadsSleb RefusesSleb }
+    ensures zeros { (n : ℕ)
+        → AllowsOneAtEach (λ source (_ : Zeros) size. ReadsZeros n source size) (RefusesZeros n) }
     ensures numbers { (w : ℕ) (order : Endian) (counts : List ℕ)
         → AllowsOneAtEach (ReadsNested (ReadsNumber w order) counts) (RefusesNested (ReadsNumber w order) (RefusesShort w) IsBadOffset counts) }
     ensures signed_numbers { (w : ℕ) (order : Endian) (counts : List ℕ)

@@ -10,6 +10,9 @@ use Rattle.scroll.specs.LebRefusals.{RefusesUleb, RefusesSleb}
 use Rattle.scroll.specs.Numbers.{number, signed_number, ReadsNumber, ReadsSigned}
 use Rattle.scroll.proofs.lemmas.callers.OneAnswer.{one-at, one-front, one-nested, one-sized}
 use Rattle.scroll.specs.Texts.{ReadsText, RefusesText, ReadsSlice, RefusesSlice}
+use Rattle.scroll.proofs.lemmas.numbers.PaddingLemmas.{one-zeros}
+use Rattle.scroll.specs.Zeros.{ReadsZeros, RefusesZeros}
+use Rattle.scroll.specs.declared.ctx.zeros.Zeros.{Zeros}
 use Rattle.scroll.proofs.laws.reads.place_has_one_answer.Goals as goal
 
 pub returns-clause-number : goal.returns-clause-number
@@ -35,6 +38,9 @@ returns-clause-uleb c = one-at ReadsUleb RefusesUleb one-uleb
 
 pub returns-clause-sleb : goal.returns-clause-sleb
 returns-clause-sleb c = one-at ReadsSleb RefusesSleb one-sleb
+
+pub returns-clause-zeros : goal.returns-clause-zeros
+returns-clause-zeros c n = one-at (λ s (_ : Zeros) m. ReadsZeros n s m) (RefusesZeros n) (one-zeros n)
 
 pub returns-clause-numbers : goal.returns-clause-numbers
 returns-clause-numbers c w order = one-nested (ReadsNumber w order) (RefusesShort w) (one-at (ReadsNumber w order) (RefusesShort w) (one-front w (number order w)))

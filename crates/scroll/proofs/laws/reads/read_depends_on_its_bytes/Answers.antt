@@ -3,6 +3,7 @@ use Rattle.scroll.proofs.lemmas.numbers.FloatLemmas.{local-float}
 use Rattle.scroll.proofs.lemmas.leb128.LebReadLemmas.{local-uleb, local-sleb}
 use Rattle.scroll.proofs.lemmas.texts.TextReadLemmas.{local-slice, local-text}
 use Rattle.scroll.proofs.lemmas.numbers.LocalLemmas.{local-number, local-signed}
+use Rattle.scroll.proofs.lemmas.numbers.PaddingLemmas.{local-zeros}
 use Rattle.scroll.proofs.laws.reads.read_depends_on_its_bytes.Goals as goal
 
 pub returns-clause-number : goal.returns-clause-number
@@ -28,3 +29,6 @@ returns-clause-uleb c = local-uleb
 
 pub returns-clause-sleb : goal.returns-clause-sleb
 returns-clause-sleb c = local-sleb
+
+pub returns-clause-zeros : goal.returns-clause-zeros
+returns-clause-zeros c = local-zeros

@@ -2,6 +2,7 @@ use Rattle.std.proofs.Common.{arith}
 use Rattle.scroll.proofs.lemmas.texts.CStringReadLemmas.{within-c_string}
 use Rattle.scroll.proofs.lemmas.texts.TextReadLemmas.{within-length}
 use Rattle.scroll.specs.lemmas.Sizes.{ReadsText-bounded}
+use Rattle.scroll.proofs.lemmas.numbers.PaddingLemmas.{within-zeros}
 use Rattle.scroll.proofs.laws.reads.read_size_is_bounded.Goals as goal
 
 pub returns-clause-slice : goal.returns-clause-slice
@@ -21,3 +22,6 @@ returns-clause-uleb c s x n r = omega (arith, r.complete.0, r.size)
 
 pub returns-clause-sleb : goal.returns-clause-sleb
 returns-clause-sleb c s x n r = omega (arith, r.complete.0, r.size)
+
+pub returns-clause-zeros : goal.returns-clause-zeros
+returns-clause-zeros c = within-zeros
