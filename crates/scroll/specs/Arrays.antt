@@ -65,7 +65,7 @@ pub record MakesArray {V : Type 0} (width : ℕ) (makes : List ℕ → V → Typ
   pub len : length vs ≡ count
   pub each : (i : ℕ) (d : V) → i < count → makes (drop (width * i) source) (slice_index_or vs i d)
 
--- a value is put at the offset `place` of a target that has room for it, and the bytes before it are unchanged
+-- a value is put at the offset `place` of a target, and the bytes before it are unchanged
 pub record LeavesValue (leaves : List ℕ → List ℕ → Type 0) (old : List ℕ) (place : ℕ) (new : List ℕ) : Type 0 where
   pub before : take place new ≡ take place old
   pub after : leaves (drop place old) (drop place new)

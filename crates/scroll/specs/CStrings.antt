@@ -26,7 +26,7 @@ pub record RefusesCString (source : List ℕ) (e : Error) : Type 0 where
 abbrev pub RefusesCopy : List ℕ → Error → Type 0
 RefusesCopy source e = RefusesCString source e ⊎ ((first_place 0 source < length source) × (e ≡ NoMemory))
 
--- a text is not made a C string: it has a zero, and the error is `BadInput` with the index of the first one as its size
+-- no C string is made of a text: it has a zero, and the error is `BadInput` with the index of the first one as its size
 -- and the message `nul byte in text`; or it has none, and the error is `NoMemory`
 abbrev pub RefusesToHold : List ℕ → Error → Type 0
 RefusesToHold text e =

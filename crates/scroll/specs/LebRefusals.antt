@@ -11,8 +11,8 @@ pub record RefusesCut (source : List ℕ) (e : Error) : Type 0 where
   pub error : e ≡ TooBig 1 0
 
 -- `RefusesUleb source e`: the read of an unsigned number fails. The source is truncated, and the error is `TooBig` with
--- the size 1 and the length 0; or it is not, the encoding is not complete or its number does not fit into 64 bits, and
--- the error is `BadInput` with the length of the source and the message `failed to parse`.
+-- the size 1 and the length 0; or it is not truncated, but the encoding is not complete or its number does not fit into
+-- 64 bits, and the error is `BadInput` with the length of the source and the message `failed to parse`.
 abbrev pub RefusesUleb : List ℕ → Error → Type 0
 RefusesUleb source (TooBig size len) = IsCut source × (size ≡ 1) × (len ≡ 0)
 RefusesUleb source (BadInput size msg) =

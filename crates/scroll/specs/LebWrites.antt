@@ -11,7 +11,7 @@ uleb_text x = spelling x.value x.count
 abbrev pub sleb_text : Counted ℤ → List ℕ
 sleb_text x = spelling (unsigned_form x.value x.count) x.count
 
--- the encoding is written over the start of a target: `WritesFront`; a write to a shorter target fails: `LeavesShort`
+-- the encoding is written over the start of a target: `WritesFront`
 abbrev pub WritesUleb : Counted ℕ → List ℕ → List ℕ → ℕ → Type 0
 WritesUleb x = WritesFront x.count (uleb_text x)
 

@@ -1,5 +1,6 @@
 -- Values over streams. A reader may tell which bytes it has left, and a writer which bytes it holds, as those over
--- memory do. Where a stream doesn't tell them, only the value is specified.
+-- memory do. Where a reader doesn't tell them, some bytes, as many as the size, make the value; where a writer doesn't,
+-- nothing is specified of what it holds.
 use Rattle.std.specs.Prelude.{◌≡◌, ℕ, List, length, Option}
 use Rattle.std.specs.Io.KnownBytes.{Appends, Consumes}
 

@@ -1,4 +1,4 @@
--- Zeros. The bytes of a `Zeros` are all zero, such as the padding up to a multiple of a size.
+-- Zeros. A `Zeros` stands for bytes that are all zero, such as the padding up to a multiple of a size.
 use Rattle.std.specs.Prelude.{◌≡◌, ◌≢◌, ◌≤◌, ◌<◌, ◌-◌, ◌%◌, ℕ, List, length, replicate, codes, slice_index, ◌⊎◌}
 use Rattle.scroll.specs.Bytes.{RefusesShort}
 use Rattle.scroll.specs.Errors.{IsBadInput}

@@ -1,5 +1,5 @@
 // A source that counts its loads.
-ghost use Rattle.std.specs.Prelude.{◌≡◌, ◌+◌, ◌^◌, ◌<◌, ◌≤◌, length, take, slice_get, IfSome, IfNone};
+ghost use Rattle.std.specs.Prelude.{◌≡◌, ◌↔◌, ◌+◌, ◌^◌, ◌<◌, ◌≤◌, length, take, slice_get, IfSome, IfNone, IsTrue};
 ghost use Rattle.scroll.specs.Loads.{Loading};
 
 use std::marker::Model;
@@ -43,6 +43,14 @@ impl<'a> Loads<'a> {
         ensures { result ≡ length self.now.bytes }
     {
         self.src.len()
+    }
+
+    /// Returns whether the source has no bytes. This is not a load.
+    #[inline]
+    pub fn is_empty(&self) -> bool
+        ensures { IsTrue result ↔ (length self.now.bytes ≡ 0) }
+    {
+        self.src.is_empty()
     }
 
     /// Returns how many loads were made.

@@ -222,6 +222,7 @@ fn counted_loads(rt: HostRuntime) {
     check_eq(&rt, source.made(), 3);
     let mut short = Loads::new(&[0x80, 0x80]);
     check_eq(&rt, short.len(), 2);
+    check_eq(&rt, short.is_empty(), false);
     check_eq(&rt, short.word(), None);
     check_eq(&rt, [short.byte(2), short.byte(1)], [None, Some(0x80)]);
     check_eq(&rt, short.made(), 3);

@@ -78,14 +78,10 @@ float-leaves f order = front-leaf (float_width f) (float_bytes f order) (λ x. l
 
 -- a number in LEB128
 pub uleb-leaves : HasLeaves (λ (x : Counted ℕ). uleb_text x ∷ []) WritesUleb (λ x. LeavesShort x.count)
-uleb-leaves =
-    let one = λ (x : Counted ℕ). front-leaf x.count (λ (_ : ℕ). uleb_text x) (λ _. length-spelling x.value x.count) in
-    record { written = λ x. (one x).written 0; refused = λ x. (one x).refused 0 }
+uleb-leaves = front-leaf-by (λ x. x.count) uleb_text (λ x. length-spelling x.value x.count)
 
 pub sleb-leaves : HasLeaves (λ (x : Counted ℤ). sleb_text x ∷ []) WritesSleb (λ x. LeavesShort x.count)
-sleb-leaves =
-    let one = λ (x : Counted ℤ). front-leaf x.count (λ (_ : ℕ). sleb_text x) (λ _. length-spelling (unsigned_form x.value x.count) x.count) in
-    record { written = λ x. (one x).written 0; refused = λ x. (one x).refused 0 }
+sleb-leaves = front-leaf-by (λ x. x.count) sleb_text (λ x. length-spelling (unsigned_form x.value x.count) x.count)
 
 -- an array has those of its elements, in order
 pub array-leaves : {V : Type 0} (leaves : V → List (List ℕ)) (writes : V → List ℕ → List ℕ → ℕ → Type 0) (refuses : V → List ℕ → List ℕ → Error → Type 0) → HasLeaves leaves writes refuses → HasLeaves (flat_map leaves) (WritesArray writes) (LeavesArray writes refuses)

@@ -1,16 +1,16 @@
 -- Lemmas for callers: round trips. What was read is written back, and what was written reads back.
-use Rattle.std.proofs.Common.{◌≡◌, ◌≢◌, ℕ, ℤ, pos, neg_ℤ, nat_abs, ◌+ℤ◌, ◌-ℤ◌, ◌*ℤ◌, ◌≤ℤ◌, ◌<ℤ◌, ◌+◌, ◌-◌, ◌*◌, ◌/◌, ◌%◌, ◌^◌, ◌<◌, ◌≤◌, ◌++◌, ◌==◌, true, List, [], ◌∷◌, length, take, drop, get_or, slice_index, Fits, w8, refl, sym, ap, subst, ◌∙◌, inl, inr, arith, IsUtf8, append_assoc, length-append, length-take, length-drop, get_or-take}
+use Rattle.std.proofs.Common.{◌≡◌, ◌≢◌, ℕ, ℤ, pos, neg_ℤ, nat_abs, ◌+ℤ◌, ◌-ℤ◌, ◌*ℤ◌, ◌≤ℤ◌, ◌<ℤ◌, ◌+◌, ◌-◌, ◌*◌, ◌/◌, ◌%◌, ◌^◌, ◌<◌, ◌≤◌, ◌++◌, ◌==◌, true, List, [], ◌∷◌, length, take, drop, get_or, slice_index, Fits, w8, refl, sym, ap, subst, ◌∙◌, arith, IsUtf8, append_assoc, length-append, length-take, length-drop, get_or-take}
 use Rattle.std.proofs.Math.Nat.{mod-eq_of_lt}
 use Rattle.std.proofs.Math.Seq.{take-add}
-use Rattle.std.proofs.lemmas.Bool.{cases_lt}
-use Rattle.std.proofs.lemmas.Grind.{common_steps, flat_map-append, same_number_lists}
+use Rattle.std.proofs.lemmas.Grind.{flat_map-append, same_number_lists}
 use Rattle.std.proofs.lemmas.Int.{ints}
 use Rattle.std.proofs.lemmas.List.{append-nil, drop-drop, drop_at, take_at, take_all, take_more, take-append-drop, get_or_append_left, length-take-le}
-use Rattle.std.proofs.lemmas.List.Elements.{All-get_or, All-head, All-tail, All-weaker}
+use Rattle.std.proofs.lemmas.List.Elements.{All-head, All-tail, All-weaker}
 use Rattle.std.proofs.lemmas.List.FromFn.{get_or-map-range_with_len}
 use Rattle.std.proofs.lemmas.List.Sums.{passes_at_first}
 use Rattle.std.specs.List.{All, flat_map}
 use Rattle.std.specs.Prelude.{int_lt, nat_lt, if◌then◌else◌}
+use Rattle.scroll.proofs.lemmas.numbers.NumberLemmas.{bytes-fit}
 use Rattle.scroll.proofs.lemmas.callers.Cursors.{Begins, grow, byte-bound, number-bound, number-front}
 use Rattle.scroll.specs.lemmas.Frames.{length-number_bytes}
 use Rattle.scroll.specs.Numbers.{number, number_bytes, signed_number, signed_bytes}
@@ -212,16 +212,9 @@ counted-again order w text rest n fit size =
       ap (λ l. take n (drop w l)) split ∙ ap (take n) (drop_at (number_bytes order w n) (text ++ rest) w (length-number_bytes order w n)) ∙ take_at text rest n (sym size),
     )
 
--- each element of a list of bytes fits a byte, and so does the default that is read past its end
-byte-fits : (s : List ℕ) → All (λ b. b < 256) s → (i : ℕ) → Fits w8 (slice_index s i)
-byte-fits s h i = elim (cases_lt i (length s)) as (λ _. Fits w8 (slice_index s i)) [
-  | inl l ↦ let b = All-get_or (λ x. x < 256) s i 0 l h in record { fits = omega (arith, b) }
-  | inr l ↦ let none : slice_index s i ≡ 0 = grind (arith, common_steps) in rw none (record { fits = omega arith })
-]
-
 -- bytes as many as the width are those of the number that they read as
 pub number-only : (order : Endian) (w : ℕ) (s : List ℕ) → All (λ b. b < 256) s → length s ≡ w → s ≡ number_bytes order w (number order w s)
-number-only order w s h len = sym (number-back order w 0 s (byte-fits s h) (omega (arith, len)) ∙ take_all w s (omega (arith, len)))
+number-only order w s h len = sym (number-back order w 0 s (bytes-fit s h) (omega (arith, len)) ∙ take_all w s (omega (arith, len)))
 
 pub signed-only : (order : Endian) (w : ℕ) (s : List ℕ) → All (λ b. b < 256) s → length s ≡ w → s ≡ signed_bytes order w (signed_number order w s)
-signed-only order w s h len = sym (signed-back order w 0 s (byte-fits s h) (omega (arith, len)) ∙ take_all w s (omega (arith, len)))
+signed-only order w s h len = sym (signed-back order w 0 s (bytes-fit s h) (omega (arith, len)) ∙ take_all w s (omega (arith, len)))

@@ -2,8 +2,8 @@
 use Rattle.std.proofs.Common.{◌≡◌, ℕ, ◌+◌, ◌-◌, ◌<◌, ◌≤◌, ◌↔◌, ◌++◌, ℤ, List, [], ◌∷◌, length, take, drop, get_or, slice_index, Fits, w8, inl, inr, refl, sym, ap, subst, ◌∙◌, arith, append_assoc, length-append, length-drop}
 use Rattle.std.proofs.lemmas.List.{append-nil, flat_map_more, take-append-drop, length-take-le, take_at, take_more, drop_at, drop-drop, get_or-drop}
 use Rattle.std.proofs.lemmas.List.Elements.{All-from_get_or}
-use Rattle.std.proofs.lemmas.List.FromFn.{length-map-range_with_len}
 use Rattle.std.specs.List.{All, flat_map, slice_range}
+use Rattle.scroll.specs.lemmas.Frames.{length-spelling}
 use Rattle.scroll.specs.Bytes.{WritesFront, LeavesShort}
 use Rattle.scroll.specs.Errors.{IsBadOffset}
 use Rattle.scroll.specs.Leb128.{Counted, ReadsUleb, ReadsSleb, ReadsCountedUleb, ReadsCountedSleb}
@@ -11,7 +11,7 @@ use Rattle.scroll.specs.LebWrites.{uleb_text, sleb_text, WritesUleb, WritesSleb}
 use Rattle.scroll.specs.Numbers.{WritesNumber}
 use Rattle.scroll.specs.Reads.{ReadsBetween}
 use Rattle.scroll.specs.Spans.{Stands, Puts, PutsFront}
-use Rattle.scroll.specs.Spelling.{BeginsWith, BeginsWithSigned, spelling, spelled_byte, unsigned_form}
+use Rattle.scroll.specs.Spelling.{BeginsWith, BeginsWithSigned, spelling, unsigned_form}
 use Rattle.scroll.specs.Writes.{WritesAt, RefusesWriteAt}
 use Rattle.scroll.specs.declared.endian.Endian.{Endian}
 use Rattle.scroll.specs.declared.error.Error.{Error}
@@ -144,7 +144,7 @@ front-write {t} {old} {new} {w} {p} {e} len inside (inr h) =
 
 -- a number in LEB128 that was written, and one whose write failed
 length-uleb_text : (x : Counted ℕ) → length (uleb_text x) ≡ x.count
-length-uleb_text x = length-map-range_with_len (spelled_byte x.value x.count) 0 x.count
+length-uleb_text x = length-spelling x.value x.count
 
 pub uleb-puts : (x : Counted ℕ) {old new : List ℕ} {n p q : ℕ} → WritesAt (WritesUleb x) old p new n → q ≡ p + n → Puts (uleb_text x) old new p q
 uleb-puts x = puts-write (length-uleb_text x)
@@ -153,7 +153,7 @@ pub uleb-front : (x : Counted ℕ) {old new : List ℕ} {p : ℕ} {e : Error} �
 uleb-front x = front-write (length-uleb_text x)
 
 length-sleb_text : (x : Counted ℤ) → length (sleb_text x) ≡ x.count
-length-sleb_text x = length-map-range_with_len (spelled_byte (unsigned_form x.value x.count) x.count) 0 x.count
+length-sleb_text x = length-spelling (unsigned_form x.value x.count) x.count
 
 pub sleb-puts : (x : Counted ℤ) {old new : List ℕ} {n p q : ℕ} → WritesAt (WritesSleb x) old p new n → q ≡ p + n → Puts (sleb_text x) old new p q
 sleb-puts x = puts-write (length-sleb_text x)

@@ -1,8 +1,5 @@
 -- Floats and their bits, and floats and their bytes.
-use Rattle.std.proofs.Common.{◌≡◌, ℕ, ◌+◌, ◌*◌, ◌<◌, ◌≤◌, ◌^◌, ◌++◌, List, length, take, drop, slice_index, Fits, w8, T, to_bits, from_bits, refl, sym, ◌∙◌, ap, arith, All, inl, inr}
-use Rattle.std.proofs.Math.ListN.{get_or-eq_default}
-use Rattle.std.proofs.lemmas.Bool.{cases_lt}
-use Rattle.std.proofs.lemmas.List.Elements.{All-get_or}
+use Rattle.std.proofs.Common.{◌≡◌, ℕ, ◌+◌, ◌*◌, ◌<◌, ◌≤◌, ◌^◌, ◌++◌, List, length, take, drop, slice_index, Fits, w8, T, to_bits, from_bits, refl, sym, ◌∙◌, ap, arith}
 use Rattle.std.specs.Float.{Float, Format, binary32, binary64, NotNan}
 use Rattle.std.specs.Float.Ieee.{fits, top}
 use lib.Ieee.Bits.{of_bits-to_bits, to_bits-lt, to_bits-of_bits}
@@ -37,13 +34,6 @@ float-back f order place s h room real =
     let bound : number order (float_width f) (drop place s) < 2 * top f = omega (arith, number-bound order (float_width f) place s h, all-bits f) in
     ap (number_bytes order (float_width f)) (to_bits-of_bits f (number order (float_width f) (drop place s)) bound real)
     ∙ number-back order (float_width f) place s h room
-
--- a list of bytes as the lemmas on numbers take it
-pub bytes-fit : (s : List ℕ) → All (λ b. b < 256) s → (i : ℕ) → Fits w8 (slice_index s i)
-bytes-fit s h i = elim (cases_lt i (length s)) as (λ _. Fits w8 (slice_index s i)) [
-  | inl l ↦ record { fits = All-get_or (λ b. b < 256) s i 0 l h }
-  | inr l ↦ record { fits = rw (get_or-eq_default s 0 l) (omega arith) }
-]
 
 -- a float depends only on its own bytes
 pub local-float : (f : Format) (order : Endian) → IsLocal (ReadsFloat f order)

@@ -1,5 +1,7 @@
--- Two's complement, and back.
-use Rattle.std.proofs.Common.{◌≡◌, ℕ, suc, ◌-◌, ◌*◌, ◌^◌, ◌<◌, inl, inr, true, false, ap, ◌∙◌, arith, to_z, negsuc, ℤ, pos, neg_ℤ, nat_abs, ◌+ℤ◌, ◌-ℤ◌, ◌*ℤ◌, ◌≤ℤ◌, ◌<ℤ◌}
+-- Two's complement, and back; and the elements of a list of bytes.
+use Rattle.std.proofs.Common.{◌≡◌, ℕ, suc, ◌-◌, ◌*◌, ◌^◌, ◌<◌, inl, inr, true, false, ap, ◌∙◌, arith, to_z, negsuc, ℤ, pos, neg_ℤ, nat_abs, ◌+ℤ◌, ◌-ℤ◌, ◌*ℤ◌, ◌≤ℤ◌, ◌<ℤ◌, List, length, slice_index, Fits, w8, All}
+use Rattle.std.proofs.Math.ListN.{get_or-eq_default}
+use Rattle.std.proofs.lemmas.List.Elements.{All-get_or}
 use Rattle.std.proofs.Math.Facts.{to_z-neg}
 use Rattle.std.proofs.lemmas.Bool.{cases_lt}
 use Rattle.std.proofs.lemmas.Bool.Decides.{nat_tests}
@@ -26,3 +28,10 @@ signed-bits w m n half whole h =
           let less : negsuc rest ≡ pos n -ℤ pos m = omega (arith, ints, h) in
           rw t (ap (to_z w) same ∙ to_z-neg w rest (omega (arith, half)) ∙ less)
     ]
+
+-- each element of a list of bytes fits a byte, and so does the default that is read past its end
+pub bytes-fit : (s : List ℕ) → All (λ b. b < 256) s → (i : ℕ) → Fits w8 (slice_index s i)
+bytes-fit s h i = elim (cases_lt i (length s)) as (λ _. Fits w8 (slice_index s i)) [
+  | inl l ↦ record { fits = All-get_or (λ b. b < 256) s i 0 l h }
+  | inr l ↦ record { fits = rw (get_or-eq_default s 0 l) (omega arith) }
+]
