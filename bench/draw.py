@@ -1,9 +1,9 @@
 """Makes the table and the charts from the output of the programs of bench/run.sh.
 
-    python3 draw.py RAW [FOLDER]
+    python3 draw.py RAW [TOP]
 
-It prints the table. With a FOLDER it writes speed.csv, speed.svg and growth.svg there, and the table between the marks
-of SPEED.md. It needs no library.
+It prints the table. With TOP, the top of the repository, it writes speed.csv, speed.svg and growth.svg into
+bench/results/, and the table between the marks of docs/SPEED.md. It needs no library.
 """
 
 import datetime
@@ -77,7 +77,8 @@ def write(path, words):
 
 
 def main():
-    raw, folder = sys.argv[1], sys.argv[2] if len(sys.argv) > 2 else None
+    raw, top = sys.argv[1], sys.argv[2] if len(sys.argv) > 2 else None
+    folder = os.path.join(top, "bench", "results") if top else None
     rows = results.read_raw(raw)
     order = list(TITLES)
     rows.sort(key=lambda row: order.index(row.set))
@@ -90,7 +91,7 @@ def main():
         results.write_csv(os.path.join(folder, "speed.csv"), rows)
         write(os.path.join(folder, "speed.svg"), charts.ratios(rows))
         write(os.path.join(folder, "growth.svg"), charts.growth(rows))
-        put_between_marks(os.path.join(folder, "SPEED.md"), lines)
+        put_between_marks(os.path.join(top, "docs", "SPEED.md"), lines)
     unexplained = [f"{row.set}, {row.name}: {row.ratio:.2f}" for row in rows if row.reason == "?"]
     if unexplained:
         print("bench: over 1.05, and bench/reasons.txt has no line for it:\n    " + "\n    ".join(unexplained), file=sys.stderr)

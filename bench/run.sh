@@ -6,12 +6,12 @@
 #
 # It proves the library where necessary, and the loops (bench/sets), builds them as a static library, links that with
 # the loops in Rust (bench/src) four times, with all code shifted by 0, 16, 32 and 48 bytes, and runs each program
-# twice. Without a SET it runs all sets, and writes docs/speed.csv, docs/speed.svg, docs/growth.svg and the table of
-# docs/SPEED.md. With names of sets it runs these, prints the table, and writes nothing into the repository.
+# twice. Without a SET it runs all sets, and writes bench/results/ and the table of docs/SPEED.md. With names of sets it
+# runs these, prints the table, and writes nothing into the repository.
 #
 # It needs cargo, rt, a C compiler and Python 3. Variables:
 #
-#     SCROLL=FOLDER   the source of the Rust crate `scroll` 0.13.0, instead of the one in cargo's registry
+#     CRATE=FOLDER    the source of the Rust crate `scroll` 0.13.0, instead of the one in cargo's registry
 #     ROUNDS=N        how often a program runs each loop; the best time counts (200)
 #     ROOM=FOLDER     a folder that keeps the build for the next run
 #     JOBS=N          the jobs of each check, instead of rt's own choice
@@ -33,7 +33,7 @@ need() {
     command -v "$1" >/dev/null || fail "$1 is not there: $2"
 }
 
-need cargo "the loops in Rust are built by it, with the crate scroll 0.13.0 from its registry, or from a folder (SCROLL=FOLDER)"
+need cargo "the loops in Rust are built by it, with the crate scroll 0.13.0 from its registry, or from a folder (CRATE=FOLDER)"
 need rt "the library and the loops over it are proved and built by the Rattle kit's command"
 need cc "the files that the set files reads are made by a C compiler"
 need python3 "the table and the charts are made by a script in Python"
@@ -96,13 +96,13 @@ build_programs() {
     echo "bench: cargo builds the loops in Rust, in four layouts" >&2
     side=$room/side
     mkdir -p "$side/src" && cp "$here"/src/*.rs "$side/src/" && cp "$here/build.rs" "$side/" || exit 1
-    if [ -n "${SCROLL:-}" ]; then
-        folder=$(cd "$top" && cd -- "$SCROLL" && pwd) || fail "SCROLL=$SCROLL is no folder"
+    if [ -n "${CRATE:-}" ]; then
+        folder=$(cd "$top" && cd -- "$CRATE" && pwd) || fail "CRATE=$CRATE is no folder"
         crate="{ path = \"$folder\" }"
     else
         crate='"=0.13.0"'
     fi
-    sed "s|@SCROLL@|$crate|" "$here/Cargo.toml.in" >"$side/Cargo.toml" || exit 1
+    sed "s|@CRATE@|$crate|" "$here/Cargo.toml.in" >"$side/Cargo.toml" || exit 1
     cd "$side" || exit 1
     features=$(echo "$sets" | tr ' ' ',')
     export LOOPS="$loops/out" RUSTFLAGS='-C target-cpu=x86-64-v2' CARGO_TARGET_DIR="$side/target"
@@ -145,5 +145,5 @@ done
 if [ $# -gt 0 ]; then
     python3 "$here/draw.py" "$raw"
 else
-    python3 "$here/draw.py" "$raw" "$top/docs"
+    python3 "$here/draw.py" "$raw" "$top"
 fi

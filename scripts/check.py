@@ -12,13 +12,11 @@ Several of these words may be given; .ci/run gives `all verdict`. The steps are:
     derive_check.sh what derive.sh prints is in the files that were proved
     cited.py        the names and links of the documents lead to something
     definitions.py  DEFINITIONS.md says what the comments of specs/ say
-    edit_table.py   the tables of the edits say what the edits say
     prove.sh        each crate is proved from nothing and built, its tests are proved and run, and its stored run
     clients.sh      each client of the library, proved and tested as a crate of its own
     depending.sh    a repository that depends on the library, made by README's lines
     misuse.sh       what must not compile
-    sessions.sh     the stored sessions, by the program that was proved
-    cuts.sh         sessions with their buffers cut, likewise
+    sessions.py     the stored sessions, whole and with their buffers cut, by the program that was proved
     faults.sh       the sessions and the tests where memory is refused and streams fail, by what was proved
     edits.py        the edits, many in one check
 
@@ -185,7 +183,7 @@ def list_steps(groups: Sequence[str], workers: int) -> List[Step]:
     if "stands" in groups:
         for name in ("sh scripts/calling.sh", "sh scripts/derive_check.sh"):
             steps.append(Step(name, 1))
-        for name in ("cited", "definitions", "edit_table"):
+        for name in ("cited", "definitions"):
             steps.append(Step(f"python3 scripts/{name}.py", 1))
         steps += [
             Step(PROVE, workers),
@@ -196,7 +194,7 @@ def list_steps(groups: Sequence[str], workers: int) -> List[Step]:
         ]
         steps += [Step(f"sh scripts/clients.sh {it}", 1, (PROVE,)) for it in list_clients()]
         steps += [Step(f"sh scripts/{it}.sh", 1, (PROVE,)) for it in ("depending", "misuse")]
-        steps += [Step(f"sh scripts/{it}.sh", 1, (PROGRAM,)) for it in ("sessions", "cuts")]
+        steps.append(Step("python3 scripts/sessions.py", 1, (PROGRAM,)))
     if "edits" in groups:
         steps.append(Step("python3 scripts/edits.py", workers, tuple(it.command for it in steps if it.jobs)))
     return steps

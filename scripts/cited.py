@@ -5,10 +5,10 @@
 
 A name is a word between backticks, or words joined by `::`, such as `Pread::gread_with`; in the tables of LAWS.md and
 PROVED.md it may also be a lemma, such as `ReadsAll-push`. Each of its words must be in a file of code or in a session,
-outside of the comments of Rattle code, or be the name of an edit, a session, a script or a document, or one of the words below, of Rust or
-of a tool. CHANGELOG.md may name what no longer exists. A link to a file of the repository must lead to one, and its part
-after `#` to a heading there. The last line is `N passed, M failed`, which counts documents. The exit status is 0 if M is
-0 and N is not.
+outside of the comments of Rattle code, or be the name of an edit, a session, a script or a document, or one of the words
+below, of Rust or of a tool. The lines `bug:` and `breaks:` of the edits are looked up as well. CHANGELOG.md may name what
+no longer exists. A link to a file of the repository must lead to one, and its part after `#` to a heading there. The last
+line is `N passed, M failed`, which counts documents and files of edits. The exit status is 0 if M is 0 and N is not.
 """
 
 import re
@@ -28,6 +28,7 @@ SPAN = re.compile(r"(?<!`)`([^`\n]+)`(?!`)")
 CITED = re.compile(r"(?:r#)?[A-Za-z_][\w-]*(?:::(?:[A-Za-z_]\w*|\*))*")
 WORD = re.compile(r"[^\W\d][\w-]*")
 FENCE = re.compile(r"^```.*?^```$", re.M | re.S)
+CODE = re.compile(r"^(?!bug:|breaks:).*$", re.M)
 FILE = re.compile(r"[a-z.][\w.-]*(?:/[\w.-]+)+/?")
 LINK = re.compile(r"\]\(([^()\s]+)\)")
 HEADING = re.compile(r"^#+ +(.*?) *$", re.M)
@@ -35,13 +36,14 @@ HISTORY = TOP / "CHANGELOG.md"
 
 
 def documents() -> List[Path]:
-    folders = ("docs", "clients", "sessions", "crates/*", "crates/*/must-fail")
-    return sorted([*TOP.glob("*.md"), *(path for folder in folders for path in TOP.glob(f"{folder}/*.md"))])
+    patterns = ("*.md", "docs/*.md", "clients/*.md", "crates/*/*.md", "crates/*/bugs/**/*.edits", "crates/*/must-fail/*.edit")
+    return sorted(path for pattern in patterns for path in TOP.glob(pattern))
 
 
 def read_prose(path: Path) -> str:
-    """The text of a document, with an empty line for each line of its code blocks."""
-    return FENCE.sub(lambda it: "\n" * it[0].count("\n"), path.read_text(encoding="utf-8"))
+    """The text of a document, with an empty line for each line of its code blocks, or of the code of edits."""
+    text = path.read_text(encoding="utf-8")
+    return CODE.sub("", text) if path.suffix in (".edits", ".edit") else FENCE.sub(lambda it: "\n" * it[0].count("\n"), text)
 
 
 def anchors(path: Path) -> Set[str]:
@@ -70,7 +72,10 @@ def words_of_sources() -> Set[str]:
             continue
         words.update(part for name in parts for part in (name, name.split(".")[0]))
         name = path.name[: -len(".txt")] if path.name.endswith(".txt") else path.name
-        if path.is_file() and name.endswith((".rt", ".rs", ".antt", ".sh", ".py", ".c", ".in", ".out")) or name == "crates.txt":
+        is_session = parts[0] == "sessions" and path.suffix == ".txt"
+        if path.suffix == ".edits":
+            words.update(re.findall(r"(?m)^# (\S+)$", path.read_text(encoding="utf-8")))
+        elif is_session or name == "crates.txt" or path.is_file() and name.endswith((".rt", ".rs", ".antt", ".sh", ".py", ".c")):
             text = path.read_text(encoding="utf-8", errors="replace")
             comment = {".rt": r"//.*", ".antt": r"(?m)(?:^|\s)--.*|//.*"}.get(Path(name).suffix)
             text = re.sub(comment, "", text) if comment else text

@@ -39,9 +39,8 @@ GHOST_IMPORTS: list[tuple[str, list[str]]] = [
     ("Rattle.std.specs.Prelude", ["◌≡◌", "◌≤◌", "◌++◌", "[]", "◌∷◌", "take", "drop", "slice_index", "slice_index_or", "length", "pos", "from_bits"]),
     ("Rattle.std.specs.Float", ["binary32", "binary64"]),
     ("Rattle.std.proofs.Common", ["length-append", "rules"]),
-    ("Rattle.scroll.specs.Bytes", ["ReadsFront", "RefusesShort", "WritesFront", "LeavesShort"]),
+    ("Rattle.scroll.specs.Bytes", ["ReadsMade", "ReadsFront", "RefusesShort", "WritesFront", "LeavesShort"]),
     ("Rattle.scroll.specs.Floats", ["float", "float_bytes"]),
-    ("Rattle.scroll.specs.Made", ["ReadsMade"]),
     ("Rattle.scroll.specs.Numbers", ["number", "number_bytes", "signed_number", "signed_bytes"]),
     ("Rattle.scroll.specs.lemmas.Frames", ["drop-front", "length-number_bytes"]),
 ]

@@ -1,24 +1,27 @@
-"""Edits: bugs in code that the prover must refuse. This module reads their files and puts them into a copy of a crate.
+"""Edits: bugs in code that the prover must refuse. This module reads them and puts them into a copy of a crate.
 
-The folders `must-fail/` and `bugs/` of a crate hold a file BUG.edit for each bug:
+The folder `bugs/` of a crate has a file for each source file: bugs/slice.edits for src/slice.rt. It holds edits,
+one a block, with an empty line between two:
 
-    file: src/slice.rt
-    old:     if offset > dst.len() {
-    new:     if offset >= dst.len() {
+    # write_start_at_the_end_is_refused
     bug: a write at the end of the slice is past the end
     breaks: `slice::pwrite_with`, `refused`
+    old:     if offset > dst.len() {
+    new:     if offset >= dst.len() {
 
-`rt` reads the first three words, and ignores the last two. The text after `old:` occurs exactly once in its file. More
-pairs of `old:` and `new:` may follow, and another `file:` before them.
+The text after `old:` occurs exactly once in its file. More pairs of `old:` and `new:` may follow, and before one of them
+`file: src/error.rt` if it is in another file. The folder `must-fail/` holds edits that `rt` tries too, each in a file
+NAME.edit of the form that `rt` wants: the same lines without the first, and with `file:` before the first pair.
 """
 
 import re
 from dataclasses import dataclass
 from pathlib import Path
-from typing import Dict, Iterable, List, NamedTuple, Set, Tuple
+from typing import Dict, Iterable, Iterator, List, NamedTuple, Set, Tuple
 
 FOLDERS = ("must-fail", "bugs")
-NAME = re.compile(r"[A-Za-z0-9_-][A-Za-z0-9_.-]*\.edit")
+# How an edit is named: by its file, or by the first line of its block.
+TITLES = {"must-fail": re.compile(r"([A-Za-z0-9_-][A-Za-z0-9_.-]*)\.edit"), "bugs": re.compile(r"# ([A-Za-z0-9_-][A-Za-z0-9_.-]*)")}
 HEAD = re.compile(r"^([ \t]*)(?:pub(?:\([a-z]+\))? )?(?:final )?(?:const )?(?:unsafe )?fn (\w+)", re.M)
 
 
@@ -51,36 +54,77 @@ class Function(NamedTuple):
     last: int
 
 
-def read_edit(path: Path) -> Edit:
-    file = old = bug = breaks = ""
-    pairs: List[Pair] = []
-    for line in path.read_text(encoding="utf-8").splitlines():
-        word, _, text = line.partition(":")
-        text = text[1:] if text.startswith(" ") else text
-        if word == "file":
-            file = text.strip()
-        elif word == "old":
-            old = text
-        elif word == "new":
-            if not file or not old:
-                raise Bad("a `new:` stands before any `file:` or `old:`")
-            pairs.append(Pair(file, old, text))
-            old = ""
-        elif word == "bug":
-            bug = text.strip()
-        elif word == "breaks":
-            breaks = text.strip()
-        else:
-            raise Bad(f"the line `{line}` is none of file, old, new, bug and breaks")
-    if not pairs or old:
-        raise Bad("it has no pair of `old:` and `new:`, or half of one")
-    return Edit(path.parents[1].name, path.parent.name, path.stem, bug, breaks, tuple(pairs))
+class Block(NamedTuple):
+    """The lines of an edit, below its title. `file` is the source file that it is for; empty in must-fail/."""
+
+    place: str
+    folder: str
+    title: str
+    file: str
+    lines: List[str]
+
+    def read(self, crate: str) -> Edit:
+        title = TITLES[self.folder].fullmatch(self.title)
+        if not title:
+            raise Bad(f"`{self.title}` names no edit")
+        file, old, bug, breaks = self.file, "", "", ""
+        pairs: List[Pair] = []
+        for line in self.lines:
+            word, _, text = line.partition(":")
+            text = text[1:] if text.startswith(" ") else text
+            if word == "file":
+                file = text.strip()
+            elif word == "old":
+                old = text
+            elif word == "new":
+                if not file or not old:
+                    raise Bad("a `new:` stands before any `file:` or `old:`")
+                pairs.append(Pair(file, old, text))
+                old = ""
+            elif word == "bug":
+                bug = text.strip()
+            elif word == "breaks":
+                breaks = text.strip()
+            else:
+                raise Bad(f"the line `{line}` is none of file, old, new, bug and breaks")
+        if not pairs or old:
+            raise Bad("it has no pair of `old:` and `new:`, or half of one")
+        if self.file not in ("", pairs[0].file):
+            raise Bad(f"its first pair is not in {self.file}")
+        if not bug or not breaks:
+            raise Bad("it has no line `bug:`, or no line `breaks:`")
+        return Edit(crate, self.folder, title[1], bug, breaks, tuple(pairs))
 
 
-def edit_paths(crate: Path) -> List[Path]:
-    """Returns the files of a crate's two folders, sorted by name; the tables aren't edits."""
-    found = [path for folder in FOLDERS for path in sorted((crate / folder).glob("**/*")) if path.is_file()]
-    return [path for path in found if path.suffix != ".md"]
+def blocks(crate: Path) -> Iterator[Block]:
+    """Returns the edits of a crate's two folders, by files in the order of their names."""
+    for folder in FOLDERS:
+        for path in sorted(it for it in (crate / folder).rglob("*") if it.is_file()):
+            inner = path.relative_to(crate / folder)
+            text = path.read_text(encoding="utf-8")
+            if folder == "must-fail":
+                yield Block(str(path.relative_to(crate.parent)), folder, str(inner), "", text.splitlines())
+                continue
+            file = f"src/{inner.with_suffix('.rt') if path.suffix == '.edits' else inner}"
+            for block in text.rstrip("\n").split("\n\n"):
+                title, *lines = block.split("\n")
+                yield Block(f"{path.relative_to(crate.parent)}, {title}", folder, title, file, lines)
+
+
+def read_edits(crate: Path, failures: List[str]) -> List[Edit]:
+    """Returns the edits of a crate. A block or a file that isn't an edit, or can't be put in, is a failure."""
+    edits: Dict[str, Edit] = {}
+    texts = Texts(crate)
+    for block in blocks(crate):
+        try:
+            edit = block.read(crate.name)
+            texts.after([edit])
+            if edit.name in edits:
+                raise Bad("the name stands twice")
+            edits[edit.name] = edit
+        except Bad as why:
+            failures.append(f"{block.place}: {why}")
+    return list(edits.values())
 
 
 class Texts:

@@ -1,9 +1,12 @@
 #!/usr/bin/env python3
 """Tries the edits of the crates: bugs in code, each of which the prover must refuse in the function that has it.
 
-    python3 scripts/edits.py [--self-test] [CRATE|CRATE/EDIT..]
+    python3 scripts/edits.py [CRATE|CRATE/EDIT..]
+    python3 scripts/edits.py --list [CRATE|CRATE/EDIT..]
+    python3 scripts/edits.py --self-test
 
-It tries all edits, or the named edits and those of the named crates. scripts/edit_files.py says what an edit is.
+It tries all edits, or the named edits and those of the named crates. scripts/edit_files.py says what an edit is. `--list`
+tries none: for each it prints the source file, the name, the bug and what it breaks.
 
 A check of a crate says of each function whether it is proved. So one check tries a batch of edits, each in a different
 function, in a copy of the crate with what the tree's own checks kept. An edit
@@ -36,7 +39,7 @@ from dataclasses import dataclass, field
 from pathlib import Path
 from typing import Dict, List, Optional, Set, Tuple
 
-from edit_files import FOLDERS, NAME, Bad, Edit, Function, Texts, edit_paths, read_edit
+from edit_files import FOLDERS, Edit, Function, Texts, read_edits
 from edit_judge import Judge, Said, parse
 from workers import count_workers
 
@@ -101,26 +104,6 @@ class Gate:
         return places, parse(said), time.time() - start
 
 
-def read_edits(crate: Path, failures: List[str]) -> List[Edit]:
-    """Returns the edits of a crate. A file that isn't an edit, or can't be applied, is a failure."""
-    edits: List[Edit] = []
-    texts = Texts(crate)
-    for path in edit_paths(crate):
-        try:
-            if not NAME.fullmatch(path.name) or path.parent.parent != crate:
-                raise Bad("it is no file NAME.edit of the folder itself")
-            edit = read_edit(path)
-            texts.after([edit])
-            if not edit.bug or not edit.breaks:
-                raise Bad("it has no line `bug:`, or no line `breaks:`")
-            if any(edit.name == it.name for it in edits):
-                raise Bad("both folders have an edit of this name")
-            edits.append(edit)
-        except (Bad, UnicodeDecodeError) as why:
-            failures.append(f"{path.relative_to(crate.parent)}: {why}")
-    return edits
-
-
 def try_all(gate: Gate, judges: Dict[str, Judge], edits: List[Edit], workers: int) -> None:
     """Tries all edits, in as many parallel checks as there are workers, until each is judged."""
     running: "Dict[Future[Tuple[Dict[str, Set[Function]], Said, float]], List[Edit]]" = {}
@@ -174,6 +157,7 @@ def processor_seconds() -> float:
 
 def main() -> int:
     words = argparse.ArgumentParser(description="Tries the edits of the crates.")
+    words.add_argument("--list", action="store_true", help="lists the edits, and tries none")
     words.add_argument("--self-test", action="store_true", help="tries the judge itself")
     words.add_argument("names", nargs="*", metavar="CRATE|CRATE/EDIT")
     given = words.parse_args()
@@ -187,6 +171,11 @@ def main() -> int:
     start = time.time()
     failures: List[str] = []
     edits = [it for crate in crates for it in read_edits(crate, failures) if {it.crate, f"{it.crate}/{it.name}"} & {*names}]
+    if given.list:
+        for it in edits:
+            print(f"{it.crate}/{it.pairs[0].file}: {it.name}: {it.bug}: breaks {it.breaks}")
+        print(*failures, sep="\n", end="\n" if failures else "")
+        return 1 if failures else 0
     judges = {crate.name: Judge(crate, Texts(crate)) for crate in crates}
     with tempfile.TemporaryDirectory(prefix="edits-") as room:
         gate = prepare(crates, Path(room), workers)

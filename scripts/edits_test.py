@@ -6,7 +6,7 @@ import time
 from pathlib import Path
 from typing import Dict, List
 
-from edit_files import Edit, Texts, edit_paths, read_edit
+from edit_files import Edit, Texts, read_edits
 from edit_judge import Judge
 from edits import TOP, Gate, processor_seconds, try_all
 
@@ -58,7 +58,9 @@ def self_test(workers: int) -> int:
     with tempfile.TemporaryDirectory(prefix="edits-") as room:
         gate = make_base(Path(room))
         crate = gate.base / "crates" / "judged"
-        edits = [read_edit(path) for path in edit_paths(crate)]
+        failures: List[str] = []
+        edits = read_edits(crate, failures)
+        print(*(f"FAILED {it}" for it in failures), sep="\n", end="")
         together = Judge(crate, Texts(crate))
         try_all(gate, {"judged": together}, edits, workers)
         counts.append(compare(together, edits, "together"))

@@ -26,7 +26,6 @@ set -u
 top=$(CDPATH='' cd -- "$(dirname -- "$0")/.." && pwd) || exit 1
 # shellcheck source=scripts/lib.sh
 . "$top/scripts/lib.sh"
-sessions=$top/sessions
 program=$top/crates/scroll_run/out/scroll_run
 
 # How many of the first calls fail in turn if a read and a write move one byte.
@@ -38,6 +37,8 @@ files=$(mktemp -d -p /dev/shm 2>/dev/null) || files=$room
 running=
 trap '[ -z "$running" ] || kill $running 2>/dev/null; wait; rm -rf "$room" "$files"' EXIT
 trap 'exit 1' HUP INT TERM
+# (the stored sessions as plain files)
+sessions=$room/sessions
 echo 'out of memory' >"$room/no_memory"
 : >"$room/nothing"
 
@@ -267,6 +268,7 @@ if [ -z "$library" ]; then
 fi
 if [ $# -eq 0 ]; then
     [ -x "$program" ] || stop "there is no program $program: rt run in crates/scroll_run proves and builds it"
+    python3 "$top/scripts/sessions.py" --unpack "$sessions" >"$room/said" || { cat "$room/said"; exit 1; }
     list_sessions >"$room/all"
     for crate in "$top"/crates/*; do
         if [ -f "$crate/src/lib.rt" ] && grep -rqF '#[test]' "$crate/src"; then

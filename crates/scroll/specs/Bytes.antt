@@ -15,12 +15,16 @@ sum_below f (suc n) = sum_below f n + f n
 abbrev pub list_below : (ℕ → ℕ) → ℕ → List ℕ
 list_below f n = map f (range_with_len 0 n)
 
--- a value is read from the first `w` bytes of a source: the source has `w` bytes or more, `x` is `value_of source`, and
--- the size `n` is `w`
-pub record ReadsFront {X : Type 0} (w : ℕ) (value_of : List ℕ → X) (source : List ℕ) (x : X) (n : ℕ) : Type 0 where
+-- a value is read from the first `w` bytes of a source: the source has `w` bytes or more and makes `x`, and the size `n` is
+-- `w`
+pub record ReadsMade {X : Type 0} (w : ℕ) (makes : List ℕ → X → Type 0) (source : List ℕ) (x : X) (n : ℕ) : Type 0 where
   pub room : w ≤ length source
-  pub value : x ≡ value_of source
+  pub value : makes source x
   pub size : n ≡ w
+
+-- the same where the value is that of a function of the source: `x` is `value_of source`
+abbrev pub ReadsFront : {X : Type 0} → ℕ → (List ℕ → X) → List ℕ → X → ℕ → Type 0
+ReadsFront w value_of = ReadsMade w (λ source x. x ≡ value_of source)
 
 -- the source has fewer than `w` bytes, and the error is `TooBig` with `w` and the length of the source
 pub record RefusesShort (w : ℕ) (source : List ℕ) (e : Error) : Type 0 where

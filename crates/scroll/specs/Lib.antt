@@ -8,8 +8,10 @@
 -- powers, lists by index, and a history of pieces in which nothing is overwritten.
 pub mod Bytes
 pub mod Numbers
+pub mod Fixed
 pub mod Floats
 pub mod Errors
+pub mod SmallErrors
 pub mod Reads
 pub mod Writes
 pub mod Texts
@@ -19,7 +21,6 @@ pub mod CStringTexts
 pub mod Zeros
 pub mod Arrays
 pub mod Exact
-pub mod Made
 pub mod Fits
 pub mod History
 pub mod Leaves

@@ -1,3 +1,6 @@
 pub mod Sizes
 pub mod Frames
-pub mod Pairs
+pub mod SumLemmas
+pub mod NumberLemmas
+pub mod NumberBytes
+pub mod FixedLemmas

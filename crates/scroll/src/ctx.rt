@@ -7,6 +7,7 @@ ghost use Rattle.std.specs.Prelude.{◌≡◌, ℕ, ◌+◌, ◌^◌, ◌≤◌,
 mod arrays;
 mod bytes;
 mod c_strings;
+mod fixed;
 mod made;
 mod measure;
 mod numbers;
@@ -17,6 +18,7 @@ mod text;
 mod zeros;
 
 pub use arrays::array_fits;
+pub use fixed::{Fixed, Plain, Record, Written};
 pub use made::{bytes_at, read_made};
 pub use str_ctx::{NULL, RET, SPACE, StrCtx, TAB};
 pub use zeros::{Zeros, padding};

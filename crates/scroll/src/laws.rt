@@ -5,6 +5,7 @@
 
 mod c_strings;
 mod constants;
+mod fixed;
 mod floats;
 mod histories;
 mod leb128;
@@ -14,6 +15,7 @@ mod required;
 
 pub use self::c_strings::{c_string_has_one_zero, c_string_has_one_zero as law_9};
 pub use self::constants::constants_have_their_values;
+pub use self::fixed::fixed_size_is_kept;
 pub use self::floats::{float_reads_back, sizes_of_floats_are_those_of_reads_and_writes};
 pub use self::histories::{
     array_has_leaves, what_was_written_stands, what_was_written_stands as law_3,

@@ -42,6 +42,7 @@ mod pwrite;
 pub mod runner;
 mod search;
 pub mod slice;
+mod small_error;
 mod source;
 #[cfg(test)]
 mod tests;
@@ -57,4 +58,5 @@ pub use crate::loads::Loads;
 pub use crate::located::{At, LocateError};
 pub use crate::pread::Pread;
 pub use crate::pwrite::Pwrite;
+pub use crate::small_error::SmallError;
 pub use crate::source::{ReadFrom, Source};

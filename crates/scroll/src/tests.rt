@@ -12,6 +12,7 @@ mod leb128_writes;
 mod numbers;
 mod printed;
 pub mod reads;
+mod records;
 mod required;
 pub mod results;
 mod run_kinds;

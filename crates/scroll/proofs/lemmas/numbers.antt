@@ -2,7 +2,5 @@ pub mod FloatLemmas
 pub mod FrontLemmas
 pub mod HalfLemmas
 pub mod LocalLemmas
-pub mod NumberLemmas
 pub mod PaddingLemmas
 pub mod ReverseLemmas
-pub mod SumLemmas

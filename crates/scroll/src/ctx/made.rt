@@ -1,7 +1,6 @@
 // What the implementations of structs of many fields call: `scripts/derive.sh` prints these calls.
 ghost use Rattle.std.specs.Prelude.{◌≡◌, ◌≤◌, ◌+◌, length, take, drop, IfOk, IfErr};
-ghost use Rattle.scroll.specs.Bytes.{RefusesShort};
-ghost use Rattle.scroll.specs.Made.{ReadsMade};
+ghost use Rattle.scroll.specs.Bytes.{ReadsMade, RefusesShort};
 
 use crate::ctx::FromCtx;
 use crate::error::{Result, check_room};
@@ -24,6 +23,7 @@ pub fn read_made<Ctx: Copy, T: FromCtx<Ctx>>(
 }
 
 /// Returns the `N` bytes from `offset` on. The caller makes sure that they are in bounds.
+#[inline]
 pub fn bytes_at<const N: usize>(from: &[u8], offset: usize) -> [u8; N]
     requires { offset + N ≤ length from.now }
     ensures { result ≡ take N (drop offset from.now) }

@@ -10,13 +10,15 @@ use Rattle.std.specs.Result.{IsErrAnd}
 use borrow.Rule.Slice.PartMut.{put_mid}
 use Rattle.scroll.specs.Bytes.{ReadsFront, WritesFront}
 use Rattle.scroll.specs.Numbers.{number}
-use Rattle.scroll.proofs.lemmas.numbers.SumLemmas.{sum_below-same, sum_below-backwards, digits-bound}
+use Rattle.scroll.specs.lemmas.SumLemmas.{sum_below-same, sum_below-backwards, digits-bound}
 use Rattle.scroll.specs.Reads.{ReadsAt, ReadsBetween, ReadsAll}
 use Rattle.scroll.specs.Writes.{WritesAt}
 use Rattle.scroll.specs.declared.endian.Endian.{Endian}
 use Rattle.scroll.specs.declared.endian.Endian.TheVariants.{Little, Big}
 -- the length of a number's bytes
 pub use Rattle.scroll.specs.lemmas.Frames.{length-number_bytes, length-signed_bytes}
+-- numbers of the same bytes
+pub use Rattle.scroll.specs.lemmas.NumberBytes.{number-front}
 
 -- the value that was read with a cursor at an offset
 pub value-at : {X : Type 0} {f : List ℕ → X} {w : ℕ} {buffer : List ℕ} {from to : ℕ} {x : X} (place : ℕ) → ReadsBetween (ReadsFront w f) buffer from to x → from ≡ place → x ≡ f (drop place buffer)
@@ -97,11 +99,6 @@ grow-copy {place} w {front} bytes {first} {a} h size room =
 pub byte-at : (order : Endian) (buffer : List ℕ) (place : ℕ) → number order 1 (drop place buffer) ≡ slice_index buffer place
 byte-at Little buffer place = grind (arith, common_steps)
 byte-at Big buffer place = grind (arith, common_steps)
-
--- the number in the first w bytes of a list depends only on these
-pub number-front : (order : Endian) (w : ℕ) (s t : List ℕ) → ((i : ℕ) → i < w → slice_index s i ≡ slice_index t i) → number order w s ≡ number order w t
-number-front Little w s t h = sum_below-same _ _ w (λ i l. ap (λ b. b * 256 ^ i) (h i l))
-number-front Big w s t h = sum_below-same _ _ w (λ i l. ap (λ b. b * 256 ^ (w - 1 - i)) (h i l))
 
 -- the bytes from an offset on are below 256
 pub byte-bound : (place : ℕ) (s : List ℕ) → ((i : ℕ) → Fits w8 (slice_index s i)) → (i : ℕ) → slice_index (drop place s) i < 256

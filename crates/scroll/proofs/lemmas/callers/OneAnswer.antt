@@ -2,7 +2,8 @@
 use Rattle.std.proofs.Common.{◌≡◌, ℕ, zero, suc, ◌+◌, ◌≤◌, ◌<◌, List, [], ◌∷◌, length, drop, arith, refl, sym, ◌∙◌, ap, subst, inl, inr, ◌⊎◌, Result, Ok, Err}
 use Rattle.std.proofs.lemmas.Bool.{cases_lt}
 use Rattle.scroll.specs.Arrays.{ReadsArray, RefusesArray, ReadsNested, RefusesNested}
-use Rattle.scroll.specs.Bytes.{ReadsFront, RefusesShort}
+use Rattle.scroll.specs.Bytes.{ReadsMade, ReadsFront, RefusesShort}
+use Rattle.scroll.specs.Fixed.{One}
 use Rattle.scroll.specs.Leb128.{Counted}
 use Rattle.scroll.specs.Laws.{SameError, SameAnswer, Allows, AllowsOne, AllowsOneAtEach}
 use Rattle.scroll.specs.Reads.{ReadsAt, RefusesAt, ReadsAll}
@@ -72,14 +73,17 @@ one-at reads refuses one b o = elim (cases_lt (length b) o) as (λ _. AllowsOne 
       (λ v n a. a.value) (inside-refuses refuses b o inside) (one (drop o b))
 ]
 
--- a value that takes the first w bytes
-pub one-front : {X : Type 0} (w : ℕ) (value_of : List ℕ → X) (s : List ℕ) → AllowsOne (ReadsFront w value_of s) (RefusesShort w s)
-one-front w value_of s = elim (cases_lt (length s) w) as (λ _. AllowsOne (ReadsFront w value_of s) (RefusesShort w s)) [
-  | inl short ↦ one-Err (ReadsFront w value_of s) (RefusesShort w s) (TooBig w (length s)) (record { short = short; error = refl })
+-- a value that takes the first w bytes, which make one value
+pub one-made : {X : Type 0} (w : ℕ) (makes : List ℕ → X → Type 0) (s : List ℕ) → One (makes s) → AllowsOne (ReadsMade w makes s) (RefusesShort w s)
+one-made w makes s one = elim (cases_lt (length s) w) as (λ _. AllowsOne (ReadsMade w makes s) (RefusesShort w s)) [
+  | inl short ↦ one-Err (ReadsMade w makes s) (RefusesShort w s) (TooBig w (length s)) (record { short = short; error = refl })
       (λ v m r. absurd (omega (arith, short, r.room))) (λ d r. same-too_big d w (length s) r.error)
-  | inr long ↦ one-Ok (ReadsFront w value_of s) (RefusesShort w s) (value_of s) w (record { room = long; value = refl; size = refl })
-      (λ v m r. (r.value, r.size)) (λ e r. absurd (omega (arith, long, r.short)))
+  | inr long ↦ one-Ok (ReadsMade w makes s) (RefusesShort w s) one.value w (record { room = long; value = one.is; size = refl })
+      (λ v m r. (one.only v r.value, r.size)) (λ e r. absurd (omega (arith, long, r.short)))
 ]
+
+pub one-front : {X : Type 0} (w : ℕ) (value_of : List ℕ → X) (s : List ℕ) → AllowsOne (ReadsFront w value_of s) (RefusesShort w s)
+one-front w value_of s = one-made w (λ t x. x ≡ value_of t) s (record { value = value_of s; is = refl; only = λ x h. h })
 
 module _ {V : Type 0} (reads : List ℕ → V → ℕ → Type 0) (refuses : List ℕ → Error → Type 0) (s : List ℕ) where
   -- count values from an offset, or fewer and then an error

@@ -1,44 +1,26 @@
 -- Lemmas for callers: round trips. What was read is written back, and what was written reads back.
-use Rattle.std.proofs.Common.{◌≡◌, ◌≢◌, ℕ, ℤ, pos, neg_ℤ, nat_abs, ◌+ℤ◌, ◌-ℤ◌, ◌*ℤ◌, ◌≤ℤ◌, ◌<ℤ◌, ◌+◌, ◌-◌, ◌*◌, ◌/◌, ◌%◌, ◌^◌, ◌<◌, ◌≤◌, ◌++◌, ◌==◌, true, List, [], ◌∷◌, length, take, drop, get_or, slice_index, Fits, w8, refl, sym, ap, subst, ◌∙◌, arith, IsUtf8, append_assoc, length-append, length-take, length-drop, get_or-take}
-use Rattle.std.proofs.Math.Nat.{mod-eq_of_lt}
+use Rattle.std.proofs.Common.{◌≡◌, ◌≢◌, ℕ, ℤ, pos, nat_abs, ◌+ℤ◌, ◌-ℤ◌, ◌+◌, ◌-◌, ◌*◌, ◌/◌, ◌%◌, ◌^◌, ◌<◌, ◌≤◌, ◌++◌, ◌==◌, true, List, [], ◌∷◌, length, take, drop, get_or, slice_index, Fits, w8, refl, sym, ap, subst, ◌∙◌, arith, IsUtf8, append_assoc, length-append, length-take, length-drop, get_or-take}
 use Rattle.std.proofs.Math.Seq.{take-add}
 use Rattle.std.proofs.lemmas.Grind.{flat_map-append, same_number_lists}
 use Rattle.std.proofs.lemmas.Int.{ints}
-use Rattle.std.proofs.lemmas.List.{append-nil, drop-drop, drop_at, take_at, take_all, take_more, take-append-drop, get_or_append_left, length-take-le}
+use Rattle.std.proofs.lemmas.List.{append-nil, drop-drop, drop_at, take_at, take_all, take_more, take-append-drop, length-take-le}
 use Rattle.std.proofs.lemmas.List.Elements.{All-head, All-tail, All-weaker}
 use Rattle.std.proofs.lemmas.List.FromFn.{get_or-map-range_with_len}
 use Rattle.std.proofs.lemmas.List.Sums.{passes_at_first}
 use Rattle.std.specs.List.{All, flat_map}
 use Rattle.std.specs.Prelude.{int_lt, nat_lt, if◌then◌else◌}
-use Rattle.scroll.proofs.lemmas.numbers.NumberLemmas.{bytes-fit}
-use Rattle.scroll.proofs.lemmas.callers.Cursors.{Begins, grow, byte-bound, number-bound, number-front}
+use Rattle.scroll.specs.lemmas.NumberLemmas.{bytes-fit}
+use Rattle.scroll.proofs.lemmas.callers.Cursors.{Begins, grow, byte-bound, number-bound}
 use Rattle.scroll.specs.lemmas.Frames.{length-number_bytes}
 use Rattle.scroll.specs.Numbers.{number, number_bytes, signed_number, signed_bytes}
-use Rattle.scroll.proofs.lemmas.numbers.NumberLemmas.{complement-back}
 use Rattle.scroll.specs.Reads.{ReadsAt, ReadsAll}
-use Rattle.scroll.proofs.lemmas.numbers.SumLemmas.{sum_below-same, sum_below-backwards, digits-sum, digit-at}
+use Rattle.scroll.specs.lemmas.SumLemmas.{sum_below-same, sum_below-backwards, digit-at}
 use Rattle.scroll.specs.Texts.{first_place, ReadsText}
 use Rattle.scroll.specs.declared.ctx.str_ctx.StrCtx.TheVariants.{Required}
 use Rattle.scroll.specs.declared.endian.Endian.{Endian}
 use Rattle.scroll.specs.declared.endian.Endian.TheVariants.{Little, Big}
-
--- the number in the bytes of x
-number-number_bytes : (order : Endian) (w x : ℕ) → x < 256 ^ w → number order w (number_bytes order w x) ≡ x
-number-number_bytes Little w x h =
-    sum_below-same _ _ w (λ i l. ap (λ b. b * 256 ^ i) (get_or-map-range_with_len (λ j. x / 256 ^ j % 256) 0 w i i 0 l (omega arith)))
-    ∙ digits-sum 256 (omega arith) w x ∙ mod-eq_of_lt h
-number-number_bytes Big w x h =
-    sum_below-same _ _ w
-    (λ i l. ap (λ b. b * 256 ^ (w - 1 - i)) (get_or-map-range_with_len (λ j. x / 256 ^ (w - 1 - j) % 256) 0 w i i 0 l (omega arith)))
-    ∙ sym (sum_below-backwards (λ i. x / 256 ^ i % 256 * 256 ^ i) w) ∙ digits-sum 256 (omega arith) w x ∙ mod-eq_of_lt h
-
--- a list that begins with the bytes of x begins with that number
-pub number-begins : (order : Endian) (w x : ℕ) (rest : List ℕ) → x < 256 ^ w → number order w (number_bytes order w x ++ rest) ≡ x
-number-begins order w x rest h =
-    let len = length-number_bytes order w x in
-    number-front order w (number_bytes order w x ++ rest) (number_bytes order w x)
-    (λ i l. get_or_append_left (number_bytes order w x) rest 0 i (omega (arith, l, len)))
-    ∙ number-number_bytes order w x h
+-- a list that begins with the bytes of a number begins with that number
+pub use Rattle.scroll.specs.lemmas.NumberBytes.{number-begins, signed-begins}
 
 -- the bytes of the number at an offset are the bytes there
 pub number-back : (order : Endian) (w place : ℕ) (s : List ℕ) → ((i : ℕ) → Fits w8 (slice_index s i)) → place + w ≤ length s → number_bytes order w (number order w (drop place s)) ≡ take w (drop place s)
@@ -187,14 +169,6 @@ signed-back order w place s h room =
 -- and those of one more, after bytes that are written back
 pub signed-grow : (order : Endian) (w place : ℕ) (s front : List ℕ) → ((i : ℕ) → Fits w8 (slice_index s i)) → place + w ≤ length s → front ≡ take place s → front ++ signed_bytes order w (signed_number order w (drop place s)) ≡ take (place + w) s
 signed-grow order w place s front h room is = back-next place w s is (signed-back order w place s h room)
-
--- a list that begins with the bytes of a signed number begins with that number
-pub signed-begins : (order : Endian) (w : ℕ) (x : ℤ) (rest : List ℕ) → neg_ℤ (pos (256 ^ w)) ≤ℤ (pos 2 *ℤ x) → (pos 2 *ℤ x) <ℤ pos (256 ^ w) → signed_number order w (signed_bytes order w x ++ rest) ≡ x
-signed-begins order w x rest low high =
-    let back = complement-back (256 ^ w) x low high (if int_lt x (pos 0) then nat_abs (pos (256 ^ w) +ℤ x) else nat_abs x) refl in
-    ap (λ (n : ℕ). if nat_lt (2 * n) (256 ^ w) then pos n else pos n -ℤ pos (256 ^ w))
-    (number-begins order w (if int_lt x (pos 0) then nat_abs (pos (256 ^ w) +ℤ x) else nat_abs x) rest back.0)
-    ∙ back.1
 
 -- bytes after a number of w bytes that counts them: what was read is written back
 pub counted-back : (order : Endian) (w place : ℕ) (s text : List ℕ) (n : ℕ) → ((i : ℕ) → Fits w8 (slice_index s i)) → place ≤ length s → w + number order w (drop place s) ≤ length (drop place s) → text ≡ take (number order w (drop place s)) (drop w (drop place s)) → n ≡ length text → number_bytes order w n ++ text ≡ take (w + number order w (drop place s)) (drop place s)

@@ -9,7 +9,7 @@ use Rattle.std.proofs.Common.{Some, None}
 use Rattle.std.proofs.lemmas.Option.{slice_get-get_or, get_or_from_slice_get}
 use Rattle.std.proofs.lemmas.List.{get_or-take, length-take-le}
 use Rattle.std.specs.List.{slice_get}
-use Rattle.scroll.proofs.lemmas.numbers.SumLemmas.{digits-bound}
+use Rattle.scroll.specs.lemmas.SumLemmas.{digits-bound}
 use Rattle.scroll.specs.Leb128.{group, groups_value, end_of, unsigned_of, count_of, ReadsGroups}
 
 -- ---- powers and sums

@@ -11,7 +11,7 @@ use Rattle.std.proofs.Math.Seq.{take-append_seam}
 use Rattle.std.specs.List.{All}
 use Rattle.scroll.specs.Leb128.{group, groups_value, end_of, count_of, ReadsGroups, ReadsUleb}
 use Rattle.scroll.specs.lemmas.Frames.{length-spelling}
-use Rattle.scroll.proofs.lemmas.numbers.SumLemmas.{sum_below-same, digits-sum, digit-at}
+use Rattle.scroll.specs.lemmas.SumLemmas.{sum_below-same, digits-sum, digit-at}
 use Rattle.scroll.specs.Spelling.{spelled_byte, spelling, HoldsGroups, HasSpelling, BeginsWith}
 use Rattle.scroll.proofs.lemmas.leb128.LebLemmas.{groups_lt, end_at, end_below, open_before}
 

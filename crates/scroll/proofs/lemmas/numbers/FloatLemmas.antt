@@ -1,31 +1,22 @@
 -- Floats and their bits, and floats and their bytes.
-use Rattle.std.proofs.Common.{◌≡◌, ℕ, ◌+◌, ◌*◌, ◌<◌, ◌≤◌, ◌^◌, ◌++◌, List, length, take, drop, slice_index, Fits, w8, T, to_bits, from_bits, refl, sym, ◌∙◌, ap, arith}
-use Rattle.std.specs.Float.{Float, Format, binary32, binary64, NotNan}
-use Rattle.std.specs.Float.Ieee.{fits, top}
-use lib.Ieee.Bits.{of_bits-to_bits, to_bits-lt, to_bits-of_bits}
+use Rattle.std.proofs.Common.{◌≡◌, ℕ, ◌+◌, ◌*◌, ◌<◌, ◌≤◌, List, length, take, drop, slice_index, Fits, w8, to_bits, from_bits, sym, ◌∙◌, ap, arith}
+use Rattle.std.specs.Float.{Float, Format, NotNan}
+use Rattle.std.specs.Float.Ieee.{top}
+use lib.Ieee.Bits.{to_bits-of_bits}
 use Rattle.scroll.proofs.lemmas.numbers.LocalLemmas.{number-same}
 use Rattle.scroll.proofs.lemmas.callers.Cursors.{number-bound}
 use Rattle.scroll.specs.Floats.{float_width, float, float_bytes, ReadsFloat}
 use Rattle.scroll.specs.Laws.{IsLocal}
 use Rattle.scroll.specs.lemmas.Frames.{length-number_bytes}
 use Rattle.scroll.specs.Numbers.{number, number_bytes}
-use Rattle.scroll.proofs.lemmas.callers.RoundTrips.{number-back, number-begins}
+use Rattle.scroll.proofs.lemmas.callers.RoundTrips.{number-back}
 use Rattle.scroll.specs.declared.endian.Endian.{Endian}
-
--- the bits of a format are those of its bytes
-all-bits : (f : Format) → 2 * top f ≡ 256 ^ float_width f
-all-bits binary32 = refl
-all-bits binary64 = refl
+-- a list that begins with the bytes of a float begins with that float
+pub use Rattle.scroll.specs.lemmas.NumberBytes.{all-bits, float-begins}
 
 -- there are as many bytes as the format has
 pub length-float_bytes : (f : Format) (order : Endian) (x : Float) → length (float_bytes f order x) ≡ float_width f
 length-float_bytes f order x = length-number_bytes order (float_width f) (to_bits f x)
-
--- a list that begins with the bytes of a float begins with that float
-pub float-begins : (f : Format) (order : Endian) (x : Float) (rest : List ℕ) → T (fits f x) → float f order (float_bytes f order x ++ rest) ≡ x
-float-begins f order x rest h =
-    let bound : to_bits f x < 256 ^ float_width f = omega (arith, to_bits-lt f x h, all-bits f) in
-    ap (from_bits f) (number-begins order (float_width f) (to_bits f x) rest bound) ∙ of_bits-to_bits f x h
 
 -- the bytes of the float at an offset are the bytes there, if it isn't a NaN
 pub float-back : (f : Format) (order : Endian) (place : ℕ) (s : List ℕ) → ((i : ℕ) → Fits w8 (slice_index s i)) → place + float_width f ≤ length s → NotNan (float f order (drop place s)) → float_bytes f order (float f order (drop place s)) ≡ take (float_width f) (drop place s)

@@ -2,7 +2,7 @@
 use Rattle.std.proofs.Common.{◌≡◌, ℕ, ℤ, pos, neg_ℤ, nat_abs, ◌+ℤ◌, ◌-ℤ◌, ◌*ℤ◌, ◌≤ℤ◌, ◌<ℤ◌, ◌*◌, ◌^◌, ◌≤◌, ◌<◌, ◌++◌, List, length, take, drop, refl, sym, ap, ◌∙◌, arith, length-take}
 use Rattle.std.proofs.lemmas.List.{take-append-drop}
 use Rattle.std.specs.Prelude.{int_lt, nat_lt, if◌then◌else◌}
-use Rattle.scroll.proofs.lemmas.numbers.NumberLemmas.{complement-back}
+use Rattle.scroll.specs.lemmas.NumberLemmas.{complement-back}
 use Rattle.scroll.proofs.lemmas.callers.RoundTrips.{number-begins}
 use Rattle.scroll.specs.lemmas.Frames.{length-number_bytes, length-signed_bytes}
 use Rattle.scroll.specs.Numbers.{number, number_bytes, signed_number, signed_bytes, ReadsNumber, ReadsSigned}

@@ -1,23 +1,25 @@
 -- Reads that depend only on the bytes that they take, and that take no more than there are.
-use Rattle.std.proofs.Common.{◌≡◌, ℕ, ◌+◌, ◌≤◌, ◌*◌, ◌^◌, List, [], ◌∷◌, length, take, drop, get_or, arith, sym, ◌∙◌, ap, length-drop, pos, ◌-ℤ◌}
-use Rattle.std.proofs.lemmas.List.{get_or-take, take-take, drop-take}
-use Rattle.std.specs.Prelude.{nat_lt, if◌then◌else◌}
-use Rattle.scroll.proofs.lemmas.callers.Cursors.{number-front}
+use Rattle.std.proofs.Common.{◌≡◌, ℕ, ◌+◌, ◌≤◌, List, [], ◌∷◌, length, take, drop, arith, sym, ◌∙◌, ap, length-drop}
+use Rattle.std.proofs.lemmas.List.{take-take, drop-take}
 use Rattle.scroll.specs.lemmas.Sizes.{ReadsArray-bounded}
 use Rattle.scroll.specs.Arrays.{ReadsArray}
+use Rattle.scroll.specs.Bytes.{ReadsMade}
 use Rattle.scroll.specs.Laws.{IsLocal, IsBounded, IsWithin}
-use Rattle.scroll.specs.Numbers.{number, ReadsNumber, ReadsSigned}
+use Rattle.scroll.specs.Numbers.{ReadsNumber, ReadsSigned}
 use Rattle.scroll.specs.Reads.{ReadsAll}
 use Rattle.scroll.specs.declared.endian.Endian.{Endian}
+-- lists with the same first w bytes have the same number there
+pub use Rattle.scroll.specs.lemmas.NumberBytes.{number-same, signed-same}
 
 -- equal fronts have equal shorter fronts
 pub take-same : (m n : ℕ) (s t : List ℕ) → m ≤ n → take n t ≡ take n s → take m t ≡ take m s
 take-same m n s t h e = sym (take-take m n t h) ∙ ap (take m) e ∙ take-take m n s h
 
--- lists with the same first w bytes have the same number there
-pub number-same : (w : ℕ) (order : Endian) (s t : List ℕ) → take w t ≡ take w s → number order w t ≡ number order w s
-number-same w order s t front =
-    number-front order w t s (λ i l. sym (get_or-take w t i 0 l) ∙ ap (λ x. get_or x i 0) front ∙ get_or-take w s i 0 l)
+-- a value that is made of the first w bytes, and depends on these alone
+pub local-made : {X : Type 0} (w : ℕ) (makes : List ℕ → X → Type 0) → ((s t : List ℕ) (x : X) → take w s ≡ take w t → makes s x → makes t x) → IsLocal (ReadsMade w makes)
+local-made w makes same s t v n r h long e =
+    let front : take w t ≡ take w s = ap (λ m. take m t) (sym r.size) ∙ e ∙ ap (λ m. take m s) r.size in
+    record { room = omega (arith, r.room, long); value = same s t v (sym front) r.value; size = r.size }
 
 pub local-number : (w : ℕ) (order : Endian) → IsLocal (ReadsNumber w order)
 local-number w order s t v n r h long e =
@@ -33,7 +35,7 @@ local-signed w order s t v n r h long e =
     let front : take w t ≡ take w s = ap (λ m. take m t) (sym r.size) ∙ e ∙ ap (λ m. take m s) r.size in
     record {
       room = omega (arith, r.room, long);
-      value = r.value ∙ sym (ap (λ (n : ℕ). if nat_lt (2 * n) (256 ^ w) then pos n else pos n -ℤ pos (256 ^ w)) (number-same w order s t front));
+      value = r.value ∙ sym (signed-same w order s t front);
       size = r.size;
     }
 

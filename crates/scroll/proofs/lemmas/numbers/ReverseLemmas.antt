@@ -1,7 +1,7 @@
 -- Numbers of reversed bytes.
 use Rattle.std.proofs.Common.{◌≡◌, ℕ, ◌-◌, ◌*◌, ◌^◌, List, length, get_or, reverse, refl, ◌∙◌, arith}
 use Rattle.std.proofs.lemmas.List.{get_or-reverse}
-use Rattle.scroll.proofs.lemmas.numbers.SumLemmas.{sum_below-same, sum_below-backwards}
+use Rattle.scroll.specs.lemmas.SumLemmas.{sum_below-same, sum_below-backwards}
 use Rattle.scroll.specs.Numbers.{number}
 use Rattle.scroll.specs.declared.endian.Endian.TheVariants.{Little, Big}
 

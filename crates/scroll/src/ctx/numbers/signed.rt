@@ -1,18 +1,43 @@
 // The signed types, in two's complement: `i8`, `i16`, `i32`, `i64` and `i128`.
-ghost use Rattle.scroll.specs.Numbers.{signed_number, twos_complement};
+ghost use Rattle.std.specs.Prelude.{◌≡◌, ◌^◌, drop, pos, neg_ℤ, ◌≤ℤ◌, ◌<ℤ◌, ◌*ℤ◌};
+ghost use Rattle.std.proofs.Common.{rules};
+ghost use Rattle.scroll.specs.Numbers.{signed_number, signed_bytes};
+ghost use Rattle.scroll.specs.lemmas.FixedLemmas.{one-value, signed-back-at, signed-local};
+ghost use Rattle.scroll.specs.lemmas.Frames.{length-signed_bytes};
 
-use super::{Number, Written, front, put_front, put_sixteen};
+use super::{put_front, put_sixteen};
+use crate::ctx::fixed::{Fixed, Plain, Written};
+use crate::ctx::made::bytes_at;
 use crate::endian::Endian;
 
-impl Written for i8 {
+impl Fixed for i8 {
     ghost width = { 1 };
 
-    ghost code = { twos_complement 1 };
+    ghost bytes = { λ order x. signed_bytes order 1 x };
+
+    ghost makes = { λ order s at x. x ≡ signed_number order 1 (drop at s) };
+
+    ghost fits = { λ x. (neg_ℤ (pos (256 ^ 1)) ≤ℤ (pos 2 *ℤ x)) × ((pos 2 *ℤ x) <ℤ pos (256 ^ 1)) };
+
+    ghost bytes_len = { λ order x. length-signed_bytes order 1 x };
+
+    ghost back = { λ order x front rest h. signed-back-at order 1 x front rest h };
+
+    ghost one = { λ order s at. one-value (signed_number order 1 (drop at s)) };
+
+    ghost local = { λ order s at t to x same h. signed-local order 1 s at t to x same h };
 
     fn width() -> usize {
         1
     }
 
+    fn read_at(from: &[u8], offset: usize, order: Endian) -> i8 {
+        match order {
+            Endian::Little => i8::from_le_bytes(bytes_at(from, offset)),
+            Endian::Big => i8::from_be_bytes(bytes_at(from, offset)),
+        }
+    }
+
     fn write_front(self, dst: &mut [u8], order: Endian) {
         match order {
             Endian::Little => put_front(dst, self.to_le_bytes()),
@@ -21,26 +46,49 @@ impl Written for i8 {
     }
 }
 
-impl Number for i8 {
-    ghost value = { λ order. signed_number order 1 };
+impl Plain for i8 {
+    ghost small = { Prim.search rules };
+}
 
-    fn read_front(from: &[u8], order: Endian) -> i8 {
-        match order {
-            Endian::Little => i8::from_le_bytes(front(from)),
-            Endian::Big => i8::from_be_bytes(front(from)),
-        }
+impl<'n> Written for &'n i8 {
+    type Value = i8;
+
+    ghost value_of = { λ x. x.now };
+
+    #[inline(always)]
+    fn value(self) -> i8 {
+        *self
     }
 }
 
-impl Written for i16 {
+impl Fixed for i16 {
     ghost width = { 2 };
 
-    ghost code = { twos_complement 2 };
+    ghost bytes = { λ order x. signed_bytes order 2 x };
+
+    ghost makes = { λ order s at x. x ≡ signed_number order 2 (drop at s) };
+
+    ghost fits = { λ x. (neg_ℤ (pos (256 ^ 2)) ≤ℤ (pos 2 *ℤ x)) × ((pos 2 *ℤ x) <ℤ pos (256 ^ 2)) };
+
+    ghost bytes_len = { λ order x. length-signed_bytes order 2 x };
+
+    ghost back = { λ order x front rest h. signed-back-at order 2 x front rest h };
+
+    ghost one = { λ order s at. one-value (signed_number order 2 (drop at s)) };
+
+    ghost local = { λ order s at t to x same h. signed-local order 2 s at t to x same h };
 
     fn width() -> usize {
         2
     }
 
+    fn read_at(from: &[u8], offset: usize, order: Endian) -> i16 {
+        match order {
+            Endian::Little => i16::from_le_bytes(bytes_at(from, offset)),
+            Endian::Big => i16::from_be_bytes(bytes_at(from, offset)),
+        }
+    }
+
     fn write_front(self, dst: &mut [u8], order: Endian) {
         match order {
             Endian::Little => put_front(dst, self.to_le_bytes()),
@@ -49,26 +97,49 @@ impl Written for i16 {
     }
 }
 
-impl Number for i16 {
-    ghost value = { λ order. signed_number order 2 };
+impl Plain for i16 {
+    ghost small = { Prim.search rules };
+}
 
-    fn read_front(from: &[u8], order: Endian) -> i16 {
-        match order {
-            Endian::Little => i16::from_le_bytes(front(from)),
-            Endian::Big => i16::from_be_bytes(front(from)),
-        }
+impl<'n> Written for &'n i16 {
+    type Value = i16;
+
+    ghost value_of = { λ x. x.now };
+
+    #[inline(always)]
+    fn value(self) -> i16 {
+        *self
     }
 }
 
-impl Written for i32 {
+impl Fixed for i32 {
     ghost width = { 4 };
 
-    ghost code = { twos_complement 4 };
+    ghost bytes = { λ order x. signed_bytes order 4 x };
+
+    ghost makes = { λ order s at x. x ≡ signed_number order 4 (drop at s) };
+
+    ghost fits = { λ x. (neg_ℤ (pos (256 ^ 4)) ≤ℤ (pos 2 *ℤ x)) × ((pos 2 *ℤ x) <ℤ pos (256 ^ 4)) };
+
+    ghost bytes_len = { λ order x. length-signed_bytes order 4 x };
+
+    ghost back = { λ order x front rest h. signed-back-at order 4 x front rest h };
+
+    ghost one = { λ order s at. one-value (signed_number order 4 (drop at s)) };
+
+    ghost local = { λ order s at t to x same h. signed-local order 4 s at t to x same h };
 
     fn width() -> usize {
         4
     }
 
+    fn read_at(from: &[u8], offset: usize, order: Endian) -> i32 {
+        match order {
+            Endian::Little => i32::from_le_bytes(bytes_at(from, offset)),
+            Endian::Big => i32::from_be_bytes(bytes_at(from, offset)),
+        }
+    }
+
     fn write_front(self, dst: &mut [u8], order: Endian) {
         match order {
             Endian::Little => put_front(dst, self.to_le_bytes()),
@@ -77,26 +148,49 @@ impl Written for i32 {
     }
 }
 
-impl Number for i32 {
-    ghost value = { λ order. signed_number order 4 };
+impl Plain for i32 {
+    ghost small = { Prim.search rules };
+}
 
-    fn read_front(from: &[u8], order: Endian) -> i32 {
-        match order {
-            Endian::Little => i32::from_le_bytes(front(from)),
-            Endian::Big => i32::from_be_bytes(front(from)),
-        }
+impl<'n> Written for &'n i32 {
+    type Value = i32;
+
+    ghost value_of = { λ x. x.now };
+
+    #[inline(always)]
+    fn value(self) -> i32 {
+        *self
     }
 }
 
-impl Written for i64 {
+impl Fixed for i64 {
     ghost width = { 8 };
 
-    ghost code = { twos_complement 8 };
+    ghost bytes = { λ order x. signed_bytes order 8 x };
+
+    ghost makes = { λ order s at x. x ≡ signed_number order 8 (drop at s) };
+
+    ghost fits = { λ x. (neg_ℤ (pos (256 ^ 8)) ≤ℤ (pos 2 *ℤ x)) × ((pos 2 *ℤ x) <ℤ pos (256 ^ 8)) };
+
+    ghost bytes_len = { λ order x. length-signed_bytes order 8 x };
+
+    ghost back = { λ order x front rest h. signed-back-at order 8 x front rest h };
+
+    ghost one = { λ order s at. one-value (signed_number order 8 (drop at s)) };
+
+    ghost local = { λ order s at t to x same h. signed-local order 8 s at t to x same h };
 
     fn width() -> usize {
         8
     }
 
+    fn read_at(from: &[u8], offset: usize, order: Endian) -> i64 {
+        match order {
+            Endian::Little => i64::from_le_bytes(bytes_at(from, offset)),
+            Endian::Big => i64::from_be_bytes(bytes_at(from, offset)),
+        }
+    }
+
     fn write_front(self, dst: &mut [u8], order: Endian) {
         match order {
             Endian::Little => put_front(dst, self.to_le_bytes()),
@@ -105,24 +199,47 @@ impl Written for i64 {
     }
 }
 
-impl Number for i64 {
-    ghost value = { λ order. signed_number order 8 };
+impl Plain for i64 {
+    ghost small = { Prim.search rules };
+}
 
-    fn read_front(from: &[u8], order: Endian) -> i64 {
-        match order {
-            Endian::Little => i64::from_le_bytes(front(from)),
-            Endian::Big => i64::from_be_bytes(front(from)),
-        }
+impl<'n> Written for &'n i64 {
+    type Value = i64;
+
+    ghost value_of = { λ x. x.now };
+
+    #[inline(always)]
+    fn value(self) -> i64 {
+        *self
     }
 }
 
-impl Written for i128 {
+impl Fixed for i128 {
     ghost width = { 16 };
 
-    ghost code = { twos_complement 16 };
+    ghost bytes = { λ order x. signed_bytes order 16 x };
+
+    ghost makes = { λ order s at x. x ≡ signed_number order 16 (drop at s) };
+
+    ghost fits = { λ x. (neg_ℤ (pos (256 ^ 16)) ≤ℤ (pos 2 *ℤ x)) × ((pos 2 *ℤ x) <ℤ pos (256 ^ 16)) };
+
+    ghost bytes_len = { λ order x. length-signed_bytes order 16 x };
+
+    ghost back = { λ order x front rest h. signed-back-at order 16 x front rest h };
+
+    ghost one = { λ order s at. one-value (signed_number order 16 (drop at s)) };
+
+    ghost local = { λ order s at t to x same h. signed-local order 16 s at t to x same h };
 
     fn width() -> usize {
         16
+    }
+
+    fn read_at(from: &[u8], offset: usize, order: Endian) -> i128 {
+        match order {
+            Endian::Little => i128::from_le_bytes(bytes_at(from, offset)),
+            Endian::Big => i128::from_be_bytes(bytes_at(from, offset)),
+        }
     }
 
     fn write_front(self, dst: &mut [u8], order: Endian) {
@@ -130,13 +247,17 @@ impl Written for i128 {
     }
 }
 
-impl Number for i128 {
-    ghost value = { λ order. signed_number order 16 };
+impl Plain for i128 {
+    ghost small = { Prim.search rules };
+}
 
-    fn read_front(from: &[u8], order: Endian) -> i128 {
-        match order {
-            Endian::Little => i128::from_le_bytes(front(from)),
-            Endian::Big => i128::from_be_bytes(front(from)),
-        }
+impl<'n> Written for &'n i128 {
+    type Value = i128;
+
+    ghost value_of = { λ x. x.now };
+
+    #[inline(always)]
+    fn value(self) -> i128 {
+        *self
     }
 }

@@ -1,0 +1,66 @@
+//! The proved program, run on a session, and with faults on the way.
+
+use std::io::{Read, Write};
+use std::process::{Command, Stdio};
+use std::sync::OnceLock;
+
+/// The path of the program.
+pub static PROGRAM: OnceLock<String> = OnceLock::new();
+
+/// What the program prints for an input, and its exit status.
+pub fn run(input: &[u8], faults: &[(&str, String)]) -> (Vec<u8>, Option<i32>) {
+    let mut command = Command::new(PROGRAM.get().unwrap());
+    command.envs(faults.iter().map(|(name, value)| (name, value)));
+    let mut child = command.stdin(Stdio::piped()).stdout(Stdio::piped()).spawn().expect("the program starts");
+    // It reads all that it takes before it writes. If it takes less, the pipe breaks.
+    let _ = child.stdin.take().unwrap().write_all(input);
+    let mut printed = Vec::new();
+    child.stdout.take().unwrap().read_to_end(&mut printed).expect("the program's output is read");
+    (printed, child.wait().expect("the program ends").code())
+}
+
+/// How the runs with one fault each may end.
+struct Fault {
+    variable: &'static str,
+    status: i32,
+    printed: fn(&[u8], &[u8]) -> bool,
+}
+
+/// scripts/faults.c refuses the allocation, or lets the call fail, that such a variable counts.
+const FAULTS: [Fault; 3] = [
+    Fault { variable: "FAULT_MEMORY", status: 3, printed: |printed, _| printed == b"out of memory\n" },
+    Fault { variable: "FAULT_READ", status: 4, printed: |printed, _| printed.is_empty() },
+    Fault {
+        variable: "FAULT_WRITE",
+        status: 4,
+        printed: |printed, whole| whole.starts_with(printed) && printed != whole,
+    },
+];
+
+/// Refuses each allocation, read and write of a session in turn, until a run meets no more of them. Returns how many
+/// faults there were, or what went wrong.
+pub fn with_faults(input: &[u8], library: &str) -> Result<usize, String> {
+    let wanted = run(input, &[]);
+    let mut count = 0;
+    for fault in &FAULTS {
+        for number in 1.. {
+            let faults = [("LD_PRELOAD", library.to_string()), (fault.variable, number.to_string())];
+            let (printed, status) = run(input, &faults);
+            if (&printed, status) == (&wanted.0, wanted.1) {
+                if number == 1 {
+                    return Err(format!("{}=1 changes nothing", fault.variable));
+                }
+                break;
+            }
+            if status != Some(fault.status) || !(fault.printed)(&printed, &wanted.0) {
+                return Err(format!(
+                    "{}={number}: status {status:?}, and {} bytes are printed",
+                    fault.variable,
+                    printed.len()
+                ));
+            }
+            count += 1;
+        }
+    }
+    Ok(count)
+}

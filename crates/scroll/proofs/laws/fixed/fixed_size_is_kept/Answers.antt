@@ -1,0 +1,31 @@
+use Rattle.std.proofs.Common.{[], length, drop, sym, ap, subst, ◌∙◌, arith, length-append}
+use Rattle.scroll.proofs.lemmas.callers.Leaves.{front-leaf}
+use Rattle.scroll.proofs.lemmas.callers.OneAnswer.{one-at, one-made}
+use Rattle.scroll.proofs.lemmas.numbers.LocalLemmas.{local-made}
+use Rattle.scroll.specs.Bytes.{ReadsMade, RefusesShort}
+use Rattle.scroll.proofs.laws.fixed.fixed_size_is_kept.Goals as goal
+
+pub returns-clause-again : goal.returns-clause-again
+returns-clause-again g c order x old new n fits h =
+    let bytes = g.F.Fixed.bytes order x in
+    let rest = drop g.F.Fixed.width old in
+    let whole = ap length h.after ∙ length-append bytes rest in
+    record {
+      room = omega (arith, whole, g.met.F.Fixed.bytes_len order x);
+      value = subst (λ s. g.F.Fixed.makes order s 0 x) (sym h.after) (g.met.F.Fixed.back order x [] rest fits);
+      size = h.size;
+    }
+
+pub returns-clause-local : goal.returns-clause-local
+returns-clause-local g c order = local-made g.F.Fixed.width (λ s. g.F.Fixed.makes order s 0) (λ s t x same. g.met.F.Fixed.local order s 0 t 0 x same)
+
+pub returns-clause-within : goal.returns-clause-within
+returns-clause-within g c order s v n r = omega (arith, r.room, r.size)
+
+pub returns-clause-one : goal.returns-clause-one
+returns-clause-one g c order =
+    one-at (ReadsMade g.F.Fixed.width (λ s. g.F.Fixed.makes order s 0)) (RefusesShort g.F.Fixed.width)
+    (λ s. one-made g.F.Fixed.width (λ s. g.F.Fixed.makes order s 0) s (g.met.F.Fixed.one order s 0))
+
+pub returns-clause-leaf : goal.returns-clause-leaf
+returns-clause-leaf g c order = front-leaf g.F.Fixed.width (g.F.Fixed.bytes order) (g.met.F.Fixed.bytes_len order)

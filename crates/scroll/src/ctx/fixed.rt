@@ -1,0 +1,248 @@
+// Types of a fixed size. A type describes itself once, by [`Fixed`] or by [`Record`], and the traits of contexts follow.
+ghost use Rattle.std.specs.Prelude.{◌≡◌, ◌≤◌, ◌<◌, ◌+◌, ◌^◌, ◌++◌, ℕ, List, length, take, drop};
+ghost use Rattle.std.proofs.Common.{rules};
+ghost use Rattle.scroll.specs.Bytes.{ReadsMade, RefusesShort, WritesFront, LeavesShort};
+ghost use Rattle.scroll.specs.Fixed.{One, SameAt};
+ghost use Rattle.scroll.specs.lemmas.FixedLemmas.{record-one, bytes-keep, write-keeps};
+ghost use Rattle.scroll.specs.declared.endian.Endian.{Endian};
+
+use crate::ctx::{FromCtx, IntoCtx, SizeWith, TryFromCtx, TryIntoCtx};
+use crate::endian::Endian;
+use crate::error::{Error, Result, check_room};
+
+/// A type whose values all have the same number of bytes: a number, a pair of such types, or a struct of them.
+///
+/// For a struct implement [`Record`], which says its fields. An implementation of this trait says the bytes of a value
+/// and the value of bytes, in a byte order, and proves that these go together: what was written reads back.
+pub trait Fixed: Copy {
+    // How many bytes a value has.
+    ghost width: { ℕ };
+
+    // The bytes of a value.
+    ghost bytes: { Endian → Self → List ℕ };
+
+    // Holds of a source, an offset in it, and the value that the bytes there make.
+    ghost makes: { Endian → List ℕ → ℕ → Self → Type 0 };
+
+    // Holds of each value of the type. (In a law a number may be any number.)
+    ghost fits: { Self → Type 0 };
+
+    /// Returns how many bytes a value has.
+    fn width() -> usize
+        requires { width < 2 ^ 64 }
+        ensures { result ≡ width };
+
+    /// Returns the value at `offset` of `from`, which has the bytes.
+    fn read_at(from: &[u8], offset: usize, order: Endian) -> Self
+        requires { offset + width ≤ length from.now }
+        ensures { makes order from.now offset result };
+
+    /// Writes the bytes to the front of `dst`, which has room for them. The bytes after them are unchanged.
+    fn write_front(self, dst: &mut [u8], order: Endian)
+        requires { width ≤ length dst.old }
+        ensures { dst.new ≡ bytes order self ++ drop width dst.old };
+
+    // There are as many bytes as the width says.
+    ghost bytes_len: { (order : Endian) (x : Self) → length (bytes order x) ≡ width };
+
+    // What was written reads back, whatever stands before and after it.
+    ghost back: { (order : Endian) (x : Self) (front rest : List ℕ) → fits x → makes order (front ++ (bytes order x ++ rest)) (length front) x };
+
+    // A source makes one value at each offset.
+    ghost one: { (order : Endian) (s : List ℕ) (at : ℕ) → One (makes order s at) };
+
+    // The value depends on its own bytes alone.
+    ghost local: { (order : Endian) (s : List ℕ) (at : ℕ) (t : List ℕ) (to : ℕ) (x : Self) → SameAt width s at t to → makes order s at x → makes order t to x };
+}
+
+/// A struct that is its fields, one after another in the order of its parts, with nothing between them.
+///
+/// It then is [`Fixed`], and so it implements the traits of contexts:
+///
+/// ```rust
+/// impl Record for Format {
+///     type Parts = ((u16, u16), u32);
+///     ghost parts_of = { λ x. ((x.tag, x.channels), x.rate) };
+///     ghost of_parts = { λ p. record { tag = p.0.0; channels = p.0.1; rate = p.1 } };
+///     ghost again = { λ x. refl };
+///     ghost there = { λ p. refl };
+///     ghost small = { Prim.search rules };
+///
+///     fn parts(self) -> ((u16, u16), u32) {
+///         ((self.tag, self.channels), self.rate)
+///     }
+///
+///     fn of_parts(((tag, channels), rate): ((u16, u16), u32)) -> Format {
+///         Format { tag, channels, rate }
+///     }
+/// }
+/// ```
+pub trait Record: Copy {
+    /// The types of the fields, in pairs.
+    type Parts: Fixed;
+
+    // The fields of a struct, and the struct of these fields.
+    ghost parts_of: { Self → Self.Parts };
+
+    ghost of_parts: { Self.Parts → Self };
+
+    /// Returns the fields.
+    fn parts(self) -> Self::Parts
+        ensures { result ≡ parts_of self };
+
+    /// Returns the struct that has these fields.
+    fn of_parts(parts: Self::Parts) -> Self
+        ensures { result ≡ of_parts parts };
+
+    // The parts are all that a struct has.
+    ghost again: { (x : Self) → of_parts (parts_of x) ≡ x };
+
+    // No part is left out.
+    ghost there: { (p : Self.Parts) → parts_of (of_parts p) ≡ p };
+
+    // The number of bytes fits into a `usize`.
+    ghost small: { Self.Parts.width < 2 ^ 64 };
+}
+
+impl<R: Record> Fixed for R {
+    ghost width = { R.Parts.width };
+
+    ghost bytes = { λ order x. R.Parts.bytes order (R.parts_of x) };
+
+    ghost makes = { λ order s at x. R.Parts.makes order s at (R.parts_of x) };
+
+    ghost fits = { λ x. R.Parts.fits (R.parts_of x) };
+
+    ghost bytes_len = { λ order x. R.Parts.bytes_len order (R.parts_of x) };
+
+    ghost back = { λ order x front rest h. R.Parts.back order (R.parts_of x) front rest h };
+
+    ghost one = { λ order s at. record-one R.parts_of R.of_parts R.again R.there (R.Parts.one order s at) };
+
+    ghost local = { λ order s at t to x same h. R.Parts.local order s at t to (R.parts_of x) same h };
+
+    fn width() -> usize {
+        R::Parts::width()
+    }
+
+    #[inline(always)]
+    fn read_at(from: &[u8], offset: usize, order: Endian) -> R {
+        R::of_parts(R::Parts::read_at(from, offset, order))
+    }
+
+    #[inline(always)]
+    fn write_front(self, dst: &mut [u8], order: Endian) {
+        self.parts().write_front(dst, order)
+    }
+}
+
+/// Marks the types that implement the traits of contexts by [`Fixed`]: numbers and structs. Arrays have
+/// implementations of their own, for elements of any size.
+pub trait Plain: Fixed {
+    // The number of bytes fits into a `usize`.
+    ghost small: { Self.width < 2 ^ 64 };
+}
+
+impl<R: Record> Plain for R {
+    ghost small = { R.small };
+}
+
+/// What is written as a value of a fixed size: the value, or a reference to it.
+pub trait Written: Copy {
+    /// The type of the value.
+    type Value: Plain;
+
+    // The value.
+    ghost value_of: { Self → Self.Value };
+
+    /// Returns the value.
+    fn value(self) -> Self::Value
+        ensures { result ≡ value_of self };
+}
+
+impl<P: Plain> Written for P {
+    type Value = P;
+
+    ghost value_of = { λ x. x };
+
+    #[inline(always)]
+    fn value(self) -> P {
+        self
+    }
+}
+
+impl<P: Plain> FromCtx<Endian> for P {
+    ghost need = { λ _. P.width };
+
+    ghost makes = { λ order source. P.makes order source 0 };
+
+    fn from_ctx(this: &[u8], ctx: Endian) -> P {
+        P::read_at(this, 0, ctx)
+    }
+}
+
+/// Reads a value in a byte order. If the source is shorter than the value, returns [`Error::TooBig`] with the value's
+/// width and the length of the source. The bits of any NaN are read as a NaN.
+impl<'a, P: Plain> TryFromCtx<'a, Endian> for P {
+    type Error = Error;
+
+    ghost reads = { λ order. ReadsMade P.width (λ source. P.makes order source 0) };
+
+    ghost refuses = { λ _. RefusesShort P.width };
+
+    ghost reads_bounded = { λ order source x n h. Prim.search rules };
+
+    fn try_from_ctx(from: &'a [u8], ctx: Endian) -> Result<(P, usize)> {
+        check_room(P::width(), from.len())?;
+        Ok((P::read_at(from, 0, ctx), P::width()))
+    }
+}
+
+impl<W: Written> IntoCtx<Endian> for W {
+    ghost need = { λ _. W.Value.width };
+
+    ghost leaves = { λ order x old new. new ≡ W.Value.bytes order (W.value_of x) ++ drop W.Value.width old };
+
+    ghost leaves_keeps = { λ order x old new h. bytes-keep W.Value.width (W.Value.bytes order (W.value_of x)) old new (W.Value.bytes_len order (W.value_of x)) h };
+
+    fn into_ctx(self, dst: &mut [u8], ctx: Endian) {
+        self.value().write_front(dst, ctx)
+    }
+}
+
+/// Writes a value in a byte order. If the target is shorter than the value, returns [`Error::TooBig`] with the value's
+/// width and the length of the target, and leaves the target unchanged. A NaN is written as the quiet NaN with no sign and no
+/// payload.
+impl<W: Written> TryIntoCtx<Endian> for W {
+    type Error = Error;
+
+    ghost writes = { λ order x. WritesFront W.Value.width (W.Value.bytes order (W.value_of x)) };
+
+    ghost refuses = { λ _ _. LeavesShort W.Value.width };
+
+    ghost writes_bounded = { λ order x old new n h. Prim.search rules };
+
+    ghost writes_keeps = { λ order x old new n h. write-keeps W.Value.width (W.Value.bytes order (W.value_of x)) old new n (W.Value.bytes_len order (W.value_of x)) h };
+
+    fn try_into_ctx(self, dst: &mut [u8], ctx: Endian) -> Result<usize> {
+        check_room(W::Value::width(), dst.len())?;
+        self.into_ctx(dst, ctx);
+        Ok(W::Value::width())
+    }
+}
+
+impl<P: Plain> SizeWith<Endian> for P {
+    ghost size = { λ _. P.width };
+
+    fn size_with(_ctx: &Endian) -> usize {
+        P::width()
+    }
+}
+
+impl<P: Plain> SizeWith<()> for P {
+    ghost size = { λ _. P.width };
+
+    fn size_with(_ctx: &()) -> usize {
+        P::width()
+    }
+}
