@@ -4,21 +4,10 @@ use Rattle.scroll.specs.lemmas.NumberLemmas.{bytes-fit}
 use Rattle.scroll.proofs.lemmas.numbers.FloatLemmas.{float-begins, float-back, length-float_bytes}
 use Rattle.scroll.specs.Floats.{float_width, float, float_bytes}
 use Rattle.scroll.specs.lemmas.Frames.{number_bytes-keeps}
-use Rattle.scroll.proofs.laws.floats.float_reads_back.Goals as goal
+use Rattle.scroll.proofs.laws.floats.float_is_written_back.Goals as goal
 
-pub returns-clause-again : goal.returns-clause-again
-returns-clause-again c f order x old new n fits h = record {
-  room = let whole = ap length h.after ∙ length-append (float_bytes f order x) (drop (float_width f) old) in
-      omega (arith, length-float_bytes f order x, whole);
-  value = sym (ap (float f order) h.after ∙ float-begins f order x (drop (float_width f) old) fits);
-  size = refl;
-}
-
-pub returns-clause-others : goal.returns-clause-others
-returns-clause-others c f order x old new n h = number_bytes-keeps (float_width f) order (to_bits f x) old new h.after
-
-pub returns-clause-back : goal.returns-clause-back
-returns-clause-back c f order source old new x m n bytes read real wrote =
+pub returns : goal.returns
+returns c f order source old new x m n bytes read real wrote =
     let there : float_bytes f order x ≡ take n source =
     ap (float_bytes f order) read.value
     ∙ float-back f order 0 source (bytes-fit source bytes) (omega (arith, read.room)) (subst NotNan read.value real)
