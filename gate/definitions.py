@@ -1,8 +1,8 @@
 #!/usr/bin/env python3
 """Makes docs/DEFINITIONS.md from the comments in specs/ of each crate.
 
-    python3 scripts/definitions.py          compares: each section must say what the comments of its file say
-    python3 scripts/definitions.py write    writes the page
+    python3 gate/definitions.py          compares: each section must say what the comments of its file say
+    python3 gate/definitions.py write    writes the page
 
 The files come in the order of specs/Lib.antt. The comment at the head of a file is the title of its section, up to the first
 full stop, and then its text; an empty line of the comment ends a paragraph. The comment above a definition says what it means;
@@ -23,7 +23,7 @@ PAGE = TOP / "docs" / "DEFINITIONS.md"
 
 HEAD = """# Definitions
 
-The words that the contracts cite. `python3 scripts/definitions.py write` makes this page from the comments in `specs/`.
+The words that the contracts cite. `python3 gate/definitions.py write` makes this page from the comments in `specs/`.
 """
 
 START = re.compile(r"(?:abbrev pub|pub record) ([^\s:({]+)(.*)")
@@ -148,7 +148,7 @@ def main() -> int:
             print(f"FAILED {path.relative_to(TOP)}: docs/DEFINITIONS.md says something else of it")
     if text != page:
         failed += not failed
-        print("docs/DEFINITIONS.md is not what the comments say: `python3 scripts/definitions.py write` makes it anew")
+        print("docs/DEFINITIONS.md is not what the comments say: `python3 gate/definitions.py write` makes it anew")
     print(f"{passed} passed, {failed} failed")
     return 0 if passed and not failed else 1
 

@@ -1,8 +1,8 @@
 #!/usr/bin/env python3
 """Replays the stored sessions, whole and with their buffers cut.
 
-    python3 scripts/sessions.py [--program PROGRAM] [NAME..]
-    python3 scripts/sessions.py --unpack FOLDER [NAME..]
+    python3 gate/sessions.py [--program PROGRAM] [NAME..]
+    python3 gate/sessions.py --unpack FOLDER [NAME..]
 
 Each file sessions/SUBJECT.txt holds sessions, one a block; docs/SESSIONS.md says what their lines are. A NAME is that of a
 session, or a subject, for all of its sessions. Without one, all are tried.

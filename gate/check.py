@@ -1,10 +1,10 @@
 #!/usr/bin/env python3
 """Runs the checks of the repository over copies of its files, and shows what each says.
 
-    sh scripts/check.sh             what holds: the proofs from nothing, the tests, the sessions, the clients
-    sh scripts/check.sh edits       the bugs that the prover must refuse
-    sh scripts/check.sh verdict     the toolchain's own verdict, rt ci, over the files without the edits
-    sh scripts/check.sh all         what holds, and the edits
+    python3 gate/check.py             what holds: the proofs from nothing, the tests, the sessions, the clients
+    python3 gate/check.py edits       the bugs that the prover must refuse
+    python3 gate/check.py verdict     the toolchain's own verdict, rt ci, over the files without the edits
+    python3 gate/check.py all         what holds, and the edits
 
 Several of these words may be given; .ci/run gives `all verdict`. The steps are:
 
@@ -21,7 +21,7 @@ Several of these words may be given; .ci/run gives `all verdict`. The steps are:
     edits.py        the edits, many in one check
 
 Steps run side by side, and a step starts when those that it needs have ended. In all they have two jobs more than there are
-workers (scripts/workers.py), since parts of a check run on one processor. The tests of the library and rt ci run in copies of
+workers (gate/workers.py), since parts of a check run on one processor. The tests of the library and rt ci run in copies of
 their own; rt ci, which nothing waits for, runs at a low priority.
 
 Each step is named at the end with its counts, its time and the processor time that it took. The last line is
@@ -49,8 +49,8 @@ from workers import count_workers
 TOP = Path(__file__).resolve().parents[1]
 GROUPS = ("stands", "edits", "verdict")
 COUNTS = re.compile(r"(\d+) passed, (\d+) failed(?:, (\d+) skipped)?")
-PROVE = "sh scripts/prove.sh scroll"
-PROGRAM = "sh scripts/prove.sh scroll_run"
+PROVE = "sh gate/prove.sh scroll"
+PROGRAM = "sh gate/prove.sh scroll_run"
 # A step is a group of processes, which is ended as one. (In a session of its own it would share the processors evenly with the
 # other sessions, whatever its priority.)
 GROUP: Dict[str, Any] = {"process_group": 0} if sys.version_info >= (3, 11) else {"start_new_session": True}
@@ -181,22 +181,22 @@ def list_steps(groups: Sequence[str], workers: int) -> List[Step]:
     if "verdict" in groups:
         steps.append(Step("rt ci", 0, tree="verdict"))
     if "stands" in groups:
-        for name in ("sh scripts/calling.sh", "sh scripts/derive_check.sh"):
+        for name in ("sh gate/calling.sh", "sh scripts/derive_check.sh"):
             steps.append(Step(name, 1))
         for name in ("cited", "definitions"):
-            steps.append(Step(f"python3 scripts/{name}.py", 1))
+            steps.append(Step(f"python3 gate/{name}.py", 1))
         steps += [
             Step(PROVE, workers),
             Step(f"{PROVE} tests", half + 1, (PROVE,), "tests", "crates/scroll/out/scroll_tests"),
             Step(PROGRAM, half, (PROVE,)),
             Step(f"{PROGRAM} tests", half, (PROGRAM,)),
-            Step("sh scripts/faults.sh", half, (PROGRAM, f"{PROVE} tests")),
+            Step("sh gate/faults.sh", half, (PROGRAM, f"{PROVE} tests")),
         ]
-        steps += [Step(f"sh scripts/clients.sh {it}", 1, (PROVE,)) for it in list_clients()]
-        steps += [Step(f"sh scripts/{it}.sh", 1, (PROVE,)) for it in ("depending", "misuse")]
-        steps.append(Step("python3 scripts/sessions.py", 1, (PROGRAM,)))
+        steps += [Step(f"sh gate/clients.sh {it}", 1, (PROVE,)) for it in list_clients()]
+        steps += [Step(f"sh gate/{it}.sh", 1, (PROVE,)) for it in ("depending", "misuse")]
+        steps.append(Step("python3 gate/sessions.py", 1, (PROGRAM,)))
     if "edits" in groups:
-        steps.append(Step("python3 scripts/edits.py", workers, tuple(it.command for it in steps if it.jobs)))
+        steps.append(Step("python3 gate/edits.py", workers, tuple(it.command for it in steps if it.jobs)))
     return steps
 
 

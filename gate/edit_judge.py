@@ -1,4 +1,4 @@
-"""Judges edits by what a check says of a copy of a crate with the edits in it. scripts/edits.py says how."""
+"""Judges edits by what a check says of a copy of a crate with the edits in it. gate/edits.py says how."""
 
 import re
 from dataclasses import dataclass, field

@@ -1,7 +1,7 @@
 #!/usr/bin/env python3
 """Looks up the names that the documents cite in the sources, and follows their links, so that none is out of date.
 
-    python3 scripts/cited.py
+    python3 gate/cited.py
 
 A name is a word between backticks, or words joined by `::`, such as `Pread::gread_with`; in the tables of LAWS.md and
 PROVED.md it may also be a lemma, such as `ReadsAll-push`. Each of its words must be in a file of code or in a session,

@@ -1,11 +1,11 @@
 #!/bin/sh
 # Proves and runs what is in one crate of the repository:
 #
-#     sh scripts/prove.sh CRATE         its code, and a program's stored run
-#     sh scripts/prove.sh CRATE tests   its tests, which are proved and run
+#     sh gate/prove.sh CRATE         its code, and a program's stored run
+#     sh gate/prove.sh CRATE tests   its tests, which are proved and run
 #
-# It uses what earlier checks kept in the crate's out/; scripts/check.sh starts with nothing. A check gets as many jobs
-# as there are workers (scripts/lib.sh).
+# It uses what earlier checks kept in the crate's out/; gate/check.py starts with nothing. A check gets as many jobs
+# as there are workers (gate/lib.sh).
 #
 # These count as one each: the layout of `rt fmt`; the proof; a library, built for those that use it, or a program,
 # whose output for the crate's file `stdin` is its file `stdout`; the tests, proved and run, none of which is ignored.
@@ -13,8 +13,8 @@
 set -u
 
 top=$(CDPATH='' cd -- "$(dirname -- "$0")/.." && pwd) || exit 1
-# shellcheck source=scripts/lib.sh
-. "$top/scripts/lib.sh"
+# shellcheck source=gate/lib.sh
+. "$top/gate/lib.sh"
 
 room=$(mktemp -d) || exit 1
 trap 'rm -rf "$room"' EXIT

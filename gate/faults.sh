@@ -1,13 +1,13 @@
 #!/bin/sh
 # Runs the proved program on each stored session with failing allocations and with failing streams, and each proved test
-# of a library with failing allocations. scripts/faults.c replaces malloc, realloc, read and write of the C library.
+# of a library with failing allocations. gate/faults.c replaces malloc, realloc, read and write of the C library.
 #
-#     sh scripts/faults.sh
-#     sh scripts/faults.sh TESTS
+#     sh gate/faults.sh
+#     sh gate/faults.sh TESTS
 #
 # The program is crates/scroll_run/out/scroll_run, and the tests are crates/NAME/out/NAME_tests, as rt ci leaves them,
 # or rt run and rt test leave them. With TESTS, the path of such a program of tests, only its tests are tried, as
-# scripts/clients.sh does for each client.
+# gate/clients.sh does for each client.
 #
 # | one allocation fails, or all from one on       | status 3 and the one line `out of memory` |
 # | a read fails; input is a folder, or closed     | status 4, and nothing is printed |
@@ -24,8 +24,8 @@
 set -u
 
 top=$(CDPATH='' cd -- "$(dirname -- "$0")/.." && pwd) || exit 1
-# shellcheck source=scripts/lib.sh
-. "$top/scripts/lib.sh"
+# shellcheck source=gate/lib.sh
+. "$top/gate/lib.sh"
 program=$top/crates/scroll_run/out/scroll_run
 
 # How many of the first calls fail in turn if a read and a write move one byte.
@@ -52,7 +52,7 @@ compile_library() {
     for compiler in ${CC:-cc gcc clang}; do
         if command -v "$compiler" >/dev/null; then
             library=$room/faults.so
-            "$compiler" -O2 -fPIC -shared -o "$library" "$top/scripts/faults.c"
+            "$compiler" -O2 -fPIC -shared -o "$library" "$top/gate/faults.c"
             return
         fi
     done
@@ -76,7 +76,7 @@ run_with() {
     ) 3>"$work/met"
     status=$?
     runs=$((runs + 1))
-    [ -z "$library" ] || [ -s "$work/met" ] || complain "$faults" 'scripts/faults.c was not loaded'
+    [ -z "$library" ] || [ -s "$work/met" ] || complain "$faults" 'gate/faults.c was not loaded'
 }
 
 # Runs the session with these faults, in its own folder `work`.
@@ -260,7 +260,7 @@ list_tests() {
     "$1" --list | sed -n "s|^\(.*\): test\$|\1 $1|p"
 }
 
-compile_library || stop "scripts/faults.c does not compile"
+compile_library || stop "gate/faults.c does not compile"
 if [ -z "$library" ]; then
     skipped=1
     echo "faults: left out, since there is no C compiler (cc, gcc or clang): refused memory, and reads and writes that fail"
@@ -268,7 +268,7 @@ if [ -z "$library" ]; then
 fi
 if [ $# -eq 0 ]; then
     [ -x "$program" ] || stop "there is no program $program: rt run in crates/scroll_run proves and builds it"
-    python3 "$top/scripts/sessions.py" --unpack "$sessions" >"$room/said" || { cat "$room/said"; exit 1; }
+    python3 "$top/gate/sessions.py" --unpack "$sessions" >"$room/said" || { cat "$room/said"; exit 1; }
     list_sessions >"$room/all"
     for crate in "$top"/crates/*; do
         if [ -f "$crate/src/lib.rt" ] && grep -rqF '#[test]' "$crate/src"; then

@@ -2,7 +2,7 @@
 # Makes a repository that depends on the library, by README's own lines, and proves and runs README's first example in
 # it.
 #
-#     sh scripts/depending.sh
+#     sh gate/depending.sh
 #
 # The lines are those of README's section "Depending on it": its block of shell commands is run in an empty folder, and
 # its block of text becomes crates.txt. README's first block of Rust becomes a test of the crate `first`: each line with

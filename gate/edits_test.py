@@ -1,4 +1,4 @@
-"""Tests the judge of scripts/edits.py on the crate in scripts/judge/: bugs that must be refused, and edits that must fail."""
+"""Tests the judge of gate/edits.py on the crate in gate/judge/: bugs that must be refused, and edits that must fail."""
 
 import shutil
 import tempfile
@@ -24,12 +24,12 @@ WANTED = {
 
 
 def make_base(room: Path) -> Gate:
-    """Makes a tree with the crate `judged`, whose files are in scripts/judge/ with `.txt` after their names."""
+    """Makes a tree with the crate `judged`, whose files are in gate/judge/ with `.txt` after their names."""
     gate = Gate(room, room / "base")
     crate = gate.base / "crates" / "judged"
-    for path in sorted((TOP / "scripts" / "judge").glob("**/*")):
+    for path in sorted((TOP / "gate" / "judge").glob("**/*")):
         if path.is_file():
-            to = crate / path.relative_to(TOP / "scripts" / "judge")
+            to = crate / path.relative_to(TOP / "gate" / "judge")
             to = to.with_suffix("") if path.suffix == ".txt" else to
             to.parent.mkdir(parents=True, exist_ok=True)
             shutil.copy(path, to)

@@ -1,11 +1,11 @@
 #!/usr/bin/env python3
 """Tries the edits of the crates: bugs in code, each of which the prover must refuse in the function that has it.
 
-    python3 scripts/edits.py [CRATE|CRATE/EDIT..]
-    python3 scripts/edits.py --list [CRATE|CRATE/EDIT..]
-    python3 scripts/edits.py --self-test
+    python3 gate/edits.py [CRATE|CRATE/EDIT..]
+    python3 gate/edits.py --list [CRATE|CRATE/EDIT..]
+    python3 gate/edits.py --self-test
 
-It tries all edits, or the named edits and those of the named crates. scripts/edit_files.py says what an edit is. `--list`
+It tries all edits, or the named edits and those of the named crates. gate/edit_files.py says what an edit is. `--list`
 tries none: for each it prints the source file, the name, the bug and what it breaks.
 
 A check of a crate says of each function whether it is proved. So one check tries a batch of edits, each in a different
@@ -19,7 +19,7 @@ function, in a copy of the crate with what the tree's own checks kept. An edit
 
 A check has two jobs, and three checks run in parallel on four processors, since parts of a check run on one. Each has 4 GB
 of memory. The variable WORKERS sets another number of processors. `--self-test` tries the script itself
-(scripts/edits_test.py).
+(gate/edits_test.py).
 
 The last line is `N passed, M failed`. The exit status is 0 if M is 0 and N is not.
 """

@@ -2,12 +2,12 @@
 # Compares the code and the proofs in crates/scroll/CALLING.md and README.md with the files that they come from, in the
 # library or in clients/, which the gate compiles and proves, so that the two can't diverge:
 #
-#     scripts/calling.sh
+#     gate/calling.sh
 #
 # Above each block of Rust or of antt is a line that begins with the file's name, such as
 # "From `clients/examples/src/chunk.rt.txt`". The parts of the block, separated by empty lines, are in that file in the same
 # order. In README.md only the blocks below such a line are compared, such as "From `crates/scroll/src/pread.rt`", and lines
-# may be broken in another way; its first example is run by scripts/depending.sh. The checks of the tests, which callers copy
+# may be broken in another way; its first example is run by gate/depending.sh. The checks of the tests, which callers copy
 # from the client `examples`, are those of the library too. The last line is `N passed, M failed`, which counts blocks, and
 # the checks as one. The exit status is 0 if M is 0 and N is not.
 set -u

@@ -1,5 +1,5 @@
 # shellcheck shell=sh
-# What the scripts of this folder share. They read it by `. "$top/scripts/lib.sh"`, with the top of the repository in `top`.
+# What the scripts of this folder share. They read it by `. "$top/gate/lib.sh"`, with the top of the repository in `top`.
 
 # Ends a script that can't continue, with its counts.
 stop() {
@@ -17,7 +17,7 @@ all_tests_passed() {
 
 # Prints how many jobs run in parallel.
 count_workers() {
-    python3 "$top/scripts/workers.py"
+    python3 "$top/gate/workers.py"
 }
 
 # Tests whether the crate in the folder $1 is in the layout of `rt fmt`, which runs on a copy in the folder `room`, and shows

@@ -1,23 +1,23 @@
 #!/bin/sh
 # Proves and tests the clients of the library, each as a separate crate in a temporary folder.
 #
-#     sh scripts/clients.sh [NAME..]
+#     sh gate/clients.sh [NAME..]
 #
 # NAME is a folder of clients/; without one, all that have a file src/lib.rt.txt are tried. A client's files are copied
 # without their `.txt`. The library is proved and built in the tree itself, by `rt lib` over what its out/ keeps, and
 # its build is copied, so it isn't proved again for the clients. As many clients are tried in parallel as there are
-# workers (scripts/workers.py), and they share the jobs.
+# workers (gate/workers.py), and they share the jobs.
 #
 # A client passes if it has the layout of `rt fmt` and names no proofs of the library except its lemmas for callers; if
-# `rt test`, which proves its code and its tests and runs these, succeeds, with at least one test; and if scripts/faults.sh
+# `rt test`, which proves its code and its tests and runs these, succeeds, with at least one test; and if gate/faults.sh
 # passes these tests where memory is refused. It is printed with its counts: functions (those of its tests too), tests,
 # lines that aren't empty, and seconds. The last line is `N passed, M failed`; without a C compiler memory can't be refused,
 # and `, K skipped` follows for that. The exit status is 0 if M is 0 and N is not.
 set -u
 
 top=$(CDPATH='' cd -- "$(dirname -- "$0")/.." && pwd) || exit 1
-# shellcheck source=scripts/lib.sh
-. "$top/scripts/lib.sh"
+# shellcheck source=gate/lib.sh
+. "$top/gate/lib.sh"
 
 room=$(mktemp -d) || exit 1
 running=
@@ -86,7 +86,7 @@ try_client() {
     run rt test --jobs "$jobs" || { fail 'it is not proved, or a test fails'; return; }
     all_tests_passed "$said" || { fail 'not every test ran'; return; }
     functions=$(sed -n 's/^logic=proved.* functions=\([0-9]*\).*/\1/p' "$said")
-    if ! run env "WORKERS=$jobs" sh "$top/scripts/faults.sh" "$crate/out/${name}_tests"; then
+    if ! run env "WORKERS=$jobs" sh "$top/gate/faults.sh" "$crate/out/${name}_tests"; then
         fail 'a test fails where memory is refused'
         return
     fi

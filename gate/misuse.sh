@@ -2,9 +2,9 @@
 # Tries what must not compile: a borrowed value that was read from a buffer is used after a write to the buffer, or
 # after the buffer is dropped.
 #
-#     sh scripts/misuse.sh
+#     sh gate/misuse.sh
 #
-# Each scripts/misuse/NAME.txt is a module of the library. The lines that end in `// misuse: CODE` are the misuse. In a
+# Each gate/misuse/NAME.txt is a module of the library. The lines that end in `// misuse: CODE` are the misuse. In a
 # copy of the library the modules are first proved without these lines. With them, each module must have the error CODE
 # for each of them and no other error, so a refusal can't have another reason.
 #
@@ -12,9 +12,9 @@
 set -u
 
 top=$(CDPATH='' cd -- "$(dirname -- "$0")/.." && pwd) || exit 1
-# shellcheck source=scripts/lib.sh
-. "$top/scripts/lib.sh"
-texts=$top/scripts/misuse
+# shellcheck source=gate/lib.sh
+. "$top/gate/lib.sh"
+texts=$top/gate/misuse
 
 room=$(mktemp -d) || exit 1
 trap 'rm -rf "$room"' EXIT
