@@ -8,20 +8,18 @@
 
 Several of these words may be given; .ci/run gives `all verdict`. The steps are:
 
-    calling.sh      the code of CALLING.md is in the files that were proved
+    docs.py         the documents: their code, names and links are those of the sources, and what is made of these is current
     derive_check.sh what derive.sh prints is in the files that were proved
-    cited.py        the names and links of the documents lead to something
-    definitions.py  DEFINITIONS.md says what the comments of specs/ say
-    prove.sh        each crate is proved from nothing and built, its tests are proved and run, and its stored run
-    clients.sh      each client of the library, proved and tested as a crate of its own
-    depending.sh    a repository that depends on the library, made by README's lines
-    misuse.sh       what must not compile
+    prove.py        each crate is proved from nothing and built, its tests are proved and run, and its stored run
+    clients.py      each client of the library, proved and tested as a crate of its own
+    depending.py    a repository that depends on the library, made by README's lines
+    misuse.py       what must not compile
     sessions.py     the stored sessions, whole and with their buffers cut, by the program that was proved
-    faults.sh       the sessions and the tests where memory is refused and streams fail, by what was proved
+    faults.py       the sessions and the tests where memory is refused and streams fail, by what was proved
     edits.py        the edits, many in one check
 
 Steps run side by side, and a step starts when those that it needs have ended. In all they have two jobs more than there are
-workers (gate/workers.py), since parts of a check run on one processor. The tests of the library and rt ci run in copies of
+workers (gate/step.py), since parts of a check run on one processor. The tests of the library and rt ci run in copies of
 their own; rt ci, which nothing waits for, runs at a low priority.
 
 Each step is named at the end with its counts, its time and the processor time that it took. The last line is
@@ -44,13 +42,13 @@ from pathlib import Path
 from queue import Queue
 from typing import Any, Dict, List, Sequence, Tuple
 
-from workers import count_workers
+from clients import list_clients
+from step import TOP, count_workers
 
-TOP = Path(__file__).resolve().parents[1]
 GROUPS = ("stands", "edits", "verdict")
 COUNTS = re.compile(r"(\d+) passed, (\d+) failed(?:, (\d+) skipped)?")
-PROVE = "sh gate/prove.sh scroll"
-PROGRAM = "sh gate/prove.sh scroll_run"
+PROVE = "python3 gate/prove.py scroll"
+PROGRAM = "python3 gate/prove.py scroll_run"
 # A step is a group of processes, which is ended as one. (In a session of its own it would share the processors evenly with the
 # other sessions, whatever its priority.)
 GROUP: Dict[str, Any] = {"process_group": 0} if sys.version_info >= (3, 11) else {"start_new_session": True}
@@ -168,32 +166,22 @@ class Gate:
             del self.running[self.ended.get().command]
 
 
-def list_clients() -> List[str]:
-    """Returns the clients, the largest first, which takes longest."""
-    clients = [it.parents[1] for it in TOP.glob("clients/*/src/lib.rt.txt")]
-    sizes = {it.name: sum(file.stat().st_size for file in it.rglob("*.txt")) for it in clients}
-    return sorted(sizes, key=lambda name: -sizes[name])
-
-
 def list_steps(groups: Sequence[str], workers: int) -> List[Step]:
     half = max(1, workers // 2)
     steps = []
     if "verdict" in groups:
         steps.append(Step("rt ci", 0, tree="verdict"))
     if "stands" in groups:
-        for name in ("sh gate/calling.sh", "sh scripts/derive_check.sh"):
-            steps.append(Step(name, 1))
-        for name in ("cited", "definitions"):
-            steps.append(Step(f"python3 gate/{name}.py", 1))
+        steps += [Step("python3 gate/docs.py", 1), Step("sh scripts/derive_check.sh", 1)]
         steps += [
             Step(PROVE, workers),
             Step(f"{PROVE} tests", half + 1, (PROVE,), "tests", "crates/scroll/out/scroll_tests"),
             Step(PROGRAM, half, (PROVE,)),
             Step(f"{PROGRAM} tests", half, (PROGRAM,)),
-            Step("sh gate/faults.sh", half, (PROGRAM, f"{PROVE} tests")),
+            Step("python3 gate/faults.py", half, (PROGRAM, f"{PROVE} tests")),
         ]
-        steps += [Step(f"sh gate/clients.sh {it}", 1, (PROVE,)) for it in list_clients()]
-        steps += [Step(f"sh gate/{it}.sh", 1, (PROVE,)) for it in ("depending", "misuse")]
+        steps += [Step(f"python3 gate/clients.py {it}", 1, (PROVE,)) for it in list_clients()]
+        steps += [Step(f"python3 gate/{it}.py", 1, (PROVE,)) for it in ("depending", "misuse")]
         steps.append(Step("python3 gate/sessions.py", 1, (PROGRAM,)))
     if "edits" in groups:
         steps.append(Step("python3 gate/edits.py", workers, tuple(it.command for it in steps if it.jobs)))

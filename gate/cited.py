@@ -1,22 +1,19 @@
-#!/usr/bin/env python3
 """Looks up the names that the documents cite in the sources, and follows their links, so that none is out of date.
-
-    python3 gate/cited.py
 
 A name is a word between backticks, or words joined by `::`, such as `Pread::gread_with`; in the tables of LAWS.md and
 PROVED.md it may also be a lemma, such as `ReadsAll-push`. Each of its words must be in a file of code or in a session,
 outside of the comments of Rattle code, or be the name of an edit, a session, a script or a document, or one of the words
 below, of Rust or of a tool. The lines `bug:` and `breaks:` of the edits are looked up as well. CHANGELOG.md may name what
-no longer exists. A link to a file of the repository must lead to one, and its part after `#` to a heading there. The last
-line is `N passed, M failed`, which counts documents and files of edits. The exit status is 0 if M is 0 and N is not.
+no longer exists. A link to a file of the repository must lead to one, and its part after `#` to a heading there. A document, or
+a file of edits, is a check.
 """
 
 import re
-import sys
 from pathlib import Path
 from typing import List, Set, Tuple
 
-TOP = Path(__file__).resolve().parents[1]
+import markdown
+from step import TOP, Step
 
 # Names of Rust, of its crates and of processors, and placeholders in docs/SESSIONS.md.
 FOREIGN = set("""
@@ -27,11 +24,9 @@ HEX HH ORD SESSION law_7 crates/first crates/first/src/lib.rt
 SPAN = re.compile(r"(?<!`)`([^`\n]+)`(?!`)")
 CITED = re.compile(r"(?:r#)?[A-Za-z_][\w-]*(?:::(?:[A-Za-z_]\w*|\*))*")
 WORD = re.compile(r"[^\W\d][\w-]*")
-FENCE = re.compile(r"^```.*?^```$", re.M | re.S)
-CODE = re.compile(r"^(?!bug:|breaks:).*$", re.M)
+CODE = re.compile(r"^(?!bug:|breaks:|promise:).*$", re.M)
 FILE = re.compile(r"[a-z.][\w.-]*(?:/[\w.-]+)+/?")
 LINK = re.compile(r"\]\(([^()\s]+)\)")
-HEADING = re.compile(r"^#+ +(.*?) *$", re.M)
 HISTORY = TOP / "CHANGELOG.md"
 
 
@@ -40,15 +35,10 @@ def documents() -> List[Path]:
     return sorted(path for pattern in patterns for path in TOP.glob(pattern))
 
 
-def read_prose(path: Path) -> str:
-    """The text of a document, with an empty line for each line of its code blocks, or of the code of edits."""
-    text = path.read_text(encoding="utf-8")
-    return CODE.sub("", text) if path.suffix in (".edits", ".edit") else FENCE.sub(lambda it: "\n" * it[0].count("\n"), text)
-
-
-def anchors(path: Path) -> Set[str]:
-    """What a link may have after `#`: a heading in lower case, with no punctuation, and with `-` for a space."""
-    return {re.sub(r"[^\w -]", "", it).lower().replace(" ", "-") for it in HEADING.findall(read_prose(path))}
+def read_prose(path: Path) -> List[str]:
+    """The lines of a document, with an empty one for each line of its code blocks, or of the code of edits."""
+    is_edits = path.suffix in (".edits", ".edit")
+    return CODE.sub("", path.read_text(encoding="utf-8")).split("\n") if is_edits else markdown.read(path).prose
 
 
 def is_gone(path: str, document: Path) -> bool:
@@ -60,7 +50,7 @@ def is_gone(path: str, document: Path) -> bool:
 def leads_nowhere(link: str, document: Path) -> bool:
     name, _, anchor = link.partition("#")
     target = document.parent / name if name else document
-    return not target.exists() or (anchor != "" and anchor not in anchors(target))
+    return not target.exists() or (anchor != "" and anchor not in markdown.read(target).anchors())
 
 
 def words_of_sources() -> Set[str]:
@@ -94,7 +84,7 @@ def faults(document: Path, known: Set[str]) -> Tuple[int, List[str]]:
     """How many names and links a document has, and the lines that say which of them are gone."""
     count = 0
     gone = []
-    for number, line in enumerate(read_prose(document).split("\n"), 1):
+    for number, line in enumerate(read_prose(document), 1):
         place = f"{document.relative_to(TOP)}:{number}"
         names = [] if document == HISTORY else [it for it in SPAN.findall(line) if CITED.fullmatch(it)]
         links = [it for it in LINK.findall(line) if "://" not in it]
@@ -110,18 +100,11 @@ def faults(document: Path, known: Set[str]) -> Tuple[int, List[str]]:
     return count, gone
 
 
-def main() -> int:
+def try_all(step: Step) -> None:
     known = words_of_sources() | FOREIGN
-    passed = failed = names = 0
+    names = 0
     for document in documents():
         count, gone = faults(document, known)
-        for it in gone:
-            print(f"FAILED {it}")
-        names, passed, failed = names + count, passed + (not gone), failed + bool(gone)
-    print(f"cited: {names} names and links were looked up")
-    print(f"{passed} passed, {failed} failed")
-    return 0 if passed and not failed else 1
-
-
-if __name__ == "__main__":
-    sys.exit(main())
+        step.count(str(document.relative_to(TOP)), "".join(f"    {it}\n" for it in gone) if gone else None)
+        names += count
+    step.tell(f"{names} names and links were looked up")

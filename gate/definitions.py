@@ -1,29 +1,27 @@
-#!/usr/bin/env python3
-"""Makes docs/DEFINITIONS.md from the comments in specs/ of each crate.
-
-    python3 gate/definitions.py          compares: each section must say what the comments of its file say
-    python3 gate/definitions.py write    writes the page
+"""Makes docs/DEFINITIONS.md from the comments in specs/ of each crate, and compares it: each section must say what the comments
+of its file say.
 
 The files come in the order of specs/Lib.antt. The comment at the head of a file is the title of its section, up to the first
 full stop, and then its text; an empty line of the comment ends a paragraph. The comment above a definition says what it means;
 a definition without one shares that of the definition before it. Where a definition has several equations, its comment begins
 with the name and the parameters, between backticks, and a colon. Where a comment ends with a colon, the page has the equations.
 
-The last line is `N passed, M failed`, which counts the files of specs/. The exit status is 0 where M is 0 and N is not.
+A file of specs/ is a check.
 """
 
 import re
-import sys
 from dataclasses import dataclass
 from pathlib import Path
 from typing import Iterator, List, Tuple
 
-TOP = Path(__file__).resolve().parents[1]
+from markdown import anchor
+from step import TOP, Step
+
 PAGE = TOP / "docs" / "DEFINITIONS.md"
 
 HEAD = """# Definitions
 
-The words that the contracts cite. `python3 gate/definitions.py write` makes this page from the comments in `specs/`.
+The words that the contracts cite. `python3 gate/docs.py write` makes this page from the comments in `specs/`.
 """
 
 START = re.compile(r"(?:abbrev pub|pub record) ([^\s:({]+)(.*)")
@@ -121,37 +119,30 @@ def section(path: Path) -> str:
 
 def contents(sections: List[str]) -> str:
     titles = [re.findall(r"^### (.*)", it, re.M)[0] for it in sections if it]
-    return " · ".join(f"[{it}](#{re.sub(r'[^a-z0-9 -]', '', it.lower()).replace(' ', '-')})" for it in titles)
+    return " · ".join(f"[{it}](#{anchor(it)})" for it in titles)
 
 
-def main() -> int:
-    passed = failed = 0
+def try_all(step: Step, is_writing: bool) -> None:
     page = HEAD
     made: List[Tuple[Path, str]] = []
+    failed = step.failed
     for lib in sorted(TOP.glob("crates/*/specs/Lib.antt")):
         sections: List[str] = []
         for name in re.findall(r"^pub mod ([A-Z]\w*)", lib.read_text(encoding="utf-8"), re.M):
+            path = lib.parent / f"{name}.antt"
             try:
-                sections.append(section(lib.parent / f"{name}.antt"))
-                made.append((lib.parent / f"{name}.antt", sections[-1]))
+                sections.append(section(path))
+                made.append((path, sections[-1]))
             except Bad as why:
-                print(f"FAILED {lib.parent.relative_to(TOP)}/{name}.antt: {why}")
-                failed += 1
+                step.count(f"{path.relative_to(TOP)}: {why}", "")
         title, *text = headed(next(blocks(lib))[0])
         page += "\n" + "\n\n".join([f"## {title.rstrip('.')}", *text, contents(sections)]) + "\n" + "".join(sections)
-    if sys.argv[1:] == ["write"] and not failed:
+    if is_writing and step.failed == failed:
         PAGE.write_text(page, encoding="utf-8")
     text = PAGE.read_text(encoding="utf-8") if PAGE.is_file() else ""
     for path, it in made:
-        passed, failed = passed + (it in text), failed + (it not in text)
-        if it not in text:
-            print(f"FAILED {path.relative_to(TOP)}: docs/DEFINITIONS.md says something else of it")
-    if text != page:
-        failed += not failed
-        print("docs/DEFINITIONS.md is not what the comments say: `python3 gate/definitions.py write` makes it anew")
-    print(f"{passed} passed, {failed} failed")
-    return 0 if passed and not failed else 1
-
-
-if __name__ == "__main__":
-    sys.exit(main())
+        what = f"{path.relative_to(TOP)}: docs/DEFINITIONS.md says something else of it"
+        step.count(what, None if it in text else "")
+    if text != page and step.failed == failed:
+        step.count("docs/DEFINITIONS.md is not what the comments say", "")
+    step.tell(f"{len(made)} files of specs/ were compared with docs/DEFINITIONS.md")

@@ -6,10 +6,11 @@ one a block, with an empty line between two:
     # write_start_at_the_end_is_refused
     bug: a write at the end of the slice is past the end
     breaks: `slice::pwrite_with`, `refused`
+    promise: past the end
     old:     if offset > dst.len() {
     new:     if offset >= dst.len() {
 
-The text after `old:` occurs exactly once in its file. More pairs of `old:` and `new:` may follow, and before one of them
+`promise:` names rows of docs/PROVED.md (gate/promises.py). The text after `old:` occurs exactly once in its file. More pairs of `old:` and `new:` may follow, and before one of them
 `file: src/error.rt` if it is in another file. The folder `must-fail/` holds edits that `rt` tries too, each in a file
 NAME.edit of the form that `rt` wants: the same lines without the first, and with `file:` before the first pair.
 """
@@ -42,6 +43,7 @@ class Edit:
     name: str
     bug: str
     breaks: str
+    promises: Tuple[str, ...]
     pairs: Tuple[Pair, ...]
 
 
@@ -67,7 +69,7 @@ class Block(NamedTuple):
         title = TITLES[self.folder].fullmatch(self.title)
         if not title:
             raise Bad(f"`{self.title}` names no edit")
-        file, old, bug, breaks = self.file, "", "", ""
+        file, old, bug, breaks, promise = self.file, "", "", "", ""
         pairs: List[Pair] = []
         for line in self.lines:
             word, _, text = line.partition(":")
@@ -85,15 +87,17 @@ class Block(NamedTuple):
                 bug = text.strip()
             elif word == "breaks":
                 breaks = text.strip()
+            elif word == "promise":
+                promise = text.strip()
             else:
-                raise Bad(f"the line `{line}` is none of file, old, new, bug and breaks")
+                raise Bad(f"the line `{line}` is none of file, old, new, bug, breaks and promise")
         if not pairs or old:
             raise Bad("it has no pair of `old:` and `new:`, or half of one")
         if self.file not in ("", pairs[0].file):
             raise Bad(f"its first pair is not in {self.file}")
         if not bug or not breaks:
             raise Bad("it has no line `bug:`, or no line `breaks:`")
-        return Edit(crate, self.folder, title[1], bug, breaks, tuple(pairs))
+        return Edit(crate, self.folder, title[1], bug, breaks, tuple(it for it in promise.split(", ") if it), tuple(pairs))
 
 
 def blocks(crate: Path) -> Iterator[Block]:

@@ -6,7 +6,7 @@
     python3 gate/edits.py --self-test
 
 It tries all edits, or the named edits and those of the named crates. gate/edit_files.py says what an edit is. `--list`
-tries none: for each it prints the source file, the name, the bug and what it breaks.
+tries none: for each it prints the source file, the name, the bug, what it breaks, and the promise that it is for.
 
 A check of a crate says of each function whether it is proved. So one check tries a batch of edits, each in a different
 function, in a copy of the crate with what the tree's own checks kept. An edit
@@ -41,9 +41,8 @@ from typing import Dict, List, Optional, Set, Tuple
 
 from edit_files import FOLDERS, Edit, Function, Texts, read_edits
 from edit_judge import Judge, Said, parse
-from workers import count_workers
+from step import TOP, count_workers
 
-TOP = Path(__file__).resolve().parents[1]
 # The number of jobs of a check.
 JOBS = 2
 
@@ -173,7 +172,7 @@ def main() -> int:
     edits = [it for crate in crates for it in read_edits(crate, failures) if {it.crate, f"{it.crate}/{it.name}"} & {*names}]
     if given.list:
         for it in edits:
-            print(f"{it.crate}/{it.pairs[0].file}: {it.name}: {it.bug}: breaks {it.breaks}")
+            print(f"{it.crate}/{it.pairs[0].file}: {it.name}: {it.bug}: breaks {it.breaks}: {', '.join(it.promises)}")
         print(*failures, sep="\n", end="\n" if failures else "")
         return 1 if failures else 0
     judges = {crate.name: Judge(crate, Texts(crate)) for crate in crates}

@@ -9,7 +9,7 @@
        FAULT_WRITES=N   the first N writes of standard output are interrupted
        FAULT_PIECES=1   a read and a write move at most one byte
 
-   N counts from 1. To descriptor 3, if that is open, a `.` is written as the program starts, and a `!` at the first call
+   N counts from 1. FAULT_TOLD=N names a descriptor: a `.` is written to it as the program starts, and a `!` at the first call
    that fails. */
 #define _GNU_SOURCE
 #include <errno.h>
@@ -23,11 +23,16 @@ extern void *__libc_realloc(void *, size_t);
 struct stream { long calls, failing, interrupted; };
 
 static struct stream input, output;
-static long requests, refused, gone, pieces;
+static long requests, refused, gone, pieces, told;
 
 static long number_of(const char *name) {
     const char *text = getenv(name);
     return text ? atol(text) : 0;
+}
+
+static void tell(const char *mark) {
+    if (told > 0)
+        syscall(SYS_write, told, mark, 1);
 }
 
 /* Runs before main. What the C library itself allocates before that succeeds, and isn't counted. */
@@ -39,15 +44,16 @@ __attribute__((constructor)) static void read_environment(void) {
     pieces = number_of("FAULT_PIECES");
     refused = number_of("FAULT_MEMORY");
     gone = number_of("FAULT_GONE");
+    told = number_of("FAULT_TOLD");
     requests = 0;
-    syscall(SYS_write, 3, ".", 1);
+    tell(".");
 }
 
 /* Sets the error of a call that fails, and reports the first one. */
 static int fails(int error) {
     static int is_told;
     if (!is_told)
-        syscall(SYS_write, 3, "!", 1);
+        tell("!");
     is_told = 1;
     errno = error;
     return 1;

@@ -12,8 +12,7 @@ PROGRAM is a path, or a name that the shell finds. Without it the program is cra
 it. `--unpack` replays nothing: it writes FOLDER/SUBJECT/NAME.in, NAME.out and, where it isn't 0, NAME.status.
 
 A session is one check, all its cuts together are another, and the form of all files is one. A malformed block, a name that
-stands twice and a file of no session are failures. The last line is `N passed, M failed`. The exit status is 0 if M is 0 and
-N is not.
+stands twice and a file of no session are failures.
 """
 
 import argparse
@@ -27,9 +26,8 @@ from dataclasses import dataclass, field
 from pathlib import Path
 from typing import Dict, Iterator, List, NamedTuple, Optional, Tuple
 
-from workers import count_workers
+from step import TOP, Step, count_workers, run_step
 
-TOP = Path(__file__).resolve().parents[1]
 SESSIONS = TOP / "sessions"
 FILES = SESSIONS / "files"
 PROGRAM = TOP / "crates" / "scroll_run" / "out" / "scroll_run"
@@ -37,6 +35,7 @@ PROGRAM = TOP / "crates" / "scroll_run" / "out" / "scroll_run"
 NAME = re.compile(r"# ([a-z][a-z0-9_]*)")
 ROW = re.compile(r"\| (\d+)(?:-(\d+))? (\S.*)")
 NUMBER = re.compile(r"\{n([+-]\d+)?\}")
+ESCAPE = re.compile(r"\\x([0-9a-f]{2})(?:\{(\d+)\})?")
 FRONT = re.compile(r"((?:[0-9a-f]{2})+)\[\.\.n(-\d+)?\]")
 
 
@@ -102,17 +101,17 @@ def read_block(subject: str, lines: List[str]) -> Session:
         raise Malformed(f"`{lines[0]}` is no line `# NAME`, with a name of small letters, digits and `_`")
     session = Session(subject, name[1])
     given: Dict[str, List[str]] = {"input": [], "output": [], "status": []}
-    inputs: List[str] = []
-    outputs: List[str] = []
+    inputs: List[bytes] = []
+    outputs: List[bytes] = []
     for line in lines[1:]:
         if not (line.isascii() and line.isprintable()) or line.endswith(" "):
-            raise Malformed(f"{line!r} has to be in a file of its own")
+            raise Malformed(f"{line!r} has a byte that is no printable ASCII, or a space at its end: write `\\xHH`")
         mark, _, text = line.partition(" ")
         row = ROW.fullmatch(line)
         if mark == "<":
-            inputs.append(text)
+            inputs.append(unescape(text))
         elif mark == ">":
-            outputs.append(text)
+            outputs.append(text.encode() + b"\n")
             session.rows.append([])
         elif row and outputs:
             session.rows[-1].append(Row(int(row[1]), int(row[2] or row[1]), row[3]))
@@ -129,12 +128,23 @@ def read_block(subject: str, lines: List[str]) -> Session:
     return session
 
 
-def read_lines(word: str, lines: List[str], files: List[str]) -> bytes:
+def unescape(text: str) -> bytes:
+    """Returns the bytes of an input line, whose line feed is left out if it ends with a `\\`."""
+    text, end = (text[:-1], "") if text.endswith("\\") else (text, "\n")
+    plain = ESCAPE.sub(lambda it: chr(int(it[1], 16)) * int(it[2] or 1), text)
+    if "\\" in ESCAPE.sub("", text):
+        raise Malformed(f"`{text}` has a `\\` that is neither at its end nor before `xHH`")
+    return (plain + end).encode("latin-1")
+
+
+def read_lines(word: str, lines: List[bytes], files: List[str]) -> bytes:
     """Returns the bytes of the lines, or of the one file in their place."""
     if len(files) + bool(lines) != 1:
         raise Malformed(f"it has no {word}, or two")
+    if any(not it.endswith(b"\n") for it in lines[:-1]):
+        raise Malformed("a line that isn't the last has no line feed")
     if lines:
-        return "".join(f"{it}\n" for it in lines).encode()
+        return b"".join(lines)
     if not (FILES / files[0]).is_file():
         raise Malformed(f"there is no file sessions/files/{files[0]}")
     return (FILES / files[0]).read_bytes()
@@ -241,17 +251,37 @@ def unpack(sessions: List[Session], folder: Path) -> None:
             path.with_suffix(".status").write_text(f"{it.status}\n")
 
 
-def replay_all(program: str, sessions: List[Session], failures: List[str]) -> int:
-    """Replays sessions, whole and cut, and returns how many checks passed."""
+def replay_all(step: Step, program: str, sessions: List[Session]) -> None:
+    """Replays sessions, whole and cut, and counts them."""
     cut = [it for it in sessions if it.cut_lengths()]
     with ThreadPoolExecutor(count_workers()) as pool:
         wholes = pool.map(lambda it: (it, replay(program, it)), sessions)
         cuts = pool.map(lambda it: (it, replay_cuts(program, it)), cut)
-        results = [*wholes, *cuts]
-    failures += [f"{it.subject}/{it.name}: {fault}" for it, fault in results if fault]
-    lengths = sum(len(it.cut_lengths()) for it in cut)
-    print(f"sessions: {len(sessions)} sessions, and {lengths} cuts of the buffers of {len(cut)}")
-    return sum(not fault for _, fault in results)
+        for it, fault in [*wholes, *cuts]:
+            step.count(f"{it.subject}/{it.name}", fault)
+    step.tell(f"{len(sessions)} sessions, and {sum(len(it.cut_lengths()) for it in cut)} cuts of the buffers of {len(cut)}")
+
+
+def choose(sessions: List[Session], names: List[str], failures: List[str]) -> List[Session]:
+    """Returns the sessions of these names and subjects, or all without one."""
+    known = {name for it in sessions for name in (it.name, it.subject)}
+    failures += [f"there is no session {it}" for it in names if it not in known]
+    return [it for it in sessions if not names or {it.name, it.subject} & {*names}]
+
+
+def work(step: Step, given: argparse.Namespace) -> None:
+    failures: List[str] = []
+    chosen = choose(read_sessions(failures), given.names, failures)
+    for failure in failures:
+        step.count(failure, "")
+    step.passed += not failures
+    program = None if given.unpack else find_program(given.program)
+    if given.unpack:
+        unpack(chosen, given.unpack)
+    elif program:
+        replay_all(step, program, chosen)
+    else:
+        step.count(f"there is no program {given.program}" if given.program else "rt run did not prove and build crates/scroll_run", "")
 
 
 def main() -> int:
@@ -260,23 +290,7 @@ def main() -> int:
     words.add_argument("--unpack", type=Path, metavar="FOLDER", help="writes the sessions as plain files, and replays none")
     words.add_argument("names", nargs="*", metavar="NAME", help="a session, or a subject")
     given = words.parse_args()
-    failures: List[str] = []
-    sessions = read_sessions(failures)
-    known = {name for it in sessions for name in (it.name, it.subject)}
-    failures += [f"there is no session {it}" for it in given.names if it not in known]
-    passed = 0 if failures else 1
-    chosen = [it for it in sessions if not given.names or {it.name, it.subject} & {*given.names}]
-    program = None if given.unpack else find_program(given.program)
-    if given.unpack:
-        unpack(chosen, given.unpack)
-    elif program:
-        passed += replay_all(program, chosen, failures)
-    else:
-        failures.append(f"there is no program {given.program}" if given.program else "rt run did not prove and build crates/scroll_run")
-    for failure in failures:
-        print(f"FAILED {failure}")
-    print(f"{passed} passed, {len(failures)} failed")
-    return 0 if passed and not failures else 1
+    return run_step("sessions", lambda step: work(step, given))
 
 
 if __name__ == "__main__":
