@@ -12,7 +12,7 @@ PROGRAM is a path, or a name that the shell finds. Without it the program is cra
 it. `--unpack` replays nothing: it writes FOLDER/SUBJECT/NAME.in, NAME.out and, where it isn't 0, NAME.status.
 
 A session is one check, all its cuts together are another, and the form of all files is one. A malformed block, a name that
-stands twice and a file of no session are failures.
+stands twice and a file of another kind are failures.
 """
 
 import argparse
@@ -29,7 +29,6 @@ from typing import Dict, Iterator, List, NamedTuple, Optional, Tuple
 from step import TOP, Step, count_workers, run_step
 
 SESSIONS = TOP / "sessions"
-FILES = SESSIONS / "files"
 PROGRAM = TOP / "crates" / "scroll_run" / "out" / "scroll_run"
 
 NAME = re.compile(r"# ([a-z][a-z0-9_]*)")
@@ -62,6 +61,8 @@ class Session:
     status: int = 0
     input: bytes = b""
     output: bytes = b""
+    # It is run with its whole buffer alone.
+    is_whole: bool = False
     # The rows below each output line.
     rows: List[List[Row]] = field(default_factory=list)
 
@@ -72,7 +73,7 @@ class Session:
 
     def cut_lengths(self) -> range:
         """Returns the lengths to which the buffer is cut."""
-        return range(len(self.digits()) // 2 if self.rows and not self.status else 0)
+        return range(0 if self.is_whole or self.status else len(self.digits()) // 2)
 
     def cut(self, length: int) -> Tuple[bytes, bytes]:
         """Returns the input with the buffer cut to a length, and the output for it."""
@@ -100,7 +101,6 @@ def read_block(subject: str, lines: List[str]) -> Session:
     if not name:
         raise Malformed(f"`{lines[0]}` is no line `# NAME`, with a name of small letters, digits and `_`")
     session = Session(subject, name[1])
-    given: Dict[str, List[str]] = {"input": [], "output": [], "status": []}
     inputs: List[bytes] = []
     outputs: List[bytes] = []
     for line in lines[1:]:
@@ -115,15 +115,15 @@ def read_block(subject: str, lines: List[str]) -> Session:
             session.rows.append([])
         elif row and outputs:
             session.rows[-1].append(Row(int(row[1]), int(row[2] or row[1]), row[3]))
-        elif mark in given:
-            given[mark].append(text)
+        elif line == "whole" and not session.is_whole:
+            session.is_whole = True
+        elif mark == "status" and re.fullmatch("[1-9][0-9]*", text) and not session.status:
+            session.status = int(text)
         else:
-            raise Malformed(f"`{line}` is no line of a session")
-    if len(given["status"]) > 1 or not all(re.fullmatch("[1-9][0-9]*", it) for it in given["status"]):
-        raise Malformed("a status is one number, and 0 isn't said")
-    session.status = int("".join(given["status"] or "0"))
-    session.input = read_lines("input", inputs, given["input"])
-    session.output = read_lines("output", outputs, given["output"])
+            raise Malformed(f"`{line}` is no line of a session, or stands twice")
+    if not inputs or not outputs or any(not it.endswith(b"\n") for it in inputs[:-1]):
+        raise Malformed("it has no input or no output, or a line that isn't the last has no line feed")
+    session.input, session.output = b"".join(inputs), b"".join(outputs)
     check_rows(session)
     return session
 
@@ -135,19 +135,6 @@ def unescape(text: str) -> bytes:
     if "\\" in ESCAPE.sub("", text):
         raise Malformed(f"`{text}` has a `\\` that is neither at its end nor before `xHH`")
     return (plain + end).encode("latin-1")
-
-
-def read_lines(word: str, lines: List[bytes], files: List[str]) -> bytes:
-    """Returns the bytes of the lines, or of the one file in their place."""
-    if len(files) + bool(lines) != 1:
-        raise Malformed(f"it has no {word}, or two")
-    if any(not it.endswith(b"\n") for it in lines[:-1]):
-        raise Malformed("a line that isn't the last has no line feed")
-    if lines:
-        return b"".join(lines)
-    if not (FILES / files[0]).is_file():
-        raise Malformed(f"there is no file sessions/files/{files[0]}")
-    return (FILES / files[0]).read_bytes()
 
 
 def check_rows(session: Session) -> None:
@@ -166,9 +153,8 @@ def check_rows(session: Session) -> None:
 
 
 def read_sessions(failures: List[str]) -> List[Session]:
-    """Reads all files. A block that is malformed, a name that stands twice and a file of no session are failures."""
+    """Reads all files. A block that is malformed, a name that stands twice and a file of another kind are failures."""
     sessions: Dict[str, Session] = {}
-    used: List[str] = []
     for path in sorted(SESSIONS.glob("*.txt")):
         for block in path.read_bytes().decode().rstrip("\n").split("\n\n"):
             try:
@@ -176,12 +162,10 @@ def read_sessions(failures: List[str]) -> List[Session]:
                 if session.name in sessions:
                     raise Malformed("the name stands twice")
                 sessions[session.name] = session
-                used += re.findall(r"^(?:input|output) (.*)$", block, re.M)
             except Malformed as why:
                 head = block.partition("\n")[0]
                 failures.append(f"{path.relative_to(TOP)}, {head}: {why}")
-    for stray in sorted({*FILES.iterdir()} - {FILES / it for it in used}):
-        failures.append(f"{stray.relative_to(TOP)}: it belongs to no session")
+    failures += [f"{it.relative_to(TOP)}: it is no file of sessions" for it in sorted(SESSIONS.iterdir()) if it.suffix != ".txt"]
     return list(sessions.values())
 
 
