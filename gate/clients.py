@@ -5,7 +5,7 @@
     python3 gate/clients.py --unpack FOLDER [NAME..]
     python3 gate/clients.py --pack FOLDER [NAME..]
 
-NAME is a folder of clients/; without one, all that have a file src/lib.rt.txt are tried. `--unpack` makes a workspace outside of
+NAME is a folder of clients/, or of the folder that the variable CLIENTS names; without one, all that have a file src/lib.rt.txt are tried. `--unpack` makes a workspace outside of
 the repository, in which the clients are crates, to work on them by `rt`; `--pack` copies them back. A client's files are copied without
 their `.txt`. The library is proved and built in the tree itself, by `rt lib` over what its out/ keeps, and its build is copied,
 so it isn't proved again for the clients. As many clients are tried in parallel as there are workers (gate/step.py), and they
@@ -28,7 +28,7 @@ from typing import Iterable, List, Optional
 
 from step import TOP, Ran, Step, Stop, count_workers, run_step
 
-CLIENTS = TOP / "clients"
+CLIENTS = Path(os.environ.get("CLIENTS") or TOP / "clients").resolve()
 PART = re.compile(r"src/.*\.rt\.txt|(?:specs|proofs)/.*\.antt\.txt")
 PROOF = re.compile(r"scroll(?:\.|::)proofs(?!(?:\.|::)lemmas(?:\.|::)callers(?:\.|::))")
 # What the clients don't need of the library.
