@@ -5,11 +5,11 @@
     python3 gate/clients.py --unpack FOLDER [NAME..]
     python3 gate/clients.py --pack FOLDER [NAME..]
 
-NAME is a folder of clients/, or of the folder that the variable CLIENTS names; without one, all that have a file src/lib.rt.txt are tried. `--unpack` makes a workspace outside of
-the repository, in which the clients are crates, to work on them by `rt`; `--pack` copies them back. A client's files are copied without
-their `.txt`. The library is proved and built in the tree itself, by `rt lib` over what its out/ keeps, and its build is copied,
-so it isn't proved again for the clients. As many clients are tried in parallel as there are workers (gate/step.py), and they
-share the jobs.
+NAME is a folder of clients/, or of the folder that the variable CLIENTS names; without one, all that have a file
+src/lib.rt.txt are tried. `--unpack` makes a workspace outside of the repository, in which the clients are crates, to work on
+them by `rt`; `--pack` copies them back. A client's files are copied without their `.txt`. The library is proved and built in the
+tree itself, by `rt lib` over what its out/ keeps, and its build is copied, so it isn't proved again for the clients. As many
+clients are tried in parallel as there are workers (gate/step.py), and they share the jobs.
 
 A client passes if it has the layout of `rt fmt` and names no proofs of the library except its lemmas for callers; if `rt test`,
 which proves its code and its tests and runs these, succeeds, with at least one test; and if gate/faults.py passes these tests

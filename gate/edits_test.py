@@ -1,5 +1,6 @@
-"""Tests the judge of gate/edits.py on the crate in gate/judge/: bugs that must be refused, and edits that must fail."""
+"""Tests the judge of gate/edits.py on the crate in gate/judge.txt: bugs that must be refused, and edits that must fail."""
 
+import re
 import shutil
 import tempfile
 import time
@@ -24,15 +25,13 @@ WANTED = {
 
 
 def make_base(room: Path) -> Gate:
-    """Makes a tree with the crate `judged`, whose files are in gate/judge/ with `.txt` after their names."""
+    """Makes a tree with the crate `judged`, whose files are in gate/judge.txt, each below a line `==> PATH`."""
     gate = Gate(room, room / "base")
     crate = gate.base / "crates" / "judged"
-    for path in sorted((TOP / "gate" / "judge").glob("**/*")):
-        if path.is_file():
-            to = crate / path.relative_to(TOP / "gate" / "judge")
-            to = to.with_suffix("") if path.suffix == ".txt" else to
-            to.parent.mkdir(parents=True, exist_ok=True)
-            shutil.copy(path, to)
+    _, *parts = re.split(r"^==> (\S+)\n", (TOP / "gate" / "judge.txt").read_text(), flags=re.M)
+    for path, text in zip(parts[::2], parts[1::2]):
+        (crate / path).parent.mkdir(parents=True, exist_ok=True)
+        (crate / path).write_text(text.rstrip("\n") + "\n")
     (gate.base / "crates.txt").write_text("judged:\n")
     shutil.copy(TOP / "HANDLES", gate.base / "HANDLES")
     status, said = gate.run_rt(crate, "check")
