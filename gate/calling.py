@@ -1,10 +1,10 @@
-"""Compares the code and the proofs in crates/scroll/CALLING.md and README.md with the files that they come from, in the library
-or in clients/, which the gate compiles and proves, so that the two can't diverge.
+"""Compares the code and the proofs in crates/scroll/CALLING.md, README.md and the library's doc comments with the files that they
+come from, in the library or in clients/, which the gate compiles and proves, so that the two can't diverge.
 
 Above each block of Rust or of antt is a line that begins with the file's name, such as
 "From `clients/examples/src/chunk.rt.txt`". The parts of the block, separated by empty lines, are in that file in the same
-order. In README.md only the blocks below such a line are compared, and lines may be broken in another way; its first example is
-run by gate/depending.py. The checks of the tests, which callers copy from the client `examples`, are those of the library too.
+order. In README.md and in doc comments only the blocks below such a line are compared; README.md may break lines in another way,
+and gate/depending.py runs its first example. The checks of the tests, which callers copy from the client `examples`, are those of the library too.
 A block is a check, and so are the checks of the tests.
 """
 
@@ -45,11 +45,11 @@ def try_all(step: Step) -> None:
     is_copy = copy == library.replace("\nuse crate::", "\nuse scroll::")
     step.count("clients/examples/src/results.rt.txt is no copy of src/tests/results.rt", None if is_copy else "")
     count = 0
-    for path in (CALLING, README):
+    for path in (CALLING, README, *sorted(TOP.glob("crates/scroll/src/**/*.rt"))):
         for block in markdown.read(path).blocks:
-            if block.language.startswith(("rust", "antt")) and (block.source or path != README):
+            if block.language.startswith(("rust", "antt")) and (block.source or path == CALLING):
                 step.count(f"{path.name}:{block.line}", block_fault(block, path == README))
                 count += 1
     step.count("CALLING.md and README.md have no block", None if count else "")
     step.passed -= 1
-    step.tell(f"{count} blocks of CALLING.md and README.md were compared")
+    step.tell(f"{count} blocks of CALLING.md, README.md and doc comments were compared")

@@ -26,7 +26,7 @@ from concurrent.futures import ThreadPoolExecutor
 from pathlib import Path
 from typing import Iterable, List, Optional
 
-from step import TOP, Ran, Step, Stop, count_workers, run_step
+from step import TOP, Step, Stop, count_workers, run_step
 
 CLIENTS = Path(os.environ.get("CLIENTS") or TOP / "clients").resolve()
 PART = re.compile(r"src/.*\.rt\.txt|(?:specs|proofs)/.*\.antt\.txt")

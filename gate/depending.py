@@ -15,7 +15,6 @@ import os
 import re
 import shutil
 import sys
-from pathlib import Path
 from typing import List
 
 import markdown

@@ -20,28 +20,21 @@ function, in a copy of the crate with what the tree's own checks kept. An edit
 A check has two jobs, and three checks run in parallel on four processors, since parts of a check run on one. Each has 4 GB
 of memory. The variable WORKERS sets another number of processors. `--self-test` tries the script itself
 (gate/edits_test.py).
-
-The last line is `N passed, M failed`. The exit status is 0 if M is 0 and N is not.
 """
 
 import argparse
-import os
-import re
 import resource
 import shutil
-import signal
-import subprocess
 import sys
-import tempfile
 import time
 from concurrent.futures import FIRST_COMPLETED, Future, ThreadPoolExecutor, wait
-from dataclasses import dataclass, field
+from dataclasses import dataclass
 from pathlib import Path
 from typing import Dict, List, Optional, Set, Tuple
 
 from edit_files import FOLDERS, Edit, Function, Texts, read_edits
 from edit_judge import Judge, Said, parse
-from step import TOP, count_workers
+from step import TOP, Step, Stop, count_workers, run_step
 
 # The number of jobs of a check.
 JOBS = 2
@@ -51,31 +44,13 @@ JOBS = 2
 class Gate:
     """The copies in which edits are tried. `base` holds the tree with what its checks kept."""
 
-    room: Path
+    step: Step
     base: Path
     count: int = 0
-    running: "Set[subprocess.Popen[str]]" = field(default_factory=set)
-    is_ended: bool = False
 
     def run_rt(self, folder: Path, *words: str) -> Tuple[int, str]:
         """Runs `rt` in a folder, and returns its status and its output."""
-        if self.is_ended:
-            raise InterruptedError
-        how = {"stdin": subprocess.DEVNULL, "stdout": subprocess.PIPE, "stderr": subprocess.STDOUT}
-        with subprocess.Popen(["rt", *words], cwd=folder, text=True, errors="replace", **how) as ran:
-            self.running.add(ran)
-            said, _ = ran.communicate()
-            self.running.discard(ran)
-        return ran.returncode, said
-
-    def end(self, *_: object) -> None:
-        """Ends the checks that run, and the script. (`rt` ends what it started.)"""
-        self.is_ended = True
-        for ran in list(self.running):
-            ran.terminate()
-        # (the threads that copy files end with this process)
-        subprocess.Popen(["sh", "-c", 'sleep 1; exec rm -rf "$0"', str(self.room)])
-        os._exit(1)
+        return self.step.run(folder, "rt", *words)
 
     def copy(self, crate: str, to: Path) -> None:
         """Copies a crate with what its checks kept, and the builds of the repository's libraries."""
@@ -88,9 +63,11 @@ class Gate:
 
     def check(self, judge: Judge, batch: List[Edit]) -> Tuple[Dict[str, Set[Function]], Said, float]:
         """Checks a copy of the crate with the edits of a batch applied."""
+        if self.step.is_ended:
+            raise Stop("it was ended")
         start = time.time()
         self.count += 1
-        tree = self.room / f"batch{self.count}"
+        tree = self.step.room / f"batch{self.count}"
         self.copy(judge.crate.name, tree)
         try:
             texts, places = judge.texts.after(batch)
@@ -129,17 +106,15 @@ def try_all(gate: Gate, judges: Dict[str, Judge], edits: List[Edit], workers: in
                 submit(more)
 
 
-def prepare(crates: List[Path], room: Path, workers: int) -> Optional[Gate]:
+def prepare(step: Step, crates: List[Path], workers: int) -> Optional[Gate]:
     """Copies the tree with what its checks kept, and checks there that each crate is proved without an edit."""
-    gate = Gate(room, room / "base")
-    for it in (signal.SIGINT, signal.SIGTERM, signal.SIGHUP):
-        signal.signal(it, gate.end)
+    gate = Gate(step, step.room / "base")
     shutil.copytree(TOP, gate.base, ignore=shutil.ignore_patterns(".git", *FOLDERS))
     for crate in crates:
-        status, said = gate.run_rt(gate.base / "crates" / crate.name, "check", "--jobs", str(JOBS * workers))
-        if status:
-            print("\n".join(said.splitlines()[-20:]))
-            print(f"FAILED {crate.name}: it is not proved without an edit")
+        ran = step.run(gate.base / "crates" / crate.name, "rt", "check", "--jobs", JOBS * workers)
+        if ran.status:
+            print(ran.end())
+            step.count(f"{crate.name}: it is not proved without an edit", "")
             return None
     return gate
 
@@ -160,44 +135,48 @@ def main() -> int:
     words.add_argument("--self-test", action="store_true", help="tries the judge itself")
     words.add_argument("names", nargs="*", metavar="CRATE|CRATE/EDIT")
     given = words.parse_args()
+    names = given.names or sorted(it.parent.name for it in TOP.glob("crates/*/must-fail"))
     if given.self_test:
         from edits_test import self_test
 
-        return self_test(count_checks())
-    names = given.names or sorted(it.parent.name for it in TOP.glob("crates/*/must-fail"))
-    crates = [TOP / "crates" / it for it in sorted({it.partition("/")[0] for it in names})]
-    workers = count_checks()
-    start = time.time()
-    failures: List[str] = []
-    edits = [it for crate in crates for it in read_edits(crate, failures) if {it.crate, f"{it.crate}/{it.name}"} & {*names}]
+        return run_step("edits", lambda step: self_test(step, count_checks()))
     if given.list:
-        for it in edits:
+        failures: List[str] = []
+        for it in chosen(names, failures):
             print(f"{it.crate}/{it.pairs[0].file}: {it.name}: {it.bug}: breaks {it.breaks}: {', '.join(it.promises)}")
         print(*failures, sep="\n", end="\n" if failures else "")
         return 1 if failures else 0
-    judges = {crate.name: Judge(crate, Texts(crate)) for crate in crates}
-    with tempfile.TemporaryDirectory(prefix="edits-") as room:
-        gate = prepare(crates, Path(room), workers)
-        if gate:
-            print(f"edits: the copy and the crates without an edit took {time.time() - start:.0f} s", flush=True)
-            try_all(gate, judges, edits, workers)
-    return report(edits, judges, failures, start, workers, gate.count if gate else 0)
+    return run_step("edits", lambda step: work(step, names))
 
 
-def report(edits: List[Edit], judges: Dict[str, Judge], failures: List[str], start: float, workers: int, checks: int) -> int:
-    passed = 0
+def chosen(names: List[str], failures: List[str]) -> List[Edit]:
+    """Returns the named edits, and those of the named crates."""
+    crates = [TOP / "crates" / it for it in sorted({it.partition("/")[0] for it in names})]
+    edits = [it for crate in crates for it in read_edits(crate, failures)]
+    known = {name for it in edits for name in (it.crate, f"{it.crate}/{it.name}")}
+    failures += [f"there is no edit {it}" for it in names if it not in known]
+    return [it for it in edits if {it.crate, f"{it.crate}/{it.name}"} & {*names}]
+
+
+def work(step: Step, names: List[str]) -> None:
+    start = time.time()
+    workers = count_checks()
+    failures: List[str] = []
+    edits = chosen(names, failures)
+    for failure in failures:
+        step.count(failure, "")
+    judges = {name: Judge(TOP / "crates" / name, Texts(TOP / "crates" / name)) for name in sorted({it.crate for it in edits})}
+    gate = prepare(step, [it.crate for it in judges.values()], workers)
+    if gate:
+        step.tell(f"the copy and the crates without an edit took {time.time() - start:.0f} s")
+        try_all(gate, judges, edits, workers)
     for edit in edits:
         judge = judges[edit.crate]
         if edit.name in judge.refused:
-            passed += 1
             print(f"refused {edit.crate}/{edit.name}: {judge.refused[edit.name]}")
-        else:
-            failures.append(f"{edit.crate}/{edit.folder}/{edit.name}: {judge.failed.get(edit.name, 'not tried')}")
-    for failure in failures:
-        print(f"FAILED {failure}")
-    print(f"edits: {len(edits)} edits, {checks} checks by {workers} workers, {time.time() - start:.0f} s, {processor_seconds():.0f} processor seconds")
-    print(f"{passed} passed, {len(failures)} failed")
-    return 0 if passed and not failures else 1
+        fault = None if edit.name in judge.refused else f"    {judge.failed.get(edit.name, 'not tried')}"
+        step.count(f"{edit.crate}/{edit.folder}/{edit.name}", fault)
+    step.tell(f"{len(edits)} edits, {gate.count if gate else 0} checks by {workers} workers, {time.time() - start:.0f} s, {processor_seconds():.0f} processor seconds")
 
 
 if __name__ == "__main__":

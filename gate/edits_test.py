@@ -2,14 +2,13 @@
 
 import re
 import shutil
-import tempfile
 import time
-from pathlib import Path
-from typing import Dict, List
+from typing import List
 
 from edit_files import Edit, Texts, read_edits
 from edit_judge import Judge
-from edits import TOP, Gate, processor_seconds, try_all
+from edits import Gate, processor_seconds, try_all
+from step import TOP, Step
 
 # The expected result of each edit: a word of the reason why it fails, or nothing if it is refused.
 WANTED = {
@@ -24,9 +23,9 @@ WANTED = {
 }
 
 
-def make_base(room: Path) -> Gate:
+def make_base(step: Step) -> Gate:
     """Makes a tree with the crate `judged`, whose files are in gate/judge.txt, each below a line `==> PATH`."""
-    gate = Gate(room, room / "base")
+    gate = Gate(step, step.room / "base")
     crate = gate.base / "crates" / "judged"
     _, *parts = re.split(r"^==> (\S+)\n", (TOP / "gate" / "judge.txt").read_text(), flags=re.M)
     for path, text in zip(parts[::2], parts[1::2]):
@@ -40,35 +39,31 @@ def make_base(room: Path) -> Gate:
     return gate
 
 
-def compare(judge: Judge, edits: List[Edit], how: str) -> Dict[bool, int]:
-    counts = {True: 0, False: 0}
+def compare(step: Step, judge: Judge, edits: List[Edit], how: str) -> None:
     for edit in edits:
         what = judge.failed.get(edit.name, "")
         wanted = WANTED[edit.name]
         is_well = bool(what) and wanted in what if wanted else edit.name in judge.refused
-        counts[is_well] += 1
-        print(f"{'' if is_well else 'FAILED '}{how}: {edit.name}: {what or 'refused ' + judge.refused.get(edit.name, 'not at all')}"[:200])
-    return counts
+        said = f"{how}: {edit.name}: {what or 'refused ' + judge.refused.get(edit.name, 'not at all')}"[:200]
+        step.count(said, None if is_well else "")
+        if is_well:
+            print(said)
 
 
-def self_test(workers: int) -> int:
+def self_test(step: Step, workers: int) -> None:
     start = time.time()
-    counts: List[Dict[bool, int]] = []
-    with tempfile.TemporaryDirectory(prefix="edits-") as room:
-        gate = make_base(Path(room))
-        crate = gate.base / "crates" / "judged"
-        failures: List[str] = []
-        edits = read_edits(crate, failures)
-        print(*(f"FAILED {it}" for it in failures), sep="\n", end="")
-        together = Judge(crate, Texts(crate))
-        try_all(gate, {"judged": together}, edits, workers)
-        counts.append(compare(together, edits, "together"))
-        for edit in edits:
-            alone = Judge(crate, Texts(crate))
-            try_all(gate, {"judged": alone}, [edit], 1)
-            counts.append(compare(alone, [edit], "alone"))
-    passed = sum(it[True] for it in counts)
-    failed = sum(it[False] for it in counts)
-    print(f"edits: {gate.count} checks, {time.time() - start:.0f} s, {processor_seconds():.0f} processor seconds")
-    print(f"{passed} passed, {failed} failed")
-    return 0 if failed == 0 and passed == 2 * len(WANTED) else 1
+    gate = make_base(step)
+    crate = gate.base / "crates" / "judged"
+    failures: List[str] = []
+    edits = read_edits(crate, failures)
+    failures += [f"there is no edit {it}" for it in WANTED.keys() - {it.name for it in edits}]
+    for it in failures:
+        step.count(it, "")
+    together = Judge(crate, Texts(crate))
+    try_all(gate, {"judged": together}, edits, workers)
+    compare(step, together, edits, "together")
+    for edit in edits:
+        alone = Judge(crate, Texts(crate))
+        try_all(gate, {"judged": alone}, [edit], 1)
+        compare(step, alone, [edit], "alone")
+    step.tell(f"{gate.count} checks, {time.time() - start:.0f} s, {processor_seconds():.0f} processor seconds")

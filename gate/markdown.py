@@ -1,4 +1,4 @@
-"""Reads the documents: their prose, their headings, their blocks of code and the rows of their tables."""
+"""Reads the documents, and doc comments: their prose, their headings, their blocks of code and the rows of their tables."""
 
 import re
 from dataclasses import dataclass, field
@@ -8,6 +8,7 @@ from typing import Iterator, List, NamedTuple, Set, Tuple
 FENCE = re.compile(r"```(.*)")
 HEADING = re.compile(r"#+ +(.*?) *")
 SOURCE = re.compile(r"From `([^`]+)`")
+DOC = re.compile(r" *//[/!] ?(.*)")
 
 
 class Block(NamedTuple):
@@ -49,10 +50,14 @@ def anchor(heading: str) -> str:
 
 
 def read(path: Path) -> Document:
+    """Reads a document, or the doc comments of a file of code."""
     document = Document(path)
     source = ""
     code: "List[str] | None" = None
     for number, line in enumerate(path.read_text(encoding="utf-8").split("\n"), 1):
+        if path.suffix == ".rt":
+            doc = DOC.fullmatch(line)
+            line = doc[1] if doc else ""
         fence = FENCE.match(line)
         document.prose.append("" if fence or code is not None else line)
         if fence and code is None:
