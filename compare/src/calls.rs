@@ -1,6 +1,8 @@
 //! Calls that no session reaches: which there are, random ones, and what both sides answer.
 
 use crate::case::{Case, Verdict, lower, removals};
+#[cfg(feature = "derive")]
+use crate::derived;
 use crate::random::{FLOATS, LEB128, Random, TEXTS};
 use crate::reply::Reply;
 use crate::spoken::hex;
@@ -35,6 +37,12 @@ unsafe extern "C" {
     fn rt_sizes(_: &Asked, _: *mut u8, _: usize, _: *const u8, _: usize, _: *mut u8, _: usize) -> usize;
     fn rt_ioread(_: &Asked, _: *mut u8, _: usize, _: *const u8, _: usize, _: *mut u8, _: usize) -> usize;
     fn rt_iowrite(_: &Asked, _: *mut u8, _: usize, _: *const u8, _: usize, _: *mut u8, _: usize) -> usize;
+    #[cfg(feature = "derive")]
+    fn rt_read_struct(_: &Asked, _: *mut u8, _: usize, _: *const u8, _: usize, _: *mut u8, _: usize) -> usize;
+    #[cfg(feature = "derive")]
+    fn rt_write_struct(_: &Asked, _: *mut u8, _: usize, _: *const u8, _: usize, _: *mut u8, _: usize) -> usize;
+    #[cfg(feature = "derive")]
+    fn rt_struct(_: &Asked, _: *mut u8, _: usize, _: *const u8, _: usize, _: *mut u8, _: usize) -> usize;
 }
 
 /// What the bytes that make a value are.
@@ -60,7 +68,7 @@ const BRIEF: usize = 400;
 const STREAMED: [&str; 6] = ["u8", "u32", "i64", "u128", "f32", "f64"];
 
 #[rustfmt::skip]
-static FAMILIES: [Family; 14] = [
+static FAMILIES: &[Family] = &[
     Family { name: "reads of numbers", kinds: &NUMBERS, ours: rt_read_number, theirs: theirs::read_number, given: Given::Any },
     Family { name: "reads of arrays", ours: rt_read_array, theirs: theirs::read_array, given: Given::Any,
         kinds: &["[u8; 4]", "[i32; 5]", "[u128; 2]", "[f64; 2]", "[[u16; 2]; 2]", "[[[i8; 2]; 3]; 2]", "[[u16; 0]; 3]"] },
@@ -84,6 +92,12 @@ static FAMILIES: [Family; 14] = [
             "Uleb128::read", "Sleb128::read"] },
     Family { name: "reads from streams in pieces", kinds: &STREAMED, ours: rt_ioread, theirs: theirs::ioread, given: Given::Any },
     Family { name: "writes to streams in pieces", kinds: &STREAMED, ours: rt_iowrite, theirs: theirs::iowrite, given: Given::Number },
+    #[cfg(feature = "derive")]
+    Family { name: "reads of derived structs", kinds: &derived::STRUCTS, ours: rt_read_struct, theirs: derived::read_struct, given: Given::Any },
+    #[cfg(feature = "derive")]
+    Family { name: "writes of derived structs", kinds: &derived::STRUCTS, ours: rt_write_struct, theirs: derived::write_struct, given: Given::Number },
+    #[cfg(feature = "derive")]
+    Family { name: "derived structs in bounds and over streams", kinds: &derived::STRUCTS, ours: rt_struct, theirs: derived::other, given: Given::Number },
 ];
 
 /// One call.

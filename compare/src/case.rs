@@ -27,7 +27,7 @@ pub trait Case: Clone {
 
 /// The smallest case found in some seconds that differs too, and how many were tried.
 pub fn shrink<C: Case>(case: &C) -> (C, usize) {
-    let until = Instant::now() + Duration::from_secs(20);
+    let until = Instant::now() + Duration::from_secs(10);
     let mut smallest = case.clone();
     let mut tried = 0;
     loop {

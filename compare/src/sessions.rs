@@ -3,7 +3,7 @@
 use crate::case::{Case, Verdict, cuts, lower, removals};
 use crate::program;
 use crate::random::{LEB128, Random, TEXTS};
-use crate::spoken::{self, LIMIT, hex};
+use crate::spoken::{self, LIMIT, LONG_LIMIT, hex};
 
 /// The greatest product of the bytes of a buffer and the commands, but for sessions of the greatest length.
 const MOST: usize = 1 << 20;
@@ -18,6 +18,7 @@ enum Subject {
     Mixed,
     BadLines,
     Full,
+    Long,
 }
 
 const SUBJECTS: [Subject; 7] = [
@@ -186,7 +187,7 @@ impl Words<'_> {
 
     fn command(&mut self, subject: Subject) -> String {
         let subject = match subject {
-            Subject::Mixed | Subject::BadLines | Subject::Full => self.random.pick(&SUBJECTS[..4]),
+            Subject::Mixed | Subject::BadLines | Subject::Full | Subject::Long => self.random.pick(&SUBJECTS[..4]),
             one => one,
         };
         match self.random.below(8) {
@@ -201,6 +202,9 @@ impl Words<'_> {
 impl Session {
     /// A random session with a buffer of about 2 to the power of `bits` bytes at most, as far as an input has room.
     pub fn random(random: &mut Random, bits: u32) -> Session {
+        if bits > 15 && program::LONG.get().is_some() && random.below(150) == 0 {
+            return Session::long(random, bits);
+        }
         let subject = if random.chance(2) { Subject::Full } else { random.pick(&SUBJECTS[..6]) };
         let bits = bits.min(15);
         // (a long buffer and many commands together print more than is worth a comparison)
@@ -236,9 +240,35 @@ impl Session {
         Session { subject, input }
     }
 
+    /// A session with up to 2 to the power of `bits` bytes and few commands, or with few bytes and an eighth as many
+    /// commands.
+    fn long(random: &mut Random, bits: u32) -> Session {
+        let has_bytes = random.chance(50);
+        let len = random.below(if has_bytes { 1 << bits } else { 128 });
+        let commands = if has_bytes { random.below(16) } else { (1 << (bits - 3)) - random.below(1000) };
+        let buffer = random.bytes(len, &TEXTS);
+        let cursor = random.offset(len);
+        let mut words = Words { random, buffer, bits: bits.min(9), spoils: false };
+        let mut input = format!("buffer {}\ncursor {cursor}\n", hex(&words.buffer));
+        for _ in 0..commands {
+            input.push_str(&words.command(Subject::Long));
+            input.push('\n');
+        }
+        Session { subject: Subject::Long, input: input.into_bytes() }
+    }
+
+    /// Whether it has few enough commands to be run again for each of its allocations.
+    pub fn is_short(&self) -> bool {
+        self.subject != Subject::Long && self.input.iter().filter(|byte| **byte == b'\n').count() < 200
+    }
+
     fn answers(&self) -> [(Vec<u8>, Option<i32>); 2] {
-        let (printed, status) = spoken::answer(&self.input);
-        [program::run(&self.input, &[]), (printed, Some(status))]
+        let (program, limit) = match self.subject {
+            Subject::Long => (&program::LONG, LONG_LIMIT),
+            _ => (&program::PROGRAM, LIMIT),
+        };
+        let (printed, status) = spoken::answer(&self.input, limit);
+        [program::run(program.get().unwrap(), &self.input, &[]), (printed, Some(status))]
     }
 }
 
@@ -292,6 +322,7 @@ impl Case for Session {
             Subject::Mixed => "all commands",
             Subject::BadLines => "lines that are bad, or nearly",
             Subject::Full => "about 65,536 bytes",
+            Subject::Long => "up to megabytes and a hundred thousand commands",
         };
         format!("sessions: {name}")
     }
