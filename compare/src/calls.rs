@@ -113,13 +113,16 @@ impl Call {
     /// A random call with bytes of at most 2 to the power of `bits`.
     pub fn random(random: &mut Random, bits: u32) -> Call {
         let family = random.below(FAMILIES.len());
-        let len = random.size(bits);
+        let len = random.size(bits) + if random.chance(50) { random.below(24) } else { 0 };
         let liked: &[usize] = match FAMILIES[family].name {
-            "reads of texts" | "bulk reads" | "writes of bytes and texts" => &TEXTS,
+            "reads of texts" | "bulk reads" | "writes of bytes and texts" | "owned C strings" => &TEXTS,
             "reads of LEB128" | "sizes, measures and LEB128 at a cursor" => &LEB128,
             _ => &FLOATS,
         };
-        let bytes = random.bytes(len, liked);
+        let mut bytes = random.bytes(len, liked);
+        if liked == TEXTS && len > 0 && random.chance(30) {
+            bytes[random.below(len)] = 0;
+        }
         let wanted = FAMILIES[family].given;
         let given = match wanted {
             Given::Number => (0..3).flat_map(|_| random.number(128).to_le_bytes()).collect(),
@@ -136,9 +139,11 @@ impl Call {
         } else {
             random.pick(&[0, 0x0a, 0x20, 0xff])
         };
+        // (a multiple of eight reads the floats that the bytes are made of)
+        let place = random.offset(len) & if random.chance(40) { !7 } else { !0 };
         let asked = Asked {
             kind: random.below(FAMILIES[family].kinds.len()) as u64,
-            place: random.offset(len),
+            place,
             form: random.next() % 8,
             a: random.next() % 4 * 256 + u64::from(delimiter),
             b: random.offset(len) as u64 / random.pick(&[1, 1, 2, 3]),

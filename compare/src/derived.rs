@@ -69,7 +69,7 @@ macro_rules! by_struct {
 
 /// Answers as is told where there is an offset and no room for the whole struct, and says whether it did.
 fn refuses(asked: &Asked, bytes: &[u8], size: usize, reply: &mut Reply) -> bool {
-    let is_short = reply.quiet && asked.place < bytes.len() && bytes.len() - asked.place < size;
+    let is_short = reply.quiet && bytes.len().checked_sub(asked.place).is_some_and(|left| left < size);
     if is_short {
         reply.error(&Error::TooBig { size, len: bytes.len() - asked.place });
         reply.size(asked.place);

@@ -213,7 +213,10 @@ impl Session {
             Subject::Leb128 => &LEB128,
             _ => &TEXTS,
         };
-        let buffer = random.bytes(len, liked);
+        let mut buffer = random.bytes(len, liked);
+        if subject == Subject::Texts && len > 0 && random.chance(30) {
+            buffer[if random.chance(50) { len - 1 } else { random.below(len) }] = 0;
+        }
         let cursor = random.offset(len);
         let commands =
             if subject == Subject::Full { usize::MAX } else { random.size(bits.clamp(3, 11)).min(MOST / (len + 1)) };
