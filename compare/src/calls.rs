@@ -201,36 +201,22 @@ impl Case for Call {
         }
     }
 
-    fn smaller(&self) -> Vec<Call> {
-        let mut calls = Vec::new();
-        for bytes in removals(&self.bytes) {
-            calls.push(Call { bytes, ..self.clone() });
-        }
-        for given in removals(&self.given) {
-            calls.push(Call { given, ..self.clone() });
-        }
+    fn smaller(&self) -> Box<dyn Iterator<Item = Call> + '_> {
         let asked = self.asked;
-        for part in [asked.place, asked.place / 2, asked.place / 4, 1] {
-            if part <= asked.place && part <= self.bytes.len() {
-                let asked = Asked { place: asked.place - part, ..asked };
-                calls.push(Call { asked, bytes: self.bytes[part..].to_vec(), ..self.clone() });
-            }
-        }
-        for place in lower(asked.place as u128) {
-            let place = place as usize;
-            calls.push(Call { asked: Asked { place, ..asked }, ..self.clone() });
-        }
-        for form in 0..asked.form {
-            calls.push(Call { asked: Asked { form, ..asked }, ..self.clone() });
-        }
-        for a in [asked.a % 2, asked.a % 256, asked.a / 256 * 256] {
-            calls.push(Call { asked: Asked { a, ..asked }, ..self.clone() });
-        }
-        for b in lower(u128::from(asked.b)) {
-            let b = b as u64;
-            calls.push(Call { asked: Asked { b, ..asked }, ..self.clone() });
-        }
-        calls
+        let put = |asked| Call { asked, ..self.clone() };
+        let moved = [asked.place, asked.place / 2, asked.place / 4, 1].into_iter();
+        let moved = moved.filter(move |part| *part > 0 && *part <= asked.place && *part <= self.bytes.len()).map(move |part| {
+            let asked = Asked { place: asked.place - part, ..asked };
+            Call { family: self.family, asked, bytes: self.bytes[part..].to_vec(), given: self.given.clone() }
+        });
+        let bytes = removals(&self.bytes).map(move |bytes| Call { family: self.family, asked, bytes, given: self.given.clone() });
+        let given = removals(&self.given).map(|given| Call { given, ..self.clone() });
+        let places = lower(asked.place as u128).into_iter().map(move |place| Asked { place: place as usize, ..asked });
+        let forms = (0..asked.form).map(move |form| Asked { form, ..asked });
+        let a = [asked.a % 2, asked.a % 256, asked.a / 256 * 256].map(move |a| Asked { a, ..asked });
+        let b = lower(u128::from(asked.b)).into_iter().map(move |b| Asked { b: b as u64, ..asked });
+        let nothing = std::iter::once(Call { given: Vec::new(), ..self.clone() });
+        Box::new(nothing.chain(moved).chain(bytes).chain(given).chain(places.chain(forms).chain(a).chain(b).map(put)))
     }
 
     fn weight(&self) -> Vec<u64> {
@@ -264,12 +250,23 @@ impl Case for Call {
     }
 }
 
-/// The bytes, or the first of many; the seed and the number of the case give the others.
+/// The bytes, with `*` and a count behind one that is repeated, as far as they are brief; the seed and the number of the
+/// case give the others.
 fn brief(bytes: &[u8]) -> String {
-    match bytes.get(..BRIEF) {
-        Some(front) if bytes.len() > BRIEF => format!("{}.. ({} bytes)", hex(front), bytes.len()),
-        _ => hex(bytes),
+    if bytes.is_empty() {
+        return hex(bytes);
     }
+    let mut text = String::new();
+    for run in bytes.chunk_by(|a, b| a == b) {
+        if text.len() > 2 * BRIEF {
+            return format!("{text}.. ({} bytes)", bytes.len());
+        }
+        match run.len() {
+            0..8 => text.push_str(&hex(run)),
+            count => text.push_str(&format!("{}*{count} ", hex(&run[..1]))),
+        }
+    }
+    text.trim_end().into()
 }
 
 /// An answer in words.

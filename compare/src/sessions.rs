@@ -1,6 +1,6 @@
 //! Random sessions.
 
-use crate::case::{Case, Verdict, cuts, lower, removals};
+use crate::case::{Case, Verdict, lower, parts, removals};
 use crate::program;
 use crate::random::{LEB128, Random, TEXTS};
 use crate::spoken::{self, LIMIT, LONG_LIMIT, hex};
@@ -310,9 +310,30 @@ fn simpler(word: &str, is_hex: bool) -> Vec<String> {
     }
     let pair = |pair: &[u8]| u8::from_str_radix(std::str::from_utf8(pair).ok()?, 16).ok();
     match word.as_bytes().chunks(2).map(pair).collect::<Option<Vec<u8>>>() {
-        Some(bytes) if is_hex && word.len() % 2 == 0 => removals(&bytes).iter().map(|it| hex(it)).collect(),
+        Some(bytes) if is_hex && word.len() % 2 == 0 => {
+            removals(&bytes).take(if bytes.len() < 4096 { 1000 } else { 20 }).map(|it| hex(&it)).collect()
+        }
         _ => Vec::new(),
     }
+}
+
+/// The sessions with one line that has a simpler word.
+fn simpler_line(lines: &[&[u8]], index: usize) -> Vec<Vec<u8>> {
+    let mut inputs = Vec::new();
+    let Ok(line) = std::str::from_utf8(lines[index]) else { return inputs };
+    let words: Vec<&str> = line.split(' ').collect();
+    for (place, word) in words.iter().enumerate().skip(1) {
+        let before = words[place - 1];
+        let is_hex = matches!(words[0], "buffer")
+            || matches!(before, "str" | "bytes" | "cstr" | "delim" | "until" | "required") && word.len() % 2 == 0
+            || before == "bytesx2"
+            || place > 1 && words[place - 2] == "bytesx2";
+        for other in simpler(word, is_hex) {
+            let changed = [&words[..place], &[other.as_str()], &words[place + 1..]].concat().join(" ");
+            inputs.push([&lines[..index], &[changed.as_bytes()], &lines[index + 1..]].concat().join(&b'\n'));
+        }
+    }
+    inputs
 }
 
 impl Case for Session {
@@ -344,29 +365,13 @@ impl Case for Session {
         })
     }
 
-    fn smaller(&self) -> Vec<Session> {
+    fn smaller(&self) -> Box<dyn Iterator<Item = Session> + '_> {
         let lines: Vec<&[u8]> = self.input.split(|byte| *byte == b'\n').collect();
-        let mut inputs: Vec<Vec<u8>> = cuts(&lines).into_iter().map(|kept| kept.join(&b'\n')).collect();
-        for (index, line) in lines.iter().enumerate().take(60) {
-            let Ok(line) = std::str::from_utf8(line) else { continue };
-            let words: Vec<&str> = line.split(' ').collect();
-            for (place, word) in words.iter().enumerate().skip(1) {
-                let before = words[place - 1];
-                let is_hex = matches!(words[0], "buffer")
-                    || matches!(before, "str" | "bytes" | "cstr" | "delim" | "until" | "required")
-                        && word.len() % 2 == 0
-                    || before == "bytesx2"
-                    || place > 1 && words[place - 2] == "bytesx2";
-                for other in simpler(word, is_hex) {
-                    let changed = [&words[..place], &[other.as_str()], &words[place + 1..]].concat().join(" ");
-                    inputs.push([&lines[..index], &[changed.as_bytes()], &lines[index + 1..]].concat().join(&b'\n'));
-                }
-            }
-        }
-        if self.input.len() < 300 {
-            inputs.extend(removals(&self.input));
-        }
-        inputs.into_iter().map(|input| Session { subject: self.subject, input }).collect()
+        let fewer = lines.clone();
+        let fewer = parts(fewer.len()).map(move |part| [&fewer[..part.start], &fewer[part.end..]].concat().join(&b'\n'));
+        let simpler = (0..lines.len().min(60)).flat_map(move |index| simpler_line(&lines, index));
+        let shorter = removals(&self.input).take(if self.input.len() < 300 { usize::MAX } else { 0 });
+        Box::new(fewer.chain(simpler).chain(shorter).map(|input| Session { subject: self.subject, input }))
     }
 
     fn weight(&self) -> Vec<u64> {
