@@ -137,10 +137,12 @@ build_ours() {
     fi
 }
 
-# Copies a crate into the workspace, with what its out/ keeps, except for a folder of it.
+# Copies a crate into the workspace; what its out/ keeps too, except for a folder, if the workspace has none yet.
 copy_crate() {
     rm -rf "$tree/crates/$1/src" "$tree/crates/$1/specs" "$tree/crates/$1/proofs" && mkdir -p "$tree/crates" || exit 1
-    tar -C "$top/crates" --exclude="$1/must-fail" --exclude="$1/bugs" --exclude="$1/out/$2" -cf - "$1" | tar -C "$tree/crates" -xf - || exit 1
+    kept="$1/out/$2"
+    [ "$1" = scroll ] || [ ! -d "$tree/crates/$1/out" ] || kept=$1/out
+    tar -C "$top/crates" --exclude="$1/must-fail" --exclude="$1/bugs" --exclude="$kept" -cf - "$1" | tar -C "$tree/crates" -xf - || exit 1
 }
 
 build_calls() {

@@ -159,7 +159,7 @@ impl Random {
 const KINDS: usize = 10;
 
 /// Kinds of bytes to like: those of texts, of numbers in LEB128, and of floats.
-pub const TEXTS: [usize; 3] = [3, 5, 6];
+pub const TEXTS: [usize; 4] = [3, 3, 5, 6];
 pub const LEB128: [usize; 1] = [7];
 pub const FLOATS: [usize; 2] = [8, 9];
 
