@@ -205,11 +205,17 @@ impl Case for Call {
         let asked = self.asked;
         let put = |asked| Call { asked, ..self.clone() };
         let moved = [asked.place, asked.place / 2, asked.place / 4, 1].into_iter();
-        let moved = moved.filter(move |part| *part > 0 && *part <= asked.place && *part <= self.bytes.len()).map(move |part| {
-            let asked = Asked { place: asked.place - part, ..asked };
-            Call { family: self.family, asked, bytes: self.bytes[part..].to_vec(), given: self.given.clone() }
+        let moved =
+            moved.filter(move |part| *part > 0 && *part <= asked.place && *part <= self.bytes.len()).map(move |part| {
+                let asked = Asked { place: asked.place - part, ..asked };
+                Call { family: self.family, asked, bytes: self.bytes[part..].to_vec(), given: self.given.clone() }
+            });
+        let bytes = removals(&self.bytes).map(move |bytes| Call {
+            family: self.family,
+            asked,
+            bytes,
+            given: self.given.clone(),
         });
-        let bytes = removals(&self.bytes).map(move |bytes| Call { family: self.family, asked, bytes, given: self.given.clone() });
         let given = removals(&self.given).map(|given| Call { given, ..self.clone() });
         let places = lower(asked.place as u128).into_iter().map(move |place| Asked { place: place as usize, ..asked });
         let forms = (0..asked.form).map(move |form| Asked { form, ..asked });

@@ -199,7 +199,9 @@ fn summarize(found: &BTreeMap<String, Found>) -> (usize, usize) {
         let first = first.map_or(String::new(), |it| format!(", the first after {it:.1} s"));
         println!("{kind}: {cases} cases, {} differ{first}{additions}{told}", differing.len());
     }
-    println!("(docs/DIFFERENCES.md tells the additions, which types of the harness stand for, and the other differences)");
+    println!(
+        "(docs/DIFFERENCES.md tells the additions, which types of the harness stand for, and the other differences)"
+    );
     let failed = found.values().filter(|it| !it.differing.is_empty()).count();
     (found.len() - failed, failed)
 }

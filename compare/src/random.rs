@@ -122,12 +122,14 @@ impl Random {
             }
             8 => {
                 // a float of 32 bits that is a zero, a subnormal, an infinity, a NaN or near one of these
-                let bits = self.pick(&ODD_F32) ^ (self.next() as u32 & self.pick(&[0, 0, 1 << 31, 0x0040_0001, 0x007f_ffff]));
+                let bits =
+                    self.pick(&ODD_F32) ^ (self.next() as u32 & self.pick(&[0, 0, 1 << 31, 0x0040_0001, 0x007f_ffff]));
                 let bits = if self.chance(50) { bits } else { bits.swap_bytes() };
                 bytes.extend_from_slice(&bits.to_le_bytes());
             }
             _ => {
-                let bits = self.pick(&ODD_F64) ^ (self.next() & self.pick(&[0, 0, 1 << 63, 0x0008_0000_0000_0001, 0x000f_ffff_ffff_ffff]));
+                let bits = self.pick(&ODD_F64)
+                    ^ (self.next() & self.pick(&[0, 0, 1 << 63, 0x0008_0000_0000_0001, 0x000f_ffff_ffff_ffff]));
                 let bits = if self.chance(50) { bits } else { bits.swap_bytes() };
                 bytes.extend_from_slice(&bits.to_le_bytes());
             }
@@ -198,17 +200,8 @@ const ODD_TEXTS: [&[u8]; 24] = [
 ];
 
 /// A zero, the ends of the subnormals and of the other floats, one, infinity, a signalling and a quiet NaN.
-const ODD_F32: [u32; 9] = [
-    0,
-    1,
-    0x007f_ffff,
-    0x0080_0000,
-    0x7f7f_ffff,
-    0x3f80_0000,
-    0x7f80_0000,
-    0x7f80_0001,
-    0x7fc0_0000,
-];
+const ODD_F32: [u32; 9] =
+    [0, 1, 0x007f_ffff, 0x0080_0000, 0x7f7f_ffff, 0x3f80_0000, 0x7f80_0000, 0x7f80_0001, 0x7fc0_0000];
 
 const ODD_F64: [u64; 9] = [
     0,

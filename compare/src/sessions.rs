@@ -368,7 +368,8 @@ impl Case for Session {
     fn smaller(&self) -> Box<dyn Iterator<Item = Session> + '_> {
         let lines: Vec<&[u8]> = self.input.split(|byte| *byte == b'\n').collect();
         let fewer = lines.clone();
-        let fewer = parts(fewer.len()).map(move |part| [&fewer[..part.start], &fewer[part.end..]].concat().join(&b'\n'));
+        let fewer =
+            parts(fewer.len()).map(move |part| [&fewer[..part.start], &fewer[part.end..]].concat().join(&b'\n'));
         let simpler = (0..lines.len().min(60)).flat_map(move |index| simpler_line(&lines, index));
         let shorter = removals(&self.input).take(if self.input.len() < 300 { usize::MAX } else { 0 });
         Box::new(fewer.chain(simpler).chain(shorter).map(|input| Session { subject: self.subject, input }))
