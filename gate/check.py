@@ -16,6 +16,7 @@ Several of these words may be given; .ci/run gives `all verdict`. The steps are:
     misuse.py       what must not compile
     sessions.py     the stored sessions, whole and with their buffers cut, by the program that was proved
     faults.py       the sessions and the tests where memory is refused and streams fail, by what was proved
+    compare/run.sh  random sessions and calls beside the Rust crate, where cargo finds it
     edits.py        the edits, many in one check
 
 Steps run side by side, and a step starts when those that it needs have ended. In all they have two jobs more than there are
@@ -183,6 +184,7 @@ def list_steps(groups: Sequence[str], workers: int) -> List[Step]:
         steps += [Step(f"python3 gate/clients.py {it}", 1, (PROVE,)) for it in list_clients()]
         steps += [Step(f"python3 gate/{it}.py", 1, (PROVE,)) for it in ("depending", "misuse")]
         steps.append(Step("python3 gate/sessions.py", 1, (PROGRAM,)))
+        steps.append(Step("sh compare/run.sh --gate", 1, (PROGRAM,)))
     if "edits" in groups:
         steps.append(Step("python3 gate/edits.py", workers, tuple(it.command for it in steps if it.jobs)))
     return steps
