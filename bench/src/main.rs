@@ -31,6 +31,8 @@ mod leb_writes;
 mod numbers;
 #[cfg(feature = "slices")]
 mod slices;
+#[cfg(feature = "streams")]
+mod streams;
 #[cfg(feature = "texts")]
 mod texts;
 #[cfg(feature = "writes")]
@@ -49,20 +51,37 @@ unsafe extern "C" {
     fn code_shift();
 }
 
-// The loops over the library allocate no memory.
+// Whether there is memory, and where.
+#[repr(C)]
+struct Tried {
+    is_there: bool,
+    place: *mut u8,
+}
+
+unsafe extern "C" {
+    fn malloc(size: usize) -> *mut u8;
+    fn realloc(place: *mut u8, size: usize) -> *mut u8;
+    fn free(place: *mut u8);
+}
+
+// The memory of the loops over the library comes from where that of the loops in Rust does.
 #[unsafe(no_mangle)]
-extern "C" fn rattle_alloc() {
-    std::process::abort()
+extern "C" fn rattle_alloc(size: usize, _align: usize) -> Tried {
+    tried(unsafe { malloc(size) })
 }
 
 #[unsafe(no_mangle)]
-extern "C" fn rattle_dealloc() {
-    std::process::abort()
+extern "C" fn rattle_realloc(place: *mut u8, _kept: usize, size: usize, _align: usize) -> Tried {
+    tried(unsafe { realloc(place, size) })
 }
 
 #[unsafe(no_mangle)]
-extern "C" fn rattle_realloc() {
-    std::process::abort()
+extern "C" fn rattle_dealloc(place: *mut u8) {
+    unsafe { free(place) }
+}
+
+fn tried(place: *mut u8) -> Tried {
+    Tried { is_there: !place.is_null(), place }
 }
 
 fn main() {
@@ -91,6 +110,8 @@ fn main() {
     files::all(&mut bench);
     #[cfg(feature = "growth")]
     growth::all(&mut bench);
+    #[cfg(feature = "streams")]
+    streams::all(&mut bench);
     if bench.differs() {
         std::process::exit(1);
     }
