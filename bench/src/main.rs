@@ -15,6 +15,8 @@ mod c_strings;
 mod cread;
 #[cfg(feature = "files")]
 mod dwarf;
+#[cfg(feature = "errors")]
+mod errors;
 #[cfg(feature = "files")]
 mod files;
 #[cfg(feature = "floats")]
@@ -29,6 +31,12 @@ mod leb_reads;
 mod leb_writes;
 #[cfg(feature = "numbers")]
 mod numbers;
+#[cfg(feature = "offsets")]
+mod offsets;
+#[cfg(feature = "own")]
+mod own;
+#[cfg(feature = "owned")]
+mod owned;
 #[cfg(feature = "slices")]
 mod slices;
 #[cfg(feature = "streams")]
@@ -112,6 +120,14 @@ fn main() {
     growth::all(&mut bench);
     #[cfg(feature = "streams")]
     streams::all(&mut bench);
+    #[cfg(feature = "own")]
+    own::all(&mut bench);
+    #[cfg(feature = "offsets")]
+    offsets::all(&mut bench);
+    #[cfg(feature = "owned")]
+    owned::all(&mut bench);
+    #[cfg(feature = "errors")]
+    errors::all(&mut bench);
     if bench.differs() {
         std::process::exit(1);
     }
