@@ -11,6 +11,8 @@ mod timing;
 
 #[cfg(feature = "c_strings")]
 mod c_strings;
+#[cfg(feature = "calls")]
+mod calls;
 #[cfg(feature = "cread")]
 mod cread;
 #[cfg(feature = "files")]
@@ -128,6 +130,8 @@ fn main() {
     owned::all(&mut bench);
     #[cfg(feature = "errors")]
     errors::all(&mut bench);
+    #[cfg(feature = "calls")]
+    calls::all(&mut bench);
     if bench.differs() {
         std::process::exit(1);
     }
