@@ -12,6 +12,7 @@ Several of these words may be given; .ci/run gives `all verdict`. The steps are:
     derive_check.sh what derive.sh prints is in the files that were proved
     cited.py        the names and links of the documents lead to something
     definitions.py  DEFINITIONS.md says what the comments of specs/ say
+    benched.py      the bench has a row for each public call
     prove.sh        each crate is proved from nothing and built, its tests are proved and run, and its stored run
     clients.sh      each client of the library, proved and tested as a crate of its own
     depending.sh    a repository that depends on the library, made by README's lines
@@ -183,7 +184,7 @@ def list_steps(groups: Sequence[str], workers: int) -> List[Step]:
     if "stands" in groups:
         for name in ("sh scripts/calling.sh", "sh scripts/derive_check.sh"):
             steps.append(Step(name, 1))
-        for name in ("cited", "definitions"):
+        for name in ("cited", "definitions", "benched"):
             steps.append(Step(f"python3 scripts/{name}.py", 1))
         steps += [
             Step(PROVE, workers),
