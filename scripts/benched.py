@@ -64,11 +64,17 @@ def public_calls():
     return names
 
 
+def is_called(name, code):
+    return re.search(rf"\b{name}(::<[^;]*?>)?\(", code)
+
+
 def main():
     calls = public_calls()
     timed = "\n".join(path.read_text(encoding="utf-8") for path in sorted(SETS.glob("*.rt.txt")))
-    failures = [f"{name}: no set of bench/sets calls it" for name in sorted(calls - set(UNTIMED)) if not re.search(rf"\b{name}(::<[^;]*?>)?\(", timed)]
-    failures += [f"{name}: scripts/benched.py leaves it out, and there is no such call" for name in sorted(set(UNTIMED) - calls)]
+    untimed = sorted(name for name in calls - set(UNTIMED) if not is_called(name, timed))
+    gone = sorted(set(UNTIMED) - calls)
+    failures = [f"{name}: no set of bench/sets calls it" for name in untimed]
+    failures += [f"{name}: {Path(__file__).name} leaves it out, and there is no such call" for name in gone]
     for failure in failures:
         print(f"FAILED {failure}")
     print(f"{len(calls) - len(failures)} passed, {len(failures)} failed")

@@ -87,7 +87,8 @@ fn read_value<R: Read, Ctx: Copy, N: FromCtx<Ctx>>(
 // Does what `read_exact` does. Its first read is made here, since it mostly is the last.
 #[inline(always)]
 fn fill<R: Read>(reader: &mut R, bytes: &mut [u8]) -> io::Result<()>
-    ensures bytes { OnOk result (Consumes (R.remaining reader.old) (R.remaining reader.new) bytes.new) }
+    ensures bytes { OnOk result
+        (Consumes (R.remaining reader.old) (R.remaining reader.new) bytes.new) }
 {
     if bytes.is_empty() {
         return Ok(());
@@ -183,7 +184,8 @@ fn write_value<W: Write, Ctx: Copy, N: IntoCtx<Ctx>>(
 // Does what `write_all` does. Its first write is made here, since it mostly is the last.
 #[inline(always)]
 fn append<W: Write>(writer: &mut W, bytes: &[u8]) -> io::Result<()>
-    ensures bytes { OnOk result (Appends (W.contents writer.old) (W.contents writer.new) bytes.now) }
+    ensures bytes { OnOk result
+        (Appends (W.contents writer.old) (W.contents writer.new) bytes.now) }
 {
     if bytes.is_empty() {
         return Ok(());
