@@ -2,7 +2,7 @@
 
 use crate::inputs::{Random, SIZE, bytes};
 use crate::timing::{Bench, Form, Job, ours, reading, rust, writing};
-use scroll::ctx::TryFromCtx;
+use scroll::ctx::{StrCtx, TryFromCtx};
 use scroll::{Endian, Error, LE, Pread, Pwrite, Uleb128};
 
 unsafe extern "C" {
@@ -18,6 +18,12 @@ unsafe extern "C" {
     fn rt_own_put_alone(target: *mut u8, len: usize) -> u64;
     fn rt_own_put_error(target: *mut u8, len: usize) -> u64;
     fn rt_own_put_small(target: *mut u8, len: usize) -> u64;
+    fn rt_own_text_error(source: *const u8, len: usize) -> u64;
+    fn rt_own_text_small(source: *const u8, len: usize) -> u64;
+    fn rt_own_slice_error(source: *const u8, len: usize) -> u64;
+    fn rt_own_slice_small(source: *const u8, len: usize) -> u64;
+    fn rt_own_array_error(source: *const u8, len: usize) -> u64;
+    fn rt_own_array_small(source: *const u8, len: usize) -> u64;
     fn rt_five_error(source: *const u8, len: usize, little: bool) -> u64;
     fn rt_five_small(source: *const u8, len: usize, little: bool) -> u64;
     fn rt_five_in_line(source: *const u8, len: usize, little: bool) -> u64;
@@ -37,6 +43,41 @@ fn read_uleb(source: &[u8], offset: &mut usize) -> Result<u64, Error> {
 #[inline(never)]
 fn put(target: &mut [u8], offset: &mut usize, number: u32) -> Result<usize, Error> {
     target.gwrite_with(number, offset, LE)
+}
+
+#[inline(never)]
+fn text<'s>(source: &'s [u8], offset: &mut usize) -> Result<&'s str, Error> {
+    source.gread_with(offset, StrCtx::Delimiter(0))
+}
+
+#[inline(never)]
+fn slice<'s>(source: &'s [u8], offset: &mut usize) -> Result<&'s [u8], Error> {
+    source.gread_with(offset, 12)
+}
+
+#[inline(never)]
+fn array(source: &[u8], offset: &mut usize) -> Result<[u16; 4], Error> {
+    let mut array = [0; 4];
+    source.gread_inout_with(offset, &mut array, LE)?;
+    Ok(array)
+}
+
+// Adds up how many elements each value has, until a function is refused or the source ends.
+macro_rules! lengths {
+    ($read:expr) => {
+        rust("while", |job| {
+            let source = job.input;
+            let mut offset = 0;
+            let mut total: u64 = 0;
+            while offset < source.len() {
+                match $read(source, &mut offset) {
+                    Ok(read) => total = total.wrapping_add(read.len() as u64),
+                    Err(_) => break,
+                }
+            }
+            total
+        })
+    };
 }
 
 // Five numbers, of 16 bytes in all, read as the Rust crate's derive prints it.
@@ -143,6 +184,16 @@ pub fn all(bench: &mut Bench) {
     row("Uleb128 by Error as the call", source!(rt_own_uleb_alone));
     row("Uleb128 by Error", source!(rt_own_uleb_error));
     row("Uleb128 by SmallError", source!(rt_own_uleb_small));
+    let texts: Vec<u8> = (0..SIZE).map(|i| if i % 8 == 7 { 0 } else { b'n' }).collect();
+    let mut row = |name: &str, form: Form, other: Form| {
+        bench.row("own", name, len / 8, &mut reading(&texts), &[form, other]);
+    };
+    row("text of 7 bytes by Error", source!(rt_own_text_error), lengths!(text));
+    row("text of 7 bytes by SmallError", source!(rt_own_text_small), lengths!(text));
+    row("slice of 12 bytes by Error", source!(rt_own_slice_error), lengths!(slice));
+    row("slice of 12 bytes by SmallError", source!(rt_own_slice_small), lengths!(slice));
+    row("array of four u16 by Error", source!(rt_own_array_error), lengths!(array));
+    row("array of four u16 by SmallError", source!(rt_own_array_small), lengths!(array));
     let mut output = vec![0; SIZE];
     let mut row = |name: &str, form: Form| {
         bench.row("own", name, len / 4, &mut writing(&mut output), &[form, rust("while", put_all)]);
