@@ -10,7 +10,7 @@ ghost use Rattle.scroll.specs.Leb128.{ReadsUleb, ReadsSleb, ReadsCountedUleb, Re
 ghost use Rattle.scroll.specs.LebRefusals.{RefusesUleb, RefusesSleb};
 ghost use Rattle.scroll.specs.Numbers.{ReadsNumber, ReadsSigned};
 ghost use Rattle.scroll.specs.Errors.{IsBadOffset};
-ghost use Rattle.scroll.specs.Texts.{ReadsText, RefusesText, ReadsSlice, RefusesSlice};
+ghost use Rattle.scroll.specs.Texts.{ReadsText, RefusesText, ReadsSlice};
 ghost use Rattle.scroll.specs.declared.ctx.str_ctx.StrCtx.{StrCtx};
 ghost use Rattle.scroll.specs.declared.ctx.str_ctx.StrCtx.TheVariants.{Length};
 ghost use Rattle.scroll.specs.Zeros.{ReadsZeros, RefusesZeros};
@@ -73,7 +73,7 @@ pub fn place_has_one_answer()
         → AllowsOneAtEach (ReadsSigned w order) (RefusesShort w) }
     ensures float { (f : Format) (order : Endian)
         → AllowsOneAtEach (ReadsFloat f order) (RefusesShort (float_width f)) }
-    ensures slice { (n : ℕ) → AllowsOneAtEach (ReadsSlice n) (RefusesSlice n) }
+    ensures slice { (n : ℕ) → AllowsOneAtEach (ReadsSlice n) (RefusesShort n) }
     ensures text { (ctx : StrCtx) → AllowsOneAtEach (ReadsText ctx) (RefusesText ctx) }
     ensures c_string { AllowsOneAtEach ReadsCString RefusesCString }
     ensures uleb { AllowsOneAtEach ReadsUleb RefusesUleb }
@@ -87,7 +87,7 @@ pub fn place_has_one_answer()
     ensures floats { (f : Format) (order : Endian) (counts : List ℕ)
         → AllowsOneAtEach (ReadsNested (ReadsFloat f order) counts) (RefusesNested (ReadsFloat f order) (RefusesShort (float_width f)) IsBadOffset counts) }
     ensures slices { (n : ℕ) (counts : List ℕ)
-        → AllowsOneAtEach (ReadsNested (ReadsSlice n) counts) (RefusesNested (ReadsSlice n) (RefusesSlice n) IsBadOffset counts) }
+        → AllowsOneAtEach (ReadsNested (ReadsSlice n) counts) (RefusesNested (ReadsSlice n) (RefusesShort n) IsBadOffset counts) }
     ensures texts { (ctx : StrCtx) (counts : List ℕ)
         → AllowsOneAtEach (ReadsNested (ReadsText ctx) counts) (RefusesNested (ReadsText ctx) (RefusesText ctx) IsBadOffset counts) }
     ensures c_strings { (counts : List ℕ)

@@ -9,7 +9,7 @@ use Rattle.scroll.specs.Leb128.{ReadsUleb, ReadsSleb, ReadsCountedUleb, ReadsCou
 use Rattle.scroll.specs.LebRefusals.{RefusesUleb, RefusesSleb}
 use Rattle.scroll.specs.Numbers.{number, signed_number, ReadsNumber, ReadsSigned}
 use Rattle.scroll.proofs.lemmas.callers.OneAnswer.{one-at, one-front, one-nested, one-sized}
-use Rattle.scroll.specs.Texts.{ReadsText, RefusesText, ReadsSlice, RefusesSlice}
+use Rattle.scroll.specs.Texts.{ReadsText, RefusesText, ReadsSlice}
 use Rattle.scroll.proofs.lemmas.numbers.PaddingLemmas.{one-zeros}
 use Rattle.scroll.specs.Zeros.{ReadsZeros, RefusesZeros}
 use Rattle.scroll.specs.declared.ctx.zeros.Zeros.{Zeros}
@@ -25,7 +25,7 @@ pub returns-clause-float : goal.returns-clause-float
 returns-clause-float c f order = one-at (ReadsFloat f order) (RefusesShort (float_width f)) (one-front (float_width f) (float f order))
 
 pub returns-clause-slice : goal.returns-clause-slice
-returns-clause-slice c n = one-at (ReadsSlice n) (RefusesSlice n) (one-front n (take n))
+returns-clause-slice c n = one-at (ReadsSlice n) (RefusesShort n) (one-front n (take n))
 
 pub returns-clause-text : goal.returns-clause-text
 returns-clause-text c ctx = one-at (ReadsText ctx) (RefusesText ctx) (one-text ctx)
@@ -54,7 +54,7 @@ returns-clause-floats c f order counts =
     one-nested (ReadsFloat f order) (RefusesShort (float_width f)) (one-at (ReadsFloat f order) (RefusesShort (float_width f)) (one-front (float_width f) (float f order))) counts
 
 pub returns-clause-slices : goal.returns-clause-slices
-returns-clause-slices c n = one-nested (ReadsSlice n) (RefusesSlice n) (one-at (ReadsSlice n) (RefusesSlice n) (one-front n (take n)))
+returns-clause-slices c n = one-nested (ReadsSlice n) (RefusesShort n) (one-at (ReadsSlice n) (RefusesShort n) (one-front n (take n)))
 
 pub returns-clause-texts : goal.returns-clause-texts
 returns-clause-texts c ctx = one-nested (ReadsText ctx) (RefusesText ctx) (one-at (ReadsText ctx) (RefusesText ctx) (one-text ctx))
