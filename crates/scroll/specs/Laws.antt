@@ -55,10 +55,6 @@ abbrev pub IsLocal : {V : Type 0} → (List ℕ → V → ℕ → Type 0) → Ty
 IsLocal {V} reads =
     (s t : List ℕ) (v : V) (n : ℕ) → reads s v n → n ≤ length s → length s ≤ length t → take n t ≡ take n s → reads t v n
 
--- each size is at most one more than the length of the source
-abbrev pub IsBounded : {V : Type 0} → (List ℕ → V → ℕ → Type 0) → Type 0
-IsBounded {V} reads = (s : List ℕ) (v : V) (n : ℕ) → reads s v n → n ≤ length s + 1
-
 -- each size is at most the length of the source
 abbrev pub IsWithin : {V : Type 0} → (List ℕ → V → ℕ → Type 0) → Type 0
 IsWithin {V} reads = (s : List ℕ) (v : V) (n : ℕ) → reads s v n → n ≤ length s

@@ -5,7 +5,8 @@ ghost use Rattle.scroll.specs.Arrays.{ReadsArray, RefusesArray, ReadsNested, Ref
 ghost use Rattle.scroll.specs.Bytes.{RefusesShort};
 ghost use Rattle.scroll.specs.CStrings.{ReadsCString, RefusesCString};
 ghost use Rattle.scroll.specs.Floats.{float_width, ReadsFloat};
-ghost use Rattle.scroll.specs.Laws.{IsLocal, IsBounded, IsWithin, AllowsOneAtEach};
+ghost use Rattle.scroll.specs.Laws.{IsLocal, IsWithin, AllowsOneAtEach};
+ghost use Rattle.scroll.specs.Reads.{IsBounded};
 ghost use Rattle.scroll.specs.Leb128.{ReadsUleb, ReadsSleb, ReadsCountedUleb, ReadsCountedSleb};
 ghost use Rattle.scroll.specs.LebRefusals.{RefusesUleb, RefusesSleb};
 ghost use Rattle.scroll.specs.Numbers.{ReadsNumber, ReadsSigned};
