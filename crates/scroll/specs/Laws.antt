@@ -3,7 +3,7 @@ use Rattle.std.specs.Prelude.{◌≡◌, ◌≤◌, ◌<◌, ◌+◌, ℕ, ◌++
 use Rattle.std.specs.List.{Any, flat_map}
 use Rattle.scroll.specs.Arrays.{Nested, WritesArray, LeavesArray}
 use Rattle.scroll.specs.History.{Piece}
-use Rattle.scroll.specs.Reads.{ReadsAt, RefusesAt}
+use Rattle.scroll.specs.Reads.{IsBounded, ReadsAt, RefusesAt}
 use Rattle.scroll.specs.Errors.{IsBadOffset}
 use Rattle.scroll.specs.Runs.{Run}
 use Rattle.scroll.specs.declared.error.Error.{Error}
@@ -54,10 +54,6 @@ leaves_nested leaves (count ∷ counts) = flat_map (leaves_nested leaves counts)
 abbrev pub IsLocal : {V : Type 0} → (List ℕ → V → ℕ → Type 0) → Type 0
 IsLocal {V} reads =
     (s t : List ℕ) (v : V) (n : ℕ) → reads s v n → n ≤ length s → length s ≤ length t → take n t ≡ take n s → reads t v n
-
--- each size is at most one more than the length of the source
-abbrev pub IsBounded : {V : Type 0} → (List ℕ → V → ℕ → Type 0) → Type 0
-IsBounded {V} reads = (s : List ℕ) (v : V) (n : ℕ) → reads s v n → n ≤ length s + 1
 
 -- each size is at most the length of the source
 abbrev pub IsWithin : {V : Type 0} → (List ℕ → V → ℕ → Type 0) → Type 0

@@ -15,7 +15,6 @@ pub mod SmallErrors
 pub mod Reads
 pub mod Writes
 pub mod Texts
-pub mod Search
 pub mod CStrings
 pub mod CStringTexts
 pub mod Zeros

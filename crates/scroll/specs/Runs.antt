@@ -14,7 +14,7 @@ use Rattle.scroll.specs.LebRefusals.{RefusesUleb, RefusesSleb}
 use Rattle.scroll.specs.LebWrites.{uleb_text, sleb_text}
 use Rattle.scroll.specs.Numbers.{ReadsNumber, ReadsSigned, number_bytes, signed_bytes}
 use Rattle.scroll.specs.Reads.{ReadsAt, RefusesAt}
-use Rattle.scroll.specs.Texts.{ReadsText, RefusesText, ReadsSlice, RefusesSlice}
+use Rattle.scroll.specs.Texts.{ReadsText, RefusesText, ReadsSlice}
 use Rattle.scroll.specs.declared.endian.Endian.{Endian}
 use Rattle.scroll.specs.declared.error.Error.{Error}
 use Rattle.scroll.specs.declared.error.Error.TheVariants.{NoMemory}
@@ -81,7 +81,7 @@ Reads what source x n = ⊥
 abbrev pub Refuses : Kind → List ℕ → Error → Type 0
 Refuses (kind.Number w order) source e = RefusesShort (bytes_in w) source e
 Refuses (kind.Text ctx) source e = RefusesText ctx source e
-Refuses (kind.Bytes len) source e = RefusesSlice len source e
+Refuses (kind.Bytes len) source e = RefusesShort len source e
 Refuses kind.CStr source e = RefusesCString source e
 Refuses kind.CString source e = RefusesCString source e
 Refuses kind.Uleb source e = RefusesUleb source e

@@ -3,6 +3,7 @@
 //! A context says how the bytes of a value are interpreted: in which byte order, up to which delimiter, or how many of
 //! them. A call whose name ends in `_with` takes the context; the others use the default of the context's type.
 ghost use Rattle.std.specs.Prelude.{◌≡◌, ℕ, ◌+◌, ◌^◌, ◌≤◌, ◌<◌, List, length, drop, IfOk, IfErr};
+ghost use Rattle.scroll.specs.Reads.{IsBounded};
 
 mod arrays;
 mod bytes;
@@ -46,7 +47,7 @@ pub trait TryFromCtx<'a, Ctx: Copy>: Sized {
         ensures refused { IfErr result (λ e. refuses ctx from.now e) };
 
     // The size is at most one more than the length of the source.
-    ghost reads_bounded: { (ctx : Ctx) (source : List ℕ) (x : Self) (n : ℕ) → reads ctx source x n → n ≤ length source + 1 };
+    ghost reads_bounded: { (ctx : Ctx) → IsBounded (reads ctx) };
 }
 
 /// A type that can be written to bytes in a context.

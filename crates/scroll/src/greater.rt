@@ -26,7 +26,10 @@ pub trait Cread<Ctx: Copy>: Source {
         requires { (ctx : Ctx) → Ctx.is_default ctx
             → offset + N.need ctx ≤ length (Self.bytes self) }
         ensures { ByDefault Ctx.is_default (λ ctx.
-            N.makes ctx (drop offset (Self.bytes self)) result) };
+            N.makes ctx (drop offset (Self.bytes self)) result) }
+    {
+        self.cread_with(offset, Ctx::default())
+    }
 
     /// Reads a value of type `N` at `offset` in the context `ctx`.
     ///
@@ -42,13 +45,6 @@ pub trait Cread<Ctx: Copy>: Source {
 }
 
 impl<'a, Ctx: Copy> Cread<Ctx> for &'a [u8] {
-    fn cread<N: FromCtx<Ctx>>(self, offset: usize) -> N
-    where
-        Ctx: Default,
-    {
-        self.cread_with(offset, Ctx::default())
-    }
-
     fn cread_with<N: FromCtx<Ctx>>(self, offset: usize, ctx: Ctx) -> N {
         N::from_ctx(&self[offset..], ctx)
     }
@@ -85,7 +81,10 @@ pub trait Cwrite<Ctx: Copy> {
         ensures after { ByDefault Ctx.is_default (λ ctx.
             N.leaves ctx n (drop offset (target self.old)) (drop offset (target self.new))) }
         ensures len { length (target self.new) ≡ length (target self.old) }
-        ensures same { same_target self.old self.new };
+        ensures same { same_target self.old self.new }
+    {
+        self.cwrite_with(n, offset, Ctx::default())
+    }
 
     /// Writes `n` at `offset` in the context `ctx`.
     ///
@@ -108,13 +107,6 @@ impl<'d, Ctx: Copy> Cwrite<Ctx> for &'d mut [u8] {
     ghost target = { λ t. t.now };
 
     ghost same_target = { λ old new. new.ghost_name ≡ old.ghost_name };
-
-    fn cwrite<N: IntoCtx<Ctx>>(&mut self, n: N, offset: usize)
-    where
-        Ctx: Default,
-    {
-        slice::cwrite(self, n, offset)
-    }
 
     fn cwrite_with<N: IntoCtx<Ctx>>(&mut self, n: N, offset: usize, ctx: Ctx) {
         slice::cwrite_with(self, n, offset, ctx)

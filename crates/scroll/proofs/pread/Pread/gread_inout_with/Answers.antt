@@ -3,7 +3,7 @@ use Rattle.std.proofs.lemmas.List.{take_more_set, drop-set-lt}
 use Rattle.std.proofs.Math.ListN.{length-set}
 use Rattle.scroll.proofs.lemmas.arrays.BulkLemmas.{drop-next}
 use Rattle.scroll.proofs.lemmas.callers.Cursors.{ReadsAll-push}
-use Rattle.scroll.proofs.pread.RefSliceU8Pread.gread_inout_with.Goals as goal
+use Rattle.scroll.proofs.pread.Pread.gread_inout_with.Goals as goal
 
 pub loop-i-preserved : goal.loop-i-preserved
 loop-i-preserved g c =
