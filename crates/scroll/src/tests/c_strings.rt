@@ -93,9 +93,19 @@ fn check_held(rt: &impl Abort, alloc: Global, text: &[u8], wanted: &[u8]) {
 }
 
 #[test]
+fn parse_a_cstr(rt: HostRuntime) {
+    let rt = &rt;
+    let string = make(rt, rt.alloc(), b"Hello World");
+    let text = string.as_c_str();
+    let bytes = string.as_bytes_with_nul();
+    check_value(rt, CStr::try_from_ctx(bytes, ()), (text, 12));
+}
+
+#[test]
 fn round_trip_a_c_str(rt: HostRuntime) {
     let rt = &rt;
-    let text = borrow(rt, b"Hello World\0");
+    let string = make(rt, rt.alloc(), b"Hello World");
+    let text = string.as_c_str();
     let mut bytes = [0u8; 12];
     check_value(rt, text.try_into_ctx(&mut bytes, ()), 12);
     check_value(rt, CStr::try_from_ctx(&bytes, ()), (text, 12));
