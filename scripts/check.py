@@ -17,8 +17,9 @@ Several of these words may be given; .ci/run gives `all verdict`. The steps are:
     depending.sh    a repository that depends on the library, made by README's lines
     misuse.sh       what must not compile
     sessions.py     the stored sessions, whole and with their buffers cut, by the program that was proved
+    limits.py       long inputs, at which that program must not run out of memory
     faults.sh       the sessions and the tests where memory is refused and streams fail, by what was proved
-    edits.py        the edits, many in one check
+    edits.py        the edits, many in one check; limits.py --edits, those that only long inputs and tests tell
 
 Steps run side by side, and a step starts when those that it needs have ended. In all they have two jobs more than there are
 workers (scripts/workers.py), since parts of a check run on one processor. The tests of the library and rt ci run in copies of
@@ -194,9 +195,10 @@ def list_steps(groups: Sequence[str], workers: int) -> List[Step]:
         ]
         steps += [Step(f"sh scripts/clients.sh {it}", 1, (PROVE,)) for it in list_clients()]
         steps += [Step(f"sh scripts/{it}.sh", 1, (PROVE,)) for it in ("depending", "misuse")]
-        steps.append(Step("python3 scripts/sessions.py", 1, (PROGRAM,)))
+        steps += [Step(f"python3 scripts/{name}.py", 1, (PROGRAM,)) for name in ("sessions", "limits")]
     if "edits" in groups:
         steps.append(Step("python3 scripts/edits.py", workers, tuple(it.command for it in steps if it.jobs)))
+        steps.append(Step("python3 scripts/limits.py --edits", 1, ("python3 scripts/edits.py",)))
     return steps
 
 

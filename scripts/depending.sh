@@ -1,12 +1,13 @@
 #!/bin/sh
-# Makes a repository that depends on the library, by README's own lines, and proves and runs README's first example in
-# it.
+# Makes a repository that depends on the library, by README's own lines, proves and runs README's first example in it, and
+# runs the examples of the library's documentation.
 #
 #     sh scripts/depending.sh
 #
 # The lines are those of README's section "Depending on it": its block of shell commands is run in an empty folder, and
 # its block of text becomes crates.txt. README's first block of Rust becomes a test of the crate `first`: each line with
-# a value after `//` must return that value, and each line with `Err(..)` there an error.
+# a value after `//` must return that value, and each line with `Err(..)` there an error. The examples of the documentation
+# are the tests of a second crate, which scripts/documented.py prints and `rt try` runs without a proof.
 #
 # The library is proved in this repository first, by `rt lib` over what its out/ keeps, and its build is then copied
 # too, so that it isn't proved twice; with FROM_NOTHING=1 it is proved only in the new repository. The last line is
@@ -112,11 +113,20 @@ example_ran() {
         grep -q '^test result: ok\. 1 passed; 0 failed; 0 ignored' "$room/said"
 }
 
+# Runs each example of the documentation.
+documentation_ran() {
+    mkdir -p "$room/own/crates/documented/src" && echo 'documented: scroll' >>"$room/own/crates.txt" &&
+        python3 "$top/scripts/documented.py" >"$room/own/crates/documented/src/lib.rt" || return
+    (cd "$room/own/crates/documented" && rt try --test) || return
+    grep -q "^test result: ok\\. $(grep -c '^#\[test\]' "$room/own/crates/documented/src/lib.rt") passed; 0 failed; 0 ignored" "$room/said"
+}
+
 step 'copy the library' copy_library
 step 'write crates.txt' list_crates
 step 'write the first example' write_example
 [ "${FROM_NOTHING:-}" = 1 ] || step 'build the library' build_library
 step 'check' in_first check
 step 'prove and run the first example' example_ran
+step 'run the examples of the documentation' documentation_ran
 echo "$passed passed, $failed failed"
 [ "$failed" -eq 0 ] && [ "$passed" -gt 0 ]

@@ -9,6 +9,7 @@ use crate::tests::results::{
 };
 use crate::{Error, Pread, Pwrite, Result};
 use std::alloc::Global;
+use std::ffi;
 use std::process::Abort;
 
 pub const NO_ZERO: &str = "The input doesn't contain a null byte";
@@ -145,6 +146,8 @@ fn texts_of_each_length(rt: HostRuntime) {
         check_eq(rt, string.as_bytes(), text.as_slice());
         let source = string.as_bytes_with_nul();
         check_reads(rt, &alloc, source, 0, source, len + 1);
+        let copy: ffi::CString = read_copy(rt, &alloc, source, 0, len + 1);
+        check_eq(rt, copy.as_bytes(), text.as_slice());
     }
 }
 
