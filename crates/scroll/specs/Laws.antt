@@ -1,14 +1,15 @@
 -- Words of the laws. The laws themselves are in docs/LAWS.md.
-use Rattle.std.specs.Prelude.{◌≡◌, ◌≤◌, ◌<◌, ◌+◌, ℕ, ◌++◌, List, [], ◌∷◌, length, take, Result, Ok, Err, MatchResult}
+use Rattle.std.specs.Prelude.{◌≡◌, ◌≤◌, ◌<◌, ◌+◌, ℕ, ◌++◌, List, [], ◌∷◌, length, take, Result, Ok, Err, MatchResult, ⊤}
 use Rattle.std.specs.List.{Any, flat_map}
 use Rattle.scroll.specs.Arrays.{Nested, WritesArray, LeavesArray}
 use Rattle.scroll.specs.History.{Piece}
 use Rattle.scroll.specs.Reads.{IsBounded, ReadsAt, RefusesAt}
-use Rattle.scroll.specs.Errors.{IsBadOffset}
+use Rattle.scroll.specs.Errors.{IsBadOffset, IsPlain}
 use Rattle.scroll.specs.Runs.{Run}
 use Rattle.scroll.specs.declared.error.Error.{Error}
 use Rattle.scroll.specs.declared.error.Error.TheVariants.{BadInput}
 use Rattle.scroll.specs.declared.runner.Answer.{Answer}
+use Rattle.scroll.specs.declared.runner.Answer.TheVariants as answer
 use Rattle.scroll.specs.declared.runner.Command.{Command}
 
 -- the offset `i` is that of one of the bytes of the piece `p`
@@ -32,6 +33,11 @@ pub record WrittenLast (history : List Piece) (p : Piece) : Type 0 where
   pub after : List Piece
   pub split : history ≡ before ++ p ∷ after
   pub apart : Apart (p ∷ []) after
+
+-- `RefusesPlainly a`: the result of a command is a value, a size or an error that owns no memory, `IsPlain`
+abbrev pub RefusesPlainly : Answer → Type 0
+RefusesPlainly (answer.Refused e) = IsPlain e
+RefusesPlainly a = ⊤
 
 -- `WritesNested writes counts`, `LeavesNested writes refuses counts`, `leaves_nested leaves counts`: how an array of
 -- arrays is written, what a failed write leaves, and its leaves, those of the innermost elements in order: with no

@@ -90,6 +90,20 @@ Refuses (kind.U8x0 order) source e = RefusesArray (ReadsNumber 1 order) (Refuses
 Refuses (kind.U16x3 order) source e = RefusesArray (ReadsNumber 2 order) (RefusesShort 2) IsBadOffset 3 source e
 Refuses (kind.Textx2 ctx) source e = RefusesArray (ReadsText ctx) (RefusesText ctx) IsBadOffset 2 source e
 
+-- `Copies what`: the value of the kind is copied into memory of its own
+abbrev pub Copies : Kind → Type 0
+Copies (kind.Text ctx) = ⊤
+Copies (kind.Bytes len) = ⊤
+Copies kind.CStr = ⊤
+Copies kind.CString = ⊤
+Copies (kind.Textx2 ctx) = ⊤
+Copies what = ⊥
+
+-- `CopiesNothing c`: the command is a write, or a read of a kind that isn't copied
+abbrev pub CopiesNothing : Command → Type 0
+CopiesNothing (command.Read at what) = ¬ (Copies what)
+CopiesNothing (command.Write at x) = ⊤
+
 -- `leaves_of x`: the leaves of what is written: the bytes of each number, of a text, of each slice, of a C string with
 -- its zero, and the encoding of a number in LEB128, `uleb_text` or `sleb_text`
 abbrev pub leaves_of : Put → List (List ℕ)

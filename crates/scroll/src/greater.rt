@@ -11,6 +11,22 @@ use crate::source::Source;
 /// Offsets are in bytes, from the start of the slice. The caller ensures that the offset plus the number of bytes that
 /// the type needs is at most the length of the slice. [`Pread`](crate::Pread) checks this instead, and returns an
 /// error.
+///
+/// From `clients/examples/src/bar.rt.txt`:
+///
+/// ```rust
+/// impl FromCtx<Endian> for Bar {
+///     ghost need = { λ _. 8 };
+///
+///     ghost makes = { λ order source x. (x.foo ≡ signed_number order 4 source) × (x.bar ≡ number order 4 (drop 4 source)) };
+///
+///     fn from_ctx(this: &[u8], ctx: Endian) -> Bar {
+///         let foo = this.cread_with(0, ctx);
+///         let bar = this.cread_with(4, ctx);
+///         Bar { foo, bar }
+///     }
+/// }
+/// ```
 pub trait Cread<Ctx: Copy>: Source {
     /// Reads a value of type `N` at `offset` in the default context, which for numbers is the machine's byte order.
     ///
@@ -55,6 +71,23 @@ impl<'a, Ctx: Copy> Cread<Ctx> for &'a [u8] {
 /// Offsets are in bytes, from the start of the slice. The caller ensures that the offset plus the number of bytes that
 /// the type needs is at most the length of the slice. The bytes before the offset, and those after the bytes that the
 /// type needs, are unchanged. [`Pwrite`](crate::Pwrite) checks the room instead, and returns an error.
+///
+/// From `clients/examples/src/bar.rt.txt`:
+///
+/// ```rust
+/// impl IntoCtx<Endian> for Bar {
+///     ghost need = { λ _. 8 };
+///
+///     ghost leaves = { λ order x old new. new ≡ (signed_bytes order 4 x.foo ++ number_bytes order 4 x.bar) ++ drop 8 old };
+///
+///     ghost leaves_keeps = { λ order x old new h. Prim.search rules };
+///
+///     fn into_ctx(self, dst: &mut [u8], ctx: Endian) {
+///         slice::cwrite_with(dst, self.foo, 0, ctx);
+///         slice::cwrite_with(dst, self.bar, 4, ctx);
+///     }
+/// }
+/// ```
 pub trait Cwrite<Ctx: Copy> {
     // The bytes of the target.
     ghost target: { Self → List ℕ };

@@ -19,6 +19,31 @@ const SMALL: usize = 16;
 ///
 /// An error is the reader's own, or one of kind `UnexpectedEof` where the reader ends too early. An interrupted call is
 /// repeated. After an error, the number of bytes taken is not specified.
+///
+/// From `clients/examples/src/stream_fields.rt.txt`:
+///
+/// ```rust
+/// impl FromCtx<Endian> for Foo {
+///     ghost need = { λ _. 12 };
+///
+///     ghost makes = { λ order source x. (x.foo ≡ signed_number order 8 source) × (x.bar ≡ number order 4 (drop 8 source)) };
+///
+///     fn from_ctx(this: &[u8], ctx: Endian) -> Foo {
+///         Foo {
+///             foo: this.cread_with(0, ctx),
+///             bar: this.cread_with(8, ctx),
+///         }
+///     }
+/// }
+///
+/// impl SizeWith<Endian> for Foo {
+///     ghost size = { λ _. 12 };
+///
+///     fn size_with(_ctx: &Endian) -> usize {
+///         12
+///     }
+/// }
+/// ```
 pub trait IOread<Ctx: Copy>: Read {
     /// Reads a value of type `N` in the default context, which for numbers is the machine's byte order.
     ///

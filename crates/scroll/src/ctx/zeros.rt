@@ -16,7 +16,11 @@ use crate::error::{Error, Result, check_room};
 /// unchanged. [`padding`] says how many bytes there are before the next multiple of a size.
 ///
 /// ```rust
-/// file.gread_with::<Zeros>(&mut offset, padding(offset, 8))?;
+/// let file: &[u8] = &[7, 0, 0, 0, 0, 0, 0, 0, 9];
+/// let mut offset = 1;
+/// let count = padding(offset, 8);
+/// file.gread_with::<Zeros>(&mut offset, count)?;
+/// assert_eq!(rt; offset, 8);
 /// ```
 #[derive(Clone, Copy, Debug, PartialEq, Eq)]
 pub struct Zeros;
