@@ -9,7 +9,7 @@
 Several of these words may be given; .ci/run gives `all verdict`. The steps are:
 
     calling.sh      the code of CALLING.md is in the files that were proved
-    derive_check.sh what derive.sh prints is in the files that were proved
+    tools/derive/check.sh  what derive.sh prints is in the files that were proved
     cited.py        the names and links of the documents lead to something
     definitions.py  DEFINITIONS.md says what the comments of specs/ say
     prove.sh        each crate is proved from nothing and built, its tests are proved and run, and its stored run
@@ -181,7 +181,7 @@ def list_steps(groups: Sequence[str], workers: int) -> List[Step]:
     if "verdict" in groups:
         steps.append(Step("rt ci", 0, tree="verdict"))
     if "stands" in groups:
-        for name in ("sh scripts/calling.sh", "sh scripts/derive_check.sh"):
+        for name in ("sh scripts/calling.sh", "sh tools/derive/check.sh"):
             steps.append(Step(name, 1))
         for name in ("cited", "definitions"):
             steps.append(Step(f"python3 scripts/{name}.py", 1))

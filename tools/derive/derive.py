@@ -1,4 +1,4 @@
-"""Prints the implementations of a struct's traits. scripts/derive.sh says how to call it."""
+"""Prints the implementations of a struct's traits. tools/derive/derive.sh says how to call it."""
 
 from __future__ import annotations
 
@@ -449,7 +449,7 @@ def braced(names: list[str]) -> str:
 def check_blocks(source: Source, name: str, traits: list[str], blocks: list[str]) -> int:
     for trait, block in zip(traits, blocks):
         if f"\n{block}\n" not in f"\n{source.text}":
-            print(f"{source.path}: the implementation of {trait} for {name} is not what scripts/derive.sh prints")
+            print(f"{source.path}: the implementation of {trait} for {name} is not what tools/derive/derive.sh prints")
             return 1
     return 0
 

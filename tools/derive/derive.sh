@@ -1,8 +1,8 @@
 #!/bin/sh
 # Prints the implementations of the traits of scroll::ctx for a struct, in the context Endian:
 #
-#     sh scripts/derive.sh FILE STRUCT [TRAIT..]
-#     sh scripts/derive.sh --check FILE STRUCT [TRAIT..]
+#     sh tools/derive/derive.sh FILE STRUCT [TRAIT..]
+#     sh tools/derive/derive.sh --check FILE STRUCT [TRAIT..]
 #
 # (It needs Python 3.10.) FILE is a .rt file (or the .rt.txt of a client), and STRUCT a struct in it, with named fields
 # or with a tuple's. TRAIT is FromCtx, TryFromCtx, IntoCtx, TryIntoCtx or SizeWith; without one, all five are printed. A

@@ -1,14 +1,14 @@
 #!/bin/sh
-# Compares the implementations that scripts/derive.sh prints with those in the files below, which the gate proves, and
+# Compares the implementations that tools/derive/derive.sh prints with those in the files below, which the gate proves, and
 # tries input that it has to refuse:
 #
-#     sh scripts/derive_check.sh
+#     sh tools/derive/check.sh
 #
 # A refusal is one line on standard error, nothing on standard output, and status 2. The last line is
 # `N passed, M failed`. The exit status is 0 if M is 0.
 set -u
 
-top=$(CDPATH='' cd -- "$(dirname -- "$0")/.." && pwd) || exit 1
+top=$(CDPATH='' cd -- "$(dirname -- "$0")/../.." && pwd) || exit 1
 cd "$top" || exit 1
 
 room=$(mktemp -d) || exit 1
@@ -29,7 +29,7 @@ count() {
 # Tests whether each file has the implementations for a struct: FILE STRUCT [TRAIT..]
 while read -r line; do
     # shellcheck disable=SC2086 # words
-    sh scripts/derive.sh --check $line
+    sh tools/derive/derive.sh --check $line
     count $?
 done <<'END'
 clients/examples/src/format.rt.txt Format
@@ -52,7 +52,7 @@ END
 refuses() {
     words=$1
     shift
-    sh scripts/derive.sh "$@" >"$room/out" 2>"$room/err"
+    sh tools/derive/derive.sh "$@" >"$room/out" 2>"$room/err"
     status=$?
     [ "$status" -eq 2 ] && [ ! -s "$room/out" ] && [ "$(wc -l <"$room/err")" -eq 1 ] && grep -q -- "$words\$" "$room/err"
     result=$?

@@ -1,4 +1,4 @@
-"""Structs of numbers in a file of Rattle code: what scripts/derive.py reads."""
+"""Structs of numbers in a file of Rattle code: what tools/derive/derive.py reads."""
 
 from __future__ import annotations
 
