@@ -14,6 +14,7 @@ Several of these words may be given; .ci/run gives `all verdict`. The steps are:
     definitions.py  DEFINITIONS.md says what the comments of specs/ say
     prove.sh        each crate is proved from nothing and built, its tests are proved and run, and its stored run
     clients.sh      each client of the library, proved and tested as a crate of its own
+    tools/derive/prove.sh  what derive.sh prints for the structs of tools/derive/shapes/, proved and tested likewise
     depending.sh    a repository that depends on the library, made by README's lines
     misuse.sh       what must not compile
     sessions.py     the stored sessions, whole and with their buffers cut, by the program that was proved
@@ -193,7 +194,7 @@ def list_steps(groups: Sequence[str], workers: int) -> List[Step]:
             Step("sh scripts/faults.sh", half, (PROGRAM, f"{PROVE} tests")),
         ]
         steps += [Step(f"sh scripts/clients.sh {it}", 1, (PROVE,)) for it in list_clients()]
-        steps += [Step(f"sh scripts/{it}.sh", 1, (PROVE,)) for it in ("depending", "misuse")]
+        steps += [Step(f"sh {it}.sh", 1, (PROVE,)) for it in ("tools/derive/prove", "scripts/depending", "scripts/misuse")]
         steps.append(Step("python3 scripts/sessions.py", 1, (PROGRAM,)))
     if "edits" in groups:
         steps.append(Step("python3 scripts/edits.py", workers, tuple(it.command for it in steps if it.jobs)))

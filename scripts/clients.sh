@@ -3,7 +3,8 @@
 #
 #     sh scripts/clients.sh [NAME..]
 #
-# NAME is a folder of clients/; without one, all that have a file src/lib.rt.txt are tried. A client's files are copied
+# NAME is a folder of clients/, or of the folder that the variable CLIENTS names; without one, all that have a file
+# src/lib.rt.txt are tried. A client's files are copied
 # without their `.txt`. The library is proved and built in the tree itself, by `rt lib` over what its out/ keeps, and
 # its build is copied, so it isn't proved again for the clients. As many clients are tried in parallel as there are
 # workers (scripts/workers.py), and they share the jobs.
@@ -19,14 +20,15 @@ top=$(CDPATH='' cd -- "$(dirname -- "$0")/.." && pwd) || exit 1
 # shellcheck source=scripts/lib.sh
 . "$top/scripts/lib.sh"
 
+clients=${CLIENTS:-$top/clients}
 room=$(mktemp -d) || exit 1
 running=
 trap '[ -z "$running" ] || kill $running 2>/dev/null; wait; rm -rf "$room"' EXIT
 trap 'exit 1' HUP INT TERM
 
-# Lists the folders of clients/ that hold a client.
+# Lists the folders that hold a client.
 list_clients() {
-    for file in "$top"/clients/*/src/lib.rt.txt; do
+    for file in "$clients"/*/src/lib.rt.txt; do
         [ ! -f "$file" ] || basename "${file%/src/lib.rt.txt}"
     done
 }
@@ -38,7 +40,7 @@ make_workspace() {
     { cp "$top/HANDLES" "$tree/" && grep '^scroll:' "$top/crates.txt"; } >"$tree/crates.txt" || return
     tar -C "$top/crates" --exclude=scroll/must-fail --exclude=scroll/bugs --exclude=scroll/out/incremental -cf - scroll | tar -C "$tree/crates" -xf - || return
     echo "$1: scroll" >>"$tree/crates.txt"
-    cd "$top/clients/$1" || return
+    cd "$clients/$1" || return
     find . -type f ! -name '*.md' >"$tree.files"
     while read -r file; do
         case $file in

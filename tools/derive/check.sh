@@ -1,6 +1,6 @@
 #!/bin/sh
 # Compares the implementations that tools/derive/derive.sh prints with those in the files below, which the gate proves, and
-# tries input that it has to refuse:
+# tries files in which they differ, forms of structs, and input that has to be refused:
 #
 #     sh tools/derive/check.sh
 #
@@ -26,26 +26,63 @@ count() {
     fi
 }
 
-# Tests whether each file has the implementations for a struct: FILE STRUCT [TRAIT..]
-while read -r line; do
-    # shellcheck disable=SC2086 # words
-    sh tools/derive/derive.sh --check $line
+# Tests whether each file has the implementation for a struct: FILE STRUCT.
+while read -r file name; do
+    sh tools/derive/derive.sh --check "$file" "$name"
     count $?
 done <<'END'
 clients/examples/src/format.rt.txt Format
-clients/derived/src/shapes.rt.txt Data
-clients/derived/src/shapes.rt.txt Data2
-clients/derived/src/shapes.rt.txt Data3
-clients/derived/src/shapes.rt.txt Data5
-clients/derived/src/shapes.rt.txt Data6
-clients/derived/src/shapes.rt.txt Pair
-clients/derived/src/shapes.rt.txt Data7
-clients/derived/src/shapes.rt.txt Data8
-clients/derived/src/station.rt.txt Report
-clients/object_files/src/header.rt.txt RawHeader FromCtx
-clients/object_files/src/sections.rt.txt Section FromCtx TryFromCtx
-clients/packets/src/headers.rt.txt UdpHeader FromCtx TryFromCtx IntoCtx TryIntoCtx
-clients/packets/src/headers.rt.txt DnsHeader FromCtx TryFromCtx IntoCtx TryIntoCtx
+END
+
+# Tests whether a file in which one line of the implementation differs is found out: --check ends with 1 and one line.
+first=$(grep -n '^impl Record' clients/examples/src/format.rt.txt | cut -d : -f 1)
+last=$(awk -v first="$first" 'NR > first && $0 == "}" { print NR; exit }' clients/examples/src/format.rt.txt)
+line=$first
+while [ "$line" -le "$last" ]; do
+    awk -v line="$line" 'NR == line { $0 = $0 "!" } { print }' clients/examples/src/format.rt.txt >"$room/format.rt"
+    said=$(sh tools/derive/derive.sh --check "$room/format.rt" Format 2>&1)
+    status=$?
+    [ "$status" -eq 1 ] && [ "$said" = "$room/format.rt: the implementation for Format is not what tools/derive/derive.sh prints" ]
+    result=$?
+    [ "$result" -eq 0 ] || echo "derive: with another line $line --check ended with $status and '$said'"
+    count "$result"
+    line=$((line + 1))
+done
+
+# Tests whether the implementation for a struct has a line: FILE STRUCT LINE.
+cat >"$room/forms.rt" <<'END'
+// struct Forms { in_a_comment: u8 }
+const LEN: usize = 0x1_0;
+pub(crate) struct Forms {
+    #[doc = "struct Forms { in: a string }"]
+    pub(crate) data: [u64; LEN],
+    #[first] #[second]
+    pub(in crate::a) record: [[f32; 1_0]; 16usize],
+    inner: Inner, // } not here: u8,
+    last: i128,
+}
+struct Inner(pub u8, pub(crate) [u16; 2]);
+struct One { a: u8 }
+struct Left { number_one: u64, number_two: u64, number_three: u64, number_four: u64, number_five: u64, number_six: u64, number_seven: u64, number_eight: u64, number_nine: u64 }
+END
+while IFS='|' read -r name line; do
+    sh tools/derive/derive.sh "$room/forms.rt" "$name" >"$room/out"
+    grep -qxF -- "$line" "$room/out"
+    result=$?
+    [ "$result" -eq 0 ] || echo "derive: the implementation for $name has no line '$line'"
+    count "$result"
+done <<'END'
+Forms|use scroll::ctx::Record;
+Forms|    type Parts = (([u64; LEN], [[f32; 1_0]; 16usize]), (Inner, i128));
+Forms|    ghost parts_of = { λ x. ((x.«data», x.«record»), (x.inner, x.last)) };
+Forms|        ((self.data, self.record), (self.inner, self.last))
+Forms|            inner: parts.1.0,
+Inner|    ghost of_parts = { λ p. record { 0 = p.0; 1 = p.1 } };
+Inner|        Inner(parts.0, parts.1)
+One|    type Parts = u8;
+One|        One { a: parts }
+Left|    type Parts = ((((u64, u64), u64), (u64, u64)), ((u64, u64), (u64, u64)));
+Left|      ((x.number_six, x.number_seven), (x.number_eight, x.number_nine))) };
 END
 
 # Tests whether a call is refused with one line that ends in these words.
@@ -79,12 +116,13 @@ struct Named { a: [u8; LEN] }
 struct Sized { a: usize }
 struct Letter { a: char }
 struct Flag(bool, u8);
-struct Many { a: [u8; 65] }
+struct Loop { a: [Loop; 2] }
 struct None { a: [u8; 0] }
-struct Points { a: [Twenty; 2] }
+struct Hexed { a: [u8; 0x] }
 struct Twenty { a: [u32; 20] }
 struct Inner { a: Text }
 struct Ghost { a: u8, ghost small: { a < 8 } }
+struct Raw { r#in: u8 }
 END
 cp "$room/bad.rt" "$room/bad.txt"
 # FILE STRUCT: what the line ends in
@@ -108,14 +146,16 @@ bad.rt|Named|bad.rt:15: the length LEN of the field a is no literal, and no cons
 bad.rt|Sized|bad.rt:16: the field a is of the type usize, which is no number of a fixed width, no array and no struct of this file
 bad.rt|Letter|bad.rt:17: the field a is of the type char, which is no number of a fixed width, no array and no struct of this file
 bad.rt|Flag|bad.rt:18: the field 0 is of the type bool, which is no number of a fixed width, no array and no struct of this file
-bad.rt|Many|bad.rt:19: the struct Many has 65 numbers, and at most 64 can be done
+bad.rt|Loop|bad.rt:19: the field a is of the struct Loop, which holds it
 bad.rt|None|bad.rt:20: the struct None has no numbers
-bad.rt|Points|bad.rt:21: the field a is an array of structs
+bad.rt|Hexed|bad.rt:21: the length 0x of the field a is no literal, and no constant of this file that is one
 bad.rt|Inner|bad.rt:11: the field a is a text, String
 bad.rt|Ghost|bad.rt:24: the field small is a ghost field
+bad.rt|Raw|bad.rt:25: r#in: u8 is no field
 END
-refuses 'Pread: none of the traits FromCtx, TryFromCtx, IntoCtx, TryIntoCtx, SizeWith' "$room/bad.rt" Twenty Pread
-refuses 'usage: derive.sh \[--check\] FILE STRUCT \[TRAIT..\]' "$room/bad.rt"
+refuses 'usage: derive.sh \[--check\] FILE STRUCT' "$room/bad.rt"
+refuses 'usage: derive.sh \[--check\] FILE STRUCT' "$room/bad.rt" Twenty More
+refuses 'usage: derive.sh \[--check\] FILE STRUCT' --chek "$room/bad.rt" Twenty
 
 echo "derive: the implementations in the files were compared, and bad input was tried"
 echo "$passed passed, $failed failed"
