@@ -7,38 +7,52 @@ from pathlib import Path
 from typing import List
 
 from fixed import USES, record_block
+from format_back import format_back
+from format_code import format_blocks, format_uses
+from format_specs import format_specs
 from kinds import read_struct
+from parts import is_format, read_format
 from source import BadInput, Source
 
+OPTIONS = ("--check", "--specs", "--back")
 
-def run(arguments: List[str]) -> int:
-    is_check = arguments[:1] == ["--check"]
-    path, name = arguments[-2:]
+
+def run(option: str, path: str, name: str) -> int:
     source = Source(path)
-    block = record_block(read_struct(source, name))
-    if is_check:
+    raw = source.find_struct(name)
+    if is_format(raw):
+        form = read_format(source, raw)
+        if option in ("--specs", "--back"):
+            print(format_specs(form) if option == "--specs" else format_back(form))
+            return 0
+        uses, block = format_uses(form), format_blocks(form)
+    else:
+        if option in ("--specs", "--back"):
+            source.refuse(raw.place, f"the struct {name} is of a fixed size, and has no definitions of its own")
+        uses, block = USES, record_block(read_struct(source, name))
+    if option == "--check":
         if f"\n{block}\n" in f"\n{source.text}":
             return 0
         print(f"{path}: the implementation for {name} is not what tools/derive/derive.sh prints")
         return 1
     crate = "crate" if "crates/scroll/src/" in str(Path(path).resolve()) else "scroll"
-    print("\n".join(USES).replace("{crate}", crate))
+    print("\n".join(uses).replace("{crate}", crate))
     print(f"\n{block}")
     return 0
 
 
-def main() -> int:
-    arguments = sys.argv[1:]
-    names = arguments[1:] if arguments[:1] == ["--check"] else arguments
+def main(arguments: List[str]) -> int:
+    option = arguments[0] if arguments and arguments[0] in OPTIONS else ""
+    names = arguments[1:] if option else arguments
     if len(names) != 2 or any(name.startswith("-") for name in names):
-        print("usage: derive.sh [--check] FILE STRUCT", file=sys.stderr)
+        print(f"usage: derive.sh [{' | '.join(OPTIONS)}] FILE STRUCT", file=sys.stderr)
         return 2
     try:
-        return run(arguments)
+        return run(option, *names)
     except BadInput as bad:
         print(f"derive: {bad}", file=sys.stderr)
         return 2
 
 
 if __name__ == "__main__":
-    sys.exit(main())
+    sys.exit(main(sys.argv[1:]))

@@ -11,6 +11,8 @@ from typing import List, NoReturn, Tuple
 ATTRIBUTE = re.compile(r"\s*#\[[^\]]*\]")
 VISIBILITY = re.compile(r"\s*pub(?:\s*\([^)]*\))?(?=\s)")
 NAME = re.compile(r"[A-Za-z_]\w*")
+# A note on a field: a comment of one line, alone or at the end of one, before it.
+NOTE = re.compile(r"//\s*#\[scroll\((.*)\)\]\s*$", re.M)
 CLOSING = {"(": ")", "{": "}", "[": "]"}
 
 
@@ -20,10 +22,11 @@ class BadInput(Exception):
 
 @dataclass(frozen=True)
 class RawField:
-    """A field as it is written: its name, its type, and the offset of the field in the file."""
+    """A field as it is written: its name, its type, its notes, and the offset of the field in the file."""
 
     name: str
     type: str
+    notes: Tuple[str, ...]
     place: int
 
 
@@ -134,13 +137,14 @@ class Source:
 
     def read_field(self, place: int, text: str, index: int, is_tuple: bool) -> RawField:
         begin = skip_head(text)
+        notes = tuple(note.strip() for note in NOTE.findall(self.text[place : place + begin]))
         place, text = place + begin, " ".join(text[begin:].split())
         if is_tuple:
-            return RawField(str(index), text, place)
+            return RawField(str(index), text, notes, place)
         name, _, type = text.partition(":")
         name, type = name.strip(), type.strip()
         if name.startswith("ghost "):
             self.refuse(place, f"the field {name[6:].strip()} is a ghost field")
         if not NAME.fullmatch(name) or not type:
             self.refuse(place, f"{text} is no field")
-        return RawField(name, type, place)
+        return RawField(name, type, notes, place)

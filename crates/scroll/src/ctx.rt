@@ -7,6 +7,7 @@ ghost use Rattle.std.specs.Prelude.{◌≡◌, ℕ, ◌+◌, ◌^◌, ◌≤◌,
 mod arrays;
 mod bytes;
 mod c_strings;
+mod encode;
 mod fixed;
 mod made;
 mod measure;
@@ -18,6 +19,7 @@ mod text;
 mod zeros;
 
 pub use arrays::array_fits;
+pub use encode::{Encode, Value};
 pub use fixed::{Fixed, Plain, Record, Written};
 pub use made::{bytes_at, read_made};
 pub use str_ctx::{NULL, RET, SPACE, StrCtx, TAB};
