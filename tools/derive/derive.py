@@ -6,7 +6,7 @@ import sys
 from pathlib import Path
 from typing import List
 
-from fixed import USES, record_block
+from fixed import record_block, record_uses
 from format_back import format_back
 from format_code import format_blocks, format_uses
 from format_specs import format_specs
@@ -29,7 +29,8 @@ def run(option: str, path: str, name: str) -> int:
     else:
         if option in ("--specs", "--back"):
             source.refuse(raw.place, f"the struct {name} is of a fixed size, and has no definitions of its own")
-        uses, block = USES, record_block(read_struct(source, name))
+        block = record_block(read_struct(source, name))
+        uses = record_uses(block)
     if option == "--check":
         if f"\n{block}\n" in f"\n{source.text}":
             return 0

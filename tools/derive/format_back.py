@@ -10,7 +10,7 @@ from parts import Format, Part, width
 MODULES = [
     (
         "Rattle.std.proofs.Common",
-        ["◌≡◌", "◌+◌", "◌^◌", "◌<◌", "◌≤ℤ◌", "◌<ℤ◌", "◌*ℤ◌", "◌++◌", "◌∙◌", "ℕ", "ℤ", "pos", "neg_ℤ", "List", "T", "length", "drop", "refl", "sym", "ap"]
+        ["◌≡◌", "◌+◌", "◌^◌", "◌<◌", "◌≤ℤ◌", "◌<ℤ◌", "◌*ℤ◌", "◌++◌", "◌∙◌", "ℕ", "ℤ", "pos", "neg_ℤ", "List", "T", "IsUtf8", "length", "drop", "refl", "sym", "ap"]
         + ["length-append", "length-drop", "arith"],
     ),
     ("Rattle.std.specs.Float", ["binary32", "binary64"]),
@@ -18,7 +18,7 @@ MODULES = [
     ("Rattle.scroll.specs.Texts", ["ReadsSlice", "ReadsText"]),
     ("Rattle.scroll.specs.Leb128", ["ReadsCountedUleb", "ReadsCountedSleb"]),
     ("Rattle.scroll.specs.LebWrites", ["uleb_text", "sleb_text"]),
-    ("Rattle.scroll.specs.Spelling", ["HasSpelling", "HasSignedSpelling"]),
+    ("Rattle.scroll.specs.Spelling", ["HasSpelling", "HasSignedSpelling", "unsigned_form"]),
     ("Rattle.scroll.specs.Floats", ["float", "float_bytes", "ReadsFloat"]),
     ("Rattle.scroll.specs.Numbers", ["number", "number_bytes", "signed_number", "signed_bytes", "ReadsNumber", "ReadsSigned"]),
     ("Rattle.scroll.specs.lemmas.Frames", ["length-number_bytes", "length-signed_bytes", "length-spelling"]),
@@ -88,6 +88,7 @@ def steps(form: Format) -> Tuple[List[str], List[str]]:
     """Returns a step for each field, with what is left from its offset on, and the value of each."""
     names = fields_in(form)
     lets = ["    let p0 : Rest 0 s s = rest-start s in"]
+    lets += [f"    let {part.name}-size = x.{part.label}.count in" for part in form.parts if part.kind == "leb"]
     values = []
     for index, part in enumerate(form.parts):
         size = argument(size_in(part, names))
@@ -97,6 +98,8 @@ def steps(form: Format) -> Tuple[List[str], List[str]]:
             lets.append(f"    let last = rest-last {bytes} rest {here} in")
             here = "last"
         lets.append(f"    let p{index + 1} = rest-next {size} {bytes} _ rest {length_of(part)} {here} in")
+        if part.kind == "leb":
+            values.append(f"{part.name}-size = {part.name}-size;")
         if part in form.head:
             value = f"rest-value ({value_of(part)}) x.{part.label} {bytes} _ rest {begins_of(part)} {here}"
             values.append(f"{member(part)} = {value};")

@@ -47,6 +47,8 @@ def reads_record(form: Format) -> List[str]:
             lines.append(f"  pub {part.name}-is : {found[part.name]} ≡ {part.constant}")
     for part, at in zip(form.tail, offsets_in(form)):
         size = at_argument(size_in(part, names))
+        if part.kind == "leb":
+            lines.append(f"  pub {part.name}-size : ℕ")
         lines.append(f"  pub {member(part)} : ReadsAt {reads_of(part, names)} s {at_argument(at)} {value_in(part)} {size}")
         if part.constant:
             lines.append(f"  pub {part.name}-is : x.{part.label} ≡ {part.constant}")
@@ -117,13 +119,13 @@ def refuses(form: Format) -> List[str]:
         + "one of these is the error",
         f"abbrev pub Refuses{form.name} : Endian → List ℕ → Error → Type 0",
         f"Refuses{form.name} order s e =",
-        *(f"  {'⊎ ' if index else ''}{case}" for index, case in enumerate(cases)),
+        *(f"    {'⊎ ' if index else ''}{case}" for index, case in enumerate(cases)),
     ]
 
 
 def bytes_definition(form: Format) -> List[str]:
     lists = [bytes_of(part, f"x.{part.label}") for part in form.parts]
-    lines = [f"  {lists[0]}", *(f"  ++ ({it}" for it in lists[1:-1]), *([f"  ++ {lists[-1]}"] if len(lists) > 1 else [])]
+    lines = [f"    {lists[0]}", *(f"    ++ ({it}" for it in lists[1:-1]), *([f"    ++ {lists[-1]}"] if len(lists) > 1 else [])]
     lines[-1] += ")" * (len(lists) - 2)
     return [
         "",
@@ -185,7 +187,7 @@ def writes(form: Format) -> List[str]:
         "-- its write fails: one of these is the error",
         f"abbrev pub Keeps{name} : Endian → {name} → List ℕ → List ℕ → Error → Type 0",
         f"Keeps{name} order x old new e =",
-        *(f"  {'⊎ ' if index else ''}{case}" for index, case in enumerate(cases)),
+        *(f"    {'⊎ ' if index else ''}{case}" for index, case in enumerate(cases)),
     ]
     return lines
 

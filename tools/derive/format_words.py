@@ -6,6 +6,7 @@ import re
 from typing import Dict, List, Sequence, Tuple
 
 from parts import Format, Part, width
+from source import closing
 
 # The names that the records below have already.
 TAKEN = {
@@ -52,7 +53,8 @@ def drop(at: int, source: str) -> str:
 
 def within(term: str) -> str:
     """Returns a term as an argument."""
-    return f"({term})" if " " in term and not term.startswith("(") else term
+    is_one = term.startswith("(") and closing(term, 0) == len(term) - 1
+    return f"({term})" if " " in term and not is_one else term
 
 
 def value_of(part: Part) -> str:
@@ -118,9 +120,9 @@ def value_in(part: Part) -> str:
 
 
 def size_in(part: Part, names: Dict[str, str]) -> str:
-    """Returns how many bytes a field of the struct `x` has."""
+    """Returns how many bytes a field of the struct `x` has: a number, the field's count, or a part of the record that says it."""
     if part.kind == "leb":
-        return f"x.{part.label}.count"
+        return f"{part.name}-size"
     return part.count.in_clause(names) if part.count else str(width(part))
 
 
@@ -133,7 +135,7 @@ def offsets_in(form: Format) -> List[str]:
     names = fields_in(form)
     found = [str(form.room)]
     for part in form.tail:
-        size = size_in(part, names)
+        size = within(size_in(part, names))
         found.append(size if found[-1] == "0" else f"{found[-1]} + {size}")
     return found
 

@@ -4,8 +4,11 @@ from __future__ import annotations
 
 from typing import List, Sequence, Tuple, Union
 
-# Parts in pairs.
-Pairs = Union[str, "Tuple[Pairs, Pairs]"]
+# Parts in nested tuples.
+Tree = Union[str, "Tuple[Tree, ...]"]
+
+# A tuple has at most so many parts.
+MOST = 4
 
 # The longest line, and the longest inside of a tuple, a call or an array before its parts are on separate lines.
 WIDTH = 100
@@ -26,43 +29,83 @@ def label(name: str) -> str:
     return f"«{name}»" if name in RESERVED else name
 
 
-def balanced(parts: Sequence[str]) -> Pairs:
-    """Returns parts in pairs, with as many on the left as on the right, or one more."""
+def lengths(count: int) -> List[int]:
+    """Returns how many parts each part of the outer tuple has."""
+    most = 1
+    while MOST * most < count:
+        most *= MOST
+    return [min(most, count - at) for at in range(0, count, most)]
+
+
+def nested(parts: Sequence[str]) -> Tree:
+    """Returns parts in tuples of two to four, nested where there are more."""
     if len(parts) == 1:
         return parts[0]
-    half = (len(parts) + 1) // 2
-    return (balanced(parts[:half]), balanced(parts[half:]))
+    trees: List[Tree] = []
+    at = 0
+    for length in lengths(len(parts)):
+        trees.append(nested(parts[at : at + length]))
+        at += length
+    return tuple(trees)
 
 
-def paths(pairs: Pairs, path: str) -> List[str]:
-    """Returns the path to each part, in order."""
-    if isinstance(pairs, str):
+def paths(count: int, path: str) -> List[str]:
+    """Returns the path to each part of nested tuples, in order."""
+    if count == 1:
         return [path]
-    return [*paths(pairs[0], f"{path}.0"), *paths(pairs[1], f"{path}.1")]
+    return [it for index, length in enumerate(lengths(count)) for it in paths(length, f"{path}.{index}")]
 
 
-def on_one_line(pairs: Pairs) -> str:
-    return pairs if isinstance(pairs, str) else f"({on_one_line(pairs[0])}, {on_one_line(pairs[1])})"
+def pair_paths(count: int, path: str) -> List[str]:
+    """Returns the path to each part where a tuple is a pair of its first part and the others."""
+    if count == 1:
+        return [path]
+    found: List[str] = []
+    parts = lengths(count)
+    for index, length in enumerate(parts):
+        found += pair_paths(length, path + ".1" * index + (".0" if index < len(parts) - 1 else ""))
+    return found
 
 
-def tuple_lines(head: str, pairs: Pairs, tail: str, indent: int, inside: int = INSIDE) -> List[str]:
-    """Returns nested pairs after `head` and before `tail`, on one line if they are short."""
-    line = f"{' ' * indent}{head}{on_one_line(pairs)}{tail}"
-    if isinstance(pairs, str) or (len(on_one_line(pairs)) - 2 <= inside and len(line) <= WIDTH):
+def in_pairs(tree: Tree) -> str:
+    """Returns nested tuples where a tuple is a pair of its first part and the others."""
+    if isinstance(tree, str):
+        return tree
+    parts = [in_pairs(part) for part in tree]
+    whole = parts.pop()
+    while parts:
+        whole = f"({parts.pop()}, {whole})"
+    return whole
+
+
+def on_one_line(tree: Tree) -> str:
+    return tree if isinstance(tree, str) else f"({', '.join(on_one_line(part) for part in tree)})"
+
+
+def tuple_lines(head: str, tree: Tree, tail: str, indent: int) -> List[str]:
+    """Returns nested tuples after `head` and before `tail`, on one line if they are short."""
+    line = f"{' ' * indent}{head}{on_one_line(tree)}{tail}"
+    if isinstance(tree, str) or (len(on_one_line(tree)) - 2 <= INSIDE and len(line) <= WIDTH):
         return [line]
     lines = [f"{' ' * indent}{head}("]
-    for part in pairs:
-        lines += tuple_lines("", part, ",", indent + 4, inside)
+    for part in tree:
+        lines += tuple_lines("", part, ",", indent + 4)
     return [*lines, f"{' ' * indent}){tail}"]
 
 
-def clause_pairs(head: str, pairs: Pairs, tail: str, indent: int) -> List[str]:
-    """Returns nested pairs in a clause, on one line if that is short."""
-    line = f"{' ' * indent}{head}{on_one_line(pairs)}{tail}"
-    if isinstance(pairs, str) or len(line) <= WIDTH:
+def clause_lines(head: str, text: str, tail: str, indent: int) -> List[str]:
+    """Returns a clause, on lines that end at its commas where it is long."""
+    line = f"{' ' * indent}{head}{text}{tail}"
+    if len(line) <= WIDTH:
         return [line]
-    left = clause_pairs(f"{head}(", pairs[0], ",", indent)
-    return [*left, *clause_pairs("", pairs[1], f"){tail}", indent + 2)]
+    lines = [" " * indent + head.rstrip()]
+    line = " " * (indent + 4)
+    for word in text.split(" "):
+        if len(line) + len(word) + len(tail) > WIDTH:
+            lines.append(line.rstrip())
+            line = " " * (indent + 4)
+        line += word + " "
+    return [*lines, line.rstrip() + tail]
 
 
 def struct_lines(name: str, fields: Sequence[Tuple[str, str]], is_tuple: bool, indent: int) -> List[str]:

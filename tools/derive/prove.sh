@@ -3,8 +3,8 @@
 #
 #     sh tools/derive/prove.sh
 #
-# It copies the files, adds the printed blocks after the structs, runs scripts/clients.sh on them, and keeps nothing. The
-# output and the exit status are those of scripts/clients.sh.
+# It copies the files, adds the printed blocks after the structs and the printed files to specs/, runs scripts/clients.sh on
+# them, and keeps nothing. The output and the exit status are those of scripts/clients.sh.
 set -u
 
 top=$(CDPATH='' cd -- "$(dirname -- "$0")/../.." && pwd) || exit 1
@@ -15,13 +15,22 @@ room=$(mktemp -d) || exit 1
 trap 'rm -rf "$room"' EXIT
 trap 'exit 1' HUP INT TERM
 
-cp -R "$top/tools/derive/shapes" "$room/derived" || stop 'the structs could not be copied'
+derive() {
+    sh "$top/tools/derive/derive.sh" "$@"
+}
+
+cp -R "$top/tools/derive/shapes" "$room/derived" && mkdir "$room/derived/specs" || stop 'the structs could not be copied'
 for file in "$room"/derived/src/*.rt.txt; do
-    cp "$file" "$room/structs.rt.txt" || stop "$file could not be copied"
-    sed -n 's/^pub struct \([A-Za-z0-9]*\).*/\1/p' "$room/structs.rt.txt" >"$room/names"
+    sed -n 's/^pub struct \([A-Za-z0-9]*\).*/\1/p' "$file" >"$room/names"
     while read -r name; do
-        sh "$top/tools/derive/derive.sh" "$room/structs.rt.txt" "$name" >"$room/printed" || stop "nothing is printed for $name"
-        sed -n '/^impl/,$p' "$room/printed" | { echo && cat; } >>"$file"
+        derive "$file" "$name" >"$room/printed" || stop "nothing is printed for $name"
+        { echo && sed -n '/^impl/,$p' "$room/printed"; } >>"$file"
+        specs=$room/derived/specs/${name}
+        ! derive --specs "$file" "$name" >"$room/specs" 2>/dev/null || {
+            cp "$room/specs" "${specs}Format.antt.txt" && derive --back "$file" "$name" >"${specs}Back.antt.txt" ||
+                stop "nothing is printed for the specs of $name"
+            printf 'pub mod %sFormat\npub mod %sBack\n' "$name" "$name" >>"$room/derived/specs/Lib.antt.txt"
+        }
     done <"$room/names"
 done
 
