@@ -4,3 +4,4 @@ pub mod SumLemmas
 pub mod NumberLemmas
 pub mod NumberBytes
 pub mod FixedLemmas
+pub mod FixedArrays

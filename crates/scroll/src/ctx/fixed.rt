@@ -6,6 +6,8 @@ ghost use Rattle.scroll.specs.Fixed.{One, SameAt};
 ghost use Rattle.scroll.specs.lemmas.FixedLemmas.{record-one, bytes-keep, write-keeps};
 ghost use Rattle.scroll.specs.declared.endian.Endian.{Endian};
 
+mod arrays;
+
 use crate::ctx::{FromCtx, IntoCtx, SizeWith, TryFromCtx, TryIntoCtx};
 use crate::endian::Endian;
 use crate::error::{Error, Result, check_room};
