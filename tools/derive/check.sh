@@ -78,14 +78,15 @@ Forms|    ghost parts_of = { λ x. (x.«data», x.«record», x.inner, x.last) }
 Forms|        × (MakesArray 40 (λ s x. (MakesArray 4 (λ s x. (x ≡ float binary32 order s)) 10 s x)) 16 (drop 128 s) x.«record»)
 Forms|        × ((x.inner.0 ≡ number order 1 (drop 768 s)) × (MakesArray 2 (λ s x. (x ≡ number order 2 s)) 2 (drop 1 (drop 768 s)) x.inner.1))
 Forms|        × (x.last ≡ signed_number order 16 (drop 773 s)) };
-Forms|        (self.data, self.record, self.inner, self.last)
+Forms|        (data, record, self.inner, self.last)
 Forms|            inner: parts.2,
+Forms|        let record = parts.1;
 Inner|    ghost of_parts = { λ p. record { 0 = p.0; 1 = p.1 } };
-Inner|        Inner(parts.0, parts.1)
+Inner|        Inner(parts.0, array_1)
 One|    type Parts = u8;
 One|        One { a: parts }
 Left|    type Parts = ((u64, u64, u64, u64), (u64, u64, u64, u64), u64);
-Left|        ((h.0, (h.1, (h.2, h.3))), ((h.4, (h.5, (h.6, h.7))), h.8)) };
+Left|      ((h.4, (h.5, (h.6, h.7))), h.8),
 END
 
 # Tests whether a call is refused with one line that ends in these words.

@@ -11,17 +11,29 @@ from format_back import format_back
 from format_code import format_blocks, format_uses
 from format_specs import format_specs
 from kinds import read_struct
-from parts import is_format, read_format
+from parts import Format, is_format, read_format
 from source import BadInput, Source
 
 OPTIONS = ("--check", "--specs", "--back")
 
 
+def check_specs(path: str, form: Format) -> int:
+    """Compares the files of specs/ with what is printed."""
+    specs = next(folder for folder in Path(path).resolve().parents if folder.name == "src").with_name("specs")
+    ending = ".antt.txt" if path.endswith(".txt") else ".antt"
+    for name, text in ((f"{form.name}Format", format_specs(form)), (f"{form.name}Back", format_back(form))):
+        file = specs / f"{name}{ending}"
+        if not file.exists() or file.read_text(encoding="utf-8") != f"{text}\n":
+            print(f"{path}: specs/{file.name} is not what tools/derive/derive.sh prints for {form.name}")
+            return 1
+    return 0
+
+
 def run(option: str, path: str, name: str) -> int:
     source = Source(path)
     raw = source.find_struct(name)
-    if is_format(raw):
-        form = read_format(source, raw)
+    form = read_format(source, raw) if is_format(raw) else None
+    if form:
         if option in ("--specs", "--back"):
             print(format_specs(form) if option == "--specs" else format_back(form))
             return 0
@@ -32,10 +44,10 @@ def run(option: str, path: str, name: str) -> int:
         block = record_block(read_struct(source, name))
         uses = record_uses(block)
     if option == "--check":
-        if f"\n{block}\n" in f"\n{source.text}":
-            return 0
-        print(f"{path}: the implementation for {name} is not what tools/derive/derive.sh prints")
-        return 1
+        if f"\n{block}\n" not in f"\n{source.text}":
+            print(f"{path}: the implementation for {name} is not what tools/derive/derive.sh prints")
+            return 1
+        return check_specs(path, form) if form else 0
     crate = "crate" if "crates/scroll/src/" in str(Path(path).resolve()) else "scroll"
     print("\n".join(uses).replace("{crate}", crate))
     print(f"\n{block}")

@@ -6,7 +6,7 @@ import re
 from typing import List, Sequence, Tuple
 
 from kinds import Array, Number, Struct, Type, text_of, width_of
-from layout import clause_lines, in_pairs, label, nested, on_one_line, pair_paths, paths, record_lines, struct_lines, tuple_lines
+from layout import clause_lines, in_pairs, label, nested, pair_paths, paths, record_lines, struct_lines, tuple_lines
 
 GHOST_USES: List[Tuple[str, List[str]]] = [
     ("Rattle.std.specs.Prelude", ["◌≡◌", "◌<◌", "◌^◌", "drop"]),
@@ -53,19 +53,27 @@ def fields_in(clauses: Sequence[str]) -> List[str]:
     return [head, *lines[:-1], f"{lines[-1]} }};"]
 
 
+def variable(name: str) -> str:
+    """Returns the name of the variable for an array."""
+    return f"array_{name}" if name.isdigit() or name == "parts" else name
+
+
 def record_block(struct: Struct) -> str:
-    """Returns the blocks of the implementation."""
+    """Returns the blocks of the implementation. (An array that is stored straight isn't covered by the borrow checker's part of
+    a proof, so it gets a variable.)"""
     names = [field.name for field in struct.fields]
     count = len(names)
     flat = ["h"] if count == 1 else [f"h.{index}" for index in range(count)]
     parts = [(label(name), path) for name, path in zip(names, paths(count, "p"))]
-    values = [(name, path) for name, path in zip(names, paths(count, "parts"))]
+    arrays = {field.name: variable(field.name) for field in struct.fields if isinstance(field.type, Array) and count > 1}
+    taken = paths(count, "parts")
+    values = [(name, arrays.get(name, path)) for name, path in zip(names, taken)]
     to_fields = pair_paths(count, "h")
     lines: List[str] = [
         f"impl Record for {struct.name} {{",
         *tuple_lines("type Parts = ", nested([text_of(field.type) for field in struct.fields]), ";", 4),
         "",
-        *clause_lines("ghost parts_of = { λ x. ", on_one_line(nested([f"x.{label(name)}" for name in names])), " };", 4),
+        *clause_lines("ghost parts_of = { λ x. ", nested([f"x.{label(name)}" for name in names]), " };", 4),
         "",
         *record_lines("ghost of_parts = { λ p. ", parts, " };", 4),
         "",
@@ -75,17 +83,19 @@ def record_block(struct: Struct) -> str:
         "",
         "    ghost there = { λ p. refl };",
         "",
-        *clause_lines("ghost fields_of_parts = { λ order s x h. ", on_one_line(tuple(to_fields) if count > 1 else "h"), " };", 4),
+        *clause_lines("ghost fields_of_parts = { λ order s x h. ", tuple(to_fields) if count > 1 else "h", " };", 4),
         "",
         *clause_lines("ghost parts_of_fields = { λ order s x h. ", in_pairs(nested(flat)), " };", 4),
         "",
         "    ghost small = { Prim.search rules };",
         "",
         "    fn parts(self) -> Self::Parts {",
-        *tuple_lines("", nested([f"self.{name}" for name in names]), "", 8),
+        *(f"        let {arrays[name]} = self.{name};" for name in names if name in arrays),
+        *tuple_lines("", nested([arrays.get(name, f"self.{name}") for name in names]), "", 8),
         "    }",
         "",
         f"    fn of_parts(parts: Self::Parts) -> {struct.name} {{",
+        *(f"        let {arrays[name]} = {path};" for name, path in zip(names, taken) if name in arrays),
         *struct_lines(struct.name, values, struct.is_tuple, 8),
         "    }",
         "}",

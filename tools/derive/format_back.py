@@ -2,6 +2,7 @@
 
 from __future__ import annotations
 
+import re
 from typing import List, Tuple
 
 from format_words import bytes_of, fields_in, member, offsets_in, reads_of, size_in, use_lines, value_in, value_of
@@ -10,7 +11,7 @@ from parts import Format, Part, width
 MODULES = [
     (
         "Rattle.std.proofs.Common",
-        ["◌≡◌", "◌+◌", "◌^◌", "◌<◌", "◌≤ℤ◌", "◌<ℤ◌", "◌*ℤ◌", "◌++◌", "◌∙◌", "ℕ", "ℤ", "pos", "neg_ℤ", "List", "T", "IsUtf8", "length", "drop", "refl", "sym", "ap"]
+        ["◌≡◌", "◌+◌", "◌^◌", "◌<◌", "◌≤◌", "◌≤ℤ◌", "◌<ℤ◌", "◌*ℤ◌", "◌++◌", "◌∙◌", "ℕ", "ℤ", "pos", "neg_ℤ", "List", "T", "IsUtf8", "length", "drop", "refl", "sym", "ap"]
         + ["length-append", "length-drop", "arith"],
     ),
     ("Rattle.std.specs.Float", ["binary32", "binary64"]),
@@ -113,6 +114,23 @@ def steps(form: Format) -> Tuple[List[str], List[str]]:
     return lets, values
 
 
+def bounded(form: Format) -> List[str]:
+    """Returns the lemma that a read has no more bytes than the source."""
+    facts = ["h.whole", *(["h.room"] if form.head else [])]
+    if form.tail:
+        part = form.tail[-1]
+        at = re.sub(r"(?<![\w.])(\w+-size)", r"h.\1", offsets_in(form)[-2])
+        here = f"h.{member(part)}"
+        ends = [f"{here}.value.0.complete.0", f"{here}.value.0.size"] if part.kind == "leb" else [f"{here}.value.room"]
+        facts += [f"{here}.inside", *ends, f"length-drop {argument(at)} s"]
+    return [
+        "-- its bytes are in the source",
+        f"pub {form.snake}-bounded : (order : Endian) (s : List ℕ) (x : {form.name}) (n : ℕ) → Reads{form.name} order s x n → n ≤ length s + 1",
+        f"{form.snake}-bounded order s x n h = omega (arith, {', '.join(facts)})",
+        "",
+    ]
+
+
 def format_back(form: Format) -> str:
     """Returns the file of the proof."""
     name, snake = form.name, form.snake
@@ -135,7 +153,6 @@ def format_back(form: Format) -> str:
         "    record {",
         *(["      room = omega (arith, whole);"] if form.head else []),
         *(f"      {value}" for value in values),
-        "      within = omega (arith, whole, size);",
         "      whole = size;",
         "    }",
     ]
@@ -145,7 +162,7 @@ def format_back(form: Format) -> str:
         *(f"  pub {member(part)} : {fit}" for part, fit in fits),
         "",
     ]
-    text = "\n".join([*(fit_record if fits else []), "-- what was written reads back, whatever follows it", *body])
+    text = "\n".join([*bounded(form), *(fit_record if fits else []), "-- what was written reads back, whatever follows it", *body])
     own = [f"Reads{name}", *([f"Agrees{name}"] if has_own else []), f"{snake}_bytes"]
     return "\n".join([
         f"-- A `{name}` that was written reads back. `tools/derive/derive.sh` printed this from the struct.",

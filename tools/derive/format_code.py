@@ -131,7 +131,7 @@ def format_blocks(form: Format) -> str:
         "",
         f"    ghost refuses = {{ Refuses{name} }};",
         "",
-        "    ghost reads_bounded = { λ order source x n h. Prim.search rules };",
+        f"    ghost reads_bounded = {{ {snake}-bounded }};",
         "",
         f"    fn try_from_ctx(from: &{lifetime} [u8], ctx: Endian) -> Result<({form.type}, usize)> {{",
         *read_lines(form),
@@ -165,6 +165,7 @@ def format_uses(form: Format) -> List[str]:
     return [
         "ghost use Rattle.std.proofs.Common.{rules};",
         "ghost use Rattle.scroll.specs.lemmas.Frames.{WritesFront-keeps};",
+        f"ghost use Rattle.{form.crate}.specs.{name}Back.{{{snake}-bounded}};",
         f"ghost use Rattle.{form.crate}.specs.{name}Format.{{Reads{name}, Refuses{name}, Writes{name}, Keeps{name}, {snake}_bytes}};",
         "",
         f"use scroll::ctx::{{{', '.join(contexts)}}};",

@@ -52,7 +52,7 @@ def reads_record(form: Format) -> List[str]:
         lines.append(f"  pub {member(part)} : ReadsAt {reads_of(part, names)} s {at_argument(at)} {value_in(part)} {size}")
         if part.constant:
             lines.append(f"  pub {part.name}-is : x.{part.label} ≡ {part.constant}")
-    return [*lines, "  pub within : n ≤ length s", f"  pub whole : n ≡ {offsets_in(form)[-1]}"]
+    return [*lines, f"  pub whole : n ≡ {offsets_in(form)[-1]}"]
 
 
 def at_argument(term: str) -> str:

@@ -10,7 +10,7 @@ from source import closing
 
 # The names that the records below have already.
 TAKEN = {
-    *("order", "s", "x", "n", "e", "old", "new", "room", "within", "whole", "refused", "other", "error", "same", "agrees", "wrote"),
+    *("order", "s", "x", "n", "e", "old", "new", "room", "whole", "refused", "other", "error", "same", "agrees", "wrote"),
     "short",
 }
 

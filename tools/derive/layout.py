@@ -67,14 +67,13 @@ def pair_paths(count: int, path: str) -> List[str]:
     return found
 
 
-def in_pairs(tree: Tree) -> str:
+def in_pairs(tree: Tree) -> Tree:
     """Returns nested tuples where a tuple is a pair of its first part and the others."""
     if isinstance(tree, str):
         return tree
-    parts = [in_pairs(part) for part in tree]
-    whole = parts.pop()
+    *parts, whole = (in_pairs(part) for part in tree)
     while parts:
-        whole = f"({parts.pop()}, {whole})"
+        whole = (parts.pop(), whole)
     return whole
 
 
@@ -93,19 +92,15 @@ def tuple_lines(head: str, tree: Tree, tail: str, indent: int) -> List[str]:
     return [*lines, f"{' ' * indent}){tail}"]
 
 
-def clause_lines(head: str, text: str, tail: str, indent: int) -> List[str]:
-    """Returns a clause, on lines that end at its commas where it is long."""
-    line = f"{' ' * indent}{head}{text}{tail}"
-    if len(line) <= WIDTH:
+def clause_lines(head: str, tree: Tree, tail: str, indent: int) -> List[str]:
+    """Returns nested tuples in a clause, on one line if that is short."""
+    line = f"{' ' * indent}{head}{on_one_line(tree)}{tail}"
+    if isinstance(tree, str) or len(line) <= WIDTH:
         return [line]
-    lines = [" " * indent + head.rstrip()]
-    line = " " * (indent + 4)
-    for word in text.split(" "):
-        if len(line) + len(word) + len(tail) > WIDTH:
-            lines.append(line.rstrip())
-            line = " " * (indent + 4)
-        line += word + " "
-    return [*lines, line.rstrip() + tail]
+    lines = [f"{' ' * indent}{head}("]
+    for part in tree:
+        lines += clause_lines("", part, ",", indent + 2)
+    return [*lines, f"{' ' * indent}){tail}"]
 
 
 def struct_lines(name: str, fields: Sequence[Tuple[str, str]], is_tuple: bool, indent: int) -> List[str]:

@@ -84,32 +84,32 @@ impl<'s> Encode for CStr<'s> {
     }
 }
 
-impl Encode for Uleb128 {
-    ghost bytes = { λ _ x. uleb_text x };
+impl<'s> Encode for &'s Uleb128 {
+    ghost bytes = { λ _ x. uleb_text x.now };
 
     fn size(self, _order: Endian) -> usize {
-        Uleb128::size(&self)
+        Uleb128::size(self)
     }
 
     #[inline(always)]
     fn put(self, dst: &mut [u8], _order: Endian) {
-        match self.try_into_ctx(dst, ()) {
+        match (*self).try_into_ctx(dst, ()) {
             Ok(_size) => (),
             Err(_short) => unreachable!(),
         }
     }
 }
 
-impl Encode for Sleb128 {
-    ghost bytes = { λ _ x. sleb_text x };
+impl<'s> Encode for &'s Sleb128 {
+    ghost bytes = { λ _ x. sleb_text x.now };
 
     fn size(self, _order: Endian) -> usize {
-        Sleb128::size(&self)
+        Sleb128::size(self)
     }
 
     #[inline(always)]
     fn put(self, dst: &mut [u8], _order: Endian) {
-        match self.try_into_ctx(dst, ()) {
+        match (*self).try_into_ctx(dst, ()) {
             Ok(_size) => (),
             Err(_short) => unreachable!(),
         }

@@ -2,7 +2,7 @@
 use Rattle.std.proofs.Common.{◌≡◌, ℕ, ℤ, ◌+◌, ◌≤◌, ◌++◌, List, [], length, drop, IsUtf8, refl, sym, ap, append_assoc, length-append, length-drop, arith, ◌∙◌}
 use Rattle.std.proofs.lemmas.Grind.{common_steps}
 use Rattle.std.proofs.lemmas.List.{append-nil, drop-drop, drop_at}
-use Rattle.scroll.specs.Bytes.{ReadsFront}
+use Rattle.scroll.specs.Bytes.{ReadsFront, WritesFront}
 use Rattle.scroll.specs.Leb128.{Counted, ReadsCountedUleb, ReadsCountedSleb}
 use Rattle.scroll.specs.LebWrites.{uleb_text, sleb_text}
 use Rattle.scroll.specs.Spelling.{HasSpelling, HasSignedSpelling}
@@ -43,6 +43,13 @@ pub rest-reads : {V : Type 0} (reads : List ℕ → V → ℕ → Type 0) (v : V
 rest-reads reads v n {at} b t rest {s} back h = record {
   inside = h.inside;
   value = rw (h.is ∙ append_assoc b t rest) (back (t ++ rest));
+}
+
+-- bytes that were written over the start of a rest read back there
+pub written-reads : {V : Type 0} (reads : List ℕ → V → ℕ → Type 0) (v : V) (bytes : List ℕ) (place n : ℕ) (old new : List ℕ) → ((rest : List ℕ) → reads (bytes ++ rest) v (length bytes)) → place ≤ length old → length new ≡ length old → WritesFront (length bytes) bytes (drop place old) (drop place new) n → ReadsAt reads new place v n
+written-reads reads v bytes place n old new back inside len h = record {
+  inside = omega (arith, inside, len);
+  value = rw (h.after, h.size) (back (drop (length bytes) (drop place old)));
 }
 
 -- a slice reads back
