@@ -3,13 +3,17 @@
 #
 #     sh tools/derive/prove.sh
 #
-# It copies the files, adds the printed blocks after the structs and the printed files to specs/, runs scripts/clients.sh on
-# them, and keeps nothing. The output and the exit status are those of scripts/clients.sh.
+# It copies the files, adds the printed blocks after the structs and the printed files to specs/, runs gate/clients.py on
+# them, and keeps nothing. The output and the exit status are those of gate/clients.py.
 set -u
 
 top=$(CDPATH='' cd -- "$(dirname -- "$0")/../.." && pwd) || exit 1
-# shellcheck source=scripts/lib.sh
-. "$top/scripts/lib.sh"
+
+stop() {
+    echo "derive: $1"
+    echo "0 passed, 1 failed"
+    exit 1
+}
 
 room=$(mktemp -d) || exit 1
 trap 'rm -rf "$room"' EXIT
@@ -34,4 +38,4 @@ for file in "$room"/derived/src/*.rt.txt; do
     done <"$room/names"
 done
 
-CLIENTS=$room sh "$top/scripts/clients.sh" derived
+CLIENTS=$room python3 "$top/gate/clients.py" derived

@@ -5,3 +5,4 @@ pub mod NumberLemmas
 pub mod NumberBytes
 pub mod FixedLemmas
 pub mod FixedArrays
+pub mod NumberBack

@@ -4,8 +4,9 @@ ghost use Rattle.std.specs.List.{All, flat_map};
 ghost use Rattle.scroll.specs.Arrays.{MakesArray};
 ghost use Rattle.scroll.specs.Fixed.{exactly};
 ghost use Rattle.scroll.specs.lemmas.FixedArrays.{length-exactly, array-back, array-one, array-local};
+ghost use Rattle.scroll.specs.lemmas.NumberBack.{array-kept-at};
 
-use crate::ctx::fixed::Fixed;
+use crate::ctx::fixed::{Fixed, RoundTrip};
 use crate::ctx::tuples::write_behind;
 use crate::endian::Endian;
 use std::array;
@@ -47,6 +48,11 @@ impl<T: Fixed, const N: usize> Fixed for [T; N] {
             write_behind(self[i], dst, T::width() * i, order);
         }
     }
+}
+
+impl<T: RoundTrip, const N: usize> RoundTrip for [T; N] {
+    ghost kept = { λ order s at xs all room h.
+        array-kept-at T.width N (T.bytes order) (T.makes order) (T.bytes_len order) (T.kept order) s at xs all room h };
 }
 
 // Returns the elements at the front of `from`.
