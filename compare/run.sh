@@ -156,7 +156,7 @@ build_calls() {
     for file in "$here"/structs/*.rt.txt; do
         name=${file##*/}
         struct=$(sed -n 's/^pub struct \([A-Za-z]*\) {$/\1/p' "$file")
-        sh "$top/scripts/derive.sh" "$file" "$struct" >>"$calls/src/${name%.txt}" || exit 1
+        sh "$top/tools/derive/derive.sh" "$file" "$struct" >>"$calls/src/${name%.txt}" || exit 1
     done
     cd "$calls" || exit 1
     quietly rt lib ${JOBS:+--jobs "$JOBS"}

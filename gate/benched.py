@@ -27,6 +27,7 @@ UNTIMED = {
     "value": "every write of a number calls it",
     "parts": "every write of a record calls it",
     "of_parts": "every read of a record calls it",
+    "put": "every write of a struct of any size calls it",
     "read_made": "the read of a struct calls it",
     "bytes_at": "every read of a number calls it",
     "array_fits": "a constant",

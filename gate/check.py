@@ -9,9 +9,10 @@
 Several of these words may be given; .ci/run gives `all verdict`. The steps are:
 
     docs.py         the documents: their code, names and links are those of the sources, and what is made of these is current
-    derive_check.sh what derive.sh prints is in the files that were proved
+    check.sh        what tools/derive/derive.sh prints is in the files that were proved
     prove.py        each crate is proved from nothing and built, its tests are proved and run, and its stored run
     clients.py      each client of the library, proved and tested as a crate of its own
+    prove.sh        what tools/derive/derive.sh prints for the structs of tools/derive/shapes/, proved and tested likewise
     depending.py    a repository that depends on the library, made by README's lines
     misuse.py       what must not compile
     sessions.py     the stored sessions, whole and with their buffers cut, by the program that was proved
@@ -174,7 +175,7 @@ def list_steps(groups: Sequence[str], workers: int) -> List[Step]:
     if "verdict" in groups:
         steps.append(Step("rt ci", 0, tree="verdict"))
     if "stands" in groups:
-        steps += [Step("python3 gate/docs.py", 1), Step("sh scripts/derive_check.sh", 1)]
+        steps += [Step("python3 gate/docs.py", 1), Step("sh tools/derive/check.sh", 1)]
         steps += [
             Step(PROVE, workers),
             Step(f"{PROVE} tests", half + 1, (PROVE,), "tests", "crates/scroll/out/scroll_tests"),
@@ -183,6 +184,7 @@ def list_steps(groups: Sequence[str], workers: int) -> List[Step]:
             Step("python3 gate/faults.py", half, (PROGRAM, f"{PROVE} tests")),
         ]
         steps += [Step(f"python3 gate/clients.py {it}", 1, (PROVE,)) for it in list_clients()]
+        steps.append(Step("sh tools/derive/prove.sh", 1, (PROVE,)))
         steps += [Step(f"python3 gate/{it}.py", 1, (PROVE,)) for it in ("depending", "misuse")]
         steps += [Step(f"python3 gate/{it}.py", 1, (PROGRAM,)) for it in ("sessions", "limits")]
         steps.append(Step("sh compare/run.sh --gate", 1, (PROGRAM,)))

@@ -35,6 +35,7 @@ ghost use Rattle.scroll.specs.Reads.{IsBounded};
 mod arrays;
 mod bytes;
 mod c_strings;
+mod encode;
 mod fixed;
 mod made;
 mod measure;
@@ -46,6 +47,7 @@ mod tuples;
 mod zeros;
 
 pub use arrays::array_fits;
+pub use encode::{Encode, Value};
 pub use fixed::{Fixed, Plain, Record, RoundTrip, Written};
 pub use made::{bytes_at, read_made};
 pub use str_ctx::{NULL, RET, SPACE, StrCtx, TAB};

@@ -4,5 +4,6 @@ pub mod Leaves
 pub mod OneAnswer
 pub mod Records
 pub mod RoundTrips
+pub mod Sequences
 pub mod SpanLemmas
 pub mod Tables

@@ -1,4 +1,4 @@
-// What the implementations of structs of many fields call: `scripts/derive.sh` prints these calls.
+// A read of any type that has `FromCtx`, and the bytes at an offset.
 ghost use Rattle.std.specs.Prelude.{◌≡◌, ◌≤◌, ◌+◌, length, take, drop, IfOk, IfErr};
 ghost use Rattle.scroll.specs.Bytes.{ReadsMade, RefusesShort};
 

@@ -1,0 +1,142 @@
+// Values that are written one after another, each with a number of bytes of its own.
+ghost use Rattle.std.specs.Prelude.{◌≡◌, ◌≤◌, ◌+◌, ◌-◌, ◌^◌, ◌++◌, [], ◌∷◌, ℕ, List, length, take, drop, min};
+ghost use Rattle.std.specs.CStr.{c_str_bytes};
+ghost use Rattle.scroll.specs.LebWrites.{uleb_text, sleb_text};
+ghost use Rattle.scroll.specs.declared.endian.Endian.{Endian};
+
+use crate::ctx::TryIntoCtx;
+use crate::ctx::fixed::Plain;
+use crate::endian::Endian;
+use crate::leb128::{Sleb128, Uleb128};
+use std::ffi::CStr;
+
+/// A value that is written as bytes, however many it has.
+///
+/// A pair is its first part and then its second, so a struct is written as the pairs of its fields, such as
+/// `(a, (b, c))`. Slices and texts are parts by themselves, and a value of a fixed size is one as [`Value`].
+pub trait Encode: Copy {
+    // The bytes of a value.
+    ghost bytes: { Endian → Self → List ℕ };
+
+    /// Returns how many bytes the value has, or the greatest `usize` if there are more.
+    fn size(self, order: Endian) -> usize
+        ensures { result ≡ min (length (bytes order self)) (2 ^ 64 - 1) };
+
+    /// Writes the bytes to the front of `dst`, which has room for them. The bytes after them are unchanged.
+    fn put(self, dst: &mut [u8], order: Endian)
+        requires { length (bytes order self) ≤ length dst.old }
+        ensures { dst.new ≡ bytes order self ++ drop (length (bytes order self)) dst.old };
+}
+
+/// A value of a fixed size as a part: a number or a struct of numbers.
+#[derive(Clone, Copy, Debug, PartialEq, Eq)]
+pub struct Value<P>(pub P);
+
+impl<P: Plain> Encode for Value<P> {
+    ghost bytes = { λ order x. P.bytes order x.0 };
+
+    fn size(self, _order: Endian) -> usize {
+        P::width()
+    }
+
+    #[inline(always)]
+    fn put(self, dst: &mut [u8], order: Endian) {
+        self.0.write_front(dst, order)
+    }
+}
+
+impl<'s> Encode for &'s [u8] {
+    ghost bytes = { λ _ slice. slice.now };
+
+    fn size(self, _order: Endian) -> usize {
+        self.len()
+    }
+
+    #[inline(always)]
+    fn put(self, dst: &mut [u8], _order: Endian) {
+        dst[..self.len()].copy_from_slice(self);
+    }
+}
+
+impl<'s> Encode for &'s str {
+    ghost bytes = { λ _ text. text.now };
+
+    fn size(self, _order: Endian) -> usize {
+        self.len()
+    }
+
+    #[inline(always)]
+    fn put(self, dst: &mut [u8], _order: Endian) {
+        dst[..self.len()].copy_from_slice(self.as_bytes());
+    }
+}
+
+impl<'s> Encode for CStr<'s> {
+    ghost bytes = { λ _ text. c_str_bytes text ++ 0 ∷ [] };
+
+    fn size(self, _order: Endian) -> usize {
+        self.to_bytes_with_nul().len()
+    }
+
+    #[inline(always)]
+    fn put(self, dst: &mut [u8], order: Endian) {
+        self.to_bytes_with_nul().put(dst, order)
+    }
+}
+
+impl<'s> Encode for &'s Uleb128 {
+    ghost bytes = { λ _ x. uleb_text x.now };
+
+    fn size(self, _order: Endian) -> usize {
+        Uleb128::size(self)
+    }
+
+    #[inline(always)]
+    fn put(self, dst: &mut [u8], _order: Endian) {
+        match (*self).try_into_ctx(dst, ()) {
+            Ok(_size) => (),
+            Err(_short) => unreachable!(),
+        }
+    }
+}
+
+impl<'s> Encode for &'s Sleb128 {
+    ghost bytes = { λ _ x. sleb_text x.now };
+
+    fn size(self, _order: Endian) -> usize {
+        Sleb128::size(self)
+    }
+
+    #[inline(always)]
+    fn put(self, dst: &mut [u8], _order: Endian) {
+        match (*self).try_into_ctx(dst, ()) {
+            Ok(_size) => (),
+            Err(_short) => unreachable!(),
+        }
+    }
+}
+
+impl<A: Encode, B: Encode> Encode for (A, B) {
+    ghost bytes = { λ order x. A.bytes order x.0 ++ B.bytes order x.1 };
+
+    fn size(self, order: Endian) -> usize {
+        self.0.size(order).saturating_add(self.1.size(order))
+    }
+
+    #[inline(always)]
+    fn put(self, dst: &mut [u8], order: Endian) {
+        let first = self.0.size(order);
+        self.0.put(dst, order);
+        put_behind(self.1, dst, first, order)
+    }
+}
+
+// Writes the second part of a pair, after the `offset` bytes of the first.
+#[inline(always)]
+fn put_behind<B: Encode>(second: B, dst: &mut [u8], offset: usize, order: Endian)
+    requires { offset + length (B.bytes order second) ≤ length dst.old }
+    ensures before { take offset dst.new ≡ take offset dst.old }
+    ensures after { drop offset dst.new ≡ B.bytes order second ++ drop (length (B.bytes order second)) (drop offset dst.old) }
+{
+    second.put(&mut dst[offset..], order)
+}

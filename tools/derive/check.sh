@@ -1,0 +1,236 @@
+#!/bin/sh
+# Compares the implementations that tools/derive/derive.sh prints with those in the files below, which the gate proves, and
+# tries files in which they differ, forms of structs, and input that has to be refused:
+#
+#     sh tools/derive/check.sh
+#
+# A refusal is one line on standard error, nothing on standard output, and status 2. The last line is
+# `N passed, M failed`. The exit status is 0 if M is 0.
+set -u
+
+top=$(CDPATH='' cd -- "$(dirname -- "$0")/../.." && pwd) || exit 1
+cd "$top" || exit 1
+
+room=$(mktemp -d) || exit 1
+trap 'rm -rf "$room"' EXIT
+trap 'exit 1' HUP INT TERM
+
+passed=0
+failed=0
+
+count() {
+    if [ "$1" -eq 0 ]; then
+        passed=$((passed + 1))
+    else
+        failed=$((failed + 1))
+    fi
+}
+
+# Tests whether each file has the implementation for a struct: FILE STRUCT.
+while read -r file name; do
+    sh tools/derive/derive.sh --check "$file" "$name"
+    count $?
+done <<'END'
+clients/examples/src/format.rt.txt Format
+END
+
+# Tests whether a file in which one line of the implementation differs is found out: --check ends with 1 and one line.
+first=$(grep -n '^impl Record' clients/examples/src/format.rt.txt | cut -d : -f 1)
+last=$(awk -v first="$first" 'NR > first && $0 == "}" { print NR; exit }' clients/examples/src/format.rt.txt)
+line=$first
+while [ "$line" -le "$last" ]; do
+    awk -v line="$line" 'NR == line { $0 = $0 "!" } { print }' clients/examples/src/format.rt.txt >"$room/format.rt"
+    said=$(sh tools/derive/derive.sh --check "$room/format.rt" Format 2>&1)
+    status=$?
+    [ "$status" -eq 1 ] && [ "$said" = "$room/format.rt: the implementation for Format is not what tools/derive/derive.sh prints" ]
+    result=$?
+    [ "$result" -eq 0 ] || echo "derive: with another line $line --check ended with $status and '$said'"
+    count "$result"
+    line=$((line + 1))
+done
+
+# Tests whether the implementation for a struct has a line: FILE STRUCT LINE.
+cat >"$room/forms.rt" <<'END'
+// struct Forms { in_a_comment: u8 }
+const LEN: usize = 0x1_0;
+pub(crate) struct Forms {
+    #[doc = "struct Forms { in: a string }"]
+    pub(crate) data: [u64; LEN],
+    #[first] #[second]
+    pub(in crate::a) record: [[f32; 1_0]; 16usize],
+    inner: Inner, // } not here: u8,
+    last: i128,
+}
+struct Inner(pub u8, pub(crate) [u16; 2]);
+struct One { a: u8 }
+struct Left { number_one: u64, number_two: u64, number_three: u64, number_four: u64, number_five: u64, number_six: u64, number_seven: u64, number_eight: u64, number_nine: u64 }
+END
+while IFS='|' read -r name line; do
+    sh tools/derive/derive.sh "$room/forms.rt" "$name" >"$room/out"
+    grep -qxF -- "$line" "$room/out"
+    result=$?
+    [ "$result" -eq 0 ] || echo "derive: the implementation for $name has no line '$line'"
+    count "$result"
+done <<'END'
+Forms|use scroll::ctx::{Record, Written};
+Forms|    type Parts = ([u64; LEN], [[f32; 1_0]; 16usize], Inner, i128);
+Forms|    ghost parts_of = { λ x. (x.«data», x.«record», x.inner, x.last) };
+Forms|        × (MakesArray 40 (λ s x. (MakesArray 4 (λ s x. (x ≡ float binary32 order s)) 10 s x)) 16 (drop 128 s) x.«record»)
+Forms|        × ((x.inner.0 ≡ number order 1 (drop 768 s)) × (MakesArray 2 (λ s x. (x ≡ number order 2 s)) 2 (drop 1 (drop 768 s)) x.inner.1))
+Forms|        × (x.last ≡ signed_number order 16 (drop 773 s)) };
+Forms|        (data, record, self.inner, self.last)
+Forms|            inner: parts.2,
+Forms|        let record = parts.1;
+Inner|    ghost of_parts = { λ p. record { 0 = p.0; 1 = p.1 } };
+Inner|        Inner(parts.0, array_1)
+One|    type Parts = u8;
+One|        One { a: parts }
+Left|    type Parts = ((u64, u64, u64, u64), (u64, u64, u64, u64), u64);
+Left|      ((h.4, (h.5, (h.6, h.7))), h.8),
+END
+
+# Tests whether a call is refused with one line that ends in these words.
+refuses() {
+    words=$1
+    shift
+    sh tools/derive/derive.sh "$@" >"$room/out" 2>"$room/err"
+    status=$?
+    [ "$status" -eq 2 ] && [ ! -s "$room/out" ] && [ "$(wc -l <"$room/err")" -eq 1 ] && grep -q -- "$words\$" "$room/err"
+    result=$?
+    [ "$result" -eq 0 ] || echo "derive: '$*' should be refused with '$words', and ended with $status and '$(cat "$room/err")'"
+    count "$result"
+}
+
+mkdir -p "$room/trial/src"
+cat >"$room/trial/src/bad.rt" <<'END'
+// struct Hidden { in_a_comment: u8 }
+struct Twice { a: u8 }
+mod other { struct Twice { a: u8 } }
+struct Empty {}
+struct Unit;
+struct Borrow {
+    a: u8,
+    b: &'static str,
+}
+struct Text { a: String }
+struct Vector { a: Vec<u8> }
+struct Generic<T> { a: T }
+struct Named { a: [u8; LEN] }
+struct Sized { a: usize }
+struct Letter { a: char }
+struct Flag(bool, u8);
+struct Loop { a: [Loop; 2] }
+struct None { a: [u8; 0] }
+struct Hexed { a: [u8; 0x] }
+struct Twenty { a: [u32; 20] }
+struct Inner { a: Text }
+struct Ghost { a: u8, ghost small: { a < 8 } }
+struct Raw { r#in: u8 }
+struct Bare<'a> { len: u8, text: &'a [u8] }
+struct Later<'a> {
+    // #[scroll(ctx = len as usize)]
+    text: &'a [u8],
+    len: u8,
+}
+struct Other<'a> {
+    // #[scroll(ctx = width as usize)]
+    text: &'a [u8],
+}
+struct Signed<'a> {
+    len: i8,
+    // #[scroll(ctx = len as usize)]
+    text: &'a [u8],
+}
+struct Words<'a> {
+    len: u8,
+    // #[scroll(ctx = len as usize)]
+    text: &'a str,
+}
+struct Less<'a> {
+    len: u8,
+    // #[scroll(ctx = len as usize - 1)]
+    text: &'a [u8],
+}
+struct Wide<'a> {
+    len: u64,
+    // #[scroll(ctx = len as usize + 1)]
+    text: &'a [u8],
+}
+struct Mark {
+    // #[scroll(is = 0x100)]
+    mark: u8,
+}
+struct Sign {
+    // #[scroll(is = 1)]
+    mark: i8,
+}
+struct Name {
+    // #[scroll(is = MAGIC)]
+    mark: u8,
+}
+struct Note {
+    // #[scroll(count = 1)]
+    mark: u8,
+}
+struct Idle {
+    // #[scroll(ctx = 1)]
+    mark: u8,
+}
+struct Pair<'a>(u8, &'a [u8]);
+struct Owner<'a> {
+    len: Uleb128,
+    // #[scroll(ctx = len as usize)]
+    text: &'a [u8],
+}
+END
+cp "$room/trial/src/bad.rt" "$room/bad.rt"
+cp "$room/bad.rt" "$room/bad.txt"
+# FILE STRUCT: what the line ends in
+while IFS='|' read -r file name words; do
+    refuses "$words" "$room/$file" "$name"
+done <<'END'
+none.rt|Data|none.rt: No such file or directory
+bad.txt|Twenty|bad.txt: not a .rt file
+bad.rt|Data|there is no struct Data
+bad.rt|Hidden|there is no struct Hidden
+bad.rt|Twice|bad.rt:3: there is a second struct Twice
+bad.rt|Empty|bad.rt:4: the struct Empty has no fields
+bad.rt|Unit|bad.rt:5: the struct Unit has no fields
+bad.rt|Borrow|bad.rt:8: the field b is a borrow, &'static str
+bad.rt|Text|bad.rt:10: the field a is a text, String
+bad.rt|Vector|bad.rt:11: the field a is of a type whose size depends on its bytes, Vec<u8>
+bad.rt|Generic|bad.rt:12: the struct Generic has parameters
+bad.rt|Named|bad.rt:13: the length LEN of the field a is no literal, and no constant of this file that is one
+bad.rt|Sized|bad.rt:14: the field a is of the type usize, which is no number of a fixed width, no array and no struct of this file
+bad.rt|Letter|bad.rt:15: the field a is of the type char, which is no number of a fixed width, no array and no struct of this file
+bad.rt|Flag|bad.rt:16: the field 0 is of the type bool, which is no number of a fixed width, no array and no struct of this file
+bad.rt|Loop|bad.rt:17: the field a is of the struct Loop, which holds it
+bad.rt|None|bad.rt:18: the struct None has no numbers
+bad.rt|Hexed|bad.rt:19: the length 0x of the field a is no literal, and no constant of this file that is one
+bad.rt|Inner|bad.rt:10: the field a is a text, String
+bad.rt|Ghost|bad.rt:22: the field small is a ghost field
+bad.rt|Raw|bad.rt:23: r#in: u8 is no field
+bad.rt|Bare|bad.rt:24: the struct Bare is in no src/ of a crate
+trial/src/bad.rt|Bare|bad.rt:24: the field text has no context: how many bytes it has
+trial/src/bad.rt|Later|bad.rt:27: the context of the field text names len, which comes after it
+trial/src/bad.rt|Other|bad.rt:32: the context of the field text names width, which is no field
+trial/src/bad.rt|Signed|bad.rt:37: the context of the field text names len, which is no unsigned number of at most 64 bits
+trial/src/bad.rt|Words|bad.rt:42: the context len as usize of the field text is no StrCtx::Length(..)
+trial/src/bad.rt|Less|bad.rt:47: the context len as usize - 1 of the field text is no sum of fields `as usize` and numbers
+trial/src/bad.rt|Wide|bad.rt:52: the context len as usize + 1 of the field text adds to a number of more than 32 bits
+trial/src/bad.rt|Mark|bad.rt:56: the constant 0x100 of the field mark doesn't fit its type
+trial/src/bad.rt|Sign|bad.rt:60: the field mark has a constant, and is no unsigned number of at most 64 bits
+trial/src/bad.rt|Name|bad.rt:64: the constant MAGIC of the field mark is no literal
+trial/src/bad.rt|Note|bad.rt:68: the field mark has the note count = 1, and one `ctx = ..` or `is = ..` is known
+trial/src/bad.rt|Idle|bad.rt:72: the field mark is a number, and has a context
+trial/src/bad.rt|Pair|bad.rt:74: the struct Pair has fields without names
+trial/src/bad.rt|Owner|bad.rt:78: the context of the field text names len, which is no unsigned number of at most 64 bits
+END
+refuses 'bad.rt:20: the struct Twenty is of a fixed size, and has no definitions of its own' --specs "$room/bad.rt" Twenty
+refuses 'usage: derive.sh \[--check | --specs | --back\] FILE STRUCT' "$room/bad.rt"
+refuses 'usage: derive.sh \[--check | --specs | --back\] FILE STRUCT' "$room/bad.rt" Twenty More
+refuses 'usage: derive.sh \[--check | --specs | --back\] FILE STRUCT' --chek "$room/bad.rt" Twenty
+
+echo "derive: the implementations in the files were compared, and bad input was tried"
+echo "$passed passed, $failed failed"
+[ "$failed" -eq 0 ] && [ "$passed" -gt 0 ]

@@ -1,0 +1,33 @@
+#!/bin/sh
+# Prints the implementations of the traits of scroll::ctx for a struct, in the context Endian:
+#
+#     sh tools/derive/derive.sh FILE STRUCT
+#     sh tools/derive/derive.sh --check FILE STRUCT     compares them with FILE, and prints nothing where they are in it
+#     sh tools/derive/derive.sh --specs FILE STRUCT     the definitions of a struct of any size
+#     sh tools/derive/derive.sh --back FILE STRUCT      the proof that what was written of it reads back
+#
+# (It needs Python 3.8.) FILE is a .rt file (or the .rt.txt of a client), and STRUCT a struct in it. The fields follow one
+# another in the order of the struct, with nothing between them.
+#
+# A struct of a fixed size has fields with names or is a tuple. A field is a number, an array of numbers, of arrays or of
+# structs, whose length is a literal or a constant of FILE, or a struct of FILE for which the same was printed. It gets `Record`,
+# from which the other traits follow.
+#
+# A struct of any size is in the src/ of a crate. A field is a number, `&'a [u8]`, `&'a str`, `Uleb128` or `Sleb128`. In a comment
+# before it may stand
+#
+#     // #[scroll(ctx = len as usize)]     how many bytes a slice has: a sum of earlier fields and of a number; for a text
+#                                          within StrCtx::Length(..)
+#     // #[scroll(is = 0x04034b50)]        the constant that a number has to be
+#
+# It gets TryFromCtx and TryIntoCtx. What --specs prints is its specs/STRUCTFormat.antt, and what --back prints is its
+# specs/STRUCTBack.antt.
+#
+# The first lines printed are the `use` lines that the rest needs, followed by the blocks in the layout of `rt fmt`. They are
+# proved with no proof file.
+#
+# The exit status is 0, or 1 if --check finds that a block differs, or 2 with one line on standard error if FILE or STRUCT
+# can't be read or has a field that is none of these.
+set -u
+
+exec python3 -B "$(dirname -- "$0")/derive.py" "$@"

@@ -1,0 +1,173 @@
+"""The implementations for a struct of any size."""
+
+from __future__ import annotations
+
+from typing import Dict, List
+
+from layout import struct_lines
+from parts import Format, Part, offsets
+
+# Names that the body of a read has.
+TAKEN = ("from", "ctx", "self", "dst")
+
+
+def locals_of(form: Format) -> Dict[str, str]:
+    """Returns the name of the variable for each field."""
+    return {part.name: f"{part.name}_value" if part.name in TAKEN else part.name for part in form.parts}
+
+
+def cursor_of(form: Format) -> str:
+    names = {part.name for part in form.parts}
+    return next(it for it in ("offset", "cursor", "position", "offset_there") if it not in names)
+
+
+def refusal(found: str, message: str, indent: int) -> List[str]:
+    space = " " * indent
+    return [
+        f"{space}return Err(Error::BadInput {{",
+        f"{space}    size: {found},",
+        f'{space}    msg: "{message}",',
+        f"{space}}});",
+    ]
+
+
+def other_constant(part: Part) -> str:
+    return f"{part.name} is not {part.constant}"
+
+
+def other_count(part: Part) -> str:
+    assert part.count
+    return f"{part.name} has another length than {part.count.text}"
+
+
+def as_usize(part: Part, value: str) -> str:
+    return value if part.type == "usize" else f"{value} as usize"
+
+
+def constant_test(part: Part, value: str) -> List[str]:
+    return [
+        f"        if {value} != {part.constant} {{",
+        *refusal(as_usize(part, value), other_constant(part), 12),
+        "        }",
+    ]
+
+
+def context_of(form: Format, part: Part) -> str:
+    names = locals_of(form)
+    if part.kind == "slice":
+        assert part.count
+        return part.count.in_code(names)
+    if part.kind == "text":
+        assert part.count
+        return f"StrCtx::Length({part.count.in_code(names)})"
+    return "ctx" if part.is_number else "()"
+
+
+def read_lines(form: Format) -> List[str]:
+    """Returns the body of the read."""
+    names = locals_of(form)
+    cursor = cursor_of(form)
+    counters = {name for part in form.parts if part.count for name in part.count.fields}
+    lines: List[str] = [f"        check_room({form.room}, from.len())?;"] if form.head else []
+    values: Dict[str, str] = {}
+    for part, at in zip(form.head, offsets(form.head)):
+        values[part.name] = f"from.cread_with({at}, ctx)"
+        if part.constant or part.name in counters:
+            lines.append(f"        let {names[part.name]}: {part.type} = {values[part.name]};")
+            values[part.name] = names[part.name]
+        if part.constant:
+            lines += constant_test(part, names[part.name])
+    lines.append(f"        let mut {cursor} = {form.room};")
+    for part in form.tail:
+        values[part.name] = names[part.name]
+        lines.append(f"        let {names[part.name]}: {part.type} = from.gread_with(&mut {cursor}, {context_of(form, part)})?;")
+        if part.constant:
+            lines += constant_test(part, names[part.name])
+    made = struct_lines(form.name, [(part.name, values[part.name]) for part in form.parts], False, 12)
+    made[-1] += ","
+    return [*lines, "        Ok((", *made, f"            {cursor},", "        ))"]
+
+
+def write_lines(form: Format) -> List[str]:
+    """Returns the body of the write."""
+    names = {part.name: f"self.{part.name}" for part in form.parts}
+    lines: List[str] = []
+    for part in form.parts:
+        if part.constant:
+            lines += constant_test(part, names[part.name])
+        if part.count:
+            length = f"{names[part.name]}.len()"
+            lines += [
+                f"        if {part.count.in_code(names)} != {length} {{",
+                *refusal(length, other_count(part), 12),
+                "        }",
+            ]
+    codes = [f"Value({names[part.name]})" if part.is_number else names[part.name] for part in form.parts]
+    *rest, last = codes
+    if rest:
+        lines.append(f"        let parts = ({rest[-1]}, {last});")
+        lines += [f"        let parts = ({code}, parts);" for code in reversed(rest[:-1])]
+        last = "parts"
+    return [
+        *lines,
+        f"        let size = {last}.size(ctx);",
+        "        check_room(size, dst.len())?;",
+        f"        {last}.put(dst, ctx);",
+        "        Ok(size)",
+    ]
+
+
+def format_blocks(form: Format) -> str:
+    """Returns the implementations."""
+    name, snake = form.name, form.snake
+    lifetime = form.lifetime or "'a"
+    impl = f"impl<{form.lifetime}>" if form.lifetime else "impl"
+    keeps = f"WritesFront-keeps ({snake}_bytes order x) old new n h.wrote"
+    return "\n".join([
+        f"impl<{lifetime}> TryFromCtx<{lifetime}, Endian> for {form.type} {{",
+        "    type Error = Error;",
+        "",
+        f"    ghost reads = {{ Reads{name} }};",
+        "",
+        f"    ghost refuses = {{ Refuses{name} }};",
+        "",
+        f"    ghost reads_bounded = {{ {snake}-bounded }};",
+        "",
+        f"    fn try_from_ctx(from: &{lifetime} [u8], ctx: Endian) -> Result<({form.type}, usize)> {{",
+        *read_lines(form),
+        "    }",
+        "}",
+        "",
+        f"{impl} TryIntoCtx<Endian> for {form.type} {{",
+        "    type Error = Error;",
+        "",
+        f"    ghost writes = {{ Writes{name} }};",
+        "",
+        f"    ghost refuses = {{ Keeps{name} }};",
+        "",
+        "    ghost writes_bounded = { λ order x old new n h. Prim.search rules };",
+        "",
+        f"    ghost writes_keeps = {{ λ order x old new n h. {keeps} }};",
+        "",
+        "    fn try_into_ctx(self, dst: &mut [u8], ctx: Endian) -> Result<usize> {",
+        *write_lines(form),
+        "    }",
+        "}",
+    ])
+
+
+def format_uses(form: Format) -> List[str]:
+    """Returns the `use` lines that the implementations need."""
+    name, snake = form.name, form.snake
+    contexts = ["Encode", *(["StrCtx"] if any(part.kind == "text" for part in form.parts) else []), "TryFromCtx", "TryIntoCtx"]
+    contexts += ["Value"] if any(part.is_number for part in form.parts) else []
+    ours = [*(["Cread"] if form.head else []), "Endian", "Error", *(["Pread"] if form.tail else []), "Result", "check_room"]
+    return [
+        "ghost use Rattle.std.proofs.Common.{rules};",
+        "ghost use Rattle.scroll.specs.lemmas.Frames.{WritesFront-keeps};",
+        f"ghost use Rattle.{form.crate}.specs.{name}Back.{{{snake}-bounded}};",
+        f"ghost use Rattle.{form.crate}.specs.{name}Format.{{Reads{name}, Refuses{name}, Writes{name}, Keeps{name}, {snake}_bytes}};",
+        "",
+        f"use scroll::ctx::{{{', '.join(contexts)}}};",
+        f"use scroll::{{{', '.join(ours)}}};",
+    ]
