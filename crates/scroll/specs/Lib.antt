@@ -19,7 +19,6 @@ pub mod CStrings
 pub mod CStringTexts
 pub mod Zeros
 pub mod Arrays
-pub mod Exact
 pub mod Fits
 pub mod History
 pub mod Leaves

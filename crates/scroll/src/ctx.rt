@@ -37,7 +37,6 @@ mod bytes;
 mod c_strings;
 mod encode;
 mod fixed;
-mod made;
 mod measure;
 mod numbers;
 mod std_c_strings;
@@ -49,7 +48,6 @@ mod zeros;
 pub use arrays::array_fits;
 pub use encode::{Encode, Value};
 pub use fixed::{Fixed, Plain, Record, RoundTrip, Written};
-pub use made::{bytes_at, read_made};
 pub use str_ctx::{NULL, RET, SPACE, StrCtx, TAB};
 pub use zeros::{Zeros, padding};
 
@@ -118,7 +116,7 @@ pub trait TryFromCtx<'a, Ctx: Copy>: Sized {
 ///
 ///     ghost writes_bounded = { λ ctx x old new n h. Prim.search rules };
 ///
-///     ghost writes_keeps = { λ ctx x. WritesNumber-keeps 2 ctx.0 x.0 };
+///     ghost writes_keeps = { λ ctx x old new n h. drop-written (length-number_bytes ctx.0 2 x.0) h };
 ///
 ///     fn try_into_ctx(self, dst: &mut [u8], ctx: (Endian, &'g Global)) -> Result<usize> {
 ///         if dst.len() < 2 {

@@ -10,7 +10,7 @@ ghost use Rattle.scroll.specs.LebRefusals.{RefusesSleb};
 ghost use Rattle.scroll.specs.Spelling.{HasSignedSpelling};
 ghost use Rattle.scroll.specs.Bytes.{LeavesShort};
 ghost use Rattle.scroll.specs.LebWrites.{IsLeast, WritesSleb};
-ghost use Rattle.scroll.specs.lemmas.Frames.{WritesSleb-keeps};
+ghost use Rattle.scroll.specs.lemmas.Frames.{drop-written, length-spelling};
 
 use super::sleb_loads;
 use super::write::{put_sleb, shortest_count, turned};
@@ -162,7 +162,7 @@ impl TryIntoCtx<()> for Sleb128 {
 
     ghost writes_bounded = { λ _ x old new n h. Prim.search rules };
 
-    ghost writes_keeps = { λ _. WritesSleb-keeps };
+    ghost writes_keeps = { λ _ x old new n h. drop-written (length-spelling _ x.count) h };
 
     /// Writes the encoding of the number that has [`size`](Sleb128::size) bytes, and returns that size.
     ///

@@ -9,7 +9,7 @@ ghost use Rattle.scroll.specs.LebRefusals.{RefusesUleb};
 ghost use Rattle.scroll.specs.Spelling.{HasSpelling};
 ghost use Rattle.scroll.specs.Bytes.{LeavesShort};
 ghost use Rattle.scroll.specs.LebWrites.{IsLeast, WritesUleb};
-ghost use Rattle.scroll.specs.lemmas.Frames.{WritesUleb-keeps};
+ghost use Rattle.scroll.specs.lemmas.Frames.{drop-written, length-spelling};
 
 use super::uleb_loads;
 use super::write::{put_uleb, shortest_count};
@@ -158,7 +158,7 @@ impl TryIntoCtx<()> for Uleb128 {
 
     ghost writes_bounded = { λ _ x old new n h. Prim.search rules };
 
-    ghost writes_keeps = { λ _. WritesUleb-keeps };
+    ghost writes_keeps = { λ _ x old new n h. drop-written (length-spelling _ x.count) h };
 
     /// Writes the encoding of the number that has [`size`](Uleb128::size) bytes, and returns that size.
     ///
