@@ -1,7 +1,6 @@
 // The errors of reads and writes of bytes, in few bytes.
 ghost use Rattle.std.specs.Prelude.{◌≡◌};
 ghost use Rattle.scroll.specs.SmallErrors.{small_error, IsErrorOf};
-ghost use Rattle.scroll.specs.declared.small_error.SmallError.TheVariants.{Other};
 
 use crate::error::Error;
 use crate::located::At;
@@ -46,26 +45,23 @@ impl From<Error> for SmallError {
     ghost from_gives = { λ error small. small ≡ small_error error };
 
     /// Returns the variant of the same name with the same fields, and [`SmallError::Other`] for the errors that have none.
-    #[inline(always)]
+    #[inline]
     fn from(error: Error) -> SmallError {
-        match error {
-            Error::TooBig { size, len } => SmallError::TooBig { size, len },
-            Error::BadOffset(offset) => SmallError::BadOffset(offset),
-            Error::BadInput { size, msg } => SmallError::BadInput { size, msg },
-            Error::Custom(text) => drop_text(text),
+        match &error {
+            Error::TooBig { size, len } => SmallError::TooBig {
+                size: *size,
+                len: *len,
+            },
+            Error::BadOffset(offset) => SmallError::BadOffset(*offset),
+            Error::BadInput { size, msg } => SmallError::BadInput {
+                size: *size,
+                msg: *msg,
+            },
+            Error::Custom(_) => SmallError::Other,
             Error::IO(_) => SmallError::Other,
             Error::NoMemory => SmallError::Other,
         }
     }
-}
-
-// A function of its own, so that a `?` which converts an error is small enough to be inlined.
-#[cold]
-#[inline(never)]
-fn drop_text(_text: String) -> SmallError
-    ensures { result ≡ Other }
-{
-    SmallError::Other
 }
 
 impl From<SmallError> for Error {
