@@ -1,5 +1,5 @@
-use Rattle.std.proofs.Common.{◌≡◌, ℕ, zero, suc, ◌+◌, ◌-◌, ◌*◌, ◌%◌, ◌^◌, ◌<◌, ◌≤◌, inl, inr, true, false, nat_lt, List, length, take, get_or, bit_and, bit_or, refl, sym, ap, ◌∙◌, arith, add-one, pow-suc}
-use Rattle.std.proofs.Math.Nat.{mod-eq_of_lt, pow-le-pow_right, mul-le-mul, mul-le-mul_right}
+use Rattle.std.proofs.Common.{◌≡◌, ℕ, zero, suc, ◌+◌, ◌-◌, ◌*◌, ◌%◌, ◌^◌, ◌<◌, ◌≤◌, inl, inr, true, false, nat_lt, List, length, get_or, bit_and, bit_or, refl, sym, ap, ◌∙◌, arith, add-one, pow-suc}
+use Rattle.std.proofs.Math.Nat.{mod-eq_of_lt, mul_comm, pow-le-pow_right, mul-le-mul, mul-le-mul_right}
 use Rattle.std.proofs.lemmas.Nat.{pow-add, mul-add-lt, and_mask}
 use Rattle.std.proofs.lemmas.Bool.{cases_lt}
 use Rattle.std.proofs.lemmas.Bool.Decides.{nat_tests}
@@ -7,7 +7,6 @@ use Rattle.std.proofs.lemmas.List.Sums.{position_or_len_is, passes_at_first, fai
 use Rattle.std.specs.Int.Bits.{or_shifted_r}
 use Rattle.std.proofs.Common.{Some, None}
 use Rattle.std.proofs.lemmas.Option.{slice_get-get_or, get_or_from_slice_get}
-use Rattle.std.proofs.lemmas.List.{get_or-take, length-take-le}
 use Rattle.std.specs.List.{slice_get}
 use Rattle.scroll.specs.lemmas.SumLemmas.{digits-bound}
 use Rattle.scroll.specs.Leb128.{group, groups_value, end_of, unsigned_of, count_of, ReadsGroups}
@@ -18,6 +17,9 @@ pow_128 zero = refl
 pow_128 (suc i) =
     let e : 7 * suc i ≡ 7 * i + 7 = omega arith in
     ap (λ k. 2 ^ k) e ∙ pow-add 2 (7 * i) 7 ∙ ap (λ x. x * 128) (pow_128 i) ∙ sym (pow-suc 128 i)
+
+pub power_more : (i : ℕ) → 128 ^ (i + 1) ≡ 128 * 128 ^ i
+power_more i = rw add-one (pow-suc 128 i ∙ mul_comm (128 ^ i) 128)
 
 pub groups_more : (s : List ℕ) (n : ℕ) → groups_value s (n + 1) ≡ groups_value s n + group s n * 128 ^ n
 groups_more s n = rw add-one refl
@@ -98,23 +100,11 @@ pub gives_at : (s : List ℕ) (i v r b : ℕ) → i < length s → i < 9 → ((k
 gives_at s i v r b within early more byte last value_is r_is =
     let e = end_at s i within more (omega arith) in
     let value = or_group s i v r early value_is (rw byte r_is) in
-    record { complete = (omega arith, omega arith); value = value ∙ ap (λ j. groups_value s (j + 1)) (sym e); size = ap (λ j. j + 1) (sym e) }
+    record { complete = (omega arith, omega arith); fits = tt; value = value ∙ ap (λ j. groups_value s (j + 1)) (sym e); size = ap (λ j. j + 1) (sym e) }
 
 pub groups_same : (a b : List ℕ) (n : ℕ) → ((k : ℕ) → k < n → get_or a k 0 ≡ get_or b k 0) → groups_value a n ≡ groups_value b n
 groups_same a b zero h = refl
 groups_same a b (suc n) h = rw (groups_same a b n (λ k l. h k (omega arith)), h n (omega arith)) refl
-
--- the first bytes of a source that end the encoding say what the source says
-pub gives_front : (s b : List ℕ) (v n : ℕ) → 8 ≤ length s → b ≡ take 8 s → end_of b < 8 → v ≡ unsigned_of b → n ≡ count_of b → ReadsGroups s v n
-gives_front s b v n eight front within value_is n_is =
-    let same = λ (k : ℕ) (h : k < 8). ap (λ l. get_or l k 0) front ∙ get_or-take 8 s k 0 h in
-    let b_length : length b ≡ 8 = ap length front ∙ length-take-le 8 s eight in
-    let last = end_below b (omega arith) in
-    let e : end_of s ≡ end_of b = end_at s (end_of b) (omega arith)
-    (λ k h. let o = open_before b k h in let f = same k (omega arith) in omega arith)
-    (let f = same (end_of b) within in omega arith) in
-    let groups = groups_same b s (count_of b) (λ k h. same k (omega arith)) in
-    record { complete = (omega arith, omega arith); value = value_is ∙ groups ∙ ap (λ j. groups_value s (j + 1)) (sym e); size = n_is ∙ ap (λ j. j + 1) (sym e) }
 
 -- past the end there is no byte
 pub none_past : (s : List ℕ) (i : ℕ) → None ≡ slice_get s i → length s ≤ i

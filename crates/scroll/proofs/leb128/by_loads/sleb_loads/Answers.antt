@@ -1,11 +1,11 @@
-use Rattle.std.proofs.Common.{◌≡◌, ◌≤◌, ◌*◌, ◌%◌, ◌^◌, bit_or, to_z, Some, FitsSigned, rules, ◌∙◌, ap, refl, length}
+use Rattle.std.proofs.Common.{inr, ◌≡◌, ◌≤◌, ◌*◌, ◌%◌, ◌^◌, bit_or, to_z, Some, FitsSigned, rules, ◌∙◌, ap, refl, length}
 use Rattle.std.specs.Int.{w64}
 use Rattle.std.specs.List.{slice_get}
 use Rattle.std.proofs.lemmas.Int.{to_z-of_z}
 use Rattle.scroll.specs.Leb128.{end_of, groups_value}
 use Rattle.scroll.specs.Loads.{Loading}
 use Rattle.scroll.proofs.lemmas.leb128.LebLemmas.{groups_lt}
-use Rattle.scroll.proofs.lemmas.leb128.LoadLemmas.{block_reads_signed, block_open, block_loads, groups_read_signed, nine_read, tenth_reads_signed, tenth_is_cut, tenth_refused_signed}
+use Rattle.scroll.proofs.lemmas.leb128.LebReadLemmas.{local-sleb, block_reads, block_open, block_loads, groups_read_signed, nine_read, tenth_reads_signed, tenth_is_cut, tenth_refused_signed}
 use Rattle.scroll.proofs.leb128.by_loads.sleb_loads.Goals as goal
 
 pub sign_extend-requires-clause-low : goal.sign_extend-requires-clause-low
@@ -22,8 +22,7 @@ returns-then-len-lt8-clause-read c =
 pub returns-in-Some-sleb_block-clause-read : goal.returns-in-Some-sleb_block-clause-read
 returns-in-Some-sleb_block-clause-read c =
     let first = c.in-Some.ensures.first in
-    let fits : FitsSigned w64 c.in-Some-sleb_block.read.0 = search rules in
-    block_reads_signed c.args.src.now.bytes c.in-Some.block _ _ first.0 first.1 (search rules) fits c.in-Some-sleb_block.ensures.read
+    block_reads local-sleb c.args.src.now.bytes c.in-Some.block _ _ first.0 first.1 c.in-Some-sleb_block.ensures.read
 
 pub returns-in-None-clause-read : goal.returns-in-None-clause-read
 returns-in-None-clause-read c =
@@ -52,12 +51,12 @@ returns-in-Some-2-clause-refused c =
     let last = rw c.in-Some-tenth.is at nine.last in
     let late : 9 ≤ end_of c.word.new.self.bytes = last.0 in
     let at : slice_get c.word.new.self.bytes 9 ≡ Some c.in-Some-tenth.tenth = last.1 in
-    let value : c.in_ok-groups-2.groups ≡ groups_value c.word.new.self.bytes 9 = nine.value in (
-      tenth_is_cut c.args.src.now.bytes c.in-Some-tenth.tenth (rw same at at),
-      tenth_refused_signed c.args.src.now.bytes c.in_ok-groups-2.groups c.in-Some-tenth.tenth (rw same at late) (rw same at at) (rw same at value) c.if-tenth.false,
-      c.len-in-Some-2.ensures ∙ ap length (c.in_ok-groups-2.ensures.loads.same ∙ same),
-      refl,
-    )
+    let value : c.in_ok-groups-2.groups ≡ groups_value c.word.new.self.bytes 9 = nine.value in
+    inr (record {
+      whole = tenth_is_cut c.args.src.now.bytes c.in-Some-tenth.tenth (rw same at at);
+      unfit = tenth_refused_signed c.args.src.now.bytes c.in_ok-groups-2.groups c.in-Some-tenth.tenth (rw same at late) (rw same at at) (rw same at value) c.if-tenth.false;
+      error = (c.len-in-Some-2.ensures ∙ ap length (c.in_ok-groups-2.ensures.loads.same ∙ same), refl);
+    })
 
 pub nine_groups-requires-clause-eight : goal.nine_groups-requires-clause-eight
 nine_groups-requires-clause-eight c = (block_open c.args.src.now _ _ c.word.ensures.counted c.in-Some.ensures.first c.in_default-sleb_block.ensures.none).0

@@ -1,8 +1,8 @@
-use Rattle.std.proofs.Common.{◌≡◌, ◌+◌, ◌*◌, ◌%◌, ◌^◌, bit_or, to_z, length, ap, ◌∙◌, refl, arith, rules, below_more, FitsSigned}
+use Rattle.std.proofs.Common.{inl, inr, ◌≡◌, ◌+◌, ◌*◌, ◌%◌, ◌^◌, bit_or, to_z, length, ap, ◌∙◌, refl, arith, rules, below_more, FitsSigned}
 use Rattle.std.specs.Int.{w64}
 use Rattle.std.proofs.lemmas.Int.{to_z-of_z}
 use Rattle.scroll.proofs.lemmas.leb128.LebLemmas.{late_end, no_end, groups_lt, or_group, gives_at, byte_there, not_there, tenth_there}
-use Rattle.scroll.proofs.lemmas.leb128.LoadLemmas.{groups_read_signed, tenth_reads_signed, tenth_is_cut, tenth_refused_signed}
+use Rattle.scroll.proofs.lemmas.leb128.LebReadLemmas.{groups_read_signed, tenth_reads_signed, tenth_is_cut, tenth_refused_signed}
 use Rattle.scroll.proofs.leb128.plain.plain_sleb.Goals as goal
 
 pub returns-in_default-clause-refused : goal.returns-in_default-clause-refused
@@ -10,7 +10,7 @@ returns-in_default-clause-refused c =
     let past = not_there c.args.src.now c.loop-i.i c.in_default.ensures.lookup.0 in
     let whole : c.loop-i.i ≡ length c.args.src.now = omega (arith, past, c.loop-i.invariant.within) in
     let end = no_end c.args.src.now (rw whole at c.loop-i.invariant.open_so_far) in
-    ((omega arith, omega arith), refl, refl)
+    inl (record { cut = (omega arith, omega arith); error = refl })
 
 pub sign_extend-requires-clause-low : goal.sign_extend-requires-clause-low
 sign_extend-requires-clause-low c =
@@ -56,7 +56,7 @@ returns-in-Some-2-clause-refused c =
     let s = c.args.src.now in
     let look = c.in-Some-get.ensures.lookup in
     let tenth = tenth_there s c.loop-i.i c.loop-i.groups _ look.0 look.1 (omega arith) c.loop-i.invariant.open_so_far c.loop-i.invariant.value in
-    (tenth_is_cut s _ tenth.1, tenth_refused_signed s c.loop-i.groups _ tenth.0 tenth.1 tenth.2 c.if-tenth.false, refl, refl)
+    inr (record { whole = tenth_is_cut s _ tenth.1; unfit = tenth_refused_signed s c.loop-i.groups _ tenth.0 tenth.1 tenth.2 c.if-tenth.false; error = (refl, refl) })
 
 pub returns-in-None-clause-refused : goal.returns-in-None-clause-refused
 returns-in-None-clause-refused c =
@@ -64,4 +64,4 @@ returns-in-None-clause-refused c =
     let past = not_there s 9 c.in-None.ensures.lookup.0 in
     let nine : c.loop-i.i ≡ 9 = omega arith in
     let late = late_end s 9 (omega (arith, c.loop-i.invariant.within)) (rw nine at c.loop-i.invariant.open_so_far) in
-    ((omega arith, omega arith), refl, refl)
+    inl (record { cut = (omega arith, omega arith); error = refl })

@@ -1,6 +1,6 @@
-use Rattle.std.proofs.Common.{◌≡◌, ◌+◌, length, refl, arith, below_more}
+use Rattle.std.proofs.Common.{inl, inr, ◌≡◌, ◌+◌, length, refl, arith, below_more}
 use Rattle.scroll.proofs.lemmas.leb128.LebLemmas.{late_end, no_end, or_group, gives_at, byte_there, not_there, tenth_there}
-use Rattle.scroll.proofs.lemmas.leb128.LoadLemmas.{groups_read, tenth_reads, tenth_is_cut, tenth_refused}
+use Rattle.scroll.proofs.lemmas.leb128.LebReadLemmas.{groups_read, tenth_reads, tenth_is_cut, tenth_refused}
 use Rattle.scroll.proofs.leb128.plain.plain_uleb.Goals as goal
 
 pub returns-in_default-clause-refused : goal.returns-in_default-clause-refused
@@ -8,7 +8,7 @@ returns-in_default-clause-refused c =
     let past = not_there c.args.src.now c.loop-i.i c.in_default.ensures.lookup.0 in
     let whole : c.loop-i.i ≡ length c.args.src.now = omega (arith, past, c.loop-i.invariant.within) in
     let end = no_end c.args.src.now (rw whole at c.loop-i.invariant.open_so_far) in
-    ((omega arith, omega arith), refl, refl)
+    inl (record { cut = (omega arith, omega arith); error = refl })
 
 pub returns-then-byte-lt128-clause-read : goal.returns-then-byte-lt128-clause-read
 returns-then-byte-lt128-clause-read c =
@@ -41,7 +41,7 @@ returns-in-Some-2-clause-refused c =
     let s = c.args.src.now in
     let look = c.in-Some-get.ensures.lookup in
     let tenth = tenth_there s c.loop-i.i c.loop-i.groups _ look.0 look.1 (omega arith) c.loop-i.invariant.open_so_far c.loop-i.invariant.value in
-    (tenth_is_cut s _ tenth.1, tenth_refused s c.loop-i.groups _ tenth.0 tenth.1 tenth.2 c.if-tenth-le1.false, refl, refl)
+    inr (record { whole = tenth_is_cut s _ tenth.1; unfit = tenth_refused s c.loop-i.groups _ tenth.0 tenth.1 tenth.2 c.if-tenth-le1.false; error = (refl, refl) })
 
 pub returns-in-None-clause-refused : goal.returns-in-None-clause-refused
 returns-in-None-clause-refused c =
@@ -49,4 +49,4 @@ returns-in-None-clause-refused c =
     let past = not_there s 9 c.in-None.ensures.lookup.0 in
     let nine : c.loop-i.i ≡ 9 = omega arith in
     let late = late_end s 9 (omega (arith, c.loop-i.invariant.within)) (rw nine at c.loop-i.invariant.open_so_far) in
-    ((omega arith, omega arith), refl, refl)
+    inl (record { cut = (omega arith, omega arith); error = refl })

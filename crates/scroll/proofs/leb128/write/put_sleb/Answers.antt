@@ -1,7 +1,7 @@
 use Rattle.std.proofs.Common.{◌≡◌, ap, ◌∙◌, of_z}
 use Rattle.std.specs.Int.{w64}
 use Rattle.std.proofs.lemmas.Int.{to_z-of_z}
-use Rattle.scroll.proofs.lemmas.leb128.SignedWriteLemmas.{tenth_of, tenth_below, tenth_above, signed_groups_form}
+use Rattle.scroll.proofs.lemmas.leb128.LebWriteLemmas.{tenth_of, tenth_below, tenth_above, signed_groups_form}
 use Rattle.scroll.proofs.leb128.write.put_sleb.Goals as goal
 use Rattle.scroll.proofs.leb128.write.put_sleb.Goals.{then-value-lt0, else-value-lt0}
 

@@ -3,7 +3,7 @@ use Rattle.std.specs.Int.{w64}
 use Rattle.std.proofs.lemmas.Int.{to_z-of_z}
 use Rattle.scroll.specs.Spelling.{HasSignedSpelling}
 use Rattle.scroll.specs.LebWrites.{turned_round, IsLeast}
-use Rattle.scroll.proofs.lemmas.leb128.SignedWriteLemmas.{twice_turned, signed_least}
+use Rattle.scroll.proofs.lemmas.leb128.LebWriteLemmas.{twice_turned, signed_least}
 use Rattle.scroll.proofs.leb128.signed.Sleb128.shortest.Goals as goal
 
 pub invariant_of-result : goal.invariant_of-result
