@@ -26,6 +26,7 @@ pub mod History
 pub mod Leaves
 pub mod Streams
 pub mod Leb128
+pub mod LebGroups
 pub mod LebRefusals
 pub mod Spelling
 pub mod LebWrites

@@ -10,6 +10,7 @@
 //! bytes ([`uleb_block`], [`sleb_block`]) and from a source that counts its loads ([`uleb_loads`], [`sleb_loads`]).
 mod block;
 mod by_loads;
+mod groups;
 mod plain;
 mod signed;
 mod unsigned;

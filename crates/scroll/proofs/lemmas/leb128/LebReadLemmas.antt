@@ -148,14 +148,11 @@ block_reads local s b x n eight front r =
     let few : n ≤ 8 = omega (arith, r.size, r.complete.0) in
     local b s x n r (omega (arith, few)) (omega (arith, eight)) (sym (take-take n 8 s few) ∙ ap (take n) (sym front))
 
--- a block that ends no encoding, and its source after the load
-pub block_open : (old new : Loading) (b : List ℕ) → new ≡ record old { made = old.made + 1 } → (8 ≤ length old.bytes) × (b ≡ take 8 old.bytes) → 8 ≤ end_of b
-    → ((8 ≤ length new.bytes) × (8 ≤ end_of new.bytes)) × (groups_value b 8 ≡ groups_value new.bytes 8)
-block_open old new b counted first open_to =
-    let s = old.bytes in
+-- a block that ends no encoding
+pub block_open : (s b : List ℕ) → (8 ≤ length s) × (b ≡ take 8 s) → 8 ≤ end_of b → (8 ≤ end_of s) × (groups_value b 8 ≡ groups_value s 8)
+block_open s b first open_to =
     let same : (k : ℕ) → k < 8 → get_or b k 0 ≡ get_or s k 0 = λ k h. ap (λ l. get_or l k 0) first.1 ∙ get_or-take 8 s k 0 h in
-    let late : 8 ≤ end_of s = late_end s 8 first.0 (λ k h. rw (← same k h) (open_before b k (omega (arith, h, open_to)))) in
-    rw counted ((first.0, late), groups_same b s 8 same)
+    (late_end s 8 first.0 (λ k h. rw (← same k h) (open_before b k (omega (arith, h, open_to)))), groups_same b s 8 same)
 
 -- a load of a block, and at most two more
 pub block_loads : (old new later : Loading) → new ≡ record old { made = old.made + 1 } → 8 ≤ length old.bytes → Loaded new later 2 → Loaded old later (most_loads old.bytes)
@@ -191,10 +188,6 @@ groups_read s g n few r =
     let nine : count_of s ≤ 9 = omega (arith, r.size) in
     let power : 128 ^ count_of s ≤ 128 ^ 9 = pow-le-pow_right {n = 128} (omega arith) nine in
     record { complete = r.complete; fits = omega (arith, low, power, r.value); value = r.value; size = r.size }
-
--- the groups of nine bytes, the last of which ends the encoding
-pub nine_read : (s : List ℕ) (g : ℕ) → 9 ≤ length s → g ≡ groups_value s 9 → end_of s ≡ 8 → ReadsGroups s g 9
-nine_read s g within value e = record { complete = (omega arith, omega arith); fits = tt; value = value ∙ ap (λ i. groups_value s (i + 1)) (sym e); size = ap (λ i. i + 1) (sym e) }
 
 -- ---- the tenth byte
 tenth_end : (s : List ℕ) (t : ℕ) → 9 ≤ end_of s → slice_get s 9 ≡ Some t → t < 128 → end_of s ≡ 9
