@@ -11,10 +11,10 @@ mod fixed;
 mod made;
 mod measure;
 mod numbers;
-mod pairs;
 mod std_c_strings;
 mod str_ctx;
 mod text;
+mod tuples;
 mod zeros;
 
 pub use arrays::array_fits;

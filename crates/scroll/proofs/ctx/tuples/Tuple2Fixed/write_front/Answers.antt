@@ -1,6 +1,6 @@
 -- The second value of a pair comes after the first.
 use Rattle.scroll.proofs.lemmas.callers.Cursors.{Begins, grow}
-use Rattle.scroll.proofs.ctx.pairs.Tuple2Fixed.write_front.Goals as goal
+use Rattle.scroll.proofs.ctx.tuples.Tuple2Fixed.write_front.Goals as goal
 
 pub returns : goal.returns
 returns g c =
