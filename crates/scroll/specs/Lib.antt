@@ -30,6 +30,7 @@ pub mod LebGroups
 pub mod LebRefusals
 pub mod Spelling
 pub mod LebWrites
+pub mod LebLaws
 pub mod Loads
 pub mod Spans
 pub mod Runs

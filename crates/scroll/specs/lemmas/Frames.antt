@@ -9,10 +9,10 @@ use Rattle.scroll.specs.Arrays.{WritesAll, WritesArray, LeavesAll, FillsArray}
 use Rattle.scroll.specs.Bytes.{WritesFront}
 use Rattle.scroll.specs.Exact.{LeavesExactly, WritesExactly}
 use Rattle.scroll.specs.Leb128.{Counted}
-use Rattle.scroll.specs.LebWrites.{WritesUleb, WritesSleb}
+use Rattle.scroll.specs.LebWrites.{WritesLeb}
 use Rattle.scroll.specs.Numbers.{number_bytes, signed_bytes, WritesNumber}
 use Rattle.scroll.specs.Zeros.{zeros}
-use Rattle.scroll.specs.Spelling.{spelled_byte, spelling, unsigned_form}
+use Rattle.scroll.specs.Spelling.{spelled_byte, spelling}
 use Rattle.scroll.specs.declared.endian.Endian.{Endian}
 use Rattle.scroll.specs.declared.endian.Endian.TheVariants.{Little, Big}
 
@@ -66,11 +66,8 @@ length-spelling v n = length-map-range_with_len (spelled_byte v n) 0 n
 spelling-keeps : (v w : ℕ) (old new : List ℕ) (n : ℕ) → WritesFront w (spelling v w) old new n → drop n new ≡ drop n old
 spelling-keeps v w old new n h = rw h.size (drop-front w (spelling v w) old new (length-spelling v w) h.after)
 
-pub WritesUleb-keeps : (x : Counted ℕ) (old new : List ℕ) (n : ℕ) → WritesUleb x old new n → drop n new ≡ drop n old
-WritesUleb-keeps x old new n h = spelling-keeps x.value x.count old new n h
-
-pub WritesSleb-keeps : (x : Counted ℤ) (old new : List ℕ) (n : ℕ) → WritesSleb x old new n → drop n new ≡ drop n old
-WritesSleb-keeps x old new n h = spelling-keeps (unsigned_form x.value x.count) x.count old new n h
+pub WritesLeb-keeps : {V : Type 0} (form : V → ℕ → ℕ) (x : Counted V) (old new : List ℕ) (n : ℕ) → WritesLeb form x old new n → drop n new ≡ drop n old
+WritesLeb-keeps form x old new n h = spelling-keeps (form x.value x.count) x.count old new n h
 
 -- values that are put one after another leave the bytes after the last of them unchanged
 LeavesAll-keeps : {V : Type 0} (width need : ℕ) (leaves : V → List ℕ → List ℕ → Type 0) → ((x : V) (old new : List ℕ) → leaves x old new → drop need new ≡ drop need old) → (end : ℕ) (old : List ℕ) (from : ℕ) (vs : List V) (new : List ℕ) → from + max width need * length vs ≤ end → LeavesAll width leaves old from vs new → drop end new ≡ drop end old

@@ -34,7 +34,7 @@ pub(crate) fn block_groups(b: [u8; 8]) -> u64
     gathered(u64::from_le_bytes(b))
 }
 
-// Returns the groups up to the end of the encoding as one number, and how many there are.
+// Returns the groups up to the end of the encoding as one number, and how many there are. (`signed_in` is its twin.)
 #[inline(always)]
 fn groups_in(word: u64) -> Option<(u64, usize)>
     ensures { MatchOption result (8 ≤ end_of (to_le_bytes w64 word)) (λ read.
@@ -50,7 +50,8 @@ fn groups_in(word: u64) -> Option<(u64, usize)>
     counted_groups(word)
 }
 
-// Returns the signed number that the groups encode, and how many groups there are.
+// Returns the signed number that the groups encode, and how many groups there are. It tests for one and two bytes itself,
+// as its twin `groups_in` does: where it took the groups and their count from there, it would shift by a count.
 #[inline(always)]
 fn signed_in(word: u64) -> Option<(i64, usize)>
     ensures { MatchOption result (8 ≤ end_of (to_le_bytes w64 word)) (λ read.

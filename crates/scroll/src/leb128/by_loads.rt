@@ -73,10 +73,11 @@ fn long_groups(src: &mut Loads<'_>, block: [u8; 8]) -> Result<Groups>
     ensures refused { IfErr result (RefusesCut src.old.bytes) }
     ensures loads { Loaded src.old src.new 2 }
 {
+    let low = block_groups(block);
     let Some(ninth) = src.byte(8) else {
         return Err(TRUNCATED);
     };
-    let groups = block_groups(block) | u64::from(ninth & 0x7f) << 56;
+    let groups = low | u64::from(ninth & 0x7f) << 56;
     if ninth < 0x80 {
         return Ok(Groups::UpToNine(groups, 9));
     }

@@ -20,8 +20,7 @@ use Rattle.scroll.specs.declared.error.Error.{Error}
 use Rattle.scroll.specs.declared.error.Error.TheVariants.{TooBig, BadInput}
 use Rattle.scroll.proofs.lemmas.callers.OneAnswer.{one-Ok, one-Err, same-too_big}
 use Rattle.scroll.proofs.lemmas.texts.TextReadLemmas.{same-bad_input}
-use Rattle.scroll.proofs.lemmas.leb128.LebLemmas.{groups_lt, groups_more, groups_same, end_at, end_below, late_end, open_before, sign_is_top}
-use Rattle.scroll.proofs.lemmas.leb128.BlockLemmas.{less_whole}
+use Rattle.scroll.proofs.lemmas.leb128.LebLemmas.{groups_lt, groups_more, groups_same, end_at, end_below, late_end, open_before, sign_is_top, less_whole}
 
 -- ---- the bytes of an encoding
 module _ (s t : List ℕ) (inside : end_of s < length s) (long : length s ≤ length t) (front : take (count_of s) t ≡ take (count_of s) s) where

@@ -6,13 +6,20 @@ use Rattle.scroll.proofs.lemmas.leb128.LebLemmas.{gives_at, or_group, late_end, 
 use Rattle.scroll.proofs.lemmas.leb128.LebReadLemmas.{block_open}
 use Rattle.scroll.proofs.leb128.by_loads.long_groups.Goals as goal
 
+pub returns-in_default-clause-refused : goal.returns-in_default-clause-refused
+returns-in_default-clause-refused c =
+    let s = c.args.src.now.bytes in
+    let late = (block_open s c.args.block c.requires.first c.requires.open).0 in
+    let past : length s ≤ 8 = none_past s 8 (sym c.in_default.is ∙ c.byte.ensures.value) in
+    record { cut = (omega arith, omega arith); error = refl }
+
 pub returns-then-ninth-lt128-clause-read : goal.returns-then-ninth-lt128-clause-read
 returns-then-ninth-lt128-clause-read c =
     let s = c.args.src.now.bytes in
     let eight = block_open s c.args.block c.requires.first c.requires.open in
     let at = sym c.in-Some.ensures.value in (
-      gives_at s 8 c.block_groups.result c.from.result _ (slice_get_within s 8 _ at) (omega arith) (λ k h. open_before s k (omega (arith, h, eight.0)))
-      (get_or_from_slice_get s 8 _ 0 at) c.if-ninth-lt128.true (c.block_groups.ensures ∙ eight.1) c.from.ensures,
+      gives_at s 8 c.block_groups-low.result c.from.result _ (slice_get_within s 8 _ at) (omega arith) (λ k h. open_before s k (omega (arith, h, eight.0)))
+          (get_or_from_slice_get s 8 _ 0 at) c.if-ninth-lt128.true (c.block_groups-low.ensures ∙ eight.1) c.from.ensures,
       omega arith,
     )
 
@@ -25,7 +32,7 @@ returns-in-Some-byte-clause-read c =
     let within = slice_get_within s 9 _ at in
     let eight : (k : ℕ) → k < 8 → 128 ≤ get_or s k 0 = λ k h. open_before s k (omega (arith, h, block.0)) in
     let nine : (k : ℕ) → k < 9 → 128 ≤ get_or s k 0 = below_more (λ k. 128 ≤ get_or s k 0) 8 eight (omega arith) in
-    (late_end s 9 (omega (arith, within)) nine, at, or_group s 8 c.block_groups.result c.from.result (omega arith) (c.block_groups.ensures ∙ block.1) (rw ninth c.from.ensures))
+    (late_end s 9 (omega (arith, within)) nine, at, or_group s 8 c.block_groups-low.result c.from.result (omega arith) (c.block_groups-low.ensures ∙ block.1) (rw ninth c.from.ensures))
 
 pub returns-in-None-clause-refused : goal.returns-in-None-clause-refused
 returns-in-None-clause-refused c =

@@ -1,7 +1,6 @@
-use Rattle.std.proofs.Common.{◌≡◌, ◌*◌, ◌%◌, ◌^◌, ◌∙◌, bit_or, to_z, ap, inr, rules, FitsSigned}
+use Rattle.std.proofs.Common.{◌*◌, ◌%◌, ◌^◌, ◌∙◌, bit_or, to_z, ap, inr, rules, FitsSigned}
 use Rattle.std.specs.Int.{w64}
 use Rattle.std.proofs.lemmas.Int.{to_z-of_z}
-use Rattle.scroll.specs.LebGroups.{HasGroups}
 use Rattle.scroll.proofs.lemmas.leb128.LebReadLemmas.{groups_below, word_read_signed, tenth_reads_signed, tenth_is_cut, tenth_refused_signed}
 use Rattle.scroll.proofs.leb128.groups.signed.Goals as goal
 

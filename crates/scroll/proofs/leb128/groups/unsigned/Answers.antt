@@ -1,5 +1,4 @@
 use Rattle.std.proofs.Common.{inr}
-use Rattle.scroll.specs.LebGroups.{HasGroups}
 use Rattle.scroll.proofs.lemmas.leb128.LebReadLemmas.{tenth_reads, tenth_is_cut, tenth_refused}
 use Rattle.scroll.proofs.leb128.groups.unsigned.Goals as goal
 

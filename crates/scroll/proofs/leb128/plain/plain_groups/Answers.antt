@@ -1,4 +1,4 @@
-use Rattle.std.proofs.Common.{◌≡◌, ◌+◌, length, refl, arith, below_more}
+use Rattle.std.proofs.Common.{◌≡◌, length, refl, arith, below_more}
 use Rattle.scroll.proofs.lemmas.leb128.LebLemmas.{late_end, no_end, or_group, gives_at, byte_there, not_there, tenth_there}
 use Rattle.scroll.proofs.leb128.plain.plain_groups.Goals as goal
 
