@@ -18,7 +18,7 @@ mod tuples;
 mod zeros;
 
 pub use arrays::array_fits;
-pub use fixed::{Fixed, Plain, Record, Written};
+pub use fixed::{Fixed, Plain, Record, RoundTrip, Written};
 pub use made::{bytes_at, read_made};
 pub use str_ctx::{NULL, RET, SPACE, StrCtx, TAB};
 pub use zeros::{Zeros, padding};

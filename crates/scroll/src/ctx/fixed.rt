@@ -1,10 +1,14 @@
 // Types of a fixed size. A type describes itself once, by [`Fixed`] or by [`Record`], and the traits of contexts follow.
 ghost use Rattle.std.specs.Prelude.{◌≡◌, ◌≤◌, ◌<◌, ◌+◌, ◌^◌, ◌++◌, ℕ, List, length, take, drop, refl};
-ghost use Rattle.std.proofs.Common.{rules};
+ghost use Rattle.std.proofs.Common.{rules, arith, length-drop};
+ghost use Rattle.std.proofs.lemmas.List.Elements.{All-drop};
+ghost use Rattle.std.specs.List.{All};
 ghost use Rattle.scroll.specs.Bytes.{ReadsMade, RefusesShort, WritesFront, LeavesShort};
 ghost use Rattle.scroll.specs.Fixed.{One, SameAt};
 ghost use Rattle.scroll.specs.lemmas.FixedLemmas.{record-one, bytes-keep, write-keeps};
 ghost use Rattle.scroll.specs.declared.endian.Endian.{Endian};
+
+mod arrays;
 
 use crate::ctx::{FromCtx, IntoCtx, SizeWith, TryFromCtx, TryIntoCtx};
 use crate::endian::Endian;
@@ -53,6 +57,12 @@ pub trait Fixed: Copy {
 
     // The value depends on its own bytes alone.
     ghost local: { (order : Endian) (s : List ℕ) (at : ℕ) (t : List ℕ) (to : ℕ) (x : Self) → SameAt width s at t to → makes order s at x → makes order t to x };
+}
+
+/// A type of a fixed size that is written back byte for byte as it was read: each but floats, and structs with floats.
+pub trait RoundTrip: Fixed {
+    // The bytes of a value are those of which it was made.
+    ghost kept: { (order : Endian) (s : List ℕ) (at : ℕ) (x : Self) → All (λ b. b < 256) s → at + Self.Fixed.width ≤ length s → Self.Fixed.makes order s at x → Self.Fixed.bytes order x ≡ take Self.Fixed.width (drop at s) };
 }
 
 /// A struct that is its fields, one after another in the order of its parts, with nothing between them.
@@ -157,6 +167,14 @@ impl<R: Record> Fixed for R {
     fn write_front(self, dst: &mut [u8], order: Endian) {
         self.parts().write_front(dst, order)
     }
+}
+
+impl<R: Record> RoundTrip for R
+where
+    R::Parts: RoundTrip,
+{
+    ghost kept = { λ order s at x all room h.
+        R.Parts.kept order (drop at s) 0 (R.parts_of x) (All-drop (λ b. b < 256) at s all) (omega (arith, room, length-drop at s)) (R.parts_of_fields order (drop at s) x h) };
 }
 
 // Returns the struct at an offset, by its parts.

@@ -1,9 +1,11 @@
 // Two to four types of a fixed size, one after another. They are the parts of a struct: `(u16, u16, u32)` for three
 // fields, and `((u16, u16, u32), (u8, u8))` for five.
 ghost use Rattle.std.specs.Prelude.{◌≡◌, ◌≤◌, ◌+◌, ◌++◌, length, take, drop, refl};
+ghost use Rattle.std.proofs.Common.{arith};
 ghost use Rattle.scroll.specs.lemmas.FixedLemmas.{both-len, both-back, both-one, same-first, same-second, record-one};
+ghost use Rattle.scroll.specs.lemmas.NumberBack.{both-kept};
 
-use crate::ctx::fixed::Fixed;
+use crate::ctx::fixed::{Fixed, RoundTrip};
 use crate::endian::Endian;
 
 impl<A: Fixed, B: Fixed> Fixed for (A, B) {
@@ -189,4 +191,31 @@ impl<A: Fixed, B: Fixed, C: Fixed, D: Fixed> Fixed for (A, B, C, D) {
     fn write_front(self, dst: &mut [u8], order: Endian) {
         (self.0, (self.1, (self.2, self.3))).write_front(dst, order)
     }
+}
+
+impl<A: RoundTrip, B: RoundTrip> RoundTrip for (A, B) {
+    ghost kept = { λ order s at x all room h.
+        both-kept A.width B.width s at
+        (A.kept order s at x.0 all (omega (arith, room)) h.0)
+        (B.kept order s (at + A.width) x.1 all (omega (arith, room)) h.1) };
+}
+
+impl<A: RoundTrip, B: RoundTrip, C: RoundTrip> RoundTrip for (A, B, C) {
+    ghost kept = { λ order s at x all room h.
+        both-kept A.width (B.width + C.width) s at
+        (A.kept order s at x.0 all (omega (arith, room)) h.0)
+        (both-kept B.width C.width s (at + A.width)
+            (B.kept order s (at + A.width) x.1 all (omega (arith, room)) h.1.0)
+            (C.kept order s (at + A.width + B.width) x.2 all (omega (arith, room)) h.1.1)) };
+}
+
+impl<A: RoundTrip, B: RoundTrip, C: RoundTrip, D: RoundTrip> RoundTrip for (A, B, C, D) {
+    ghost kept = { λ order s at x all room h.
+        both-kept A.width (B.width + (C.width + D.width)) s at
+        (A.kept order s at x.0 all (omega (arith, room)) h.0)
+        (both-kept B.width (C.width + D.width) s (at + A.width)
+            (B.kept order s (at + A.width) x.1 all (omega (arith, room)) h.1.0)
+            (both-kept C.width D.width s (at + A.width + B.width)
+                (C.kept order s (at + A.width + B.width) x.2 all (omega (arith, room)) h.1.1.0)
+                (D.kept order s (at + A.width + B.width + C.width) x.3 all (omega (arith, room)) h.1.1.1))) };
 }
