@@ -24,9 +24,11 @@ pub mod History
 pub mod Leaves
 pub mod Streams
 pub mod Leb128
+pub mod LebGroups
 pub mod LebRefusals
 pub mod Spelling
 pub mod LebWrites
+pub mod LebLaws
 pub mod Loads
 pub mod Spans
 pub mod Runs

@@ -8,7 +8,7 @@ use Rattle.std.proofs.lemmas.List.FromFn.{length-map-range_with_len}
 use Rattle.scroll.specs.Arrays.{WritesAll, WritesArray, LeavesAll, FillsArray}
 use Rattle.scroll.specs.Bytes.{WritesFront}
 use Rattle.scroll.specs.Numbers.{number_bytes, signed_bytes, WritesNumber}
-use Rattle.scroll.specs.Spelling.{spelled_byte, spelling, unsigned_form}
+use Rattle.scroll.specs.Spelling.{spelled_byte, spelling}
 use Rattle.scroll.specs.declared.endian.Endian.{Endian}
 use Rattle.scroll.specs.declared.endian.Endian.TheVariants.{Little, Big}
 

@@ -1,6 +1,6 @@
 use Rattle.std.proofs.Common.{◌≡◌, ℕ, ◌<◌, ◌≤◌, get_or, length}
 use Rattle.scroll.specs.Leb128.{groups_value}
-use Rattle.scroll.proofs.leb128.plain.plain_sleb.Given as goal
+use Rattle.scroll.proofs.leb128.plain.plain_groups.Given as goal
 
 abbrev pub invariant-loop-i : goal.invariant-loop-i
 invariant-loop-i l = record {
