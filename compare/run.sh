@@ -6,7 +6,7 @@
 # COUNT sessions (10000) go through the program and through the Rust crate, which answers them as docs/SESSIONS.md says
 # (compare/src/spoken.rs), and ten times as many calls through the library (compare/calls) and through the crate. SEED (1)
 # is what all of them are made from, and their sizes grow, the buffers of calls up to a megabyte. With --faults, sampled
-# sessions run again with each allocation, read and write refused in turn, by scripts/faults.c.
+# sessions run again with each allocation, read and write refused in turn, by gate/faults.c.
 #
 # It prints how many cases of each kind were tried, and how many differ. A case that differs is made smaller while it
 # still differs, and printed with both answers; a session can be stored as it is printed. A NaN whose bits the library
@@ -116,7 +116,7 @@ build_side
 library=
 if [ -n "$faults" ]; then
     library=$room/faults.so
-    quietly cc -O2 -fPIC -shared -o "$library" "$top/scripts/faults.c"
+    quietly cc -O2 -fPIC -shared -o "$library" "$top/gate/faults.c"
 fi
 workers=${WORKERS:-$(getconf _NPROCESSORS_ONLN)}
 "$side/target/release/compare" "$top/crates/scroll_run/out/scroll_run" "$seed" "$count" "$workers" ${library:+"$library"}

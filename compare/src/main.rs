@@ -3,7 +3,7 @@
 //!     compare PROGRAM SEED COUNT WORKERS [FAULTS]
 //!
 //! Case 0, 11, 22 and so on is a session, and the others are calls. Each is made from the seed and its own number. FAULTS
-//! is scripts/faults.c as a shared library. The exit status is 1 if a case differs in what docs/DIFFERENCES.md doesn't say.
+//! is gate/faults.c as a shared library. The exit status is 1 if a case differs in what docs/DIFFERENCES.md doesn't say.
 
 mod calls;
 mod case;

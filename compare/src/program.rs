@@ -26,7 +26,7 @@ struct Fault {
     printed: fn(&[u8], &[u8]) -> bool,
 }
 
-/// scripts/faults.c refuses the allocation, or lets the call fail, that such a variable counts.
+/// gate/faults.c refuses the allocation, or lets the call fail, that such a variable counts.
 const FAULTS: [Fault; 3] = [
     Fault { variable: "FAULT_MEMORY", status: 3, printed: |printed, _| printed == b"out of memory\n" },
     Fault { variable: "FAULT_READ", status: 4, printed: |printed, _| printed.is_empty() },

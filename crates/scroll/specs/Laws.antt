@@ -89,3 +89,15 @@ pub record AllowsOne {V : Type 0} (reads : V → ℕ → Type 0) (refuses : Erro
 -- the same of a read at each offset of each buffer, with `BadOffset` past the end
 abbrev pub AllowsOneAtEach : {V : Type 0} → (List ℕ → V → ℕ → Type 0) → (List ℕ → Error → Type 0) → Type 0
 AllowsOneAtEach reads refuses = (b : List ℕ) (o : ℕ) → AllowsOne (ReadsAt reads b o) (RefusesAt refuses IsBadOffset b o)
+
+-- the laws of a type that is read: what is read depends on its own bytes alone, its size is at most one more than the
+-- length of the source, and at each offset a read has exactly one result
+pub record IsReader {V : Type 0} (reads : List ℕ → V → ℕ → Type 0) (refuses : List ℕ → Error → Type 0) : Type 0 where
+  pub local : IsLocal reads
+  pub bounded : IsBounded reads
+  pub one : AllowsOneAtEach reads refuses
+
+-- the laws of a type whose size is at most the length of the source
+pub record IsReaderWithin {V : Type 0} (reads : List ℕ → V → ℕ → Type 0) (refuses : List ℕ → Error → Type 0) : Type 0 where
+  pub reader : IsReader reads refuses
+  pub within : IsWithin reads

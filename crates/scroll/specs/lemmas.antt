@@ -4,3 +4,5 @@ pub mod SumLemmas
 pub mod NumberLemmas
 pub mod NumberBytes
 pub mod FixedLemmas
+pub mod FixedArrays
+pub mod NumberBack

@@ -11,14 +11,14 @@ mod fixed;
 mod made;
 mod measure;
 mod numbers;
-mod pairs;
 mod std_c_strings;
 mod str_ctx;
 mod text;
+mod tuples;
 mod zeros;
 
 pub use arrays::array_fits;
-pub use fixed::{Fixed, Plain, Record, Written};
+pub use fixed::{Fixed, Plain, Record, RoundTrip, Written};
 pub use made::{bytes_at, read_made};
 pub use str_ctx::{NULL, RET, SPACE, StrCtx, TAB};
 pub use zeros::{Zeros, padding};

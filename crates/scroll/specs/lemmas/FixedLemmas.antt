@@ -70,12 +70,12 @@ signed-local order w s at t to x same is = is ∙ signed-same w order (drop to t
 pub float-local : (f : Format) (order : Endian) (s : List ℕ) (at : ℕ) (t : List ℕ) (to : ℕ) (x : Float) → SameAt (float_width f) s at t to → x ≡ float f order (drop at s) → x ≡ float f order (drop to t)
 float-local f order s at t to x same is = is ∙ ap (from_bits f) (number-same (float_width f) order (drop to t) (drop at s) same)
 
--- a struct makes what its parts make
-pub record-one : {R X : Type 0} {P : X → Type 0} (parts_of : R → X) (of_parts : X → R) → ((x : R) → of_parts (parts_of x) ≡ x) → ((p : X) → parts_of (of_parts p) ≡ p) → One P → One (λ x. P (parts_of x))
-record-one {R} {X} {P} parts_of of_parts again there one = record {
+-- exactly one struct has what exactly one value of its parts has
+pub record-one : {R X : Type 0} {P : X → Type 0} {Q : R → Type 0} (parts_of : R → X) (of_parts : X → R) → ((x : R) → of_parts (parts_of x) ≡ x) → ((p : X) → parts_of (of_parts p) ≡ p) → One P → ((x : R) → P (parts_of x) → Q x) → ((x : R) → Q x → P (parts_of x)) → One Q
+record-one {R} {X} {P} {Q} parts_of of_parts again there one of to = record {
   value = of_parts one.value;
-  is = subst P (sym (there one.value)) one.is;
-  only = λ x h. sym (again x) ∙ ap of_parts (one.only (parts_of x) h);
+  is = of (of_parts one.value) (subst P (sym (there one.value)) one.is);
+  only = λ x h. sym (again x) ∙ ap of_parts (one.only (parts_of x) (to x h));
 }
 
 -- bytes that are written over the front of a target leave those after them unchanged

@@ -1,10 +1,14 @@
 // Types of a fixed size. A type describes itself once, by [`Fixed`] or by [`Record`], and the traits of contexts follow.
-ghost use Rattle.std.specs.Prelude.{◌≡◌, ◌≤◌, ◌<◌, ◌+◌, ◌^◌, ◌++◌, ℕ, List, length, take, drop};
-ghost use Rattle.std.proofs.Common.{rules};
+ghost use Rattle.std.specs.Prelude.{◌≡◌, ◌≤◌, ◌<◌, ◌+◌, ◌^◌, ◌++◌, ℕ, List, length, take, drop, refl};
+ghost use Rattle.std.proofs.Common.{rules, arith, length-drop};
+ghost use Rattle.std.proofs.lemmas.List.Elements.{All-drop};
+ghost use Rattle.std.specs.List.{All};
 ghost use Rattle.scroll.specs.Bytes.{ReadsMade, RefusesShort, WritesFront, LeavesShort};
 ghost use Rattle.scroll.specs.Fixed.{One, SameAt};
 ghost use Rattle.scroll.specs.lemmas.FixedLemmas.{record-one, bytes-keep, write-keeps};
 ghost use Rattle.scroll.specs.declared.endian.Endian.{Endian};
+
+mod arrays;
 
 use crate::ctx::{FromCtx, IntoCtx, SizeWith, TryFromCtx, TryIntoCtx};
 use crate::endian::Endian;
@@ -55,36 +59,52 @@ pub trait Fixed: Copy {
     ghost local: { (order : Endian) (s : List ℕ) (at : ℕ) (t : List ℕ) (to : ℕ) (x : Self) → SameAt width s at t to → makes order s at x → makes order t to x };
 }
 
+/// A type of a fixed size that is written back byte for byte as it was read: each but floats, and structs with floats.
+pub trait RoundTrip: Fixed {
+    // The bytes of a value are those of which it was made.
+    ghost kept: { (order : Endian) (s : List ℕ) (at : ℕ) (x : Self) → All (λ b. b < 256) s → at + Self.Fixed.width ≤ length s → Self.Fixed.makes order s at x → Self.Fixed.bytes order x ≡ take Self.Fixed.width (drop at s) };
+}
+
 /// A struct that is its fields, one after another in the order of its parts, with nothing between them.
 ///
-/// It then is [`Fixed`], and so it implements the traits of contexts:
+/// It then is [`Fixed`], and so it implements the traits of contexts. `tools/derive` prints the implementation:
 ///
 /// ```rust
 /// impl Record for Format {
-///     type Parts = ((u16, u16), u32);
-///     ghost parts_of = { λ x. ((x.tag, x.channels), x.rate) };
-///     ghost of_parts = { λ p. record { tag = p.0.0; channels = p.0.1; rate = p.1 } };
+///     type Parts = (u16, u16, u32);
+///
+///     ghost parts_of = { λ x. (x.tag, x.channels, x.rate) };
+///     ghost of_parts = { λ p. record { tag = p.0; channels = p.1; rate = p.2 } };
+///     ghost fields_in = { λ order s x.
+///         (x.tag ≡ number order 2 s)
+///         × (x.channels ≡ number order 2 (drop 2 s))
+///         × (x.rate ≡ number order 4 (drop 4 s)) };
 ///     ghost again = { λ x. refl };
 ///     ghost there = { λ p. refl };
+///     ghost fields_of_parts = { λ order s x h. (h.0, h.1.0, h.1.1) };
+///     ghost parts_of_fields = { λ order s x h. (h.0, (h.1, h.2)) };
 ///     ghost small = { Prim.search rules };
 ///
-///     fn parts(self) -> ((u16, u16), u32) {
-///         ((self.tag, self.channels), self.rate)
+///     fn parts(self) -> (u16, u16, u32) {
+///         (self.tag, self.channels, self.rate)
 ///     }
 ///
-///     fn of_parts(((tag, channels), rate): ((u16, u16), u32)) -> Format {
+///     fn of_parts((tag, channels, rate): (u16, u16, u32)) -> Format {
 ///         Format { tag, channels, rate }
 ///     }
 /// }
 /// ```
 pub trait Record: Copy {
-    /// The types of the fields, in pairs.
+    /// The types of the fields, in tuples of two to four, nested where there are more.
     type Parts: Fixed;
 
     // The fields of a struct, and the struct of these fields.
     ghost parts_of: { Self → Self.Parts };
 
     ghost of_parts: { Self.Parts → Self };
+
+    // Holds of a source and the struct that its front makes, said field by field.
+    ghost fields_in: { Endian → List ℕ → Self → Type 0 };
 
     /// Returns the fields.
     fn parts(self) -> Self::Parts
@@ -100,6 +120,11 @@ pub trait Record: Copy {
     // No part is left out.
     ghost there: { (p : Self.Parts) → parts_of (of_parts p) ≡ p };
 
+    // What the parts are made of is what is said of the fields, and nothing else.
+    ghost fields_of_parts: { (order : Endian) (s : List ℕ) (x : Self) → Self.Parts.makes order s 0 (parts_of x) → fields_in order s x };
+
+    ghost parts_of_fields: { (order : Endian) (s : List ℕ) (x : Self) → fields_in order s x → Self.Parts.makes order s 0 (parts_of x) };
+
     // The number of bytes fits into a `usize`.
     ghost small: { Self.Parts.width < 2 ^ 64 };
 }
@@ -109,17 +134,25 @@ impl<R: Record> Fixed for R {
 
     ghost bytes = { λ order x. R.Parts.bytes order (R.parts_of x) };
 
-    ghost makes = { λ order s at x. R.Parts.makes order s at (R.parts_of x) };
+    ghost makes = { λ order s at x. R.fields_in order (drop at s) x };
 
     ghost fits = { λ x. R.Parts.fits (R.parts_of x) };
 
     ghost bytes_len = { λ order x. R.Parts.bytes_len order (R.parts_of x) };
 
-    ghost back = { λ order x front rest h. R.Parts.back order (R.parts_of x) front rest h };
+    ghost back = { λ order x front rest h.
+        let parts = R.parts_of x in
+        let all = front ++ (R.Parts.bytes order parts ++ rest) in
+        R.fields_of_parts order (drop (length front) all) x
+        (R.Parts.local order all (length front) (drop (length front) all) 0 parts refl (R.Parts.back order parts front rest h)) };
 
-    ghost one = { λ order s at. record-one R.parts_of R.of_parts R.again R.there (R.Parts.one order s at) };
+    ghost one = { λ order s at.
+        record-one R.parts_of R.of_parts R.again R.there (R.Parts.one order (drop at s) 0)
+        (R.fields_of_parts order (drop at s)) (R.parts_of_fields order (drop at s)) };
 
-    ghost local = { λ order s at t to x same h. R.Parts.local order s at t to (R.parts_of x) same h };
+    ghost local = { λ order s at t to x same h.
+        R.fields_of_parts order (drop to t) x
+        (R.Parts.local order (drop at s) 0 (drop to t) 0 (R.parts_of x) same (R.parts_of_fields order (drop at s) x h)) };
 
     fn width() -> usize {
         R::Parts::width()
@@ -127,13 +160,30 @@ impl<R: Record> Fixed for R {
 
     #[inline(always)]
     fn read_at(from: &[u8], offset: usize, order: Endian) -> R {
-        R::of_parts(R::Parts::read_at(from, offset, order))
+        read_parts(from, offset, order)
     }
 
     #[inline(always)]
     fn write_front(self, dst: &mut [u8], order: Endian) {
         self.parts().write_front(dst, order)
     }
+}
+
+impl<R: Record> RoundTrip for R
+where
+    R::Parts: RoundTrip,
+{
+    ghost kept = { λ order s at x all room h.
+        R.Parts.kept order (drop at s) 0 (R.parts_of x) (All-drop (λ b. b < 256) at s all) (omega (arith, room, length-drop at s)) (R.parts_of_fields order (drop at s) x h) };
+}
+
+// Returns the struct at an offset, by its parts.
+#[inline(always)]
+fn read_parts<R: Record>(from: &[u8], offset: usize, order: Endian) -> R
+    requires { offset + R.Parts.width ≤ length from.now }
+    ensures { R.Parts.makes order (drop offset from.now) 0 (R.parts_of result) }
+{
+    R::of_parts(R::Parts::read_at(from, offset, order))
 }
 
 /// Marks the types that implement the traits of contexts by [`Fixed`]: numbers and structs. Arrays have

@@ -60,42 +60,25 @@ pub fn writes_apart_may_be_exchanged()
         → (mid' : List ℕ) × WritesLeaves old place' leaves' mid' r' × WritesLeaves mid' place leaves new r }
 {}
 
-/// What is written is a list of leaves, each of them bytes that are written whole or not at all. A number, a float, a
-/// slice or a string, a C string and a number in LEB128 are one leaf. Arrays of them, nested to any depth, have the
-/// leaves of the innermost elements in order: `counts` has the lengths, from the outermost.
+/// What is written is a list of leaves, each of them bytes that are written whole or not at all. A slice or a string, a
+/// C string and a number in LEB128 are one leaf; so is each value of a fixed size, by
+/// [`fixed_size_is_kept`](super::fixed_size_is_kept).
 pub fn writes_have_leaves()
-    ensures number { (w : ℕ) (order : Endian)
-        → HasLeaves (λ x. number_bytes order w x ∷ []) (WritesNumber w order) (λ _. LeavesShort w) }
-    ensures signed { (w : ℕ) (order : Endian)
-        → HasLeaves (λ x. signed_bytes order w x ∷ []) (WritesSigned w order) (λ _. LeavesShort w) }
-    ensures float { (f : Format) (order : Endian) → HasLeaves (λ x.
-        float_bytes f order x ∷ []) (WritesFloat f order) (λ _. LeavesShort (float_width f)) }
     ensures bytes { HasLeaves (λ t. t ∷ []) (λ t. WritesFront (length t) t) (λ t.
         LeavesShort (length t)) }
     ensures c_string { HasLeaves (λ t. (t ++ 0 ∷ []) ∷ []) (λ t. WritesFront (length (t ++ 0 ∷ []))
         (t ++ 0 ∷ [])) (λ t. LeavesShort (length (t ++ 0 ∷ []))) }
     ensures uleb { HasLeaves (λ x. uleb_text x ∷ []) WritesUleb (λ x. LeavesShort x.count) }
     ensures sleb { HasLeaves (λ x. sleb_text x ∷ []) WritesSleb (λ x. LeavesShort x.count) }
-    ensures numbers { (w : ℕ) (order : Endian) (counts : List ℕ)
-        → HasLeaves (leaves_nested (λ x. number_bytes order w x ∷ []) counts) (WritesNested (WritesNumber w order) counts) (LeavesNested (WritesNumber w order) (λ _. LeavesShort w) counts) }
-    ensures signed_numbers { (w : ℕ) (order : Endian) (counts : List ℕ)
-        → HasLeaves (leaves_nested (λ x. signed_bytes order w x ∷ []) counts) (WritesNested (WritesSigned w order) counts) (LeavesNested (WritesSigned w order) (λ _. LeavesShort w) counts) }
-    ensures floats { (f : Format) (order : Endian) (counts : List ℕ)
-        → HasLeaves (leaves_nested (λ x. float_bytes f order x ∷ []) counts) (WritesNested (WritesFloat f order) counts) (LeavesNested (WritesFloat f order) (λ _. LeavesShort (float_width f)) counts) }
-    ensures texts { (counts : List ℕ)
-        → HasLeaves (leaves_nested (λ t. t ∷ []) counts) (WritesNested (λ t. WritesFront (length t) t) counts) (LeavesNested (λ t. WritesFront (length t) t) (λ t. LeavesShort (length t)) counts) }
-    ensures c_strings { (counts : List ℕ)
-        → HasLeaves (leaves_nested (λ t. (t ++ 0 ∷ []) ∷ []) counts) (WritesNested (λ t. WritesFront (length (t ++ 0 ∷ [])) (t ++ 0 ∷ [])) counts) (LeavesNested (λ t. WritesFront (length (t ++ 0 ∷ [])) (t ++ 0 ∷ [])) (λ t. LeavesShort (length (t ++ 0 ∷ []))) counts) }
-    ensures ulebs { (counts : List ℕ)
-        → HasLeaves (leaves_nested (λ x. uleb_text x ∷ []) counts) (WritesNested WritesUleb counts) (LeavesNested WritesUleb (λ x. LeavesShort x.count) counts) }
-    ensures slebs { (counts : List ℕ)
-        → HasLeaves (leaves_nested (λ x. sleb_text x ∷ []) counts) (WritesNested WritesSleb counts) (LeavesNested WritesSleb (λ x. LeavesShort x.count) counts) }
 {}
 
-/// An array has the leaves of its elements in order. So an array of arrays has those of the innermost elements.
+/// Arrays, nested to any depth, have the leaves of the innermost elements in order: `counts` has the lengths, from the
+/// outermost.
 pub fn array_has_leaves<Ctx: Copy, T: TryIntoCtx<Ctx, Error = Error>>()
-    ensures { (ctx : Ctx) (leaves : T → List (List ℕ)) → HasLeaves leaves (T.writes ctx) (T.refuses ctx)
-        → HasLeaves (flat_map leaves) (WritesArray (T.writes ctx)) (LeavesArray (T.writes ctx) (T.refuses ctx)) }
+    ensures { (ctx : Ctx) (leaves : T → List (List ℕ)) (counts : List ℕ)
+        → HasLeaves leaves (T.writes ctx) (T.refuses ctx)
+        → HasLeaves (leaves_nested leaves counts) (WritesNested (T.writes ctx) counts)
+            (LeavesNested (T.writes ctx) (T.refuses ctx) counts) }
 {}
 
 /// A call of `Pwrite` or of `slice` that writes at an offset writes the leaves of the value there: `WritesLeaves` says

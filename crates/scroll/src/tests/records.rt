@@ -17,23 +17,32 @@ struct Format {
 }
 
 impl Record for Format {
-    type Parts = ((u16, i16), u32);
+    type Parts = (u16, i16, u32);
 
-    ghost parts_of = { λ x. ((x.tag, x.gain), x.rate) };
+    ghost parts_of = { λ x. (x.tag, x.gain, x.rate) };
 
-    ghost of_parts = { λ p. record { tag = p.0.0; gain = p.0.1; rate = p.1 } };
+    ghost of_parts = { λ p. record { tag = p.0; gain = p.1; rate = p.2 } };
+
+    ghost fields_in = { λ order s x.
+        (x.tag ≡ number order 2 s)
+        × (x.gain ≡ signed_number order 2 (drop 2 s))
+        × (x.rate ≡ number order 4 (drop 4 s)) };
 
     ghost again = { λ x. refl };
 
     ghost there = { λ p. refl };
 
+    ghost fields_of_parts = { λ order s x h. (h.0, h.1.0, h.1.1) };
+
+    ghost parts_of_fields = { λ order s x h. (h.0, (h.1, h.2)) };
+
     ghost small = { Prim.search rules };
 
-    fn parts(self) -> ((u16, i16), u32) {
-        ((self.tag, self.gain), self.rate)
+    fn parts(self) -> (u16, i16, u32) {
+        (self.tag, self.gain, self.rate)
     }
 
-    fn of_parts(((tag, gain), rate): ((u16, i16), u32)) -> Format {
+    fn of_parts((tag, gain, rate): (u16, i16, u32)) -> Format {
         Format { tag, gain, rate }
     }
 }

@@ -19,6 +19,9 @@ use Rattle.scroll.specs.declared.endian.Endian.TheVariants.{Little, Big}
 pub use Rattle.scroll.specs.lemmas.Frames.{length-number_bytes, length-signed_bytes}
 -- numbers of the same bytes
 pub use Rattle.scroll.specs.lemmas.NumberBytes.{number-front}
+-- the bytes of a slice are below 256, and a number of w of them below 256 ^ w; of a slice `s` of bytes `type_inv.s` says
+-- that each fits
+pub use Rattle.scroll.specs.lemmas.NumberBack.{byte-bound, number-bound}
 
 -- the value that was read with a cursor at an offset
 pub value-at : {X : Type 0} {f : List ℕ → X} {w : ℕ} {buffer : List ℕ} {from to : ℕ} {x : X} (place : ℕ) → ReadsBetween (ReadsFront w f) buffer from to x → from ≡ place → x ≡ f (drop place buffer)
@@ -99,19 +102,6 @@ grow-copy {place} w {front} bytes {first} {a} h size room =
 pub byte-at : (order : Endian) (buffer : List ℕ) (place : ℕ) → number order 1 (drop place buffer) ≡ slice_index buffer place
 byte-at Little buffer place = grind (arith, common_steps)
 byte-at Big buffer place = grind (arith, common_steps)
-
--- the bytes from an offset on are below 256
-pub byte-bound : (place : ℕ) (s : List ℕ) → ((i : ℕ) → Fits w8 (slice_index s i)) → (i : ℕ) → slice_index (drop place s) i < 256
-byte-bound place s h i = rw (get_or-drop place s i 0) (omega (arith, (h (place + i)).fits))
-
--- a number of w bytes is below 256 ^ w; of a slice `s` of bytes `type_inv.s` says that each fits
-pub number-bound : (order : Endian) (w place : ℕ) (s : List ℕ) → ((i : ℕ) → Fits w8 (slice_index s i)) → number order w (drop place s) < 256 ^ w
-number-bound Little w place s h = digits-bound 256 (λ i. slice_index (drop place s) i) (byte-bound place s h) w
-number-bound Big w place s h =
-    let t = drop place s in
-    let back = sum_below-backwards (λ i. slice_index t i * 256 ^ (w - 1 - i)) w in
-    let turned = sum_below-same (λ i. slice_index t (w - 1 - i) * 256 ^ (w - 1 - (w - 1 - i))) (λ i. slice_index t (w - 1 - i) * 256 ^ i) w (λ i l. ap (λ k. slice_index t (w - 1 - i) * 256 ^ k) (omega (arith, l))) in
-    rw (back, turned) (digits-bound 256 (λ i. slice_index t (w - 1 - i)) (λ i. byte-bound place s h (w - 1 - i)) w)
 
 -- the first w bytes alone determine the number
 pub number-take : (order : Endian) (w n : ℕ) (s : List ℕ) → w ≤ n → number order w (take n s) ≡ number order w s

@@ -1,11 +1,12 @@
--- Exactly one result: lemmas that give this law for a type, for its arrays, and for arrays of these.
+-- Exactly one result, and the laws of a reader: lemmas that give these for a type, for its arrays, and for arrays of these.
 use Rattle.std.proofs.Common.{◌≡◌, ℕ, zero, suc, ◌+◌, ◌≤◌, ◌<◌, List, [], ◌∷◌, length, drop, arith, refl, sym, ◌∙◌, ap, subst, inl, inr, ◌⊎◌, Result, Ok, Err}
 use Rattle.std.proofs.lemmas.Bool.{cases_lt}
 use Rattle.scroll.specs.Arrays.{ReadsArray, RefusesArray, ReadsNested, RefusesNested}
 use Rattle.scroll.specs.Bytes.{ReadsMade, ReadsFront, RefusesShort}
 use Rattle.scroll.specs.Fixed.{One}
 use Rattle.scroll.specs.Leb128.{Counted}
-use Rattle.scroll.specs.Laws.{SameError, SameAnswer, Allows, AllowsOne, AllowsOneAtEach}
+use Rattle.scroll.proofs.lemmas.numbers.LocalLemmas.{local-array, bounded-array, within-array}
+use Rattle.scroll.specs.Laws.{IsLocal, IsBounded, IsWithin, SameError, SameAnswer, Allows, AllowsOne, AllowsOneAtEach, IsReader, IsReaderWithin}
 use Rattle.scroll.specs.Reads.{ReadsAt, RefusesAt, ReadsAll}
 use Rattle.scroll.specs.Errors.{IsBadOffset}
 use Rattle.scroll.specs.declared.error.Error.{Error}
@@ -203,3 +204,40 @@ one-sized-of P Q (Err e) allowed only = one-Err (Sized P) Q e allowed
 
 pub one-sized : {V : Type 0} (reads : List ℕ → V → ℕ → Type 0) (refuses : List ℕ → Error → Type 0) → ((s : List ℕ) → AllowsOne (reads s) (refuses s)) → (s : List ℕ) → AllowsOne (λ (x : Counted V) n. reads s x.value n × (x.count ≡ n)) (refuses s)
 one-sized reads refuses one s = one-sized-of (reads s) (refuses s) (one s).answer (one s).allowed (one s).only
+
+-- a type whose reads are within their source
+pub reader-within : {V : Type 0} (reads : List ℕ → V → ℕ → Type 0) (refuses : List ℕ → Error → Type 0) → IsLocal reads → IsWithin reads → ((s : List ℕ) → AllowsOne (reads s) (refuses s)) → IsReaderWithin reads refuses
+reader-within reads refuses local within one = record {
+  reader = record {
+    local = local;
+    bounded = λ s v n r. omega (arith, within s v n r);
+    one = one-at reads refuses one;
+  };
+  within = within;
+}
+
+-- the same of a value with its size
+pub reader-sized : {V : Type 0} (reads : List ℕ → V → ℕ → Type 0) (refuses : List ℕ → Error → Type 0) → IsLocal reads → IsWithin reads → ((s : List ℕ) → AllowsOne (reads s) (refuses s)) → IsReaderWithin (λ s (x : Counted V) n. reads s x.value n × (x.count ≡ n)) refuses
+reader-sized {V} reads refuses local within one =
+    reader-within (λ s (x : Counted V) n. reads s x.value n × (x.count ≡ n)) refuses
+    (λ s t x n r inside long same. (local s t x.value n r.0 inside long same, r.1)) (λ s x n r. within s x.value n r.0) (one-sized reads refuses one)
+
+-- arrays of arrays
+pub local-nested : {V : Type 0} (reads : List ℕ → V → ℕ → Type 0) → IsLocal reads → (counts : List ℕ) → IsLocal (ReadsNested reads counts)
+local-nested reads local [] = local
+local-nested reads local (count ∷ counts) = local-array (ReadsNested reads counts) count (local-nested reads local counts)
+
+pub bounded-nested : {V : Type 0} (reads : List ℕ → V → ℕ → Type 0) → IsBounded reads → (counts : List ℕ) → IsBounded (ReadsNested reads counts)
+bounded-nested reads bounded [] = bounded
+bounded-nested reads bounded (count ∷ counts) = bounded-array (ReadsNested reads counts) count (bounded-nested reads bounded counts)
+
+pub within-nested : {V : Type 0} (reads : List ℕ → V → ℕ → Type 0) → IsWithin reads → (counts : List ℕ) → IsWithin (ReadsNested reads counts)
+within-nested reads within [] = within
+within-nested reads within (count ∷ counts) = within-array (ReadsNested reads counts) count (within-nested reads within counts)
+
+pub reader-nested : {V : Type 0} (reads : List ℕ → V → ℕ → Type 0) (refuses : List ℕ → Error → Type 0) → IsReader reads refuses → (counts : List ℕ) → IsReader (ReadsNested reads counts) (RefusesNested reads refuses IsBadOffset counts)
+reader-nested reads refuses laws counts = record {
+  local = local-nested reads laws.local counts;
+  bounded = bounded-nested reads laws.bounded counts;
+  one = one-nested reads refuses laws.one counts;
+}

@@ -21,30 +21,8 @@ use Rattle.scroll.specs.declared.endian.Endian.{Endian}
 use Rattle.scroll.specs.declared.endian.Endian.TheVariants.{Little, Big}
 -- a list that begins with the bytes of a number begins with that number
 pub use Rattle.scroll.specs.lemmas.NumberBytes.{number-begins, signed-begins}
-
 -- the bytes of the number at an offset are the bytes there
-pub number-back : (order : Endian) (w place : ℕ) (s : List ℕ) → ((i : ℕ) → Fits w8 (slice_index s i)) → place + w ≤ length s → number_bytes order w (number order w (drop place s)) ≡ take w (drop place s)
-number-back Little w place s h room =
-    let t = drop place s in
-    let len : length (take w t) ≡ w = length-take-le w t (omega (arith, room, length-drop place s)) in
-    same_number_lists (number_bytes Little w (number Little w t)) (take w t) (length-number_bytes Little w (number Little w t) ∙ sym len) (λ i l.
-    let inside : i < w = omega (arith, l, length-number_bytes Little w (number Little w t)) in
-    get_or-map-range_with_len (λ j. number Little w t / 256 ^ j % 256) 0 w i i 0 inside (omega arith)
-    ∙ digit-at 256 (λ j. slice_index t j) (byte-bound place s h) w i inside
-    ∙ sym (get_or-take w t i 0 inside))
-number-back Big w place s h room =
-    let t = drop place s in
-    let len : length (take w t) ≡ w = length-take-le w t (omega (arith, room, length-drop place s)) in
-    let back = sum_below-backwards (λ i. slice_index t i * 256 ^ (w - 1 - i)) w in
-    let turned = sum_below-same (λ i. slice_index t (w - 1 - i) * 256 ^ (w - 1 - (w - 1 - i))) (λ i. slice_index t (w - 1 - i) * 256 ^ i) w (λ i l. ap (λ k. slice_index t (w - 1 - i) * 256 ^ k) (omega (arith, l))) in
-    same_number_lists (number_bytes Big w (number Big w t)) (take w t) (length-number_bytes Big w (number Big w t) ∙ sym len) (λ i l.
-    let inside : i < w = omega (arith, l, length-number_bytes Big w (number Big w t)) in
-    let twice : w - 1 - (w - 1 - i) ≡ i = omega (arith, inside) in
-    get_or-map-range_with_len (λ j. number Big w t / 256 ^ (w - 1 - j) % 256) 0 w i i 0 inside (omega arith)
-    ∙ ap (λ n. n / 256 ^ (w - 1 - i) % 256) (back ∙ turned)
-    ∙ digit-at 256 (λ j. slice_index t (w - 1 - j)) (λ j. byte-bound place s h (w - 1 - j)) w (w - 1 - i) (omega (arith, inside))
-    ∙ ap (λ k. slice_index t k) twice
-    ∙ sym (get_or-take w t i 0 inside))
+pub use Rattle.scroll.specs.lemmas.NumberBack.{number-back, signed-back}
 
 -- bytes that are written back one after another: some more
 pub back-next : (place n : ℕ) (s : List ℕ) {front bytes : List ℕ} → front ≡ take place s → bytes ≡ take n (drop place s) → front ++ bytes ≡ take (place + n) s
@@ -155,16 +133,6 @@ grown-at {to} {place} n bytes {first} {now} h room is =
       ap (take place) whole ∙ take_at (take place first) (bytes ++ drop n (drop place first)) place len,
       ap (drop place) whole ∙ drop_at (take place first) (bytes ++ drop n (drop place first)) place len,
     )
-
--- the unsigned form of a signed number is the number of its bytes
-complement-again : (m n : ℕ) → n < m → (x : ℤ) → x ≡ (if nat_lt (2 * n) m then pos n else pos n -ℤ pos m) → (if int_lt x (pos 0) then nat_abs (pos m +ℤ x) else nat_abs x) ≡ n
-complement-again m n h x is = grind (arith, ints)
-
--- the same for a signed number: its bytes are the bytes there
-pub signed-back : (order : Endian) (w place : ℕ) (s : List ℕ) → ((i : ℕ) → Fits w8 (slice_index s i)) → place + w ≤ length s → signed_bytes order w (signed_number order w (drop place s)) ≡ take w (drop place s)
-signed-back order w place s h room =
-    ap (number_bytes order w) (complement-again (256 ^ w) (number order w (drop place s)) (number-bound order w place s h) (signed_number order w (drop place s)) refl)
-    ∙ number-back order w place s h room
 
 -- and those of one more, after bytes that are written back
 pub signed-grow : (order : Endian) (w place : ℕ) (s front : List ℕ) → ((i : ℕ) → Fits w8 (slice_index s i)) → place + w ≤ length s → front ≡ take place s → front ++ signed_bytes order w (signed_number order w (drop place s)) ≡ take (place + w) s

@@ -4,9 +4,10 @@ ghost use Rattle.std.proofs.Common.{rules};
 ghost use Rattle.scroll.specs.Numbers.{signed_number, signed_bytes};
 ghost use Rattle.scroll.specs.lemmas.FixedLemmas.{one-value, signed-back-at, signed-local};
 ghost use Rattle.scroll.specs.lemmas.Frames.{length-signed_bytes};
+ghost use Rattle.scroll.specs.lemmas.NumberBack.{signed-kept};
 
 use super::{put_front, put_sixteen};
-use crate::ctx::fixed::{Fixed, Plain, Written};
+use crate::ctx::fixed::{Fixed, Plain, RoundTrip, Written};
 use crate::ctx::made::bytes_at;
 use crate::endian::Endian;
 
@@ -44,6 +45,10 @@ impl Fixed for i8 {
             Endian::Big => put_front(dst, self.to_be_bytes()),
         }
     }
+}
+
+impl RoundTrip for i8 {
+    ghost kept = { λ order s at x all room h. signed-kept order 1 s at x all room h };
 }
 
 impl Plain for i8 {
@@ -97,6 +102,10 @@ impl Fixed for i16 {
     }
 }
 
+impl RoundTrip for i16 {
+    ghost kept = { λ order s at x all room h. signed-kept order 2 s at x all room h };
+}
+
 impl Plain for i16 {
     ghost small = { Prim.search rules };
 }
@@ -146,6 +155,10 @@ impl Fixed for i32 {
             Endian::Big => put_front(dst, self.to_be_bytes()),
         }
     }
+}
+
+impl RoundTrip for i32 {
+    ghost kept = { λ order s at x all room h. signed-kept order 4 s at x all room h };
 }
 
 impl Plain for i32 {
@@ -199,6 +212,10 @@ impl Fixed for i64 {
     }
 }
 
+impl RoundTrip for i64 {
+    ghost kept = { λ order s at x all room h. signed-kept order 8 s at x all room h };
+}
+
 impl Plain for i64 {
     ghost small = { Prim.search rules };
 }
@@ -245,6 +262,10 @@ impl Fixed for i128 {
     fn write_front(self, dst: &mut [u8], order: Endian) {
         put_sixteen(dst, self.cast_unsigned(), order)
     }
+}
+
+impl RoundTrip for i128 {
+    ghost kept = { λ order s at x all room h. signed-kept order 16 s at x all room h };
 }
 
 impl Plain for i128 {

@@ -4,9 +4,10 @@ ghost use Rattle.std.proofs.Common.{rules};
 ghost use Rattle.scroll.specs.Numbers.{number, number_bytes};
 ghost use Rattle.scroll.specs.lemmas.FixedLemmas.{one-value, number-back-at, number-local};
 ghost use Rattle.scroll.specs.lemmas.Frames.{length-number_bytes};
+ghost use Rattle.scroll.specs.lemmas.NumberBack.{number-kept};
 
 use super::{put_front, put_sixteen};
-use crate::ctx::fixed::{Fixed, Plain, Written};
+use crate::ctx::fixed::{Fixed, Plain, RoundTrip, Written};
 use crate::ctx::made::bytes_at;
 use crate::endian::Endian;
 
@@ -44,6 +45,10 @@ impl Fixed for u8 {
             Endian::Big => put_front(dst, self.to_be_bytes()),
         }
     }
+}
+
+impl RoundTrip for u8 {
+    ghost kept = { λ order s at x all room h. number-kept order 1 s at x all room h };
 }
 
 impl Plain for u8 {
@@ -97,6 +102,10 @@ impl Fixed for u16 {
     }
 }
 
+impl RoundTrip for u16 {
+    ghost kept = { λ order s at x all room h. number-kept order 2 s at x all room h };
+}
+
 impl Plain for u16 {
     ghost small = { Prim.search rules };
 }
@@ -146,6 +155,10 @@ impl Fixed for u32 {
             Endian::Big => put_front(dst, self.to_be_bytes()),
         }
     }
+}
+
+impl RoundTrip for u32 {
+    ghost kept = { λ order s at x all room h. number-kept order 4 s at x all room h };
 }
 
 impl Plain for u32 {
@@ -199,6 +212,10 @@ impl Fixed for u64 {
     }
 }
 
+impl RoundTrip for u64 {
+    ghost kept = { λ order s at x all room h. number-kept order 8 s at x all room h };
+}
+
 impl Plain for u64 {
     ghost small = { Prim.search rules };
 }
@@ -245,6 +262,10 @@ impl Fixed for u128 {
     fn write_front(self, dst: &mut [u8], order: Endian) {
         put_sixteen(dst, self, order)
     }
+}
+
+impl RoundTrip for u128 {
+    ghost kept = { λ order s at x all room h. number-kept order 16 s at x all room h };
 }
 
 impl Plain for u128 {

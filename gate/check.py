@@ -1,0 +1,217 @@
+#!/usr/bin/env python3
+"""Runs the checks of the repository over copies of its files, and shows what each says.
+
+    python3 gate/check.py             what holds: the proofs from nothing, the tests, the sessions, the clients
+    python3 gate/check.py edits       the bugs that the prover must refuse
+    python3 gate/check.py verdict     the toolchain's own verdict, rt ci, over the files without the edits
+    python3 gate/check.py all         what holds, and the edits
+
+Several of these words may be given; .ci/run gives `all verdict`. The steps are:
+
+    docs.py         the documents: their code, names and links are those of the sources, and what is made of these is current
+    derive_check.sh what derive.sh prints is in the files that were proved
+    prove.py        each crate is proved from nothing and built, its tests are proved and run, and its stored run
+    clients.py      each client of the library, proved and tested as a crate of its own
+    depending.py    a repository that depends on the library, made by README's lines
+    misuse.py       what must not compile
+    sessions.py     the stored sessions, whole and with their buffers cut, by the program that was proved
+    faults.py       the sessions and the tests where memory is refused and streams fail, by what was proved
+    edits.py        the edits, many in one check
+
+Steps run side by side, and a step starts when those that it needs have ended. In all they have two jobs more than there are
+workers (gate/step.py), since parts of a check run on one processor. The tests of the library and rt ci run in copies of
+their own; rt ci, which nothing waits for, runs at a low priority.
+
+Each step is named at the end with its counts, its time and the processor time that it took. The last line is
+`N passed, M failed`, the sums of the counts, with `, K skipped` after it where something was left out. A step that ends
+without its counts, or that fails without counting a failure, is one failure more. The exit status is 0 where M is 0.
+"""
+
+import contextlib
+import os
+import re
+import shutil
+import signal
+import subprocess
+import sys
+import tempfile
+import threading
+import time
+from dataclasses import dataclass, field
+from pathlib import Path
+from queue import Queue
+from typing import Any, Dict, List, Sequence, Tuple
+
+from clients import list_clients
+from step import TOP, count_workers
+
+GROUPS = ("stands", "edits", "verdict")
+COUNTS = re.compile(r"(\d+) passed, (\d+) failed(?:, (\d+) skipped)?")
+PROVE = "python3 gate/prove.py scroll"
+PROGRAM = "python3 gate/prove.py scroll_run"
+# A step is a group of processes, which is ended as one. (In a session of its own it would share the processors evenly with the
+# other sessions, whatever its priority.)
+GROUP: Dict[str, Any] = {"process_group": 0} if sys.version_info >= (3, 11) else {"start_new_session": True}
+
+
+@dataclass
+class Step:
+    """A command in a copy of the files. It takes so many of the jobs, 0 for one that runs beside them all; it starts when the
+    commands that it needs have ended; and it brings a file into the first copy, for those after it."""
+
+    command: str
+    jobs: int
+    needs: Tuple[str, ...] = ()
+    tree: str = "tree"
+    brings: str = ""
+    said: str = ""
+    status: int = 1
+    seconds: float = 0
+    processor: float = 0
+    counts: Tuple[int, int, int] = (0, 1, 0)
+
+    def count(self) -> None:
+        """Reads the counts off the last line."""
+        found = COUNTS.fullmatch((self.said.splitlines() or [""])[-1])
+        if not found:
+            self.said += f"check: '{self.command}' ended with status {self.status} and without its counts\n"
+            return
+        passed, failed, skipped = (int(it or 0) for it in found.groups())
+        if self.status and not failed:
+            self.said += f"check: '{self.command}' ended with status {self.status}\n"
+            failed = 1
+        self.counts = (passed, failed, skipped)
+
+    def summary(self) -> str:
+        passed, failed, skipped = self.counts
+        left_out = f", {skipped} skipped" if skipped else ""
+        return f"check: {self.command}: {passed} passed, {failed} failed{left_out}, {self.seconds:.0f} s, {self.processor:.0f} processor s"
+
+
+@dataclass
+class Gate:
+    """The copies of the files, in `room`, and what runs there."""
+
+    room: Path
+    free: int
+    running: Dict[str, "subprocess.Popen[str]"] = field(default_factory=dict)
+    ended: "Queue[Step]" = field(default_factory=Queue)
+
+    def copy_files(self, name: str) -> Path:
+        """A copy of the files without what git and earlier checks keep; for the tests, of what was proved."""
+        tree = self.room / name
+        kept = {".git"} if name == "tests" else {".git", "out"}
+        source = self.room / "tree" if name == "tests" else TOP
+        if not tree.exists():
+            shutil.copytree(source, tree, symlinks=True, ignore=lambda _, names: kept & {*names})
+        if name == "verdict":
+            for edit in tree.glob("crates/*/must-fail/*.edit"):
+                edit.unlink()
+        return tree
+
+    def start(self, step: Step) -> None:
+        tree = self.copy_files(step.tree)
+        variables = {**os.environ, "WORKERS": str(step.jobs)} if step.jobs else dict(os.environ)
+        command = step.command.split() if step.jobs else ["nice", *step.command.split()]
+        begun = time.time()
+        process = subprocess.Popen(
+            command,
+            cwd=tree,
+            env=variables,
+            text=True,
+            errors="replace",
+            stdin=subprocess.DEVNULL,
+            stdout=subprocess.PIPE,
+            stderr=subprocess.STDOUT,
+            **GROUP,
+        )
+        self.running[step.command] = process
+        self.free -= step.jobs
+        threading.Thread(target=self.follow, args=(step, process, begun), daemon=True).start()
+
+    def follow(self, step: Step, process: "subprocess.Popen[str]", begun: float) -> None:
+        """Waits for a step. Its processor time is that of all that it ran."""
+        assert process.stdout
+        step.said = process.stdout.read()
+        _, status, used = os.wait4(process.pid, 0)
+        step.status = process.returncode = os.WEXITSTATUS(status) if os.WIFEXITED(status) else 1
+        step.seconds, step.processor = time.time() - begun, used.ru_utime + used.ru_stime
+        self.ended.put(step)
+
+    def run(self, steps: Sequence[Step]) -> None:
+        """Runs the steps. The first that can start goes first; one that needs more jobs than there are waits for all."""
+        waiting = list(steps)
+        left = {it.command for it in steps}
+        while left:
+            for step in list(waiting):
+                if step.jobs <= self.free and not left & {*step.needs}:
+                    waiting.remove(step)
+                    self.start(step)
+            step = self.ended.get()
+            del self.running[step.command]
+            left.remove(step.command)
+            self.free += step.jobs
+            step.count()
+            if step.brings and (self.room / step.tree / step.brings).exists():
+                shutil.copy2(self.room / step.tree / step.brings, self.room / "tree" / step.brings)
+            print(f"== {step.command}\n{step.said}", end="", flush=True)
+
+    def stop(self) -> None:
+        """Ends what still runs, and waits for it."""
+        for process in self.running.values():
+            # (one that has ended may still be in the list)
+            with contextlib.suppress(ProcessLookupError):
+                os.killpg(process.pid, signal.SIGTERM)
+        while self.running:
+            del self.running[self.ended.get().command]
+
+
+def list_steps(groups: Sequence[str], workers: int) -> List[Step]:
+    half = max(1, workers // 2)
+    steps = []
+    if "verdict" in groups:
+        steps.append(Step("rt ci", 0, tree="verdict"))
+    if "stands" in groups:
+        steps += [Step("python3 gate/docs.py", 1), Step("sh scripts/derive_check.sh", 1)]
+        steps += [
+            Step(PROVE, workers),
+            Step(f"{PROVE} tests", half + 1, (PROVE,), "tests", "crates/scroll/out/scroll_tests"),
+            Step(PROGRAM, half, (PROVE,)),
+            Step(f"{PROGRAM} tests", half, (PROGRAM,)),
+            Step("python3 gate/faults.py", half, (PROGRAM, f"{PROVE} tests")),
+        ]
+        steps += [Step(f"python3 gate/clients.py {it}", 1, (PROVE,)) for it in list_clients()]
+        steps += [Step(f"python3 gate/{it}.py", 1, (PROVE,)) for it in ("depending", "misuse")]
+        steps.append(Step("python3 gate/sessions.py", 1, (PROGRAM,)))
+    if "edits" in groups:
+        steps.append(Step("python3 gate/edits.py", workers, tuple(it.command for it in steps if it.jobs)))
+    return steps
+
+
+def main(words: List[str]) -> int:
+    groups = [group for word in words or ["stands"] for group in (("stands", "edits") if word == "all" else (word,))]
+    for group in groups:
+        if group not in GROUPS:
+            print(f"check: '{group}' is none of stands, edits, verdict and all\n0 passed, 1 failed")
+            return 1
+    begun = time.time()
+    workers = count_workers()
+    steps = list_steps(groups, workers)
+    with tempfile.TemporaryDirectory(prefix="check-") as room:
+        gate = Gate(Path(room), workers + 2)
+        for number in (signal.SIGHUP, signal.SIGINT, signal.SIGTERM):
+            signal.signal(number, lambda *_: sys.exit(1))
+        try:
+            gate.run(steps)
+        finally:
+            gate.stop()
+    passed, failed, skipped = (sum(it) for it in zip(*(step.counts for step in steps)))
+    for step in steps:
+        print(step.summary())
+    print(f"check: all in {time.time() - begun:.0f} s, {sum(it.processor for it in steps):.0f} processor s")
+    print(f"{passed} passed, {failed} failed" + (f", {skipped} skipped" if skipped else ""))
+    return 0 if passed and not failed else 1
+
+
+if __name__ == "__main__":
+    sys.exit(main(sys.argv[1:]))

@@ -1,0 +1,148 @@
+"""Makes docs/DEFINITIONS.md from the comments in specs/ of each crate, and compares it: each section must say what the comments
+of its file say.
+
+The files come in the order of specs/Lib.antt. The comment at the head of a file is the title of its section, up to the first
+full stop, and then its text; an empty line of the comment ends a paragraph. The comment above a definition says what it means;
+a definition without one shares that of the definition before it. Where a definition has several equations, its comment begins
+with the name and the parameters, between backticks, and a colon. Where a comment ends with a colon, the page has the equations.
+
+A file of specs/ is a check.
+"""
+
+import re
+from dataclasses import dataclass
+from pathlib import Path
+from typing import Iterator, List, Tuple
+
+from markdown import anchor
+from step import TOP, Step
+
+PAGE = TOP / "docs" / "DEFINITIONS.md"
+
+HEAD = """# Definitions
+
+The words that the contracts cite. `python3 gate/docs.py write` makes this page from the comments in `specs/`.
+"""
+
+START = re.compile(r"(?:abbrev pub|pub record) ([^\s:({]+)(.*)")
+FORMS = re.compile(r"((?:`[^`]+`(?:, )?)+): ")
+PARAMETERS = re.compile(r"\(([^:()]+) :")
+PART = re.compile(r"  pub (\w+) :")
+
+
+class Bad(Exception):
+    """A file of specs/ can't be read."""
+
+
+@dataclass
+class Definition:
+    name: str
+    form: str
+    parts: List[str]
+    equations: List[str]
+
+
+def paragraphs(comment: List[str]) -> List[str]:
+    text = "\n".join(line[2:].strip() for line in comment)
+    return [" ".join(it.split()) for it in text.split("\n\n")]
+
+
+def headed(comment: List[str]) -> List[str]:
+    """The title of a head comment, and the paragraphs after it."""
+    first, *others = paragraphs(comment)
+    return [*first.split(". ", 1), *others]
+
+
+def blocks(path: Path) -> Iterator[Tuple[List[str], List[str]]]:
+    """The parts of a file between its empty lines, each as the lines of its comment and the lines after it."""
+    for block in re.split(r"\n\n+", path.read_text(encoding="utf-8").rstrip("\n")):
+        lines = block.split("\n")
+        size = next((i for i, line in enumerate(lines) if not line.startswith("--")), len(lines))
+        yield lines[:size], lines[size:]
+
+
+def definition(name: str, after_name: str, lines: List[str]) -> Definition:
+    """A definition with its form, the name and the parameters; the form is empty where there are several equations."""
+    parts = [found[1] for found in map(PART.match, lines) if found]
+    if lines[0].startswith("pub record"):
+        return Definition(name, " ".join([name, *PARAMETERS.findall(after_name)]), parts, [])
+    heads = [re.split(r" =(?: |$)", line)[0] for line in lines[1:] if line.split(" ")[0] == name]
+    form = " ".join(re.sub(r"\{\w+\}", "", heads[0]).split()) if len(heads) == 1 else ""
+    return Definition(name, form, [], lines[1:])
+
+
+def item(meaning: str, group: List[Definition]) -> str:
+    """The entry of definitions that share a comment."""
+    names = ", ".join(it.name for it in group)
+    forms = [it.form for it in group]
+    told = FORMS.match(meaning)
+    if told:
+        forms = re.findall(r"`([^`]+)`", told[1])
+        meaning = meaning[told.end() :]
+        if [it.split(" ")[0] for it in forms] != [it.name for it in group]:
+            raise Bad(f"the comment of {names} begins with other names")
+    if not all(forms):
+        raise Bad(f"the equations of {names} don't show its parameters, and its comment doesn't begin with them")
+    if any(it.parts != group[0].parts for it in group):
+        raise Bad(f"{names} share a comment, and have different parts")
+    text = "- " + ", ".join(f"`{it}`" for it in forms) + f": {meaning}"
+    if meaning.endswith(":"):
+        code = "\n".join(f"  {line}" for it in group for line in it.equations)
+        return f"{text}\n  ```text\n{code}\n  ```\n"
+    text += "" if meaning.endswith(".") else "."
+    parts = [f"`{part}`" for part in group[0].parts]
+    return text + (f" Parts: {', '.join(parts)}.\n" if len(parts) > 1 else "\n")
+
+
+def section(path: Path) -> str:
+    """The section of a file; it is empty where the file defines nothing."""
+    found = list(blocks(path))
+    title, *text = headed(found[0][0])
+    entries: List[Tuple[str, List[Definition]]] = []
+    for comment, lines in found[1:]:
+        start = START.match(lines[0]) if lines else None
+        if not start:
+            continue
+        if comment:
+            entries.append((" ".join(paragraphs(comment)), []))
+        elif not entries:
+            raise Bad(f"{start[1]} has no comment")
+        entries[-1][1].append(definition(start[1], start[2], lines))
+    if not entries:
+        return ""
+    if not title:
+        raise Bad("it has no comment at its head")
+    link = f"[specs/{path.name}]({Path('..') / path.relative_to(TOP)})"
+    head = "\n\n".join([f"### {title.rstrip('.')}", link, *text])
+    return f"\n{head}\n\n" + "".join(item(*entry) for entry in entries)
+
+
+def contents(sections: List[str]) -> str:
+    titles = [re.findall(r"^### (.*)", it, re.M)[0] for it in sections if it]
+    return " · ".join(f"[{it}](#{anchor(it)})" for it in titles)
+
+
+def try_all(step: Step, is_writing: bool) -> None:
+    page = HEAD
+    made: List[Tuple[Path, str]] = []
+    failed = step.failed
+    for lib in sorted(TOP.glob("crates/*/specs/Lib.antt")):
+        sections: List[str] = []
+        for name in re.findall(r"^pub mod ([A-Z]\w*)", lib.read_text(encoding="utf-8"), re.M):
+            path = lib.parent / f"{name}.antt"
+            try:
+                sections.append(section(path))
+                made.append((path, sections[-1]))
+            except Bad as why:
+                step.count(f"{path.relative_to(TOP)}: {why}", "")
+        title, *text = headed(next(blocks(lib))[0])
+        page += "\n" + "\n\n".join([f"## {title.rstrip('.')}", *text, contents(sections)]) + "\n" + "".join(sections)
+    if is_writing and step.failed == failed:
+        PAGE.write_text(page, encoding="utf-8")
+    text = PAGE.read_text(encoding="utf-8") if PAGE.is_file() else ""
+    for path, it in made:
+        what = f"{path.relative_to(TOP)}: docs/DEFINITIONS.md says something else of it"
+        step.count(what, None if it in text else "")
+    if text != page and step.failed == failed:
+        step.count("docs/DEFINITIONS.md is not what the comments say", "")
+    step.tell(f"{len(made)} files of specs/ were compared with docs/DEFINITIONS.md")

@@ -1,0 +1,32 @@
+#!/usr/bin/env python3
+"""Compares the documents with the sources.
+
+    python3 gate/docs.py          compares
+    python3 gate/docs.py write    writes first what is made from the sources: docs/DEFINITIONS.md, and PROVED's column of edits
+
+The code in CALLING.md and README.md is that of the files that it names (gate/calling.py). The names that the documents cite are
+in the sources, and their links lead somewhere (gate/cited.py). docs/DEFINITIONS.md has what the comments in specs/ say
+(gate/definitions.py). docs/PROVED.md has for each promise the edits that are for it (gate/promises.py).
+"""
+
+import sys
+from typing import List
+
+import calling
+import cited
+import definitions
+import promises
+from step import Step, Stop, run_step
+
+
+def work(step: Step, words: List[str]) -> None:
+    if words not in ([], ["write"]):
+        raise Stop(f"'{' '.join(words)}' is not `write`")
+    definitions.try_all(step, words == ["write"])
+    promises.try_all(step, words == ["write"])
+    calling.try_all(step)
+    cited.try_all(step)
+
+
+if __name__ == "__main__":
+    sys.exit(run_step("docs", lambda step: work(step, sys.argv[1:])))

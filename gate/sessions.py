@@ -1,0 +1,281 @@
+#!/usr/bin/env python3
+"""Replays the stored sessions, whole and with their buffers cut.
+
+    python3 gate/sessions.py [--program PROGRAM] [NAME..]
+    python3 gate/sessions.py --unpack FOLDER [NAME..]
+
+Each file sessions/SUBJECT.txt holds sessions, one a block; docs/SESSIONS.md says what their lines are. A NAME is that of a
+session, or a subject, for all of its sessions. Without one, all are tried.
+
+PROGRAM is a path, or a name that the shell finds. Without it the program is crates/scroll_run/out/scroll_run, as
+`rt run` or `rt ci` left it; if it is missing, or older than a file that it is made of, `rt run` first proves and builds
+it. `--unpack` replays nothing: it writes FOLDER/SUBJECT/NAME.in, NAME.out and, where it isn't 0, NAME.status.
+
+A session is one check, all its cuts together are another, and the form of all files is one. A malformed block, a name that
+stands twice and a file of another kind are failures.
+"""
+
+import argparse
+import os
+import re
+import shutil
+import subprocess
+import sys
+from concurrent.futures import ThreadPoolExecutor
+from dataclasses import dataclass, field
+from pathlib import Path
+from typing import Dict, Iterator, List, NamedTuple, Optional, Tuple
+
+from step import TOP, Step, count_workers, run_step
+
+SESSIONS = TOP / "sessions"
+PROGRAM = TOP / "crates" / "scroll_run" / "out" / "scroll_run"
+
+NAME = re.compile(r"# ([a-z][a-z0-9_]*)")
+ROW = re.compile(r"\| (\d+)(?:-(\d+))? (\S.*)")
+NUMBER = re.compile(r"\{n([+-]\d+)?\}")
+ESCAPE = re.compile(r"\\x([0-9a-f]{2})(?:\{(\d+)\})?")
+FRONT = re.compile(r"((?:[0-9a-f]{2})+)\[\.\.n(-\d+)?\]")
+
+
+class Malformed(Exception):
+    """A file of sessions isn't in the form that docs/SESSIONS.md says."""
+
+
+class Row(NamedTuple):
+    """The answer at a range of lengths."""
+
+    first: int
+    last: int
+    answer: str
+
+    def at(self, length: int) -> str:
+        numbered = NUMBER.sub(lambda it: str(length + int(it[1] or 0)), self.answer)
+        return FRONT.sub(lambda it: front(it[1], length + int(it[2] or 0)), numbered)
+
+
+@dataclass
+class Session:
+    subject: str
+    name: str
+    status: int = 0
+    input: bytes = b""
+    output: bytes = b""
+    # It is run with its whole buffer alone.
+    is_whole: bool = False
+    # The rows below each output line.
+    rows: List[List[Row]] = field(default_factory=list)
+
+    def digits(self) -> str:
+        """Returns the digits of the buffer; none if the input doesn't begin with one, or it has no bytes."""
+        found = re.match(rb"buffer ((?:[0-9A-Fa-f]{2})+)\n", self.input)
+        return found[1].decode() if found else ""
+
+    def cut_lengths(self) -> range:
+        """Returns the lengths to which the buffer is cut."""
+        return range(0 if self.is_whole or self.status else len(self.digits()) // 2)
+
+    def cut(self, length: int) -> Tuple[bytes, bytes]:
+        """Returns the input with the buffer cut to a length, and the output for it."""
+        rest = self.input.split(b"\n", 1)[1].rstrip(b"\n")
+        buffer = self.digits()[: 2 * length] or "-"
+        return b"buffer %s\n%s\n" % (buffer.encode(), rest), "".join(f"{it}\n" for it in self.answers(length)).encode()
+
+    def answers(self, length: int) -> Iterator[str]:
+        for line, rows in zip(self.output.decode().splitlines(), self.rows):
+            row = next((it for it in rows if it.first <= length <= it.last), None)
+            word, _, digits = line.partition(" ")
+            yield row.at(length) if row else f"buffer {front(digits, length)}" if word == "buffer" else line
+
+
+def front(digits: str, length: int) -> str:
+    """Returns the first bytes of a text of hexadecimal digits."""
+    if not 0 <= 2 * length <= len(digits):
+        raise Malformed(f"a row wants {length} bytes of {len(digits) // 2}")
+    return digits[: 2 * length] or "-"
+
+
+def read_block(subject: str, lines: List[str]) -> Session:
+    """Reads the lines of one session."""
+    name = NAME.fullmatch(lines[0])
+    if not name:
+        raise Malformed(f"`{lines[0]}` is no line `# NAME`, with a name of small letters, digits and `_`")
+    session = Session(subject, name[1])
+    inputs: List[bytes] = []
+    outputs: List[bytes] = []
+    for line in lines[1:]:
+        if not (line.isascii() and line.isprintable()) or line.endswith(" "):
+            raise Malformed(f"{line!r} has a byte that is no printable ASCII, or a space at its end: write `\\xHH`")
+        mark, _, text = line.partition(" ")
+        row = ROW.fullmatch(line)
+        if mark == "<":
+            inputs.append(unescape(text))
+        elif mark == ">":
+            outputs.append(text.encode() + b"\n")
+            session.rows.append([])
+        elif row and outputs:
+            session.rows[-1].append(Row(int(row[1]), int(row[2] or row[1]), row[3]))
+        elif line == "whole" and not session.is_whole:
+            session.is_whole = True
+        elif mark == "status" and re.fullmatch("[1-9][0-9]*", text) and not session.status:
+            session.status = int(text)
+        else:
+            raise Malformed(f"`{line}` is no line of a session, or stands twice")
+    if not inputs or not outputs or any(not it.endswith(b"\n") for it in inputs[:-1]):
+        raise Malformed("it has no input or no output, or a line that isn't the last has no line feed")
+    session.input, session.output = b"".join(inputs), b"".join(outputs)
+    check_rows(session)
+    return session
+
+
+def unescape(text: str) -> bytes:
+    """Returns the bytes of an input line, whose line feed is left out if it ends with a `\\`."""
+    text, end = (text[:-1], "") if text.endswith("\\") else (text, "\n")
+    plain = ESCAPE.sub(lambda it: chr(int(it[1], 16)) * int(it[2] or 1), text)
+    if "\\" in ESCAPE.sub("", text):
+        raise Malformed(f"`{text}` has a `\\` that is neither at its end nor before `xHH`")
+    return (plain + end).encode("latin-1")
+
+
+def check_rows(session: Session) -> None:
+    """Checks that the rows are for lengths of cuts, in order, and have answers."""
+    lengths = session.cut_lengths()
+    if lengths and session.input.rstrip(b"\n").count(b"\n") + 1 != len(session.rows):
+        raise Malformed("it has not an output line for each command, and then two more")
+    for rows in session.rows:
+        free = 0
+        for row in rows:
+            if not free <= row.first <= row.last < len(lengths):
+                raise Malformed("its rows are not for the lengths of its cuts, in their order")
+            free = row.last + 1
+    for length in lengths:
+        session.cut(length)
+
+
+def read_sessions(failures: List[str]) -> List[Session]:
+    """Reads all files. A block that is malformed, a name that stands twice and a file of another kind are failures."""
+    sessions: Dict[str, Session] = {}
+    for path in sorted(SESSIONS.glob("*.txt")):
+        for block in path.read_bytes().decode().rstrip("\n").split("\n\n"):
+            try:
+                session = read_block(path.stem, block.split("\n"))
+                if session.name in sessions:
+                    raise Malformed("the name stands twice")
+                sessions[session.name] = session
+            except Malformed as why:
+                head = block.partition("\n")[0]
+                failures.append(f"{path.relative_to(TOP)}, {head}: {why}")
+    failures += [f"{it.relative_to(TOP)}: it is no file of sessions" for it in sorted(SESSIONS.iterdir()) if it.suffix != ".txt"]
+    return list(sessions.values())
+
+
+def run(program: str, given: bytes) -> Tuple[int, bytes, bytes]:
+    ran = subprocess.run([program], input=given, capture_output=True)
+    return ran.returncode, ran.stdout, ran.stderr
+
+
+def fault_of(ran: Tuple[int, bytes, bytes], status: int, output: bytes) -> Optional[str]:
+    """Returns what is wrong with a run, with the first line in which the output differs."""
+    found_status, found, error = ran
+    if found_status == status and found == output:
+        return None
+    why = "the output differs" if found_status == status else f"the exit status is {found_status}, and {status} is wanted"
+    pairs = zip([*output.splitlines(), b""], [*found.splitlines(), b""])
+    number, wanted, there = next(((i, a, b) for i, (a, b) in enumerate(pairs, 1) if a != b), (0, b"", b""))
+    said = [f"    line {number} is wanted:  {wanted!r}"[:160], f"    line {number} is there:   {there!r}"[:160]] if number else []
+    said += [f"    standard error: {it!r}"[:160] for it in error.splitlines()[:4]]
+    return "\n".join([why, *said])
+
+
+def replay(program: str, session: Session) -> Optional[str]:
+    """Returns what is wrong with a session."""
+    return fault_of(run(program, session.input), session.status, session.output)
+
+
+def replay_cuts(program: str, session: Session) -> Optional[str]:
+    """Returns what is wrong with the first cut of a session at which something is."""
+    for length in session.cut_lengths():
+        given, output = session.cut(length)
+        fault = fault_of(run(program, given), 0, output)
+        if fault:
+            return f"the buffer cut to {length} bytes: {fault}"
+    return None
+
+
+def is_current() -> bool:
+    """Returns whether the proved program exists, and no file that it is made of is newer."""
+    if not os.access(PROGRAM, os.X_OK):
+        return False
+    built = PROGRAM.stat().st_mtime
+    for folder, folders, names in os.walk(TOP / "crates"):
+        folders[:] = [it for it in folders if it != "out"]
+        if any(it.endswith((".rt", ".antt")) and (Path(folder) / it).stat().st_mtime > built for it in names):
+            return False
+    return (TOP / "crates.txt").stat().st_mtime <= built
+
+
+def find_program(given: Optional[str]) -> Optional[str]:
+    """Returns the program, which is proved and built first if it must be."""
+    if given:
+        return shutil.which(given)
+    if not is_current():
+        print("sessions: rt run proves and builds the program", flush=True)
+        # (a program that was built and then failed is replayed anyway: its differences say more)
+        subprocess.run(["rt", "run"], cwd=PROGRAM.parents[1], input=b"buffer -\ncursor 0\n", stdout=sys.stderr)
+    return str(PROGRAM) if is_current() else None
+
+
+def unpack(sessions: List[Session], folder: Path) -> None:
+    for it in sessions:
+        path = folder / it.subject / it.name
+        path.parent.mkdir(parents=True, exist_ok=True)
+        path.with_suffix(".in").write_bytes(it.input)
+        path.with_suffix(".out").write_bytes(it.output)
+        if it.status:
+            path.with_suffix(".status").write_text(f"{it.status}\n")
+
+
+def replay_all(step: Step, program: str, sessions: List[Session]) -> None:
+    """Replays sessions, whole and cut, and counts them."""
+    cut = [it for it in sessions if it.cut_lengths()]
+    with ThreadPoolExecutor(count_workers()) as pool:
+        wholes = pool.map(lambda it: (it, replay(program, it)), sessions)
+        cuts = pool.map(lambda it: (it, replay_cuts(program, it)), cut)
+        for it, fault in [*wholes, *cuts]:
+            step.count(f"{it.subject}/{it.name}", fault)
+    step.tell(f"{len(sessions)} sessions, and {sum(len(it.cut_lengths()) for it in cut)} cuts of the buffers of {len(cut)}")
+
+
+def choose(sessions: List[Session], names: List[str], failures: List[str]) -> List[Session]:
+    """Returns the sessions of these names and subjects, or all without one."""
+    known = {name for it in sessions for name in (it.name, it.subject)}
+    failures += [f"there is no session {it}" for it in names if it not in known]
+    return [it for it in sessions if not names or {it.name, it.subject} & {*names}]
+
+
+def work(step: Step, given: argparse.Namespace) -> None:
+    failures: List[str] = []
+    chosen = choose(read_sessions(failures), given.names, failures)
+    for failure in failures:
+        step.count(failure, "")
+    step.passed += not failures
+    program = None if given.unpack else find_program(given.program)
+    if given.unpack:
+        unpack(chosen, given.unpack)
+    elif program:
+        replay_all(step, program, chosen)
+    else:
+        step.count(f"there is no program {given.program}" if given.program else "rt run did not prove and build crates/scroll_run", "")
+
+
+def main() -> int:
+    words = argparse.ArgumentParser(description="Replays the stored sessions.")
+    words.add_argument("--program", help="the program, in place of the one that was proved")
+    words.add_argument("--unpack", type=Path, metavar="FOLDER", help="writes the sessions as plain files, and replays none")
+    words.add_argument("names", nargs="*", metavar="NAME", help="a session, or a subject")
+    given = words.parse_args()
+    return run_step("sessions", lambda step: work(step, given))
+
+
+if __name__ == "__main__":
+    sys.exit(main())
