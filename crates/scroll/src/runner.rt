@@ -76,29 +76,36 @@ pub enum Kind {
     Textx2(StrCtx),
 }
 
+/// A number of any type.
+#[derive(Clone, Copy, Debug)]
+pub enum Number {
+    /// An unsigned number of 8 bits.
+    U8(u8),
+    /// A signed number of 8 bits.
+    I8(i8),
+    /// An unsigned number of 16 bits.
+    U16(u16),
+    /// A signed number of 16 bits.
+    I16(i16),
+    /// An unsigned number of 32 bits.
+    U32(u32),
+    /// A signed number of 32 bits.
+    I32(i32),
+    /// An unsigned number of 64 bits.
+    U64(u64),
+    /// A signed number of 64 bits.
+    I64(i64),
+    /// An unsigned number of 128 bits.
+    U128(u128),
+    /// A signed number of 128 bits.
+    I128(i128),
+}
+
 /// What a command writes.
 #[derive(Clone, Copy, Debug)]
 pub enum Put<'c> {
-    /// An unsigned number of 8 bits, in a byte order.
-    U8(u8, Endian),
-    /// A signed number of 8 bits, in a byte order.
-    I8(i8, Endian),
-    /// An unsigned number of 16 bits, in a byte order.
-    U16(u16, Endian),
-    /// A signed number of 16 bits, in a byte order.
-    I16(i16, Endian),
-    /// An unsigned number of 32 bits, in a byte order.
-    U32(u32, Endian),
-    /// A signed number of 32 bits, in a byte order.
-    I32(i32, Endian),
-    /// An unsigned number of 64 bits, in a byte order.
-    U64(u64, Endian),
-    /// A signed number of 64 bits, in a byte order.
-    I64(i64, Endian),
-    /// An unsigned number of 128 bits, in a byte order.
-    U128(u128, Endian),
-    /// A signed number of 128 bits, in a byte order.
-    I128(i128, Endian),
+    /// A number, in a byte order.
+    Number(Number, Endian),
     /// A string, without a delimiter after it.
     Text(&'c str),
     /// A byte slice.
