@@ -1,7 +1,7 @@
 //! Laws of the definitions that the contracts use. The functions here change nothing: the contract of each is a law,
-//! and its proof is the proof of the law. All bodies are empty, except those of [`size_is_that_of_reads_and_writes`] and
-//! [`size_without_an_order`], which return the sizes that their laws speak of. The name of each function says its law; a law
-//! that has a number has it as a second name.
+//! and its proof is the proof of the law. All bodies are empty, except that of [`size_is_that_of_reads_and_writes`],
+//! which returns the sizes that its law speaks of. The name of each function says its law; a law that has a number has
+//! it as a second name.
 
 mod c_strings;
 mod constants;
@@ -13,7 +13,6 @@ mod numbers;
 mod reads;
 mod required;
 mod runs;
-mod sizes;
 
 pub use self::c_strings::{c_string_has_one_zero, c_string_has_one_zero as law_9};
 pub use self::constants::constants_have_their_values;
@@ -44,4 +43,3 @@ pub use self::required::{
     required_text_is_within_its_source, required_text_is_within_its_source as law_required,
 };
 pub use self::runs::run_refuses_plainly;
-pub use self::sizes::size_without_an_order;
