@@ -13,7 +13,7 @@ use Rattle.scroll.specs.Bytes.{RefusesShort}
 use Rattle.scroll.specs.Errors.{IsBadInput, IsBadOffset, IsPlain}
 use Rattle.scroll.specs.LebRefusals.{RefusesUleb, RefusesSleb}
 use Rattle.scroll.specs.Reads.{RefusesAt}
-use Rattle.scroll.specs.Runs.{Refuses, RefusesHere, Run, Step, leaves_of, place_of}
+use Rattle.scroll.specs.Runs.{RefusesKind, RefusesHere, Run, Step, leaves_of, place_of}
 use Rattle.scroll.specs.Texts.{RefusesText}
 use Rattle.scroll.specs.declared.ctx.str_ctx.StrCtx.{StrCtx}
 use Rattle.scroll.specs.declared.error.Error.{Error}
@@ -70,7 +70,7 @@ plain-sleb s (Custom text) h = h
 plain-sleb s (IO fault) h = h
 plain-sleb s NoMemory h = h
 
-plain-refuses : (what : Kind) (s : List ℕ) (e : Error) → Refuses what s e → IsPlain e
+plain-refuses : (what : Kind) (s : List ℕ) (e : Error) → RefusesKind what s e → IsPlain e
 plain-refuses (kind.Number width order) s e h = plain-short _ s e h
 plain-refuses (kind.Text ctx) s e h = plain-text ctx s e h
 plain-refuses (kind.Bytes len) s e h = plain-short _ s e h
@@ -83,8 +83,8 @@ plain-refuses (kind.U16x3 order) s e h = plain-array _ _ 3 (plain-short 2) s e h
 plain-refuses (kind.Textx2 ctx) s e h = plain-array _ _ 2 (plain-text ctx) s e h
 
 -- a read that fails at the place of a command doesn't fail for want of memory
-pub plain-read : (what : Kind) (buffer : List ℕ) (cursor : ℕ) (at : Place) (e : Error) (after : ℕ) → RefusesHere (Refuses what) IsBadOffset buffer cursor at e after → IsPlain e
-plain-read what buffer cursor at e after h = plain-at (Refuses what) (plain-refuses what) buffer _ e h.0
+pub plain-read : (what : Kind) (buffer : List ℕ) (cursor : ℕ) (at : Place) (e : Error) (after : ℕ) → RefusesHere (RefusesKind what) IsBadOffset buffer cursor at e after → IsPlain e
+plain-read what buffer cursor at e after h = plain-at (RefusesKind what) (plain-refuses what) buffer _ e h.0
 
 plain-left : (len place : ℕ) (leaves : List (List ℕ)) (e : Error) → left_over len place leaves ≡ Some e → IsPlain e
 plain-left len place [] e h = absurd (cc h)
