@@ -11,7 +11,7 @@ use Rattle.scroll.proofs.lemmas.history.LeafLemmas.{left_over-fits, left_over-mi
 use Rattle.scroll.specs.Arrays.{RefusesArray}
 use Rattle.scroll.specs.Bytes.{RefusesShort}
 use Rattle.scroll.specs.Errors.{IsBadInput, IsBadOffset, IsPlain}
-use Rattle.scroll.specs.LebRefusals.{RefusesUleb, RefusesSleb}
+use Rattle.scroll.specs.LebRefusals.{RefusesLeb}
 use Rattle.scroll.specs.Reads.{RefusesAt}
 use Rattle.scroll.specs.Runs.{RefusesKind, RefusesHere, Run, Step, leaves_of, place_of}
 use Rattle.scroll.specs.Texts.{RefusesText}
@@ -54,21 +54,9 @@ plain-text ctx s e (inl short) = plain-short _ s e short
 plain-text ctx s e (inr (inl invalid)) = plain-input e _ _ invalid.error
 plain-text ctx s e (inr (inr missing)) = plain-input e _ _ missing.error
 
-plain-uleb : (s : List ℕ) (e : Error) → RefusesUleb s e → IsPlain e
-plain-uleb s (TooBig size len) h = tt
-plain-uleb s (BadOffset offset) h = tt
-plain-uleb s (BadInput size msg) h = tt
-plain-uleb s (Custom text) h = h
-plain-uleb s (IO fault) h = h
-plain-uleb s NoMemory h = h
-
-plain-sleb : (s : List ℕ) (e : Error) → RefusesSleb s e → IsPlain e
-plain-sleb s (TooBig size len) h = tt
-plain-sleb s (BadOffset offset) h = tt
-plain-sleb s (BadInput size msg) h = tt
-plain-sleb s (Custom text) h = h
-plain-sleb s (IO fault) h = h
-plain-sleb s NoMemory h = h
+plain-leb : {V : Type 0} (value_of : List ℕ → V) (Fits : V → Type 0) (s : List ℕ) (e : Error) → RefusesLeb value_of Fits s e → IsPlain e
+plain-leb value_of Fits s e (inl cut) = subst IsPlain (sym cut.error) tt
+plain-leb value_of Fits s e (inr unfit) = plain-input e _ _ unfit.error
 
 plain-refuses : (what : Kind) (s : List ℕ) (e : Error) → RefusesKind what s e → IsPlain e
 plain-refuses (kind.Number width order) s e h = plain-short _ s e h
@@ -76,8 +64,8 @@ plain-refuses (kind.Text ctx) s e h = plain-text ctx s e h
 plain-refuses (kind.Bytes len) s e h = plain-short _ s e h
 plain-refuses kind.CStr s e h = plain-input e _ _ h.error
 plain-refuses kind.CString s e h = plain-input e _ _ h.error
-plain-refuses kind.Uleb s e h = plain-uleb s e h
-plain-refuses kind.Sleb s e h = plain-sleb s e h
+plain-refuses kind.Uleb s e h = plain-leb _ _ s e h
+plain-refuses kind.Sleb s e h = plain-leb _ _ s e h
 plain-refuses (kind.U8x0 order) s e h = plain-array _ _ 0 (plain-short 1) s e h
 plain-refuses (kind.U16x3 order) s e h = plain-array _ _ 3 (plain-short 2) s e h
 plain-refuses (kind.Textx2 ctx) s e h = plain-array _ _ 2 (plain-text ctx) s e h
