@@ -33,7 +33,6 @@ while read -r file name; do
 done <<'END'
 clients/examples/src/format.rt.txt Format
 clients/zip/src/file.rt.txt StoredFile
-clients/zip/src/central.rt.txt CentralEntry
 clients/zip/src/end.rt.txt EndRecord
 END
 
