@@ -32,6 +32,7 @@ while read -r file name; do
     count $?
 done <<'END'
 clients/examples/src/format.rt.txt Format
+clients/examples/src/object_id.rt.txt ObjectId
 clients/zip/src/file.rt.txt StoredFile
 clients/zip/src/end.rt.txt EndRecord
 END
