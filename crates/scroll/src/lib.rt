@@ -24,7 +24,7 @@
 //! `CALLING.md`, in the folder of this crate, shows callers and types of your own with their proofs. The examples of the
 //! Rust crate's documentation are in `clients/examples/src` of the repository: `sized_fields` has a context of its own,
 //! `custom_error` and `external_error` implement [`TryFromCtx`](ctx::TryFromCtx) and [`TryIntoCtx`](ctx::TryIntoCtx), `bar`
-//! uses [`Cread`] and [`Cwrite`], and `stream_fields` uses [`IOread`] and [`IOwrite`].
+//! uses [`Cread`] and [`Cwrite`], and `stream` uses [`IOread`] and [`IOwrite`].
 #![tactic(auto)]
 
 pub mod cstr;
