@@ -17,6 +17,12 @@ TITLES = {
     "slices": "Byte slices and arrays",
     "leb_reads": "LEB128 read (gread)",
     "leb_writes": "LEB128 written (gwrite)",
+    "own": "Functions of one's own that aren't inlined",
+    "errors": "Forms of error handling, and refused calls",
+    "offsets": "Numbers at the offsets of a table (pread_with, pwrite_with)",
+    "streams": "Numbers from readers and into writers (ioread_with, iowrite_with)",
+    "owned": "C strings that own their memory (CString)",
+    "calls": "Other calls",
     "files": "An object file with DWARF",
     "growth": "From 1 KiB to 64 MiB, per byte",
 }

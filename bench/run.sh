@@ -22,7 +22,7 @@ export PYTHONDONTWRITEBYTECODE=1
 
 top=$(CDPATH='' cd -- "$(dirname -- "$0")/.." && pwd) || exit 1
 here=$top/bench
-all='numbers cread floats writes texts c_strings slices leb_reads leb_writes files growth'
+all='numbers cread floats writes texts c_strings slices leb_reads leb_writes own errors offsets streams owned calls files growth'
 
 fail() {
     echo "bench: $*" >&2

@@ -16,8 +16,10 @@ Several of these words may be given; .ci/run gives `all verdict`. The steps are:
     depending.py    a repository that depends on the library, made by README's lines
     misuse.py       what must not compile
     sessions.py     the stored sessions, whole and with their buffers cut, by the program that was proved
+    limits.py       long inputs, at which that program must not run out of memory
     faults.py       the sessions and the tests where memory is refused and streams fail, by what was proved
-    edits.py        the edits, many in one check
+    compare/run.sh  random sessions and calls beside the Rust crate, where cargo finds it
+    edits.py        the edits, many in one check; limits.py --edits, those that only long inputs and tests tell
 
 Steps run side by side, and a step starts when those that it needs have ended. In all they have two jobs more than there are
 workers (gate/step.py), since parts of a check run on one processor. The tests of the library and rt ci run in copies of
@@ -184,9 +186,11 @@ def list_steps(groups: Sequence[str], workers: int) -> List[Step]:
         steps += [Step(f"python3 gate/clients.py {it}", 1, (PROVE,)) for it in list_clients()]
         steps.append(Step("sh tools/derive/prove.sh", 1, (PROVE,)))
         steps += [Step(f"python3 gate/{it}.py", 1, (PROVE,)) for it in ("depending", "misuse")]
-        steps.append(Step("python3 gate/sessions.py", 1, (PROGRAM,)))
+        steps += [Step(f"python3 gate/{it}.py", 1, (PROGRAM,)) for it in ("sessions", "limits")]
+        steps.append(Step("sh compare/run.sh --gate", 1, (PROGRAM,)))
     if "edits" in groups:
         steps.append(Step("python3 gate/edits.py", workers, tuple(it.command for it in steps if it.jobs)))
+        steps.append(Step("python3 gate/limits.py --edits", 1, ("python3 gate/edits.py",)))
     return steps
 
 

@@ -17,7 +17,7 @@ from step import TOP, Step
 
 # Names of Rust, of its crates and of processors, and placeholders in docs/SESSIONS.md.
 FOREIGN = set("""
-I Self::Units array::try_from_fn cause collect core::mem core::result f64 memchr scroll_derive x86-64-v2
+BoxedSlice CowSlice I Self::Units array::try_from_fn cause collect core::mem core::result f64 memchr scroll_derive x86-64-v2
 HEX HH ORD SESSION law_7 crates/first crates/first/src/lib.rt
 """.split())
 

@@ -1,11 +1,13 @@
 #!/usr/bin/env python3
-"""Makes a repository that depends on the library, by README's own lines, and proves and runs README's first example in it.
+"""Makes a repository that depends on the library, by README's own lines, proves and runs README's first example in it, and runs
+the examples of the library's documentation.
 
     python3 gate/depending.py
 
 The lines are those of README's section "Depending on it": its block of shell commands is run in an empty folder, and its block
 of text becomes crates.txt. README's first block of Rust becomes a test of the crate `first`: each line with a value after `//`
-must return that value, and each line with `Err(..)` there an error.
+must return that value, and each line with `Err(..)` there an error. The examples of the documentation are the tests of the crate
+`documented`, which gate/documented.py makes and `rt try` runs without a proof.
 
 The library is proved in this repository first, by `rt lib` over what its out/ keeps, and its build is then copied too, so that
 it isn't proved twice; with FROM_NOTHING=1 it is proved only in the new repository. Each of these is a check.
@@ -17,6 +19,7 @@ import shutil
 import sys
 from typing import List
 
+import documented
 import markdown
 from step import TOP, Ran, Step, Stop, run_step
 
@@ -100,6 +103,15 @@ def work(step: Step) -> None:
     count(step, "check", not ran.status, ran)
     ran = step.run(first, "rt", "test")
     count(step, "prove and run the first example", not ran.status and ran.tests() == 1, ran)
+
+    examples = own / "crates" / "documented"
+    (examples / "src").mkdir(parents=True)
+    (examples / "src" / "lib.rt").write_text(documented.crate())
+    with (own / "crates.txt").open("a") as crates_file:
+        crates_file.write("documented: scroll\n")
+    ran = step.run(examples, "rt", "try", "--test")
+    passed = f"test result: ok. {len(list(documented.examples()))} passed; 0 failed; 0 ignored"
+    count(step, "run the examples of the documentation", not ran.status and passed in ran.said, ran)
 
 
 if __name__ == "__main__":

@@ -8,12 +8,13 @@
 The code in CALLING.md and README.md is that of the files that it names (gate/calling.py). The names that the documents cite are
 in the sources, and their links lead somewhere (gate/cited.py). docs/DEFINITIONS.md has what the comments in specs/ say
 (gate/definitions.py). docs/PROVED.md has for each promise the edits that are for it (gate/promises.py). clients/README.md has
-the lines of each client (gate/sizes.py).
+the lines of each client (gate/sizes.py). The bench has a row for each public call (gate/benched.py).
 """
 
 import sys
 from typing import List
 
+import benched
 import calling
 import cited
 import definitions
@@ -30,6 +31,7 @@ def work(step: Step, words: List[str]) -> None:
     sizes.try_all(step, words == ["write"])
     calling.try_all(step)
     cited.try_all(step)
+    benched.try_all(step)
 
 
 if __name__ == "__main__":

@@ -11,10 +11,14 @@ mod timing;
 
 #[cfg(feature = "c_strings")]
 mod c_strings;
+#[cfg(feature = "calls")]
+mod calls;
 #[cfg(feature = "cread")]
 mod cread;
 #[cfg(feature = "files")]
 mod dwarf;
+#[cfg(feature = "errors")]
+mod errors;
 #[cfg(feature = "files")]
 mod files;
 #[cfg(feature = "floats")]
@@ -29,8 +33,16 @@ mod leb_reads;
 mod leb_writes;
 #[cfg(feature = "numbers")]
 mod numbers;
+#[cfg(feature = "offsets")]
+mod offsets;
+#[cfg(feature = "own")]
+mod own;
+#[cfg(feature = "owned")]
+mod owned;
 #[cfg(feature = "slices")]
 mod slices;
+#[cfg(feature = "streams")]
+mod streams;
 #[cfg(feature = "texts")]
 mod texts;
 #[cfg(feature = "writes")]
@@ -49,20 +61,37 @@ unsafe extern "C" {
     fn code_shift();
 }
 
-// The loops over the library allocate no memory.
+// Whether there is memory, and where.
+#[repr(C)]
+struct Tried {
+    is_there: bool,
+    place: *mut u8,
+}
+
+unsafe extern "C" {
+    fn malloc(size: usize) -> *mut u8;
+    fn realloc(place: *mut u8, size: usize) -> *mut u8;
+    fn free(place: *mut u8);
+}
+
+// The memory of the loops over the library comes from where that of the loops in Rust does.
 #[unsafe(no_mangle)]
-extern "C" fn rattle_alloc() {
-    std::process::abort()
+extern "C" fn rattle_alloc(size: usize, _align: usize) -> Tried {
+    tried(unsafe { malloc(size) })
 }
 
 #[unsafe(no_mangle)]
-extern "C" fn rattle_dealloc() {
-    std::process::abort()
+extern "C" fn rattle_realloc(place: *mut u8, _kept: usize, size: usize, _align: usize) -> Tried {
+    tried(unsafe { realloc(place, size) })
 }
 
 #[unsafe(no_mangle)]
-extern "C" fn rattle_realloc() {
-    std::process::abort()
+extern "C" fn rattle_dealloc(place: *mut u8) {
+    unsafe { free(place) }
+}
+
+fn tried(place: *mut u8) -> Tried {
+    Tried { is_there: !place.is_null(), place }
 }
 
 fn main() {
@@ -91,6 +120,18 @@ fn main() {
     files::all(&mut bench);
     #[cfg(feature = "growth")]
     growth::all(&mut bench);
+    #[cfg(feature = "streams")]
+    streams::all(&mut bench);
+    #[cfg(feature = "own")]
+    own::all(&mut bench);
+    #[cfg(feature = "offsets")]
+    offsets::all(&mut bench);
+    #[cfg(feature = "owned")]
+    owned::all(&mut bench);
+    #[cfg(feature = "errors")]
+    errors::all(&mut bench);
+    #[cfg(feature = "calls")]
+    calls::all(&mut bench);
     if bench.differs() {
         std::process::exit(1);
     }

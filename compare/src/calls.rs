@@ -1,6 +1,8 @@
 //! Calls that no session reaches: which there are, random ones, and what both sides answer.
 
 use crate::case::{Case, Verdict, lower, removals};
+#[cfg(feature = "derive")]
+use crate::derived;
 use crate::random::{FLOATS, LEB128, Random, TEXTS};
 use crate::reply::Reply;
 use crate::spoken::hex;
@@ -35,6 +37,12 @@ unsafe extern "C" {
     fn rt_sizes(_: &Asked, _: *mut u8, _: usize, _: *const u8, _: usize, _: *mut u8, _: usize) -> usize;
     fn rt_ioread(_: &Asked, _: *mut u8, _: usize, _: *const u8, _: usize, _: *mut u8, _: usize) -> usize;
     fn rt_iowrite(_: &Asked, _: *mut u8, _: usize, _: *const u8, _: usize, _: *mut u8, _: usize) -> usize;
+    #[cfg(feature = "derive")]
+    fn rt_read_struct(_: &Asked, _: *mut u8, _: usize, _: *const u8, _: usize, _: *mut u8, _: usize) -> usize;
+    #[cfg(feature = "derive")]
+    fn rt_write_struct(_: &Asked, _: *mut u8, _: usize, _: *const u8, _: usize, _: *mut u8, _: usize) -> usize;
+    #[cfg(feature = "derive")]
+    fn rt_struct(_: &Asked, _: *mut u8, _: usize, _: *const u8, _: usize, _: *mut u8, _: usize) -> usize;
 }
 
 /// What the bytes that make a value are.
@@ -60,7 +68,7 @@ const BRIEF: usize = 400;
 const STREAMED: [&str; 6] = ["u8", "u32", "i64", "u128", "f32", "f64"];
 
 #[rustfmt::skip]
-static FAMILIES: [Family; 14] = [
+static FAMILIES: &[Family] = &[
     Family { name: "reads of numbers", kinds: &NUMBERS, ours: rt_read_number, theirs: theirs::read_number, given: Given::Any },
     Family { name: "reads of arrays", ours: rt_read_array, theirs: theirs::read_array, given: Given::Any,
         kinds: &["[u8; 4]", "[i32; 5]", "[u128; 2]", "[f64; 2]", "[[u16; 2]; 2]", "[[[i8; 2]; 3]; 2]", "[[u16; 0]; 3]"] },
@@ -84,6 +92,12 @@ static FAMILIES: [Family; 14] = [
             "Uleb128::read", "Sleb128::read"] },
     Family { name: "reads from streams in pieces", kinds: &STREAMED, ours: rt_ioread, theirs: theirs::ioread, given: Given::Any },
     Family { name: "writes to streams in pieces", kinds: &STREAMED, ours: rt_iowrite, theirs: theirs::iowrite, given: Given::Number },
+    #[cfg(feature = "derive")]
+    Family { name: "reads of derived structs", kinds: &derived::STRUCTS, ours: rt_read_struct, theirs: derived::read_struct, given: Given::Any },
+    #[cfg(feature = "derive")]
+    Family { name: "writes of derived structs", kinds: &derived::STRUCTS, ours: rt_write_struct, theirs: derived::write_struct, given: Given::Number },
+    #[cfg(feature = "derive")]
+    Family { name: "derived structs in bounds and over streams", kinds: &derived::STRUCTS, ours: rt_struct, theirs: derived::other, given: Given::Number },
 ];
 
 /// One call.
@@ -99,13 +113,16 @@ impl Call {
     /// A random call with bytes of at most 2 to the power of `bits`.
     pub fn random(random: &mut Random, bits: u32) -> Call {
         let family = random.below(FAMILIES.len());
-        let len = random.size(bits);
+        let len = random.size(bits) + if random.chance(50) { random.below(24) } else { 0 };
         let liked: &[usize] = match FAMILIES[family].name {
-            "reads of texts" | "bulk reads" | "writes of bytes and texts" => &TEXTS,
+            "reads of texts" | "bulk reads" | "writes of bytes and texts" | "owned C strings" => &TEXTS,
             "reads of LEB128" | "sizes, measures and LEB128 at a cursor" => &LEB128,
             _ => &FLOATS,
         };
-        let bytes = random.bytes(len, liked);
+        let mut bytes = random.bytes(len, liked);
+        if liked == TEXTS && len > 0 && random.chance(30) {
+            bytes[random.below(len)] = 0;
+        }
         let wanted = FAMILIES[family].given;
         let given = match wanted {
             Given::Number => (0..3).flat_map(|_| random.number(128).to_le_bytes()).collect(),
@@ -122,9 +139,11 @@ impl Call {
         } else {
             random.pick(&[0, 0x0a, 0x20, 0xff])
         };
+        // (a multiple of eight reads the floats that the bytes are made of)
+        let place = random.offset(len) & if random.chance(40) { !7 } else { !0 };
         let asked = Asked {
             kind: random.below(FAMILIES[family].kinds.len()) as u64,
-            place: random.offset(len),
+            place,
             form: random.next() % 8,
             a: random.next() % 4 * 256 + u64::from(delimiter),
             b: random.offset(len) as u64 / random.pick(&[1, 1, 2, 3]),
@@ -182,36 +201,28 @@ impl Case for Call {
         }
     }
 
-    fn smaller(&self) -> Vec<Call> {
-        let mut calls = Vec::new();
-        for bytes in removals(&self.bytes) {
-            calls.push(Call { bytes, ..self.clone() });
-        }
-        for given in removals(&self.given) {
-            calls.push(Call { given, ..self.clone() });
-        }
+    fn smaller(&self) -> Box<dyn Iterator<Item = Call> + '_> {
         let asked = self.asked;
-        for part in [asked.place, asked.place / 2, asked.place / 4, 1] {
-            if part <= asked.place && part <= self.bytes.len() {
+        let put = |asked| Call { asked, ..self.clone() };
+        let moved = [asked.place, asked.place / 2, asked.place / 4, 1].into_iter();
+        let moved =
+            moved.filter(move |part| *part > 0 && *part <= asked.place && *part <= self.bytes.len()).map(move |part| {
                 let asked = Asked { place: asked.place - part, ..asked };
-                calls.push(Call { asked, bytes: self.bytes[part..].to_vec(), ..self.clone() });
-            }
-        }
-        for place in lower(asked.place as u128) {
-            let place = place as usize;
-            calls.push(Call { asked: Asked { place, ..asked }, ..self.clone() });
-        }
-        for form in 0..asked.form {
-            calls.push(Call { asked: Asked { form, ..asked }, ..self.clone() });
-        }
-        for a in [asked.a % 2, asked.a % 256, asked.a / 256 * 256] {
-            calls.push(Call { asked: Asked { a, ..asked }, ..self.clone() });
-        }
-        for b in lower(u128::from(asked.b)) {
-            let b = b as u64;
-            calls.push(Call { asked: Asked { b, ..asked }, ..self.clone() });
-        }
-        calls
+                Call { family: self.family, asked, bytes: self.bytes[part..].to_vec(), given: self.given.clone() }
+            });
+        let bytes = removals(&self.bytes).map(move |bytes| Call {
+            family: self.family,
+            asked,
+            bytes,
+            given: self.given.clone(),
+        });
+        let given = removals(&self.given).map(|given| Call { given, ..self.clone() });
+        let places = lower(asked.place as u128).into_iter().map(move |place| Asked { place: place as usize, ..asked });
+        let forms = (0..asked.form).map(move |form| Asked { form, ..asked });
+        let a = [asked.a % 2, asked.a % 256, asked.a / 256 * 256].map(move |a| Asked { a, ..asked });
+        let b = lower(u128::from(asked.b)).into_iter().map(move |b| Asked { b: b as u64, ..asked });
+        let nothing = std::iter::once(Call { given: Vec::new(), ..self.clone() });
+        Box::new(nothing.chain(moved).chain(bytes).chain(given).chain(places.chain(forms).chain(a).chain(b).map(put)))
     }
 
     fn weight(&self) -> Vec<u64> {
@@ -245,12 +256,23 @@ impl Case for Call {
     }
 }
 
-/// The bytes, or the first of many; the seed and the number of the case give the others.
+/// The bytes, with `*` and a count behind one that is repeated, as far as they are brief; the seed and the number of the
+/// case give the others.
 fn brief(bytes: &[u8]) -> String {
-    match bytes.get(..BRIEF) {
-        Some(front) if bytes.len() > BRIEF => format!("{}.. ({} bytes)", hex(front), bytes.len()),
-        _ => hex(bytes),
+    if bytes.is_empty() {
+        return hex(bytes);
     }
+    let mut text = String::new();
+    for run in bytes.chunk_by(|a, b| a == b) {
+        if text.len() > 2 * BRIEF {
+            return format!("{text}.. ({} bytes)", bytes.len());
+        }
+        match run.len() {
+            0..8 => text.push_str(&hex(run)),
+            count => text.push_str(&format!("{}*{count} ", hex(&run[..1]))),
+        }
+    }
+    text.trim_end().into()
 }
 
 /// An answer in words.

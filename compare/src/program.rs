@@ -7,9 +7,12 @@ use std::sync::OnceLock;
 /// The path of the program.
 pub static PROGRAM: OnceLock<String> = OnceLock::new();
 
+/// The path of the program that takes longer inputs, where there is one.
+pub static LONG: OnceLock<String> = OnceLock::new();
+
 /// What the program prints for an input, and its exit status.
-pub fn run(input: &[u8], faults: &[(&str, String)]) -> (Vec<u8>, Option<i32>) {
-    let mut command = Command::new(PROGRAM.get().unwrap());
+pub fn run(program: &str, input: &[u8], faults: &[(&str, String)]) -> (Vec<u8>, Option<i32>) {
+    let mut command = Command::new(program);
     command.envs(faults.iter().map(|(name, value)| (name, value)));
     let mut child = command.stdin(Stdio::piped()).stdout(Stdio::piped()).spawn().expect("the program starts");
     // It reads all that it takes before it writes. If it takes less, the pipe breaks.
@@ -40,12 +43,13 @@ const FAULTS: [Fault; 3] = [
 /// Refuses each allocation, read and write of a session in turn, until a run meets no more of them. Returns how many
 /// faults there were, or what went wrong.
 pub fn with_faults(input: &[u8], library: &str) -> Result<usize, String> {
-    let wanted = run(input, &[]);
+    let program = PROGRAM.get().unwrap();
+    let wanted = run(program, input, &[]);
     let mut count = 0;
     for fault in &FAULTS {
         for number in 1.. {
             let faults = [("LD_PRELOAD", library.to_string()), (fault.variable, number.to_string())];
-            let (printed, status) = run(input, &faults);
+            let (printed, status) = run(program, input, &faults);
             if (&printed, status) == (&wanted.0, wanted.1) {
                 if number == 1 {
                     return Err(format!("{}=1 changes nothing", fault.variable));

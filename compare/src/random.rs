@@ -120,11 +120,18 @@ impl Random {
                 let last = self.byte() & 0x7f;
                 bytes.push(self.pick(&[0, 1, 2, 3, 0x3f, 0x40, 0x41, 0x7e, 0x7f, last]));
             }
-            _ => {
-                // a float that is a NaN, an infinity, a zero or a subnormal
-                let bits = self.pick(&ODD_FLOATS) ^ (self.next() & self.pick(&[0, 1, 0x000f_ffff_ffff_ffff, 1 << 63]));
+            8 => {
+                // a float of 32 bits that is a zero, a subnormal, an infinity, a NaN or near one of these
+                let bits =
+                    self.pick(&ODD_F32) ^ (self.next() as u32 & self.pick(&[0, 0, 1 << 31, 0x0040_0001, 0x007f_ffff]));
                 let bits = if self.chance(50) { bits } else { bits.swap_bytes() };
-                bytes.extend_from_slice(&bits.to_le_bytes()[..self.pick(&[4, 8])]);
+                bytes.extend_from_slice(&bits.to_le_bytes());
+            }
+            _ => {
+                let bits = self.pick(&ODD_F64)
+                    ^ (self.next() & self.pick(&[0, 0, 1 << 63, 0x0008_0000_0000_0001, 0x000f_ffff_ffff_ffff]));
+                let bits = if self.chance(50) { bits } else { bits.swap_bytes() };
+                bytes.extend_from_slice(&bits.to_le_bytes());
             }
         }
     }
@@ -151,12 +158,12 @@ impl Random {
     }
 }
 
-const KINDS: usize = 9;
+const KINDS: usize = 10;
 
 /// Kinds of bytes to like: those of texts, of numbers in LEB128, and of floats.
-pub const TEXTS: [usize; 3] = [3, 5, 6];
+pub const TEXTS: [usize; 4] = [3, 3, 5, 6];
 pub const LEB128: [usize; 1] = [7];
-pub const FLOATS: [usize; 1] = [8];
+pub const FLOATS: [usize; 2] = [8, 9];
 
 /// The bytes at which UTF-8 and LEB128 change what they mean, and delimiters.
 const EDGES: [u8; 24] = [
@@ -192,13 +199,18 @@ const ODD_TEXTS: [&[u8]; 24] = [
     b"\xf5\x80\x80\x80",
 ];
 
-const ODD_FLOATS: [u64; 8] = [
+/// A zero, the ends of the subnormals and of the other floats, one, infinity, a signalling and a quiet NaN.
+const ODD_F32: [u32; 9] =
+    [0, 1, 0x007f_ffff, 0x0080_0000, 0x7f7f_ffff, 0x3f80_0000, 0x7f80_0000, 0x7f80_0001, 0x7fc0_0000];
+
+const ODD_F64: [u64; 9] = [
+    0,
+    1,
+    0x000f_ffff_ffff_ffff,
+    0x0010_0000_0000_0000,
+    0x7fef_ffff_ffff_ffff,
+    0x3ff0_0000_0000_0000,
     0x7ff0_0000_0000_0000,
-    0x7ff8_0000_0000_0000,
     0x7ff0_0000_0000_0001,
-    0xfff4_0000_0000_0000,
-    0x7fa0_0001_7f80_0000,
-    0xffc0_0000_ff80_0001,
-    0x8000_0000_8000_0000,
-    0x000f_ffff_007f_ffff,
+    0x7ff8_0000_0000_0000,
 ];

@@ -1,10 +1,10 @@
 //! What the Rust crate's calls return, encoded as compare/calls/answer.rt.txt does.
 
-use crate::spoken::Required;
+use crate::spoken::{Required, size_of_uleb};
 use scroll::{Error, Result, Sleb128, Uleb128};
 use std::ffi::{CStr, CString};
 
-/// An answer. Where `quiet`, there is one NaN of each width.
+/// An answer. Where `quiet`, it is given as docs/DIFFERENCES.md tells: with one NaN of each width.
 pub struct Reply {
     pub bytes: Vec<u8>,
     pub quiet: bool,
@@ -96,7 +96,7 @@ show! {
     &CStr: x, reply => reply.slice(x.to_bytes_with_nul());
     CString: x, reply => reply.slice(x.as_bytes_with_nul());
     Required<'_>: x, reply => reply.slice(x.0.as_bytes());
-    Uleb128: x, reply => { reply.number(u128::from(*x.as_ref())); reply.size(x.size()) };
+    Uleb128: x, reply => { reply.number(u128::from(*x.as_ref())); reply.size(size_of_uleb(x)) };
     Sleb128: x, reply => { reply.signed(i128::from(*x.as_ref())); reply.size(x.size()) };
 }
 

@@ -1,9 +1,9 @@
 //! Random sessions.
 
-use crate::case::{Case, Verdict, cuts, lower, removals};
+use crate::case::{Case, Verdict, lower, parts, removals};
 use crate::program;
 use crate::random::{LEB128, Random, TEXTS};
-use crate::spoken::{self, LIMIT, hex};
+use crate::spoken::{self, LIMIT, LONG_LIMIT, hex};
 
 /// The greatest product of the bytes of a buffer and the commands, but for sessions of the greatest length.
 const MOST: usize = 1 << 20;
@@ -18,6 +18,7 @@ enum Subject {
     Mixed,
     BadLines,
     Full,
+    Long,
 }
 
 const SUBJECTS: [Subject; 7] = [
@@ -186,7 +187,7 @@ impl Words<'_> {
 
     fn command(&mut self, subject: Subject) -> String {
         let subject = match subject {
-            Subject::Mixed | Subject::BadLines | Subject::Full => self.random.pick(&SUBJECTS[..4]),
+            Subject::Mixed | Subject::BadLines | Subject::Full | Subject::Long => self.random.pick(&SUBJECTS[..4]),
             one => one,
         };
         match self.random.below(8) {
@@ -201,6 +202,9 @@ impl Words<'_> {
 impl Session {
     /// A random session with a buffer of about 2 to the power of `bits` bytes at most, as far as an input has room.
     pub fn random(random: &mut Random, bits: u32) -> Session {
+        if bits > 15 && program::LONG.get().is_some() && random.below(150) == 0 {
+            return Session::long(random, bits);
+        }
         let subject = if random.chance(2) { Subject::Full } else { random.pick(&SUBJECTS[..6]) };
         let bits = bits.min(15);
         // (a long buffer and many commands together print more than is worth a comparison)
@@ -209,7 +213,10 @@ impl Session {
             Subject::Leb128 => &LEB128,
             _ => &TEXTS,
         };
-        let buffer = random.bytes(len, liked);
+        let mut buffer = random.bytes(len, liked);
+        if subject == Subject::Texts && len > 0 && random.chance(30) {
+            buffer[if random.chance(50) { len - 1 } else { random.below(len) }] = 0;
+        }
         let cursor = random.offset(len);
         let commands =
             if subject == Subject::Full { usize::MAX } else { random.size(bits.clamp(3, 11)).min(MOST / (len + 1)) };
@@ -236,9 +243,35 @@ impl Session {
         Session { subject, input }
     }
 
+    /// A session with up to 2 to the power of `bits` bytes and few commands, or with few bytes and an eighth as many
+    /// commands.
+    fn long(random: &mut Random, bits: u32) -> Session {
+        let has_bytes = random.chance(50);
+        let len = random.below(if has_bytes { 1 << bits } else { 128 });
+        let commands = if has_bytes { random.below(16) } else { (1 << (bits - 3)) - random.below(1000) };
+        let buffer = random.bytes(len, &TEXTS);
+        let cursor = random.offset(len);
+        let mut words = Words { random, buffer, bits: bits.min(9), spoils: false };
+        let mut input = format!("buffer {}\ncursor {cursor}\n", hex(&words.buffer));
+        for _ in 0..commands {
+            input.push_str(&words.command(Subject::Long));
+            input.push('\n');
+        }
+        Session { subject: Subject::Long, input: input.into_bytes() }
+    }
+
+    /// Whether it has few enough commands to be run again for each of its allocations.
+    pub fn is_short(&self) -> bool {
+        self.subject != Subject::Long && self.input.iter().filter(|byte| **byte == b'\n').count() < 200
+    }
+
     fn answers(&self) -> [(Vec<u8>, Option<i32>); 2] {
-        let (printed, status) = spoken::answer(&self.input);
-        [program::run(&self.input, &[]), (printed, Some(status))]
+        let (program, limit) = match self.subject {
+            Subject::Long => (&program::LONG, LONG_LIMIT),
+            _ => (&program::PROGRAM, LIMIT),
+        };
+        let (printed, status) = spoken::answer(&self.input, limit);
+        [program::run(program.get().unwrap(), &self.input, &[]), (printed, Some(status))]
     }
 }
 
@@ -277,9 +310,30 @@ fn simpler(word: &str, is_hex: bool) -> Vec<String> {
     }
     let pair = |pair: &[u8]| u8::from_str_radix(std::str::from_utf8(pair).ok()?, 16).ok();
     match word.as_bytes().chunks(2).map(pair).collect::<Option<Vec<u8>>>() {
-        Some(bytes) if is_hex && word.len() % 2 == 0 => removals(&bytes).iter().map(|it| hex(it)).collect(),
+        Some(bytes) if is_hex && word.len() % 2 == 0 => {
+            removals(&bytes).take(if bytes.len() < 4096 { 1000 } else { 20 }).map(|it| hex(&it)).collect()
+        }
         _ => Vec::new(),
     }
+}
+
+/// The sessions with one line that has a simpler word.
+fn simpler_line(lines: &[&[u8]], index: usize) -> Vec<Vec<u8>> {
+    let mut inputs = Vec::new();
+    let Ok(line) = std::str::from_utf8(lines[index]) else { return inputs };
+    let words: Vec<&str> = line.split(' ').collect();
+    for (place, word) in words.iter().enumerate().skip(1) {
+        let before = words[place - 1];
+        let is_hex = matches!(words[0], "buffer")
+            || matches!(before, "str" | "bytes" | "cstr" | "delim" | "until" | "required") && word.len() % 2 == 0
+            || before == "bytesx2"
+            || place > 1 && words[place - 2] == "bytesx2";
+        for other in simpler(word, is_hex) {
+            let changed = [&words[..place], &[other.as_str()], &words[place + 1..]].concat().join(" ");
+            inputs.push([&lines[..index], &[changed.as_bytes()], &lines[index + 1..]].concat().join(&b'\n'));
+        }
+    }
+    inputs
 }
 
 impl Case for Session {
@@ -292,6 +346,7 @@ impl Case for Session {
             Subject::Mixed => "all commands",
             Subject::BadLines => "lines that are bad, or nearly",
             Subject::Full => "about 65,536 bytes",
+            Subject::Long => "up to megabytes and a hundred thousand commands",
         };
         format!("sessions: {name}")
     }
@@ -310,29 +365,14 @@ impl Case for Session {
         })
     }
 
-    fn smaller(&self) -> Vec<Session> {
+    fn smaller(&self) -> Box<dyn Iterator<Item = Session> + '_> {
         let lines: Vec<&[u8]> = self.input.split(|byte| *byte == b'\n').collect();
-        let mut inputs: Vec<Vec<u8>> = cuts(&lines).into_iter().map(|kept| kept.join(&b'\n')).collect();
-        for (index, line) in lines.iter().enumerate().take(60) {
-            let Ok(line) = std::str::from_utf8(line) else { continue };
-            let words: Vec<&str> = line.split(' ').collect();
-            for (place, word) in words.iter().enumerate().skip(1) {
-                let before = words[place - 1];
-                let is_hex = matches!(words[0], "buffer")
-                    || matches!(before, "str" | "bytes" | "cstr" | "delim" | "until" | "required")
-                        && word.len() % 2 == 0
-                    || before == "bytesx2"
-                    || place > 1 && words[place - 2] == "bytesx2";
-                for other in simpler(word, is_hex) {
-                    let changed = [&words[..place], &[other.as_str()], &words[place + 1..]].concat().join(" ");
-                    inputs.push([&lines[..index], &[changed.as_bytes()], &lines[index + 1..]].concat().join(&b'\n'));
-                }
-            }
-        }
-        if self.input.len() < 300 {
-            inputs.extend(removals(&self.input));
-        }
-        inputs.into_iter().map(|input| Session { subject: self.subject, input }).collect()
+        let fewer = lines.clone();
+        let fewer =
+            parts(fewer.len()).map(move |part| [&fewer[..part.start], &fewer[part.end..]].concat().join(&b'\n'));
+        let simpler = (0..lines.len().min(60)).flat_map(move |index| simpler_line(&lines, index));
+        let shorter = removals(&self.input).take(if self.input.len() < 300 { usize::MAX } else { 0 });
+        Box::new(fewer.chain(simpler).chain(shorter).map(|input| Session { subject: self.subject, input }))
     }
 
     fn weight(&self) -> Vec<u64> {

@@ -7,9 +7,21 @@ use scroll::ctx::{StrCtx, TryFromCtx, TryIntoCtx};
 use scroll::{BE, Endian, Error, LE, Pread, Pwrite, Result, Sleb128, Uleb128};
 use std::ffi::{CStr, CString};
 use std::fmt::Write;
+use std::sync::atomic::{AtomicBool, Ordering};
 
 /// How many bytes an input may have.
 pub const LIMIT: usize = 65_536;
+
+/// The same of the program that takes longer inputs, and is otherwise the same.
+pub const LONG_LIMIT: usize = 1 << 26;
+
+/// Whether the crate's answers are to be wrong at one place, to see that a run fails then.
+pub static LIES: AtomicBool = AtomicBool::new(false);
+
+/// The size of a number in LEB128, or the wrong one of two bytes.
+pub fn size_of_uleb(number: &Uleb128) -> usize {
+    number.size() - usize::from(number.size() == 2 && LIES.load(Ordering::Relaxed))
+}
 
 /// A command, which acts on the buffer and the cursor, and gives its line.
 type Act = Box<dyn Fn(&mut [u8], &mut usize) -> Result<String>>;
@@ -225,7 +237,7 @@ fn read(place: Place, words: &[&[u8]]) -> Option<Act> {
         [b"bytes", len] => reads!(place, &[u8], size(len)?, x => format!("bytes {}", hex(x))),
         [b"cstr"] => reads!(place, &CStr, (), x => format!("cstr {}", hex(x.to_bytes()))),
         [b"cstring"] => reads!(place, CString, (), x => format!("cstr {}", hex(x.as_bytes()))),
-        [b"uleb"] => reads!(place, Uleb128, (), x => format!("uleb {} {}", x.as_ref(), x.size())),
+        [b"uleb"] => reads!(place, Uleb128, (), x => format!("uleb {} {}", x.as_ref(), size_of_uleb(&x))),
         [b"sleb"] => reads!(place, Sleb128, (), x => format!("sleb {} {}", x.as_ref(), x.size())),
         [b"u8x0", by] => reads!(place, [u8; 0], order(by)?, _x => "numbers".into()),
         [b"u16x3", by] => reads!(place, [u16; 3], order(by)?, x => format!("numbers {} {} {}", x[0], x[1], x[2])),
@@ -297,8 +309,8 @@ fn parse(input: &[u8]) -> std::result::Result<(Vec<u8>, usize, Vec<Act>), usize>
 }
 
 /// What a session prints, and its exit status.
-pub fn answer(input: &[u8]) -> (Vec<u8>, i32) {
-    if input.len() > LIMIT {
+pub fn answer(input: &[u8], limit: usize) -> (Vec<u8>, i32) {
+    if input.len() > limit {
         return (b"input too long\n".to_vec(), 2);
     }
     let (mut buffer, mut cursor, commands) = match parse(input) {

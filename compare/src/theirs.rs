@@ -8,7 +8,7 @@ use scroll::{Cread, Cwrite, Endian, Error, IOread, IOwrite, Pread, Pwrite, Resul
 use std::ffi::{CStr, CString};
 use std::io::{self, Read, Write};
 
-fn order(asked: &Asked) -> Endian {
+pub fn order(asked: &Asked) -> Endian {
     Endian::from(asked.a % 2 == 1)
 }
 
@@ -23,7 +23,7 @@ fn text_end(asked: &Asked) -> std::result::Result<StrCtx, RequiredBy> {
     }
 }
 
-fn read<'a, N, C: Copy + Default>(asked: &Asked, source: &'a [u8], reply: &mut Reply, ctx: C)
+pub fn read<'a, N, C: Copy + Default>(asked: &Asked, source: &'a [u8], reply: &mut Reply, ctx: C)
 where
     N: TryFromCtx<'a, C, Error = Error> + Show,
 {
@@ -109,7 +109,7 @@ pub fn read_leb(asked: &Asked, bytes: &mut [u8], _given: &[u8], reply: &mut Repl
     }
 }
 
-fn write<N, C: Copy + Default>(asked: &Asked, target: &mut [u8], reply: &mut Reply, value: N, ctx: C)
+pub fn write<N, C: Copy + Default>(asked: &Asked, target: &mut [u8], reply: &mut Reply, value: N, ctx: C)
 where
     N: TryIntoCtx<C, Error = Error>,
 {
@@ -267,7 +267,7 @@ fn fill_required(asked: &Asked, source: &[u8], given: &[u8], reply: &mut Reply, 
     values.show(reply);
 }
 
-fn has_room(asked: &Asked, bytes: &[u8], size: usize) -> bool {
+pub fn has_room(asked: &Asked, bytes: &[u8], size: usize) -> bool {
     bytes.len().checked_sub(asked.place).is_some_and(|left| left >= size)
 }
 
@@ -384,7 +384,7 @@ fn piece(asked: &Asked) -> usize {
     (asked.b % 5) as usize + 1
 }
 
-fn pull<N: FromCtx<Endian> + SizeWith<Endian> + Show>(asked: &Asked, bytes: &[u8], reply: &mut Reply) {
+pub fn pull<N: FromCtx<Endian> + SizeWith<Endian> + Show>(asked: &Asked, bytes: &[u8], reply: &mut Reply) {
     let mut source = InPieces(bytes, piece(asked));
     for _ in 0..3 {
         let outcome: io::Result<N> =
@@ -407,7 +407,7 @@ pub fn ioread(asked: &Asked, bytes: &mut [u8], _given: &[u8], reply: &mut Reply)
     }
 }
 
-fn push<N: IntoCtx<Endian> + SizeWith<Endian> + Made>(
+pub fn push<N: IntoCtx<Endian> + SizeWith<Endian> + Made>(
     asked: &Asked,
     bytes: &mut [u8],
     given: &[u8],

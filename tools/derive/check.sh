@@ -32,6 +32,8 @@ while read -r file name; do
     count $?
 done <<'END'
 clients/examples/src/format.rt.txt Format
+clients/zip/src/file.rt.txt StoredFile
+clients/zip/src/end.rt.txt EndRecord
 END
 
 # Tests whether a file in which one line of the implementation differs is found out: --check ends with 1 and one line.
@@ -48,6 +50,24 @@ while [ "$line" -le "$last" ]; do
     count "$result"
     line=$((line + 1))
 done
+
+# The same for the files of a struct of any size: a line of its implementations, of its definitions and of its proof.
+while IFS='|' read -r file old words; do
+    rm -rf "$room/zip" && cp -R clients/zip "$room/zip"
+    sed "s/$old/other/" "clients/zip/$file" >"$room/zip/$file"
+    said=$(sh tools/derive/derive.sh --check "$room/zip/src/end.rt.txt" EndRecord 2>&1)
+    status=$?
+    ! cmp -s "clients/zip/$file" "$room/zip/$file" && [ "$status" -eq 1 ] && [ "$said" = "$room/zip/src/end.rt.txt: $words" ]
+    result=$?
+    [ "$result" -eq 0 ] || echo "derive: with another '$old' --check ended with $status and '$said'"
+    count "$result"
+done <<'END'
+src/end.rt.txt|check_room(22|the implementation for EndRecord is not what tools/derive/derive.sh prints
+src/end.rt.txt|parts.put(dst|the implementation for EndRecord is not what tools/derive/derive.sh prints
+specs/EndRecordFormat.antt.txt|◌≢◌|specs/EndRecordFormat.antt.txt is not what tools/derive/derive.sh prints for EndRecord
+specs/EndRecordFormat.antt.txt|whole|specs/EndRecordFormat.antt.txt is not what tools/derive/derive.sh prints for EndRecord
+specs/EndRecordBack.antt.txt|p7|specs/EndRecordBack.antt.txt is not what tools/derive/derive.sh prints for EndRecord
+END
 
 # Tests whether the implementation for a struct has a line: FILE STRUCT LINE.
 cat >"$room/forms.rt" <<'END'

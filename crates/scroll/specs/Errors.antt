@@ -1,5 +1,5 @@
 -- Errors. These words are for the errors that contracts name, and for what an error prints.
-use Rattle.std.specs.Prelude.{◌≡◌, ℕ, ◌++◌, List, codes, Option, Some, None}
+use Rattle.std.specs.Prelude.{◌≡◌, ℕ, ◌++◌, List, codes, Option, Some, None, ⊤}
 use Rattle.std.specs.Fmt.{decimal}
 use Rattle.std.specs.String.{string_bytes}
 use Rattle.scroll.specs.declared.error.Error.{Error}
@@ -21,6 +21,15 @@ IsBadOffset place e = e ≡ BadOffset place
 -- the same error, as another error type converts it by its `From`: `from_gives` holds of `BadOffset place` and `e`
 abbrev pub PastEnd : {E : Type 0} → (Error → E → Type 0) → ℕ → E → Type 0
 PastEnd from_gives place e = from_gives (BadOffset place) e
+
+-- `IsPlain e`: the error owns no memory: it is `TooBig`, `BadOffset` or `BadInput`
+abbrev pub IsPlain : Error → Type 0
+IsPlain (TooBig size len) = ⊤
+IsPlain (BadOffset offset) = ⊤
+IsPlain (BadInput size msg) = ⊤
+IsPlain (Custom text) = ⊥
+IsPlain (IO fault) = ⊥
+IsPlain NoMemory = ⊥
 
 -- `IsBadInput e n text`: the error is `BadInput` with the size `n` and a message of the bytes `text`. A message is
 -- borrowed and has an address, so it is compared by its bytes.

@@ -1,14 +1,15 @@
 -- Words of the laws. The laws themselves are in docs/LAWS.md.
-use Rattle.std.specs.Prelude.{◌≡◌, ◌≤◌, ◌<◌, ◌+◌, ℕ, ◌++◌, List, [], ◌∷◌, length, take, Result, Ok, Err, MatchResult}
+use Rattle.std.specs.Prelude.{◌≡◌, ◌≤◌, ◌<◌, ◌+◌, ℕ, ◌++◌, List, [], ◌∷◌, length, take, Result, Ok, Err, MatchResult, ⊤}
 use Rattle.std.specs.List.{Any, flat_map}
 use Rattle.scroll.specs.Arrays.{Nested, WritesArray, LeavesArray}
 use Rattle.scroll.specs.History.{Piece}
-use Rattle.scroll.specs.Reads.{ReadsAt, RefusesAt}
-use Rattle.scroll.specs.Errors.{IsBadOffset}
+use Rattle.scroll.specs.Reads.{IsBounded, ReadsAt, RefusesAt}
+use Rattle.scroll.specs.Errors.{IsBadOffset, IsPlain}
 use Rattle.scroll.specs.Runs.{Run}
 use Rattle.scroll.specs.declared.error.Error.{Error}
 use Rattle.scroll.specs.declared.error.Error.TheVariants.{BadInput}
 use Rattle.scroll.specs.declared.runner.Answer.{Answer}
+use Rattle.scroll.specs.declared.runner.Answer.TheVariants as answer
 use Rattle.scroll.specs.declared.runner.Command.{Command}
 
 -- the offset `i` is that of one of the bytes of the piece `p`
@@ -33,6 +34,11 @@ pub record WrittenLast (history : List Piece) (p : Piece) : Type 0 where
   pub split : history ≡ before ++ p ∷ after
   pub apart : Apart (p ∷ []) after
 
+-- `RefusesPlainly a`: the result of a command is a value, a size or an error that owns no memory, `IsPlain`
+abbrev pub RefusesPlainly : Answer → Type 0
+RefusesPlainly (answer.Refused e) = IsPlain e
+RefusesPlainly a = ⊤
+
 -- `WritesNested writes counts`, `LeavesNested writes refuses counts`, `leaves_nested leaves counts`: how an array of
 -- arrays is written, what a failed write leaves, and its leaves, those of the innermost elements in order: with no
 -- length `writes`, `refuses` and `leaves`, and else `WritesArray`, `LeavesArray` and the leaves of each element, over
@@ -54,10 +60,6 @@ leaves_nested leaves (count ∷ counts) = flat_map (leaves_nested leaves counts)
 abbrev pub IsLocal : {V : Type 0} → (List ℕ → V → ℕ → Type 0) → Type 0
 IsLocal {V} reads =
     (s t : List ℕ) (v : V) (n : ℕ) → reads s v n → n ≤ length s → length s ≤ length t → take n t ≡ take n s → reads t v n
-
--- each size is at most one more than the length of the source
-abbrev pub IsBounded : {V : Type 0} → (List ℕ → V → ℕ → Type 0) → Type 0
-IsBounded {V} reads = (s : List ℕ) (v : V) (n : ℕ) → reads s v n → n ≤ length s + 1
 
 -- each size is at most the length of the source
 abbrev pub IsWithin : {V : Type 0} → (List ℕ → V → ℕ → Type 0) → Type 0

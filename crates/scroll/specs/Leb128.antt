@@ -1,6 +1,6 @@
 -- Numbers in LEB128. The encoding is that of section 7.6 of DWARF 5: each byte has seven bits of the number, the lowest
 -- first, and a byte below 128 ends it. A read takes encodings of at most ten bytes, whose numbers fit into 64 bits.
-use Rattle.std.specs.Prelude.{◌≡◌, ℕ, ◌+◌, ◌*◌, ◌%◌, ◌^◌, ◌<◌, ◌≤◌, ◌==◌, nat_lt, Bool, List, length, slice_index, ℤ, pos, ◌-ℤ◌, if◌then◌else◌, FitsSigned}
+use Rattle.std.specs.Prelude.{◌≡◌, ℕ, ◌+◌, ◌*◌, ◌%◌, ◌^◌, ◌<◌, ◌≤◌, ◌==◌, nat_lt, ⊤, Bool, List, length, slice_index, ℤ, pos, ◌-ℤ◌, if◌then◌else◌, FitsSigned}
 use Rattle.std.specs.Int.{w64}
 use Rattle.std.specs.List.{position_or_len}
 use Rattle.std.specs.Ordering.{on, eq_of_both}
@@ -39,38 +39,23 @@ unsigned_of s = groups_value s (count_of s)
 abbrev pub signed_of : List ℕ → ℤ
 signed_of s = if nat_lt (group s (end_of s)) 64 then pos (unsigned_of s) else pos (unsigned_of s) -ℤ pos (128 ^ count_of s)
 
--- an unsigned number is read from the start of a source: the encoding is complete, its number fits into 64 bits, `x` is
--- that number, and the size `n` is the length of the encoding
-pub record ReadsUleb (source : List ℕ) (x n : ℕ) : Type 0 where
+-- a number is read from the start of a source: the encoding is complete, its number `value_of source` fits, `x` is that
+-- number, and the size `n` is the length of the encoding
+pub record ReadsLeb {V : Type 0} (value_of : List ℕ → V) (Fits : V → Type 0) (source : List ℕ) (x : V) (n : ℕ) : Type 0 where
   pub complete : IsComplete source
-  pub fits : unsigned_of source < 2 ^ 64
-  pub value : x ≡ unsigned_of source
+  pub fits : Fits (value_of source)
+  pub value : x ≡ value_of source
   pub size : n ≡ count_of source
 
--- the same of a signed number
-pub record ReadsSleb (source : List ℕ) (x : ℤ) (n : ℕ) : Type 0 where
-  pub complete : IsComplete source
-  pub fits : FitsSigned w64 (signed_of source)
-  pub value : x ≡ signed_of source
-  pub size : n ≡ count_of source
+-- `ReadsLeb` of an unsigned number of 64 bits, of a signed one of 64 bits, and of an unsigned one of any size
+abbrev pub ReadsUleb : List ℕ → ℕ → ℕ → Type 0
+ReadsUleb = ReadsLeb unsigned_of (λ v. v < 2 ^ 64)
 
--- the encoding is complete, `x` is its unsigned number, of any size, and `n` is its length
-pub record ReadsGroups (source : List ℕ) (x n : ℕ) : Type 0 where
-  pub complete : IsComplete source
-  pub value : x ≡ unsigned_of source
-  pub size : n ≡ count_of source
+abbrev pub ReadsSleb : List ℕ → ℤ → ℕ → Type 0
+ReadsSleb = ReadsLeb signed_of (FitsSigned w64)
 
--- the encoding ends in a block of eight bytes: `x` is its unsigned number, and `n` is its length
-pub record EndsInBlock (block : List ℕ) (x n : ℕ) : Type 0 where
-  pub within : end_of block < 8
-  pub value : x ≡ unsigned_of block
-  pub size : n ≡ count_of block
-
--- the same with its signed number
-pub record EndsInSignedBlock (block : List ℕ) (x : ℤ) (n : ℕ) : Type 0 where
-  pub within : end_of block < 8
-  pub value : x ≡ signed_of block
-  pub size : n ≡ count_of block
+abbrev pub ReadsGroups : List ℕ → ℕ → ℕ → Type 0
+ReadsGroups = ReadsLeb unsigned_of (λ v. ⊤)
 
 -- a number, and the length of its encoding in bytes: what a contract sees of a `Uleb128` or a `Sleb128`
 pub record Counted (V : Type 0) : Type 0 where
@@ -81,9 +66,12 @@ pub record Counted (V : Type 0) : Type 0 where
 abbrev pub counted_eq : {V : Type 0} → (V → V → Bool) → Counted V → Counted V → Bool
 counted_eq value_eq = eq_of_both (on (λ x. x.value) value_eq) (on (λ x. x.count) ◌==◌)
 
--- `ReadsUleb`, `ReadsSleb` of the number of `x`, whose length is the size `n`
+-- `reads` of the number of `x`, whose length is the size `n`; with `ReadsUleb`, and with `ReadsSleb`
+abbrev pub ReadsCounted : {V : Type 0} → (List ℕ → V → ℕ → Type 0) → List ℕ → Counted V → ℕ → Type 0
+ReadsCounted reads source x n = reads source x.value n × (x.count ≡ n)
+
 abbrev pub ReadsCountedUleb : List ℕ → Counted ℕ → ℕ → Type 0
-ReadsCountedUleb source x n = ReadsUleb source x.value n × (x.count ≡ n)
+ReadsCountedUleb = ReadsCounted ReadsUleb
 
 abbrev pub ReadsCountedSleb : List ℕ → Counted ℤ → ℕ → Type 0
-ReadsCountedSleb source x n = ReadsSleb source x.value n × (x.count ≡ n)
+ReadsCountedSleb = ReadsCounted ReadsSleb

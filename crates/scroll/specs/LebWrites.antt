@@ -4,19 +4,25 @@ use Rattle.scroll.specs.Bytes.{WritesFront}
 use Rattle.scroll.specs.Leb128.{Counted}
 use Rattle.scroll.specs.Spelling.{spelling, unsigned_form}
 
--- the encoding of the number: the one leaf of a `Uleb128`, of a `Sleb128`
+-- the encoding of the number, that of the unsigned number `form v n`: the one leaf of a `Uleb128`, of a `Sleb128`
+abbrev pub leb_text : {V : Type 0} → (V → ℕ → ℕ) → Counted V → List ℕ
+leb_text form x = spelling (form x.value x.count) x.count
+
 abbrev pub uleb_text : Counted ℕ → List ℕ
-uleb_text x = spelling x.value x.count
+uleb_text = leb_text (λ v n. v)
 
 abbrev pub sleb_text : Counted ℤ → List ℕ
-sleb_text x = spelling (unsigned_form x.value x.count) x.count
+sleb_text = leb_text unsigned_form
 
 -- the encoding is written over the start of a target: `WritesFront`
+abbrev pub WritesLeb : {V : Type 0} → (V → ℕ → ℕ) → Counted V → List ℕ → List ℕ → ℕ → Type 0
+WritesLeb form x = WritesFront x.count (leb_text form x)
+
 abbrev pub WritesUleb : Counted ℕ → List ℕ → List ℕ → ℕ → Type 0
-WritesUleb x = WritesFront x.count (uleb_text x)
+WritesUleb = WritesLeb (λ v n. v)
 
 abbrev pub WritesSleb : Counted ℤ → List ℕ → List ℕ → ℕ → Type 0
-WritesSleb x = WritesFront x.count (sleb_text x)
+WritesSleb = WritesLeb unsigned_form
 
 -- `spelled` holds of `n`, and of no number below it
 pub record IsLeast (spelled : ℕ → Type 0) (n : ℕ) : Type 0 where

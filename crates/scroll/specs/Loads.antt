@@ -1,6 +1,5 @@
 -- Counted loads. A `Loads` is a source that counts how often bytes were loaded from it.
-use Rattle.std.specs.Prelude.{◌≡◌, ℕ, ◌+◌, ◌≤◌, nat_lt, List, length, slice_get, if◌then◌else◌, Option, Some, MatchOption}
-use Rattle.scroll.specs.Leb128.{end_of, groups_value}
+use Rattle.std.specs.Prelude.{◌≡◌, ℕ, ◌+◌, ◌≤◌, nat_lt, List, length, if◌then◌else◌}
 
 -- the bytes of such a source, and how many loads were made
 pub record Loading : Type 0 where
@@ -15,10 +14,3 @@ pub record Loaded (old new : Loading) (most : ℕ) : Type 0 where
 -- how many loads a read of LEB128 makes at most: 3 where `s` has eight bytes or more, and else one for each byte
 abbrev pub most_loads : List ℕ → ℕ
 most_loads s = if nat_lt (length s) 8 then length s else 3
-
--- none of the first eight bytes ends the encoding, `groups` is the number of the first nine groups, and `tenth` is the
--- tenth byte where the ninth does not end the encoding
-pub record ReadsNine (source : List ℕ) (groups : ℕ) (tenth : Option ℕ) : Type 0 where
-  pub within : 9 ≤ length source
-  pub value : groups ≡ groups_value source 9
-  pub last : MatchOption tenth (end_of source ≡ 8) (λ b. (9 ≤ end_of source) × (slice_get source 9 ≡ Some b))

@@ -1,6 +1,6 @@
 -- Numbers as bytes. The byte order is `Little`, with the lowest byte first, or `Big`, with the highest first. That
--- `number_bytes` is the only list of bytes that reads as the number is the law `laws::number_reads_back`: its clauses
--- `unsigned` and `only`, and for `signed_bytes` `signed` and `only_signed`.
+-- `number_bytes` and `signed_bytes` are the only bytes that read as the number is said by the laws
+-- `laws::fixed_size_is_kept` and `laws::fixed_size_is_written_back`.
 use Rattle.std.specs.Prelude.{ℕ, ◌*◌, ◌^◌, ◌-◌, ◌/◌, ◌%◌, List, slice_index, ℤ, pos, ◌-ℤ◌, ◌+ℤ◌, nat_abs, int_lt, nat_lt, if◌then◌else◌}
 use Rattle.scroll.specs.Bytes.{sum_below, list_below, ReadsFront, WritesFront}
 use Rattle.scroll.specs.declared.endian.Endian.{Endian}

@@ -3,6 +3,10 @@
 -- an offset past the end may give; for `Error` it is `BadOffset` with that offset.
 use Rattle.std.specs.Prelude.{◌≡◌, ◌≤◌, ◌<◌, ◌+◌, ℕ, List, [], ◌∷◌, length, take, drop, ◌⊎◌}
 
+-- each size is at most one more than the length of the source
+abbrev pub IsBounded : {V : Type 0} → (List ℕ → V → ℕ → Type 0) → Type 0
+IsBounded {V} reads = (s : List ℕ) (v : V) (n : ℕ) → reads s v n → n ≤ length s + 1
+
 -- the offset `place` is at most the length of the buffer, and the rest there reads as `v` with the size `n`
 pub record ReadsAt {V : Type 0} (reads : List ℕ → V → ℕ → Type 0) (buffer : List ℕ) (place : ℕ) (v : V) (n : ℕ) : Type 0 where
   pub inside : place ≤ length buffer

@@ -14,7 +14,7 @@ use Rattle.scroll.specs.LebRefusals.{RefusesUleb, RefusesSleb}
 use Rattle.scroll.specs.LebWrites.{uleb_text, sleb_text}
 use Rattle.scroll.specs.Numbers.{ReadsNumber, ReadsSigned, number_bytes, signed_bytes}
 use Rattle.scroll.specs.Reads.{ReadsAt, RefusesAt}
-use Rattle.scroll.specs.Texts.{ReadsText, RefusesText, ReadsSlice, RefusesSlice}
+use Rattle.scroll.specs.Texts.{ReadsText, RefusesText, ReadsSlice}
 use Rattle.scroll.specs.declared.endian.Endian.{Endian}
 use Rattle.scroll.specs.declared.error.Error.{Error}
 use Rattle.scroll.specs.declared.error.Error.TheVariants.{NoMemory}
@@ -24,6 +24,8 @@ use Rattle.scroll.specs.declared.runner.Command.{Command}
 use Rattle.scroll.specs.declared.runner.Command.TheVariants as command
 use Rattle.scroll.specs.declared.runner.Kind.{Kind}
 use Rattle.scroll.specs.declared.runner.Kind.TheVariants as kind
+use Rattle.scroll.specs.declared.runner.Number.{Number}
+use Rattle.scroll.specs.declared.runner.Number.TheVariants as number
 use Rattle.scroll.specs.declared.runner.Place.{Place}
 use Rattle.scroll.specs.declared.runner.Place.TheVariants as place
 use Rattle.scroll.specs.declared.runner.Put.{Put}
@@ -61,48 +63,66 @@ ReadsWide false w order source (value.Unsigned x) n = ReadsNumber w order source
 ReadsWide true w order source (value.Signed x) n = ReadsSigned w order source x n
 ReadsWide sign w order source x n = ⊥
 
--- `Reads what source x n`: a value is read as the relation of its type says. Texts, slices and C strings are compared
+-- `ReadsKind what source x n`: a value is read as the relation of its type says. Texts, slices and C strings are compared
 -- by their bytes.
-abbrev pub Reads : Kind → List ℕ → Value → ℕ → Type 0
-Reads (kind.Number w order) source x n = ReadsWide (is_signed w) (bytes_in w) order source x n
-Reads (kind.Text ctx) source (value.Text text) n = ReadsText ctx source (string_bytes text) n
-Reads (kind.Bytes len) source (value.Bytes bytes) n = ReadsSlice len source bytes.items n
-Reads kind.CStr source (value.CStr text) n = ReadsCString source text.items n
-Reads kind.CString source (value.CStr text) n = ReadsCString source text.items n
-Reads kind.Uleb source (value.Uleb x) n = ReadsCountedUleb source x n
-Reads kind.Sleb source (value.Sleb x) n = ReadsCountedSleb source x n
-Reads (kind.U8x0 order) source value.U8x0 n = ReadsArray (ReadsNumber 1 order) 0 source [] n
-Reads (kind.U16x3 order) source (value.U16x3 xs) n = ReadsArray (ReadsNumber 2 order) 3 source xs n
-Reads (kind.Textx2 ctx) source (value.Textx2 a b) n =
+abbrev pub ReadsKind : Kind → List ℕ → Value → ℕ → Type 0
+ReadsKind (kind.Number w order) source x n = ReadsWide (is_signed w) (bytes_in w) order source x n
+ReadsKind (kind.Text ctx) source (value.Text text) n = ReadsText ctx source (string_bytes text) n
+ReadsKind (kind.Bytes len) source (value.Bytes bytes) n = ReadsSlice len source bytes.items n
+ReadsKind kind.CStr source (value.CStr text) n = ReadsCString source text.items n
+ReadsKind kind.CString source (value.CStr text) n = ReadsCString source text.items n
+ReadsKind kind.Uleb source (value.Uleb x) n = ReadsCountedUleb source x n
+ReadsKind kind.Sleb source (value.Sleb x) n = ReadsCountedSleb source x n
+ReadsKind (kind.U8x0 order) source value.U8x0 n = ReadsArray (ReadsNumber 1 order) 0 source [] n
+ReadsKind (kind.U16x3 order) source (value.U16x3 xs) n = ReadsArray (ReadsNumber 2 order) 3 source xs n
+ReadsKind (kind.Textx2 ctx) source (value.Textx2 a b) n =
     ReadsArray (ReadsText ctx) 2 source (string_bytes a ∷ string_bytes b ∷ []) n
-Reads what source x n = ⊥
+ReadsKind what source x n = ⊥
 
--- `Refuses what source e`: the read of a value fails as the relation of its type says
-abbrev pub Refuses : Kind → List ℕ → Error → Type 0
-Refuses (kind.Number w order) source e = RefusesShort (bytes_in w) source e
-Refuses (kind.Text ctx) source e = RefusesText ctx source e
-Refuses (kind.Bytes len) source e = RefusesSlice len source e
-Refuses kind.CStr source e = RefusesCString source e
-Refuses kind.CString source e = RefusesCString source e
-Refuses kind.Uleb source e = RefusesUleb source e
-Refuses kind.Sleb source e = RefusesSleb source e
-Refuses (kind.U8x0 order) source e = RefusesArray (ReadsNumber 1 order) (RefusesShort 1) IsBadOffset 0 source e
-Refuses (kind.U16x3 order) source e = RefusesArray (ReadsNumber 2 order) (RefusesShort 2) IsBadOffset 3 source e
-Refuses (kind.Textx2 ctx) source e = RefusesArray (ReadsText ctx) (RefusesText ctx) IsBadOffset 2 source e
+-- `RefusesKind what source e`: the read of a value fails as the relation of its type says
+abbrev pub RefusesKind : Kind → List ℕ → Error → Type 0
+RefusesKind (kind.Number w order) source e = RefusesShort (bytes_in w) source e
+RefusesKind (kind.Text ctx) source e = RefusesText ctx source e
+RefusesKind (kind.Bytes len) source e = RefusesShort len source e
+RefusesKind kind.CStr source e = RefusesCString source e
+RefusesKind kind.CString source e = RefusesCString source e
+RefusesKind kind.Uleb source e = RefusesUleb source e
+RefusesKind kind.Sleb source e = RefusesSleb source e
+RefusesKind (kind.U8x0 order) source e = RefusesArray (ReadsNumber 1 order) (RefusesShort 1) IsBadOffset 0 source e
+RefusesKind (kind.U16x3 order) source e = RefusesArray (ReadsNumber 2 order) (RefusesShort 2) IsBadOffset 3 source e
+RefusesKind (kind.Textx2 ctx) source e = RefusesArray (ReadsText ctx) (RefusesText ctx) IsBadOffset 2 source e
 
--- `leaves_of x`: the leaves of what is written: the bytes of each number, of a text, of each slice, of a C string with
--- its zero, and the encoding of a number in LEB128, `uleb_text` or `sleb_text`
+-- `Copies what`: the value of the kind is copied into memory of its own
+abbrev pub Copies : Kind → Type 0
+Copies (kind.Text ctx) = ⊤
+Copies (kind.Bytes len) = ⊤
+Copies kind.CStr = ⊤
+Copies kind.CString = ⊤
+Copies (kind.Textx2 ctx) = ⊤
+Copies what = ⊥
+
+-- `CopiesNothing c`: the command is a write, or a read of a kind that isn't copied
+abbrev pub CopiesNothing : Command → Type 0
+CopiesNothing (command.Read at what) = ¬ (Copies what)
+CopiesNothing (command.Write at x) = ⊤
+
+-- `leaf_of order x`: the bytes of a number of any type
+abbrev pub leaf_of : Endian → Number → List ℕ
+leaf_of order (number.U8 x) = number_bytes order 1 x
+leaf_of order (number.I8 x) = signed_bytes order 1 x
+leaf_of order (number.U16 x) = number_bytes order 2 x
+leaf_of order (number.I16 x) = signed_bytes order 2 x
+leaf_of order (number.U32 x) = number_bytes order 4 x
+leaf_of order (number.I32 x) = signed_bytes order 4 x
+leaf_of order (number.U64 x) = number_bytes order 8 x
+leaf_of order (number.I64 x) = signed_bytes order 8 x
+leaf_of order (number.U128 x) = number_bytes order 16 x
+leaf_of order (number.I128 x) = signed_bytes order 16 x
+
+-- `leaves_of x`: the leaves of what is written: the bytes of a number, of a text, of each slice, of a C string with its
+-- zero, and the encoding of a number in LEB128, `uleb_text` or `sleb_text`
 abbrev pub leaves_of : Put → List (List ℕ)
-leaves_of (put.U8 x order) = number_bytes order 1 x ∷ []
-leaves_of (put.I8 x order) = signed_bytes order 1 x ∷ []
-leaves_of (put.U16 x order) = number_bytes order 2 x ∷ []
-leaves_of (put.I16 x order) = signed_bytes order 2 x ∷ []
-leaves_of (put.U32 x order) = number_bytes order 4 x ∷ []
-leaves_of (put.I32 x order) = signed_bytes order 4 x ∷ []
-leaves_of (put.U64 x order) = number_bytes order 8 x ∷ []
-leaves_of (put.I64 x order) = signed_bytes order 8 x ∷ []
-leaves_of (put.U128 x order) = number_bytes order 16 x ∷ []
-leaves_of (put.I128 x order) = signed_bytes order 16 x ∷ []
+leaves_of (put.Number x order) = leaf_of order x ∷ []
 leaves_of (put.Text text) = text.now ∷ []
 leaves_of (put.Bytes bytes) = bytes.now ∷ []
 leaves_of (put.CStr text) = (c_str_text text ++ 0 ∷ []) ∷ []
@@ -139,8 +159,8 @@ UnlessNoMemory fact e = fact e
 
 -- `ReadStep buffer cursor at what a after`: the result `a` of one read, and the cursor `after` it
 abbrev pub ReadStep : List ℕ → ℕ → Place → Kind → Answer → ℕ → Type 0
-ReadStep buffer cursor at what (answer.Read x) after = ReadsHere (Reads what) buffer cursor at x after
-ReadStep buffer cursor at what (answer.Refused e) after = RefusesHere (Refuses what) IsBadOffset buffer cursor at e after
+ReadStep buffer cursor at what (answer.Read x) after = ReadsHere (ReadsKind what) buffer cursor at x after
+ReadStep buffer cursor at what (answer.Refused e) after = RefusesHere (RefusesKind what) IsBadOffset buffer cursor at e after
 ReadStep buffer cursor at what (answer.Wrote n) after = ⊥
 
 -- `WriteStep buffer cursor at leaves a after`: the result `a` of one write of these leaves, and the cursor `after` it

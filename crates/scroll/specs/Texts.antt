@@ -2,7 +2,7 @@
 -- Unicode scalar values, each of one to four bytes, as in ISO/IEC 10646 and in chapter 3 of the Unicode Standard
 -- (definition D92 and table 3-6). So no text has an overlong form, a surrogate, or a value above 0x10FFFF. The context
 -- of a text, a `StrCtx`, says where the text ends.
-use Rattle.std.specs.Prelude.{◌≡◌, ◌≤◌, ◌<◌, ⊤, ◌==◌, ◌+◌, ℕ, List, length, take, min, codes, ◌⊎◌, IsUtf8}
+use Rattle.std.specs.Prelude.{◌≡◌, ◌≤◌, ◌<◌, ⊤, ◌==◌, ◌||◌, ◌+◌, ℕ, nat_le, Bool, List, length, take, min, codes, ◌⊎◌, IsUtf8}
 use Rattle.std.specs.List.{position_or_len}
 use Rattle.scroll.specs.Bytes.{ReadsFront, RefusesShort}
 use Rattle.scroll.specs.Errors.{IsBadInput}
@@ -13,6 +13,10 @@ use Rattle.scroll.specs.declared.error.Error.{Error}
 -- the least index at which `s` has the byte `d`, or the length of `s` where it has none
 abbrev pub first_place : ℕ → List ℕ → ℕ
 first_place d s = position_or_len (λ b. b == d) s
+
+-- the byte `b` is the delimiter `d`, or is 128 or more, which is not ASCII. The search for a delimiter stops there.
+abbrev pub is_stop : ℕ → ℕ → Bool
+is_stop d b = (b == d) || nat_le 128 b
 
 -- `wanted_len ctx`: how many bytes the context needs of a source: its limit or its length, and 0 for `Delimiter` and
 -- `Required`
@@ -78,7 +82,3 @@ RefusesText ctx source e = RefusesShort (wanted_len ctx) source e ⊎ RefusesInv
 -- the first `n` bytes of a source are read: `ReadsFront n (take n)`
 abbrev pub ReadsSlice : ℕ → List ℕ → List ℕ → ℕ → Type 0
 ReadsSlice n = ReadsFront n (take n)
-
--- the source has fewer than `n` bytes, and the read fails: `RefusesShort n`
-abbrev pub RefusesSlice : ℕ → List ℕ → Error → Type 0
-RefusesSlice n = RefusesShort n

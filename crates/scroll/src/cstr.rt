@@ -126,7 +126,17 @@ impl CString {
         }
     }
 
+    // Copies a text with its zero, which isn't searched for again.
+    #[inline(always)]
+    pub(crate) fn copied(alloc: Global, text: CStr<'_>) -> result::Result<CString, AllocError>
+        ensures text { IfOk result (λ s. c_string_text s ≡ c_str_text text.entry) }
+    {
+        let bytes = Vec::from_slice(alloc, text.bytes)?;
+        Ok(CString { bytes })
+    }
+
     /// Borrows this as a [`CStr`].
+    #[inline]
     pub fn as_c_str(&self) -> CStr<'_>
         ensures { c_str_text result ≡ c_string_text self.now }
     {
@@ -134,6 +144,7 @@ impl CString {
     }
 
     /// Returns the text without the zero.
+    #[inline]
     pub fn as_bytes(&self) -> &[u8]
         ensures text { result.now ≡ c_string_text self.now }
         ensures no_zero { first_place 0 result.now ≡ length result.now }
@@ -142,6 +153,7 @@ impl CString {
     }
 
     /// Returns the text with the zero after it.
+    #[inline]
     pub fn as_bytes_with_nul(&self) -> &[u8]
         ensures text { result.now ≡ c_string_text self.now ++ 0 ∷ [] }
         ensures one_zero { IsCString result.now }

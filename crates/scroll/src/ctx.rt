@@ -2,14 +2,41 @@
 //!
 //! A context says how the bytes of a value are interpreted: in which byte order, up to which delimiter, or how many of
 //! them. A call whose name ends in `_with` takes the context; the others use the default of the context's type.
+//!
+//! From `clients/examples/src/sized_fields.rt.txt`, a context of its own:
+//!
+//! ```rust
+//! struct Context {
+//!     fieldsize: FieldSize,
+//!     endianess: Endian,
+//! }
+//!
+//!     fn try_from_ctx(from: &'b [u8], ctx: Context) -> result::Result<(Data<'b>, usize), DataError> {
+//!         let (fields, mut offset) = read_fields(from, ctx)?;
+//!         let name = read_name(from, &mut offset, ctx.endianess)?;
+//!         let value = read_value(from, &mut offset, ctx.endianess)?;
+//!         let [field_a, field_b, field_c] = fields;
+//!         if field_a >= field_b || field_b >= field_c {
+//!             return Err(DataError::BadFieldMatchup);
+//!         }
+//!         let data = Data {
+//!             field_a,
+//!             field_b,
+//!             field_c,
+//!             name,
+//!             value,
+//!         };
+//!         Ok((data, offset))
+//!     }
+//! ```
 ghost use Rattle.std.specs.Prelude.{◌≡◌, ℕ, ◌+◌, ◌^◌, ◌≤◌, ◌<◌, List, length, drop, IfOk, IfErr};
+ghost use Rattle.scroll.specs.Reads.{IsBounded};
 
 mod arrays;
 mod bytes;
 mod c_strings;
 mod encode;
 mod fixed;
-mod made;
 mod measure;
 mod numbers;
 mod std_c_strings;
@@ -21,7 +48,6 @@ mod zeros;
 pub use arrays::array_fits;
 pub use encode::{Encode, Value};
 pub use fixed::{Fixed, Plain, Record, RoundTrip, Written};
-pub use made::{bytes_at, read_made};
 pub use str_ctx::{NULL, RET, SPACE, StrCtx, TAB};
 pub use zeros::{Zeros, padding};
 
@@ -30,6 +56,27 @@ pub use zeros::{Zeros, padding};
 /// An implementation says by `reads` which values and sizes a read may return, and by `refuses` which errors. A caller
 /// that is generic over the type knows these two of a read, and that its size is at most one byte more than the source
 /// has.
+///
+/// From `clients/examples/src/external_error.rt.txt`, with an error of its own:
+///
+/// ```rust
+/// impl<'a> TryFromCtx<'a, Endian> for Foo {
+///     type Error = ExternalError;
+///
+///     ghost reads = { λ order source x n. (2 < length source) × ReadsNumber 2 order source x.0 n };
+///
+///     ghost refuses = { λ _ source _. length source ≤ 2 };
+///
+///     ghost reads_bounded = { λ order source x n h. Prim.search rules };
+///
+///     fn try_from_ctx(from: &'a [u8], ctx: Endian) -> Result<(Foo, usize), ExternalError> {
+///         check_room(3, from.len())?;
+///         let mut offset = 0;
+///         let n = from.gread_with(&mut offset, ctx)?;
+///         Ok((Foo(n), offset))
+///     }
+/// }
+/// ```
 pub trait TryFromCtx<'a, Ctx: Copy>: Sized {
     /// The error of a read.
     type Error;
@@ -48,7 +95,7 @@ pub trait TryFromCtx<'a, Ctx: Copy>: Sized {
         ensures refused { IfErr result (λ e. refuses ctx from.now e) };
 
     // The size is at most one more than the length of the source.
-    ghost reads_bounded: { (ctx : Ctx) (source : List ℕ) (x : Self) (n : ℕ) → reads ctx source x n → n ≤ length source + 1 };
+    ghost reads_bounded: { (ctx : Ctx) → IsBounded (reads ctx) };
 }
 
 /// A type that can be written to bytes in a context.
@@ -56,6 +103,29 @@ pub trait TryFromCtx<'a, Ctx: Copy>: Sized {
 /// An implementation says by `writes` which target and size a write may leave, and by `refuses` which target and error.
 /// A caller that is generic over the type knows these two of a write, that its size is at most the length of the
 /// target, and that the bytes after the first `size` are unchanged.
+///
+/// From `clients/examples/src/custom_error.rt.txt`, whose error has a text:
+///
+/// ```rust
+/// impl<'g> TryIntoCtx<(Endian, &'g Global)> for Foo {
+///     type Error = Error;
+///
+///     ghost writes = { λ ctx x old new n. WritesNumber 2 ctx.0 x.0 old new n };
+///
+///     ghost refuses = { λ _ _ old new e. (length old < 2) × (new ≡ old) × ((line_of e ≡ Some (codes "whatever")) ⊎ (e ≡ NoMemory)) };
+///
+///     ghost writes_bounded = { λ ctx x old new n h. Prim.search rules };
+///
+///     ghost writes_keeps = { λ ctx x old new n h. drop-written (length-number_bytes ctx.0 2 x.0) h };
+///
+///     fn try_into_ctx(self, dst: &mut [u8], ctx: (Endian, &'g Global)) -> Result<usize> {
+///         if dst.len() < 2 {
+///             return Err(whatever(*ctx.1));
+///         }
+///         self.0.try_into_ctx(dst, ctx.0)
+///     }
+/// }
+/// ```
 pub trait TryIntoCtx<Ctx: Copy>: Sized {
     /// The error of a write.
     type Error;

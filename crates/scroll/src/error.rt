@@ -35,8 +35,9 @@ pub type Result<T> = result::Result<T, Error>;
 /// calls return no error.
 ///
 /// ```rust
+/// let file: &[u8] = &[2, 1, 0, 0, 0, 0, 0, 0];
 /// check_room(8, file.len())?;
-/// let tag: u16 = file.cread_with(0, LE);
+/// assert_eq!(rt; file.cread_with::<u16>(0, LE), 258);
 /// assert!(rt; matches!(&check_room(8, 7), Err(Error::TooBig { size: 8, len: 7 })));
 /// ```
 #[inline]

@@ -11,6 +11,22 @@ use crate::source::Source;
 /// Offsets are in bytes, from the start of the slice. The caller ensures that the offset plus the number of bytes that
 /// the type needs is at most the length of the slice. [`Pread`](crate::Pread) checks this instead, and returns an
 /// error.
+///
+/// From `clients/examples/src/bar.rt.txt`:
+///
+/// ```rust
+/// impl FromCtx<Endian> for Bar {
+///     ghost need = { λ _. 8 };
+///
+///     ghost makes = { λ order source x. (x.foo ≡ signed_number order 4 source) × (x.bar ≡ number order 4 (drop 4 source)) };
+///
+///     fn from_ctx(this: &[u8], ctx: Endian) -> Bar {
+///         let foo = this.cread_with(0, ctx);
+///         let bar = this.cread_with(4, ctx);
+///         Bar { foo, bar }
+///     }
+/// }
+/// ```
 pub trait Cread<Ctx: Copy>: Source {
     /// Reads a value of type `N` at `offset` in the default context, which for numbers is the machine's byte order.
     ///
@@ -26,7 +42,10 @@ pub trait Cread<Ctx: Copy>: Source {
         requires { (ctx : Ctx) → Ctx.is_default ctx
             → offset + N.need ctx ≤ length (Self.bytes self) }
         ensures { ByDefault Ctx.is_default (λ ctx.
-            N.makes ctx (drop offset (Self.bytes self)) result) };
+            N.makes ctx (drop offset (Self.bytes self)) result) }
+    {
+        self.cread_with(offset, Ctx::default())
+    }
 
     /// Reads a value of type `N` at `offset` in the context `ctx`.
     ///
@@ -42,13 +61,6 @@ pub trait Cread<Ctx: Copy>: Source {
 }
 
 impl<'a, Ctx: Copy> Cread<Ctx> for &'a [u8] {
-    fn cread<N: FromCtx<Ctx>>(self, offset: usize) -> N
-    where
-        Ctx: Default,
-    {
-        self.cread_with(offset, Ctx::default())
-    }
-
     fn cread_with<N: FromCtx<Ctx>>(self, offset: usize, ctx: Ctx) -> N {
         N::from_ctx(&self[offset..], ctx)
     }
@@ -59,6 +71,23 @@ impl<'a, Ctx: Copy> Cread<Ctx> for &'a [u8] {
 /// Offsets are in bytes, from the start of the slice. The caller ensures that the offset plus the number of bytes that
 /// the type needs is at most the length of the slice. The bytes before the offset, and those after the bytes that the
 /// type needs, are unchanged. [`Pwrite`](crate::Pwrite) checks the room instead, and returns an error.
+///
+/// From `clients/examples/src/bar.rt.txt`:
+///
+/// ```rust
+/// impl IntoCtx<Endian> for Bar {
+///     ghost need = { λ _. 8 };
+///
+///     ghost leaves = { λ order x old new. new ≡ (signed_bytes order 4 x.foo ++ number_bytes order 4 x.bar) ++ drop 8 old };
+///
+///     ghost leaves_keeps = { λ order x old new h. Prim.search rules };
+///
+///     fn into_ctx(self, dst: &mut [u8], ctx: Endian) {
+///         slice::cwrite_with(dst, self.foo, 0, ctx);
+///         slice::cwrite_with(dst, self.bar, 4, ctx);
+///     }
+/// }
+/// ```
 pub trait Cwrite<Ctx: Copy> {
     // The bytes of the target.
     ghost target: { Self → List ℕ };
@@ -85,7 +114,10 @@ pub trait Cwrite<Ctx: Copy> {
         ensures after { ByDefault Ctx.is_default (λ ctx.
             N.leaves ctx n (drop offset (target self.old)) (drop offset (target self.new))) }
         ensures len { length (target self.new) ≡ length (target self.old) }
-        ensures same { same_target self.old self.new };
+        ensures same { same_target self.old self.new }
+    {
+        self.cwrite_with(n, offset, Ctx::default())
+    }
 
     /// Writes `n` at `offset` in the context `ctx`.
     ///
@@ -108,13 +140,6 @@ impl<'d, Ctx: Copy> Cwrite<Ctx> for &'d mut [u8] {
     ghost target = { λ t. t.now };
 
     ghost same_target = { λ old new. new.ghost_name ≡ old.ghost_name };
-
-    fn cwrite<N: IntoCtx<Ctx>>(&mut self, n: N, offset: usize)
-    where
-        Ctx: Default,
-    {
-        slice::cwrite(self, n, offset)
-    }
 
     fn cwrite_with<N: IntoCtx<Ctx>>(&mut self, n: N, offset: usize, ctx: Ctx) {
         slice::cwrite_with(self, n, offset, ctx)

@@ -12,6 +12,7 @@ mod leb128;
 mod numbers;
 mod reads;
 mod required;
+mod runs;
 
 pub use self::c_strings::{c_string_has_one_zero, c_string_has_one_zero as law_9};
 pub use self::constants::constants_have_their_values;
@@ -41,3 +42,4 @@ pub use self::reads::{
 pub use self::required::{
     required_text_is_within_its_source, required_text_is_within_its_source as law_required,
 };
+pub use self::runs::run_refuses_plainly;

@@ -10,6 +10,8 @@
 //! bytes ([`uleb_block`], [`sleb_block`]) and from a source that counts its loads ([`uleb_loads`], [`sleb_loads`]).
 mod block;
 mod by_loads;
+mod counted;
+mod groups;
 mod plain;
 mod signed;
 mod unsigned;
@@ -18,6 +20,7 @@ mod write;
 use crate::error::Error;
 pub use block::{sleb_block, uleb_block};
 pub use by_loads::{sleb_loads, uleb_loads};
+pub use counted::{Leb128, LebNumber};
 pub use plain::{plain_sleb, plain_uleb};
 pub use signed::Sleb128;
 pub use unsigned::Uleb128;

@@ -1,11 +1,15 @@
 // Values read from readers and written to writers.
-ghost use Rattle.std.specs.Prelude.{ℕ, ◌≤◌, replicate, IfOk, OnOk};
+ghost use Rattle.std.specs.Prelude.{◌≡◌, ℕ, ◌≤◌, length, replicate, IfOk, OnOk};
+ghost use Rattle.std.specs.Io.KnownBytes.{Appends, Consumes};
 ghost use Rattle.scroll.specs.Reads.{ByDefault};
 ghost use Rattle.scroll.specs.Streams.{TakesValue, AppendsValue};
 
 use crate::ctx::{FromCtx, IntoCtx, SizeWith};
 use std::io;
-use std::io::{Read, Write};
+use std::io::{ErrorKind, Read, Write};
+
+// The scratch of a type of at most this size, as every number is, is this large; that of any other type has 256 bytes.
+const SMALL: usize = 16;
 
 /// Reads values of any type that implements [`FromCtx`] and [`SizeWith`] from a reader.
 ///
@@ -15,6 +19,19 @@ use std::io::{Read, Write};
 ///
 /// An error is the reader's own, or one of kind `UnexpectedEof` where the reader ends too early. An interrupted call is
 /// repeated. After an error, the number of bytes taken is not specified.
+///
+/// From `clients/examples/src/stream.rt.txt`, of a struct that is a [`Record`](crate::ctx::Record):
+///
+/// ```rust
+/// // Reads the next twelve bytes of a source.
+/// fn read_foo(source: &mut &[u8], order: Endian) -> io::Result<Foo>
+///     ensures foo { IfOk result (λ x. x.foo ≡ signed_number order 8 (take 12 source.old.now)) }
+///     ensures bar { IfOk result (λ x. x.bar ≡ number order 4 (drop 8 (take 12 source.old.now))) }
+///     ensures rest { OnOk result (source.new.now ≡ drop 12 source.old.now) }
+/// {
+///     source.ioread_with(order)
+/// }
+/// ```
 pub trait IOread<Ctx: Copy>: Read {
     /// Reads a value of type `N` in the default context, which for numbers is the machine's byte order.
     ///
@@ -53,15 +70,51 @@ pub trait IOread<Ctx: Copy>: Read {
         ensures took { IfOk result (λ x. TakesValue (Self.remaining self.old)
             (Self.remaining self.new) (N.size ctx) (λ bytes. N.makes ctx bytes x)) }
     {
-        let mut scratch = [0u8; 256];
         let size = N::size_with(&ctx);
-        let bytes = &mut scratch[..size];
-        self.read_exact(bytes)?;
-        Ok(N::from_ctx(bytes, ctx))
+        if size <= SMALL {
+            let mut scratch = [0u8; SMALL];
+            return read_value(self, &mut scratch[..size], ctx);
+        }
+        let mut scratch = [0u8; 256];
+        read_value(self, &mut scratch[..size], ctx)
     }
 }
 
 impl<Ctx: Copy, R: Read> IOread<Ctx> for R {}
+
+// Reads as many bytes as `scratch` has, and makes a value of them.
+#[inline(always)]
+fn read_value<R: Read, Ctx: Copy, N: FromCtx<Ctx>>(
+    reader: &mut R,
+    scratch: &mut [u8],
+    ctx: Ctx,
+) -> io::Result<N>
+    requires need { N.need ctx ≤ length scratch.old }
+    ensures took { IfOk result (λ x. TakesValue (R.remaining reader.old)
+        (R.remaining reader.new) (length scratch.old) (λ bytes. N.makes ctx bytes x)) }
+{
+    fill(reader, scratch)?;
+    Ok(N::from_ctx(scratch, ctx))
+}
+
+// Does what `read_exact` does. Its first read is made here, since it mostly is the last.
+#[inline(always)]
+fn fill<R: Read>(reader: &mut R, bytes: &mut [u8]) -> io::Result<()>
+    ensures bytes { OnOk result
+        (Consumes (R.remaining reader.old) (R.remaining reader.new) bytes.new) }
+{
+    if bytes.is_empty() {
+        return Ok(());
+    }
+    match reader.read(bytes) {
+        Ok(count) if count == bytes.len() => Ok(()),
+        // (the error of a reader without bytes)
+        Ok(0) => [].as_slice().read_exact(bytes),
+        Ok(count) => reader.read_exact(&mut bytes[count..]),
+        Err(error) if error.kind() == ErrorKind::Interrupted => reader.read_exact(bytes),
+        Err(error) => Err(error),
+    }
+}
 
 /// Writes values of any type that implements [`IntoCtx`] and [`SizeWith`] to a writer.
 ///
@@ -113,13 +166,52 @@ pub trait IOwrite<Ctx: Copy>: Write {
         ensures appended { OnOk result (AppendsValue (Self.contents self.old)
             (Self.contents self.new) (N.size ctx) (N.leaves ctx n (replicate (N.size ctx) 0))) }
     {
-        let mut scratch = [0u8; 256];
         let size = N::size_with(&ctx);
-        let bytes = &mut scratch[..size];
-        n.into_ctx(bytes, ctx);
-        self.write_all(bytes)?;
-        Ok(())
+        if size <= SMALL {
+            let mut scratch = [0u8; SMALL];
+            return write_value(self, n, &mut scratch[..size], ctx);
+        }
+        let mut scratch = [0u8; 256];
+        write_value(self, n, &mut scratch[..size], ctx)
     }
 }
 
 impl<Ctx: Copy, W: Write> IOwrite<Ctx> for W {}
+
+// Writes the value over the zeros in `scratch`, and appends all bytes of `scratch`.
+#[inline(always)]
+fn write_value<W: Write, Ctx: Copy, N: IntoCtx<Ctx>>(
+    writer: &mut W,
+    n: N,
+    scratch: &mut [u8],
+    ctx: Ctx,
+) -> io::Result<()>
+    requires need { N.need ctx ≤ length scratch.old }
+    ensures appended { OnOk result (AppendsValue (W.contents writer.old)
+        (W.contents writer.new) (length scratch.old) (N.leaves ctx n scratch.old)) }
+{
+    n.into_ctx(scratch, ctx);
+    append(writer, scratch)
+}
+
+// Does what `write_all` does. Its first write is made here, since it mostly is the last.
+#[inline(always)]
+fn append<W: Write>(writer: &mut W, bytes: &[u8]) -> io::Result<()>
+    ensures bytes { OnOk result
+        (Appends (W.contents writer.old) (W.contents writer.new) bytes.now) }
+{
+    if bytes.is_empty() {
+        return Ok(());
+    }
+    match writer.write(bytes) {
+        Ok(count) if count == bytes.len() => Ok(()),
+        Ok(0) => {
+            // (the error of a writer without room)
+            [].as_mut_slice().write_all(bytes)?;
+            Err(io::Error::from(ErrorKind::WriteZero))
+        }
+        Ok(count) => writer.write_all(&bytes[count..]),
+        Err(error) if error.kind() == ErrorKind::Interrupted => writer.write_all(bytes),
+        Err(error) => Err(error),
+    }
+}

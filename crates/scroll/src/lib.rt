@@ -21,10 +21,8 @@
 //! numbers in LEB128, zeros, arrays, and your own types; pairs of numbers can be written. [`runner`] runs lists of such
 //! reads and writes, and [`laws`] states laws of the definitions that the contracts use.
 //!
-//! `CALLING.md`, in the folder of this crate, shows callers and types of your own with their proofs. The examples of the
-//! Rust crate's documentation are in `clients/examples/src` of the repository: `sized_fields` has a context of its own,
-//! `custom_error` and `external_error` implement [`TryFromCtx`](ctx::TryFromCtx) and [`TryIntoCtx`](ctx::TryIntoCtx), `bar`
-//! uses [`Cread`] and [`Cwrite`], and `stream` uses [`IOread`] and [`IOwrite`].
+//! `CALLING.md`, in the folder of this crate, shows callers and types of your own with their proofs. `clients/examples/src`
+//! of the repository has them whole, and the examples of the Rust crate's documentation.
 #![tactic(auto)]
 
 pub mod cstr;

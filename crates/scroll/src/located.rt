@@ -35,7 +35,10 @@ pub trait LocateError<T, E>: Sized {
     /// After a failed call with a cursor, the cursor is the offset at which the value that failed should start:
     ///
     /// ```rust
-    /// let section: Section = file.gread_with(&mut offset, LE).at(offset)?;
+    /// let file: &[u8] = &[1, 2, 3];
+    /// let mut offset = 2;
+    /// let refused = file.gread_with::<u16>(&mut offset, LE).at(offset).err();
+    /// assert!(rt; matches!(&refused, Some(At { offset: 2, error: Error::TooBig { .. } })));
     /// ```
     fn at(self, offset: usize) -> Result<T, At<E>>
         ensures value { IfOk result (λ x. has_value self x) }

@@ -12,7 +12,7 @@ use crate::source::{ReadFrom, Source};
 /// `E::from(Error::BadOffset(offset))`, which for `E = Error` is that error itself; an offset at the end reads an empty
 /// source. Every other error is the type's own. The elements of a bulk read are `Drop`, since it replaces them. An array or a
 /// vector is read as it is.
-pub trait Pread<'a, Ctx: Copy, E>: Source {
+pub trait Pread<Ctx: Copy, E>: Source {
     // Holds of an offset past the end and each error that may be returned for it.
     ghost past_end: { ℕ → E → Type 0 };
 
@@ -23,13 +23,17 @@ pub trait Pread<'a, Ctx: Copy, E>: Source {
     /// let byte = bytes[..].pread::<u8>(0)?;
     /// assert_eq!(rt; byte, 127);
     /// ```
+    #[inline(always)]
     fn pread<N: ReadFrom<Self, Ctx, Error = E>>(self, offset: usize) -> Result<N, E>
     where
         Ctx: Default,
         ensures read { IfOk result (λ x.
             ByDefault Ctx.is_default (λ ctx. ReadsSome (N.reads ctx) (Self.bytes self) offset x)) }
         ensures refused { IfErr result (λ e. ByDefault Ctx.is_default (λ ctx.
-            RefusesAt (N.refuses ctx) past_end (Self.bytes self) offset e)) };
+            RefusesAt (N.refuses ctx) past_end (Self.bytes self) offset e)) }
+    {
+        self.pread_with(offset, Ctx::default())
+    }
 
     /// Reads a value of type `N` at `offset` in the context `ctx`.
     ///
@@ -38,10 +42,15 @@ pub trait Pread<'a, Ctx: Copy, E>: Source {
     /// let dead: u16 = bytes[..].pread_with(0, BE)?;
     /// assert_eq!(rt; dead, 0xdead);
     /// ```
+    #[inline(always)]
     fn pread_with<N: ReadFrom<Self, Ctx, Error = E>>(self, offset: usize, ctx: Ctx) -> Result<N, E>
         ensures read { IfOk result (ReadsSome (N.reads ctx) (Self.bytes self) offset) }
         ensures refused { IfErr result
-            (RefusesAt (N.refuses ctx) past_end (Self.bytes self) offset) };
+            (RefusesAt (N.refuses ctx) past_end (Self.bytes self) offset) }
+    {
+        let mut offset = offset;
+        self.gread_with(&mut offset, ctx)
+    }
 
     /// Reads a value of type `N` at the cursor `offset` in the default context, and advances the cursor by the value's
     /// size. On an error the cursor is unchanged.
@@ -53,6 +62,7 @@ pub trait Pread<'a, Ctx: Copy, E>: Source {
     /// assert_eq!(rt; byte, 127);
     /// assert_eq!(rt; *offset, 1);
     /// ```
+    #[inline(always)]
     fn gread<N: ReadFrom<Self, Ctx, Error = E>>(self, offset: &mut usize) -> Result<N, E>
     where
         Ctx: Default,
@@ -60,7 +70,10 @@ pub trait Pread<'a, Ctx: Copy, E>: Source {
             ReadsBetween (N.reads ctx) (Self.bytes self) offset.old offset.new x)) }
         ensures refused { IfErr result (λ e. ByDefault Ctx.is_default (λ ctx.
             RefusesAt (N.refuses ctx) past_end (Self.bytes self) offset.old e)) }
-        ensures stays { OnErr result (offset.new ≡ offset.old) };
+        ensures stays { OnErr result (offset.new ≡ offset.old) }
+    {
+        self.gread_with(offset, Ctx::default())
+    }
 
     /// Reads a value of type `N` at the cursor `offset` in the context `ctx`, and advances the cursor by the value's
     /// size. On an error the cursor is unchanged.
@@ -106,7 +119,10 @@ pub trait Pread<'a, Ctx: Copy, E>: Source {
             ReadsAll (N.reads ctx) (Self.bytes self) offset.old inout.new offset.new)) }
         ensures stopped { IfErr result (λ e.
             ByDefault Ctx.is_default (λ ctx. StopsAt (N.reads ctx) (N.refuses ctx) past_end
-            (Self.bytes self) offset.old offset.new inout.old inout.new e)) };
+            (Self.bytes self) offset.old offset.new inout.old inout.new e)) }
+    {
+        self.gread_inout_with(offset, inout, Ctx::default())
+    }
 
     /// Fills `inout` with values that are read one after another from the cursor `offset` in the context `ctx`, and
     /// advances the cursor past the last one.
@@ -131,37 +147,17 @@ pub trait Pread<'a, Ctx: Copy, E>: Source {
         ensures read { OnOk result (ReadsAll (N.reads ctx)
             (Self.bytes self) offset.old inout.new offset.new) }
         ensures stopped { IfErr result (StopsAt (N.reads ctx) (N.refuses ctx) past_end
-            (Self.bytes self) offset.old offset.new inout.old inout.new) };
+            (Self.bytes self) offset.old offset.new inout.old inout.new) }
+    {
+        for i in 0..inout.len() {
+            inout[i] = self.gread_with(offset, ctx)?;
+        }
+        Ok(())
+    }
 }
 
-impl<'a, Ctx: Copy, E: From<Error>> Pread<'a, Ctx, E> for &'a [u8] {
+impl<'a, Ctx: Copy, E: From<Error>> Pread<Ctx, E> for &'a [u8] {
     ghost past_end = { PastEnd E.from_gives };
-
-    #[inline(always)]
-    fn pread<N: ReadFrom<Self, Ctx, Error = E>>(self, offset: usize) -> Result<N, E>
-    where
-        Ctx: Default,
-    {
-        self.pread_with(offset, Ctx::default())
-    }
-
-    #[inline(always)]
-    fn pread_with<N: ReadFrom<Self, Ctx, Error = E>>(
-        self,
-        offset: usize,
-        ctx: Ctx,
-    ) -> Result<N, E> {
-        let mut offset = offset;
-        self.gread_with(&mut offset, ctx)
-    }
-
-    #[inline(always)]
-    fn gread<N: ReadFrom<Self, Ctx, Error = E>>(self, offset: &mut usize) -> Result<N, E>
-    where
-        Ctx: Default,
-    {
-        self.gread_with(offset, Ctx::default())
-    }
 
     #[inline(always)]
     fn gread_with<N: ReadFrom<Self, Ctx, Error = E>>(
@@ -176,28 +172,5 @@ impl<'a, Ctx: Copy, E: From<Error>> Pread<'a, Ctx, E> for &'a [u8] {
         let (value, size) = N::read_from(&self[start..], ctx)?;
         *offset = start + size;
         Ok(value)
-    }
-
-    fn gread_inout<N: ReadFrom<Self, Ctx, Error = E> + Drop>(
-        self,
-        offset: &mut usize,
-        inout: &mut [N],
-    ) -> Result<(), E>
-    where
-        Ctx: Default,
-    {
-        self.gread_inout_with(offset, inout, Ctx::default())
-    }
-
-    fn gread_inout_with<N: ReadFrom<Self, Ctx, Error = E> + Drop>(
-        self,
-        offset: &mut usize,
-        inout: &mut [N],
-        ctx: Ctx,
-    ) -> Result<(), E> {
-        for i in 0..inout.len() {
-            inout[i] = self.gread_with(offset, ctx)?;
-        }
-        Ok(())
     }
 }

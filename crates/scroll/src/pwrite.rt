@@ -8,12 +8,14 @@ use crate::ctx::TryIntoCtx;
 use crate::error::Error;
 use crate::slice;
 
+mod owned;
+
 /// Writes values of any type that implements [`TryIntoCtx`] and `Drop` to a byte slice.
 ///
 /// Offsets and sizes are in bytes, and an offset counts from the start of the slice. An offset past the end returns
 /// `E::from(Error::BadOffset(offset))`, which for `E = Error` is that error itself, and leaves the slice unchanged; an
 /// offset at the end writes to an empty target. Every other error is the type's own, and the type says what it leaves.
-/// The bytes before the offset and the length of the slice are always unchanged.
+/// The bytes before the offset and the length of the slice are always unchanged. An array or a vector is written as it is.
 pub trait Pwrite<Ctx: Copy, E> {
     // The bytes of the target.
     ghost target: { Self → List ℕ };
@@ -33,6 +35,7 @@ pub trait Pwrite<Ctx: Copy, E> {
     /// target.pwrite(0xbeefbeefu32, 0)?;
     /// assert_eq!(rt; bytes[..].pread::<u32>(0)?, 0xbeefbeef);
     /// ```
+    #[inline(always)]
     fn pwrite<N: TryIntoCtx<Ctx, Error = E> + Drop>(
         &mut self,
         n: N,
@@ -45,7 +48,10 @@ pub trait Pwrite<Ctx: Copy, E> {
         ensures refused { IfErr result (λ e. ByDefault Ctx.is_default (λ ctx. RefusesWriteAt
             (N.refuses ctx n) past_end (target self.old) offset (target self.new) e)) }
         ensures len { length (target self.new) ≡ length (target self.old) }
-        ensures same { same_target self.old self.new };
+        ensures same { same_target self.old self.new }
+    {
+        self.pwrite_with(n, offset, Ctx::default())
+    }
 
     /// Writes `n` at `offset` in the context `ctx`, and returns its size in bytes.
     ///
@@ -55,6 +61,7 @@ pub trait Pwrite<Ctx: Copy, E> {
     /// target.pwrite_with(0xbeefbeefu32, 0, LE)?;
     /// assert_eq!(rt; bytes[..].pread_with::<u32>(0, LE)?, 0xbeefbeef);
     /// ```
+    #[inline(always)]
     fn pwrite_with<N: TryIntoCtx<Ctx, Error = E> + Drop>(
         &mut self,
         n: N,
@@ -66,7 +73,11 @@ pub trait Pwrite<Ctx: Copy, E> {
         ensures refused { IfErr result
             (RefusesWriteAt (N.refuses ctx n) past_end (target self.old) offset (target self.new)) }
         ensures len { length (target self.new) ≡ length (target self.old) }
-        ensures same { same_target self.old self.new };
+        ensures same { same_target self.old self.new }
+    {
+        let mut offset = offset;
+        self.gwrite_with(n, &mut offset, ctx)
+    }
 
     /// Writes `n` at the cursor `offset` in the default context, advances the cursor by the size of `n` in bytes, and
     /// returns that size. On an error the cursor is unchanged.
@@ -78,6 +89,7 @@ pub trait Pwrite<Ctx: Copy, E> {
     /// target.gwrite(0xbeefbeefu32, offset)?;
     /// assert_eq!(rt; *offset, 4);
     /// ```
+    #[inline(always)]
     fn gwrite<N: TryIntoCtx<Ctx, Error = E> + Drop>(
         &mut self,
         n: N,
@@ -92,7 +104,10 @@ pub trait Pwrite<Ctx: Copy, E> {
         ensures moves { IfOk result (λ size. offset.new ≡ offset.old + size) }
         ensures stays { OnErr result (offset.new ≡ offset.old) }
         ensures len { length (target self.new) ≡ length (target self.old) }
-        ensures same { same_target self.old self.new };
+        ensures same { same_target self.old self.new }
+    {
+        self.gwrite_with(n, offset, Ctx::default())
+    }
 
     /// Writes `n` at the cursor `offset` in the context `ctx`, advances the cursor by the size of `n` in bytes, and
     /// returns that size. On an error the cursor is unchanged.
@@ -127,40 +142,6 @@ impl<'d, Ctx: Copy, E: From<Error>> Pwrite<Ctx, E> for &'d mut [u8] {
     ghost same_target = { λ old new. new.ghost_name ≡ old.ghost_name };
 
     ghost past_end = { PastEnd E.from_gives };
-
-    #[inline(always)]
-    fn pwrite<N: TryIntoCtx<Ctx, Error = E> + Drop>(
-        &mut self,
-        n: N,
-        offset: usize,
-    ) -> Result<usize, E>
-    where
-        Ctx: Default,
-    {
-        slice::pwrite(self, n, offset)
-    }
-
-    #[inline(always)]
-    fn pwrite_with<N: TryIntoCtx<Ctx, Error = E> + Drop>(
-        &mut self,
-        n: N,
-        offset: usize,
-        ctx: Ctx,
-    ) -> Result<usize, E> {
-        slice::pwrite_with(self, n, offset, ctx)
-    }
-
-    #[inline(always)]
-    fn gwrite<N: TryIntoCtx<Ctx, Error = E> + Drop>(
-        &mut self,
-        n: N,
-        offset: &mut usize,
-    ) -> Result<usize, E>
-    where
-        Ctx: Default,
-    {
-        slice::gwrite(self, n, offset)
-    }
 
     #[inline(always)]
     fn gwrite_with<N: TryIntoCtx<Ctx, Error = E> + Drop>(

@@ -2,8 +2,9 @@
 //!
 //! [`run`] runs the commands in turn, and appends an [`Answer`] for each to a vector. Its contract states all results and
 //! all that it leaves, over the history of what was written.
-ghost use Rattle.std.specs.Prelude.{◌≡◌, OnOk, OnErr, IfOk, IfErr};
-ghost use Rattle.scroll.specs.Runs.{IsStep, IsRun, IsFrontRun};
+ghost use Rattle.std.specs.Prelude.{◌≡◌, ◌+◌, ◌≤◌, length, vec_len, vec_capacity, OnOk, OnErr, IfOk, IfErr, IsOk};
+ghost use Rattle.std.specs.List.{All};
+ghost use Rattle.scroll.specs.Runs.{IsStep, IsRun, IsFrontRun, CopiesNothing};
 ghost use Rattle.scroll.specs.declared.error.Error.TheVariants.{NoMemory};
 
 use crate::cstr::CStr;
@@ -75,29 +76,36 @@ pub enum Kind {
     Textx2(StrCtx),
 }
 
+/// A number of any type.
+#[derive(Clone, Copy, Debug)]
+pub enum Number {
+    /// An unsigned number of 8 bits.
+    U8(u8),
+    /// A signed number of 8 bits.
+    I8(i8),
+    /// An unsigned number of 16 bits.
+    U16(u16),
+    /// A signed number of 16 bits.
+    I16(i16),
+    /// An unsigned number of 32 bits.
+    U32(u32),
+    /// A signed number of 32 bits.
+    I32(i32),
+    /// An unsigned number of 64 bits.
+    U64(u64),
+    /// A signed number of 64 bits.
+    I64(i64),
+    /// An unsigned number of 128 bits.
+    U128(u128),
+    /// A signed number of 128 bits.
+    I128(i128),
+}
+
 /// What a command writes.
 #[derive(Clone, Copy, Debug)]
 pub enum Put<'c> {
-    /// An unsigned number of 8 bits, in a byte order.
-    U8(u8, Endian),
-    /// A signed number of 8 bits, in a byte order.
-    I8(i8, Endian),
-    /// An unsigned number of 16 bits, in a byte order.
-    U16(u16, Endian),
-    /// A signed number of 16 bits, in a byte order.
-    I16(i16, Endian),
-    /// An unsigned number of 32 bits, in a byte order.
-    U32(u32, Endian),
-    /// A signed number of 32 bits, in a byte order.
-    I32(i32, Endian),
-    /// An unsigned number of 64 bits, in a byte order.
-    U64(u64, Endian),
-    /// A signed number of 64 bits, in a byte order.
-    I64(i64, Endian),
-    /// An unsigned number of 128 bits, in a byte order.
-    U128(u128, Endian),
-    /// A signed number of 128 bits, in a byte order.
-    I128(i128, Endian),
+    /// A number, in a byte order.
+    Number(Number, Endian),
     /// A string, without a delimiter after it.
     Text(&'c str),
     /// A byte slice.
@@ -166,7 +174,8 @@ pub enum Answer {
 /// except that the elements of an array before the one that failed remain written. The offset of `Place::At` counts bytes
 /// from the start of the buffer, and a command at such an offset leaves the cursor unchanged.
 ///
-/// The only error is [`Error::NoMemory`]. The answers of the first commands, fewer than all, are then appended, and the
+/// The only error is [`Error::NoMemory`], and there is none if `answers` has room for an answer to each command, and no
+/// command reads a string, a byte slice or a C string, which are copied. The answers of the first commands, fewer than all, are then appended, and the
 /// buffer and the cursor are as these commands left them: memory for an answer is reserved before its command runs, and
 /// what a read copies is copied before the cursor moves.
 pub fn run(
@@ -178,6 +187,8 @@ pub fn run(
 ) -> Result<()>
     ensures ran { OnOk result (IsRun buffer.old buffer.new cursor.old cursor.new commands.now answers.old.items answers.new.items) }
     ensures only_memory { IfErr result (λ e. e ≡ NoMemory) }
+    ensures succeeds { vec_len answers.old + length commands.now ≤ vec_capacity answers.old
+        → All CopiesNothing commands.now → IsOk result }
     ensures front { OnErr result
         (IsFrontRun buffer.old buffer.new cursor.old cursor.new commands.now answers.old.items answers.new.items) }
 {
@@ -201,6 +212,7 @@ fn step(
     ensures answered { IfOk result (λ answer.
         IsStep buffer.old buffer.new cursor.old command.now answer cursor.new) }
     ensures only_memory { IfErr result (λ e. e ≡ NoMemory) }
+    ensures succeeds { CopiesNothing command.now → IsOk result }
     ensures same { OnErr result (buffer.new ≡ buffer.old) }
     ensures stays { OnErr result (cursor.new ≡ cursor.old) }
 {

@@ -1,21 +1,18 @@
 // The search for a byte: 32 bytes at a time, then eight at a time, and the last ones one by one.
-ghost use Rattle.std.specs.Prelude.{◌≡◌, ◌≤◌, length};
+ghost use Rattle.std.specs.Prelude.{◌≡◌, ◌≤◌, ◌<◌, ◌*◌, ◌/◌, length, IfSome, IfNone};
 ghost use Rattle.std.specs.List.{position_or_len};
-ghost use Rattle.scroll.specs.Texts.{first_place};
-ghost use Rattle.scroll.specs.Search.{is_stop};
+ghost use Rattle.scroll.specs.Texts.{first_place, is_stop};
 
 mod stops;
-mod text;
 
-use crate::search::stops::{At, AtOrNotAscii, Stops};
-pub(crate) use crate::search::text::text_before;
+use crate::search::stops::{At, AtOrNotAscii, StopsIn};
 
 /// Returns the offset of the first delimiter, or the length of the source if there is none.
 #[inline(always)]
 pub(crate) fn first_place(delimiter: u8, source: &[u8]) -> usize
     ensures { result ≡ first_place delimiter source.now }
 {
-    first_by_vectors(At(delimiter), source)
+    first(At(delimiter), source)
 }
 
 /// Returns the offset of the first byte that is the delimiter or isn't ASCII, or the length of the source if there is
@@ -25,40 +22,45 @@ pub(crate) fn first_stop(delimiter: u8, source: &[u8]) -> usize
     ensures place { result ≡ position_or_len (is_stop delimiter) source.now }
     ensures within { result ≤ length source.now }
 {
-    first_by_vectors(AtOrNotAscii(delimiter), source)
+    first(AtOrNotAscii(delimiter), source)
 }
 
-// Returns the offset of the first stop, or the length of the source if there is none. Searches 32 bytes at a time.
+// Returns the offset of the first stop, or the length of the source if there is none.
 #[inline(always)]
-fn first_by_vectors<S: Stops>(at: S, source: &[u8]) -> usize
+#[tactic(auto, using(crate::proofs::lemmas::search::SearchLemmas::searches))]
+fn first<S: StopsIn<32> + StopsIn<8> + StopsIn<1>>(at: S, source: &[u8]) -> usize
     ensures place { result ≡ position_or_len (S.stops at) source.now }
     ensures within { result ≤ length source.now }
 {
-    let (blocks, tail) = source.as_chunks::<32>();
-    for (k, block) in blocks.iter().enumerate() {
-        if let Some(place) = at.in_vector(*block) {
-            return k * 32 + place;
-        }
+    if let Some(place) = first_in_blocks::<32, S>(at, source) {
+        return place;
     }
-    blocks.len() * 32 + first_by_words(at, tail)
-}
-
-// Returns the offset of the first stop, or the length of the source if there is none. Searches eight bytes at a time,
-// and the last ones one by one.
-#[inline(always)]
-fn first_by_words<S: Stops>(at: S, source: &[u8]) -> usize
-    ensures place { result ≡ position_or_len (S.stops at) source.now }
-    ensures within { result ≤ length source.now }
-{
-    let (blocks, tail) = source.as_chunks::<8>();
-    for (k, block) in blocks.iter().enumerate() {
-        if let Some(place) = at.in_word(*block) {
-            return k * 8 + place;
-        }
+    let wide = source.len() / 32 * 32;
+    let rest = &source[wide..];
+    if let Some(place) = first_in_blocks::<8, S>(at, rest) {
+        return wide + place;
     }
-    let before = blocks.len() * 8;
-    match at.in_tail(tail) {
-        Some(place) => before + place,
+    let narrow = rest.len() / 8 * 8;
+    match first_in_blocks::<1, S>(at, &rest[narrow..]) {
+        Some(place) => wide + narrow + place,
         None => source.len(),
     }
+}
+
+// Returns the offset of the first stop in the blocks of N bytes that the source begins with.
+#[inline(always)]
+fn first_in_blocks<const N: usize, S: StopsIn<N>>(at: S, source: &[u8]) -> Option<usize>
+    requires width { (0 < N) × (N ≤ 64) }
+    ensures place { IfSome result (λ place. place ≡ position_or_len (S.stops at) source.now) }
+    ensures none { IfNone result (length source.now / N * N
+        ≤ position_or_len (S.stops at) source.now) }
+{
+    let (blocks, _) = source.as_chunks::<N>();
+    for (k, block) in blocks.iter().enumerate() {
+        let marks = at.marks(block);
+        if marks != 0 {
+            return Some(k * N + marks.trailing_zeros() as usize);
+        }
+    }
+    None
 }

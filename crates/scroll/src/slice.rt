@@ -66,10 +66,8 @@ pub fn pwrite_with<Ctx: Copy, E: From<Error>, N: TryIntoCtx<Ctx, Error = E> + Dr
     ensures refused { IfErr result
         (RefusesWriteAt (N.refuses ctx n) (PastEnd E.from_gives) dst.old offset dst.new) }
 {
-    if offset > dst.len() {
-        return Err(E::from(Error::BadOffset(offset)));
-    }
-    n.try_into_ctx(&mut dst[offset..], ctx)
+    let mut offset = offset;
+    gwrite_with(dst, n, &mut offset, ctx)
 }
 
 /// Writes `n` at the cursor `offset` in the default context, advances the cursor by the size of `n` in bytes, and
@@ -121,7 +119,10 @@ pub fn gwrite_with<Ctx: Copy, E: From<Error>, N: TryIntoCtx<Ctx, Error = E> + Dr
     ensures stays { OnErr result (offset.new ≡ offset.old) }
 {
     let start = *offset;
-    let size = pwrite_with(dst, n, start, ctx)?;
+    if start > dst.len() {
+        return Err(E::from(Error::BadOffset(start)));
+    }
+    let size = n.try_into_ctx(&mut dst[start..], ctx)?;
     *offset = start + size;
     Ok(size)
 }

@@ -1,5 +1,6 @@
 // Sources of bytes, and what can be read from them.
-ghost use Rattle.std.specs.Prelude.{ℕ, ◌+◌, ◌≤◌, List, length, IfOk, IfErr};
+ghost use Rattle.std.specs.Prelude.{ℕ, List, IfOk, IfErr};
+ghost use Rattle.scroll.specs.Reads.{IsBounded};
 
 use crate::ctx::TryFromCtx;
 
@@ -34,7 +35,7 @@ pub trait ReadFrom<S: Source, Ctx: Copy>: Sized {
         ensures refused { IfErr result (λ e. refuses ctx (S.bytes from) e) };
 
     // The size is at most one more than the length of the source.
-    ghost reads_bounded: { (ctx : Ctx) (source : List ℕ) (x : Self) (n : ℕ) → reads ctx source x n → n ≤ length source + 1 };
+    ghost reads_bounded: { (ctx : Ctx) → IsBounded (reads ctx) };
 }
 
 impl<'a, Ctx: Copy, N: TryFromCtx<'a, Ctx>> ReadFrom<&'a [u8], Ctx> for N {

@@ -1,153 +1,51 @@
--- Lemmas on the words after a first word.
-use Rattle.std.proofs.Common.{◌≡◌, ◌<◌, ◌^◌, Bor, map, ◌+◌, ◌*◌, ◌++◌, ℕ, ℤ, List, [], ◌∷◌, length, take, get_or, if◌then◌else◌, ◌==◌, arith, refl, sym, ap, subst, ◌∙◌, Option, Some, None, Result, Ok, Err}
-use Rattle.std.proofs.lemmas.List.{take_more}
+-- Lemmas on commands and their words.
+use Rattle.std.proofs.Common.{◌≡◌, ◌<◌, ◌^◌, Bor, ◌+◌, ◌-◌, ◌++◌, ℕ, zero, suc, List, [], ◌∷◌, codes, length, take, drop, get_or, arith, refl, sym, ap, ◌∙◌, subst}
+use Rattle.std.proofs.lemmas.List.{take_more, take_rest}
 use Rattle.std.proofs.lemmas.Slice.Zip.{all_zipped_more}
 use Rattle.std.proofs.lemmas.Grind.{common_steps}
-use Rattle.std.specs.Option.{MatchOption}
-use Rattle.std.specs.Result.{IfOk}
-use Rattle.scroll.specs.declared.endian.Endian.{Endian}
+use Rattle.std.proofs.lemmas.Slice.Eq.{HasBytesAt, text_from_reads}
 use Rattle.scroll.specs.declared.runner.Command.{Command}
+use Rattle.scroll.specs.declared.runner.Command.TheVariants as command
+use Rattle.scroll.specs.declared.runner.Kind.{Kind}
+use Rattle.scroll.specs.declared.runner.Place.TheVariants as place
 use Rattle.scroll.specs.declared.runner.Put.{Put}
-use Rattle.scroll.specs.declared.runner.Width.TheVariants as width
-use Rattle.scroll_run.specs.Commands.{AreCommandsOf, FindsCommand, IsCommandOf, SpellsCommand, SpellsOffset, SpellsRest, verb_word}
-use Rattle.scroll_run.specs.Puts.{FindsPut, SpellLastBytes, SpellLastSigned, SpellPutRest, SpellThree, SpellTwo, SpellsPut}
-use Rattle.scroll_run.specs.Words.{SpellsBytes, SpellsNumber, SpellsSigned, name_word, order_word}
+use Rattle.scroll_run.specs.Commands.{AreCommandsOf, IsCommandOf, SpellsCommand}
+use Rattle.scroll_run.specs.Kinds.{SpellsKind}
+use Rattle.scroll_run.specs.Puts.{SpellsPut}
+use Rattle.scroll_run.specs.Words.{SpellsBytes, SpellsNumber, texts_of}
 use Rattle.scroll_run.specs.declared.commands.CommandLine.{CommandLine}
-use Rattle.scroll_run.specs.declared.commands.Verb.{Verb}
-use Rattle.scroll_run.specs.declared.commands.Verb.TheVariants as verb
-use Rattle.scroll_run.specs.declared.words.Name.{Name}
-use Rattle.scroll_run.specs.declared.words.Name.TheVariants as name
-use Rattle.scroll_run.specs.declared.puts.OwnedPut.{OwnedPut}
 
--- a word as one number
-abbrev code : List ℕ → ℕ
-code [] = 0
-code (b ∷ bs) = b + 256 * code bs
+-- what a word is read as where there is none
+abbrev pub no_word : Bor (List ℕ)
+no_word = record { ref_ptr = (0, 0); now = [] }
 
--- of these, the one whose word has this number
-abbrev by_code : {X : Type 0} → (X → List ℕ) → List X → X → ℕ → X
-by_code word [] other k = other
-by_code word (x ∷ xs) other k = if k == code (word x) then x else by_code word xs other k
+-- n words, from the one at i on
+abbrev pub words_from : List (Bor (List ℕ)) → ℕ → ℕ → List (List ℕ)
+words_from words i zero = []
+words_from words i (suc n) = (get_or words i no_word).now ∷ words_from words (suc i) n
 
--- if each is found by its own word, no two have the same word
-same_word : {X : Type 0} (word : X → List ℕ) (xs : List X) (other : X) → ((x : X) → by_code word xs other (code (word x)) ≡ x) → (m n : X) → word m ≡ word n → m ≡ n
-same_word word xs other found m n e = sym (found m) ∙ ap (λ w. by_code word xs other (code w)) e ∙ found n
+later : (w : Bor (List ℕ)) (words : List (Bor (List ℕ))) (i n : ℕ) → words_from (w ∷ words) (suc i) n ≡ words_from words i n
+later w words i zero = refl
+later w words i (suc n) = ap (λ ts. (get_or words i no_word).now ∷ ts) (later w words (suc i) n)
 
-abbrev names : List Name
-names =
-    name.Number width.U8 ∷ name.Number width.I8 ∷ name.Number width.U16 ∷ name.Number width.I16 ∷ name.Number width.U32
-    ∷ name.Number width.I32 ∷ name.Number width.U64 ∷ name.Number width.I64 ∷ name.Number width.U128 ∷ name.Number width.I128
-    ∷ name.Text ∷ name.Bytes ∷ name.CStr ∷ name.CString ∷ name.Uleb ∷ name.Sleb ∷ name.U8x0 ∷ name.U16x3 ∷ name.Textx2
-    ∷ name.Bytesx2 ∷ []
+-- words by their indices
+pub by_index : (words : List (Bor (List ℕ))) (n : ℕ) → length words ≡ n → texts_of words ≡ words_from words 0 n
+by_index [] zero k = refl
+by_index [] (suc n) k = absurd (omega arith)
+by_index (w ∷ words) zero k = absurd (omega arith)
+by_index (w ∷ words) (suc n) k = ap (λ ts. w.now ∷ ts) (by_index words n (omega arith) ∙ sym (later w words 0 n))
 
-named : (n : Name) → by_code name_word names name.Text (code (name_word n)) ≡ n
-named (name.Number width.U8) = refl
-named (name.Number width.I8) = refl
-named (name.Number width.U16) = refl
-named (name.Number width.I16) = refl
-named (name.Number width.U32) = refl
-named (name.Number width.I32) = refl
-named (name.Number width.U64) = refl
-named (name.Number width.I64) = refl
-named (name.Number width.U128) = refl
-named (name.Number width.I128) = refl
-named name.Text = refl
-named name.Bytes = refl
-named name.CStr = refl
-named name.CString = refl
-named name.Uleb = refl
-named name.Sleb = refl
-named name.U8x0 = refl
-named name.U16x3 = refl
-named name.Textx2 = refl
-named name.Bytesx2 = refl
+-- the same where each byte of the first one has been read
+pub by_first : (words : List (Bor (List ℕ))) (n : ℕ) (a : List ℕ) → length words ≡ suc n → length (get_or words 0 no_word).now ≡ length a → HasBytesAt (get_or words 0 no_word).now 0 a
+    → texts_of words ≡ a ∷ words_from words 1 n
+by_first words n a k m h = by_index words (suc n) k ∙ ap (λ w. w ∷ words_from words 1 n) (text_from_reads _ a m h)
 
--- no two names have the same word
-pub same_name : (m n : Name) → name_word m ≡ name_word n → m ≡ n
-same_name = same_word name_word names name.Text named
-
-abbrev verbs : List Verb
-verbs = verb.Pread ∷ verb.Gread ∷ verb.Pwrite ∷ verb.Gwrite ∷ []
-
-verbed : (v : Verb) → by_code verb_word verbs verb.Pread (code (verb_word v)) ≡ v
-verbed verb.Pread = refl
-verbed verb.Gread = refl
-verbed verb.Pwrite = refl
-verbed verb.Gwrite = refl
-
--- no two verbs have the same word
-same_verb : (v w : Verb) → verb_word v ≡ verb_word w → v ≡ w
-same_verb = same_word verb_word verbs verb.Pread verbed
-
--- lists with the same first word and the same rest
-heads : (texts : List (List ℕ)) (a b : List ℕ) (more rest : List (List ℕ)) → texts ≡ a ∷ more → texts ≡ b ∷ rest → b ≡ a
-heads texts a b more rest e f = cc
-
-tails : (texts : List (List ℕ)) (a b : List ℕ) (more rest : List (List ℕ)) → texts ≡ a ∷ more → texts ≡ b ∷ rest → rest ≡ more
-tails texts a b more rest e f = cc
-
--- bytes by the one word that spells them
-pub bytes_by_word : {V E : Type 0} (items : V → List ℕ) (texts : List (List ℕ)) (word : List ℕ) (r : Result (Option V) E) → texts ≡ word ∷ []
-    → IfOk r (λ found. MatchOption found ((bytes : List ℕ) → ¬ (SpellsBytes word bytes)) (λ v. SpellsBytes word (items v)))
-    → IfOk r (λ found. MatchOption found ((bytes : List ℕ) → ¬ (SpellLastBytes texts bytes)) (λ v. SpellLastBytes texts (items v)))
-bytes_by_word items texts word (Ok (Some v)) e h = (word, e, h)
-bytes_by_word items texts word (Ok None) e h =
-    λ bytes s. h bytes (subst (λ w. SpellsBytes w bytes) (heads texts word s.0 [] [] e s.1) s.2)
-bytes_by_word items texts word (Err x) e h = tt
-
--- a signed number by the one word that spells it
-pub signed_by_word : (texts : List (List ℕ)) (word : List ℕ) (r : Option ℤ) → texts ≡ word ∷ []
-    → MatchOption r ((x : ℤ) → ¬ (SpellsSigned (2 ^ 63) word x)) (SpellsSigned (2 ^ 63) word)
-    → MatchOption r ((x : ℤ) → ¬ (SpellLastSigned texts x)) (SpellLastSigned texts)
-signed_by_word texts word (Some v) e h = (word, e, h)
-signed_by_word texts word None e h =
-    λ x s. h x (subst (λ w. SpellsSigned (2 ^ 63) w x) (heads texts word s.0 [] [] e s.1) s.2)
-
--- what is written by its name
-pub put_by_name : {E : Type 0} (r : Result (Option OwnedPut) E) (texts : List (List ℕ)) (n : Name) (rest : List (List ℕ)) → texts ≡ name_word n ∷ rest
-    → IfOk r (FindsPut (SpellPutRest n rest)) → IfOk r (FindsPut (SpellsPut texts))
-put_by_name (Ok (Some x)) texts n rest e h = λ p is. (n, rest, e, h p is)
-put_by_name (Ok None) texts n rest e h =
-    λ p s.
-    let m = same_name s.0 n (heads texts _ _ rest s.1 e s.2) in
-    let more = tails texts (name_word n) (name_word s.0) rest s.1 e s.2 in
-    h p (subst (λ k. SpellPutRest k rest p) m (subst (λ ws. SpellPutRest s.0 ws p) more s.3))
-put_by_name (Err x) texts n rest e h = tt
-
--- a command by its verb
-pub command_by_verb : {E : Type 0} (r : Result (Option CommandLine) E) (texts : List (List ℕ)) (v : Verb) (rest : List (List ℕ)) → texts ≡ verb_word v ∷ rest
-    → IfOk r (FindsCommand (SpellsRest v rest)) → IfOk r (FindsCommand (SpellsCommand texts))
-command_by_verb (Ok (Some x)) texts v rest e h = λ c is. (v, rest, e, h c is)
-command_by_verb (Ok None) texts v rest e h =
-    λ c s.
-    let m = same_verb s.0 v (heads texts _ _ rest s.1 e s.2) in
-    let more = tails texts (verb_word v) (verb_word s.0) rest s.1 e s.2 in
-    h c (subst (λ k. SpellsRest k rest c) m (subst (λ ws. SpellsRest s.0 ws c) more s.3))
-command_by_verb (Err x) texts v rest e h = tt
-
--- words spell an offset in one way
-same_offset : (texts more rest : List (List ℕ)) (m n : ℕ) → SpellsOffset texts m more → SpellsOffset texts n rest → n ≡ m
-same_offset texts more rest m n h s = let e = h.1 in let f = s.1 in let x = h.2.2 in let y = s.2.2 in cc
-
-same_rest : (texts more rest : List (List ℕ)) (m n : ℕ) → SpellsOffset texts m more → SpellsOffset texts n rest → rest ≡ more
-same_rest texts more rest m n h s = let e = h.1 in let f = s.1 in cc
-
--- a command after an offset
-pub command_by_offset : (IsSpelled : ℕ → List (List ℕ) → Command → Type 0) (found : Option CommandLine) (texts : List (List ℕ)) (n : ℕ) (rest : List (List ℕ)) → SpellsOffset texts n rest
-    → FindsCommand (IsSpelled n rest) found
-    → FindsCommand (λ c. (offset : ℕ) × (more : List (List ℕ)) × SpellsOffset texts offset more × IsSpelled offset more c) found
-command_by_offset IsSpelled (Some x) texts n rest o h = λ c is. (n, rest, o, h c is)
-command_by_offset IsSpelled None texts n rest o h =
-    λ c s.
-    let m = same_offset texts rest s.1 n s.0 o s.2 in
-    let more = same_rest texts rest s.1 n s.0 o s.2 in
-    h c (subst (λ k. IsSpelled k rest c) m (subst (λ ws. IsSpelled s.0 ws c) more s.3))
-
-pub result_by_offset : {E : Type 0} (IsSpelled : ℕ → List (List ℕ) → Command → Type 0) (r : Result (Option CommandLine) E) (texts : List (List ℕ)) (n : ℕ) (rest : List (List ℕ)) → SpellsOffset texts n rest
-    → IfOk r (FindsCommand (IsSpelled n rest))
-    → IfOk r (FindsCommand (λ c. (offset : ℕ) × (more : List (List ℕ)) × SpellsOffset texts offset more × IsSpelled offset more c))
-result_by_offset IsSpelled (Ok found) texts n rest o h = command_by_offset IsSpelled found texts n rest o h
-result_by_offset IsSpelled (Err e) texts n rest o h = tt
+-- the first one, of which each byte has been read, and the others
+pub first_word : (words : List (Bor (List ℕ))) (a : List ℕ) → 0 < length words → length (get_or words 0 no_word).now ≡ length a → HasBytesAt (get_or words 0 no_word).now 0 a
+    → texts_of words ≡ a ∷ texts_of (take (length words - 1) (drop 1 words))
+first_word [] a lt n h = absurd (omega arith)
+first_word (u ∷ more) a lt n h =
+    ap (λ w. w ∷ texts_of more) (text_from_reads u.now a n h) ∙ ap (λ ws. a ∷ texts_of ws) (sym (take_rest (u ∷ more) 1))
 
 -- the line at i has its command too
 pub commands_next : (lines : List CommandLine) (i : ℕ) (cs : List Command) (x : CommandLine) (c : Command) → AreCommandsOf (take i lines) cs → i < length lines → x ≡ get_or lines i x → IsCommandOf x c → AreCommandsOf (take (i + 1) lines) (cs ++ c ∷ [])
@@ -156,46 +54,48 @@ commands_next lines i cs x c h lt e s =
     rw more (all_zipped_more IsCommandOf (take i lines) cs (get_or lines i x) c h (subst (λ y. IsCommandOf y c) e s))
 
 -- a word spells bytes in one way
-same_bytes : (word a b : List ℕ) → SpellsBytes word a → SpellsBytes word b → a ≡ b
+pub same_bytes : (word a b : List ℕ) → SpellsBytes word a → SpellsBytes word b → a ≡ b
 same_bytes word a b h s = grind (arith, common_steps)
 
-pub one_bytes : (texts : List (List ℕ)) (a b : List ℕ) → SpellLastBytes texts a → SpellLastBytes texts b → a ≡ b
-one_bytes texts a b h s = same_bytes h.0 a b h.2 (subst (λ w. SpellsBytes w b) (heads texts h.0 s.0 [] [] h.1 s.1) s.2)
+-- the first letter of the first word
+abbrev pub first_letter : List (List ℕ) → ℕ
+first_letter words = get_or (get_or words 0 []) 0 0
 
--- one word, by its index
-pub one_word : (words : List (Bor (List ℕ))) (d : Bor (List ℕ)) → length words ≡ 1 → map (λ w. w.now) words ≡ (get_or words 0 d).now ∷ []
-one_word [] d e = absurd (omega arith)
-one_word (w ∷ []) d e = refl
-one_word (w ∷ v ∷ more) d e = absurd (omega arith)
+-- what the words after a verb spell
+pub by_pread : (b : List ℕ) (rest : List (List ℕ)) (c : Command) → SpellsCommand (codes "pread" ∷ b ∷ rest) c → (offset : ℕ) × (what : Kind) × SpellsNumber (2 ^ 64) b offset × SpellsKind rest what
+by_pread b rest (command.Read (place.At offset) what) s =
+    let e = s.2 in
+    let word : s.0 ≡ b = cc in
+    let more : s.1 ≡ rest = cc in
+    (offset, what, subst (λ w. SpellsNumber (2 ^ 64) w offset) word s.3, subst (λ ws. SpellsKind ws what) more s.4)
+by_pread b rest (command.Read place.Cursor what) s = let n : 112 ≡ 103 = ap first_letter s.1 in absurd (omega (arith, n))
+by_pread b rest (command.Write (place.At offset) x) s = let e = s.2 in absurd cc
+by_pread b rest (command.Write place.Cursor x) s = let e = s.1 in absurd cc
 
--- four words, by their indices
-pub four_words : (words : List (Bor (List ℕ))) (d : Bor (List ℕ)) → length words ≡ 4
-    → map (λ w. w.now) words ≡ (get_or words 0 d).now ∷ (get_or words 1 d).now ∷ (get_or words 2 d).now ∷ (get_or words 3 d).now ∷ []
-four_words [] d e = absurd (omega arith)
-four_words (u ∷ []) d e = absurd (omega arith)
-four_words (u ∷ v ∷ []) d e = absurd (omega arith)
-four_words (u ∷ v ∷ w ∷ []) d e = absurd (omega arith)
-four_words (u ∷ v ∷ w ∷ x ∷ []) d e = refl
-four_words (u ∷ v ∷ w ∷ x ∷ y ∷ more) d e = absurd (omega arith)
+pub by_gread : (rest : List (List ℕ)) (c : Command) → SpellsCommand (codes "gread" ∷ rest) c → (what : Kind) × SpellsKind rest what
+by_gread rest (command.Read (place.At offset) what) s = let n : 103 ≡ 112 = ap first_letter s.2 in absurd (omega (arith, n))
+by_gread rest (command.Read place.Cursor what) s =
+    let e = s.1 in
+    let more : s.0 ≡ rest = cc in
+    (what, subst (λ ws. SpellsKind ws what) more s.2)
+by_gread rest (command.Write (place.At offset) x) s = let e = s.2 in absurd cc
+by_gread rest (command.Write place.Cursor x) s = let e = s.1 in absurd cc
 
--- what each of four words spells, where they spell three numbers
-pub each_of_three : (texts : List (List ℕ)) (a b c d : List ℕ) → texts ≡ a ∷ b ∷ c ∷ d ∷ [] → (p : Put) → SpellThree texts p
-    → (order : Endian) × (x y z : ℕ) × (a ≡ order_word order) × SpellsNumber (2 ^ 16) b x × SpellsNumber (2 ^ 16) c y × SpellsNumber (2 ^ 16) d z
-each_of_three texts a b c d e p s =
-    let f = s.7 in
-    let first : s.1 ≡ b = cc in
-    let second : s.2 ≡ c = cc in
-    let third : s.3 ≡ d = cc in
-    let order : a ≡ order_word s.0 = cc in
-    (s.0, s.4, s.5, s.6, order, rw first at s.8, rw second at s.9, rw third at s.10)
+pub by_pwrite : (b : List ℕ) (rest : List (List ℕ)) (c : Command) → SpellsCommand (codes "pwrite" ∷ b ∷ rest) c → (offset : ℕ) × (x : Put) × SpellsNumber (2 ^ 64) b offset × SpellsPut rest x
+by_pwrite b rest (command.Read (place.At offset) what) s = let e = s.2 in absurd cc
+by_pwrite b rest (command.Read place.Cursor what) s = let e = s.1 in absurd cc
+by_pwrite b rest (command.Write (place.At offset) x) s =
+    let e = s.2 in
+    let word : s.0 ≡ b = cc in
+    let more : s.1 ≡ rest = cc in
+    (offset, x, subst (λ w. SpellsNumber (2 ^ 64) w offset) word s.3, subst (λ ws. SpellsPut ws x) more s.4)
+by_pwrite b rest (command.Write place.Cursor x) s = let n : 112 ≡ 103 = ap first_letter s.1 in absurd (omega (arith, n))
 
--- four words, the first of which is that of a byte order
-pub behind_order : (texts : List (List ℕ)) (a o b c d : List ℕ) → texts ≡ a ∷ b ∷ c ∷ d ∷ [] → a ≡ o → texts ≡ o ∷ b ∷ c ∷ d ∷ []
-behind_order texts a o b c d e h = e ∙ ap (λ w. w ∷ b ∷ c ∷ d ∷ []) h
-
--- what the first word and the rest spell, where they spell two slices
-pub each_of_two : (texts : List (List ℕ)) (word : List ℕ) (more : List (List ℕ)) → texts ≡ word ∷ more → (x y : List ℕ) → SpellTwo texts x y → SpellsBytes word x × SpellLastBytes more y
-each_of_two texts word more e x y s =
-    let head = heads texts word s.0 more s.1 e s.2 in
-    let tail = tails texts word s.0 more s.1 e s.2 in
-    (subst (λ w. SpellsBytes w x) head s.3, subst (λ ws. SpellLastBytes ws y) tail s.4)
+pub by_gwrite : (rest : List (List ℕ)) (c : Command) → SpellsCommand (codes "gwrite" ∷ rest) c → (x : Put) × SpellsPut rest x
+by_gwrite rest (command.Read (place.At offset) what) s = let e = s.2 in absurd cc
+by_gwrite rest (command.Read place.Cursor what) s = let e = s.1 in absurd cc
+by_gwrite rest (command.Write (place.At offset) x) s = let n : 103 ≡ 112 = ap first_letter s.2 in absurd (omega (arith, n))
+by_gwrite rest (command.Write place.Cursor x) s =
+    let e = s.1 in
+    let more : s.0 ≡ rest = cc in
+    (x, subst (λ ws. SpellsPut ws x) more s.2)

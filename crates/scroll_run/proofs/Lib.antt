@@ -1,5 +1,7 @@
 pub mod Fronts
 pub mod NumberLemmas
 pub mod CommandLemmas
+pub mod KindLemmas
+pub mod PutLemmas
 pub mod LineLemmas
 pub mod AnswerLemmas

@@ -8,7 +8,7 @@ use Rattle.std.specs.Result.{IfOk}
 use Rattle.scroll.specs.declared.cstr.CStr.{CStr}
 use Rattle.scroll.specs.declared.runner.Command.{Command}
 use Rattle.scroll_run.specs.Commands.{AreCommandsOf, IsCommandOf, SpellsCommand}
-use Rattle.scroll_run.specs.Lines.{SpellsBuffer, SpellsCursor, SpellCommands, SpellsHeld, SpellHeld, IsCommand, HasGoodLine, IsFirstBadLine, Stops, StopsCommands}
+use Rattle.scroll_run.specs.Lines.{SpellsBuffer, SpellsCursor, SpellsAllCommands, SpellsHeld, SpellsAllHeld, IsCommand, HasGoodLine, IsFirstBadLine, Stops, StopsCommands}
 use Rattle.scroll_run.specs.Words.{SpellsBytes, words_of}
 use Rattle.scroll_run.specs.declared.commands.CommandLine.{CommandLine}
 use Rattle.scroll.specs.declared.runner.Command.TheVariants as command
@@ -45,23 +45,23 @@ lent (line.Write at (owned.Bytesx2 v w)) =
     (command.Write at (put.Bytesx2 x y), (put.Bytesx2 x y, refl, (x, y, refl, refl, refl)))
 
 -- the commands that borrow from lines are those that are spelled
-pub SpellHeld-commands : (lines : List (List ℕ)) (xs : List CommandLine) (cs : List Command) → SpellHeld lines xs → AreCommandsOf xs cs → SpellCommands lines cs
-SpellHeld-commands [] [] [] h a = tt
-SpellHeld-commands [] [] (c ∷ cs) h a = absurd a
-SpellHeld-commands [] (x ∷ xs) cs h a = absurd h
-SpellHeld-commands (l ∷ ls) [] cs h a = absurd h
-SpellHeld-commands (l ∷ ls) (x ∷ xs) [] h a = absurd a
-SpellHeld-commands (l ∷ ls) (x ∷ xs) (c ∷ cs) h a = (h.0 c a.0, SpellHeld-commands ls xs cs h.1 a.1)
+pub SpellsAllHeld-commands : (lines : List (List ℕ)) (xs : List CommandLine) (cs : List Command) → SpellsAllHeld lines xs → AreCommandsOf xs cs → SpellsAllCommands lines cs
+SpellsAllHeld-commands [] [] [] h a = tt
+SpellsAllHeld-commands [] [] (c ∷ cs) h a = absurd a
+SpellsAllHeld-commands [] (x ∷ xs) cs h a = absurd h
+SpellsAllHeld-commands (l ∷ ls) [] cs h a = absurd h
+SpellsAllHeld-commands (l ∷ ls) (x ∷ xs) [] h a = absurd a
+SpellsAllHeld-commands (l ∷ ls) (x ∷ xs) (c ∷ cs) h a = (h.0 c a.0, SpellsAllHeld-commands ls xs cs h.1 a.1)
 
 -- each of the lines spells a command
-each_command : (lines : List (List ℕ)) (xs : List CommandLine) → SpellHeld lines xs → (j : ℕ) → j < length lines → IsCommand (get_or lines j [])
+each_command : (lines : List (List ℕ)) (xs : List CommandLine) → SpellsAllHeld lines xs → (j : ℕ) → j < length lines → IsCommand (get_or lines j [])
 each_command (l ∷ ls) (x ∷ xs) h zero lt = let c = lent x in (c.0, h.0 c.0 c.1)
 each_command (l ∷ ls) (x ∷ xs) h (suc j) lt = each_command ls xs h.1 j (omega arith)
 each_command [] xs h j lt = absurd (omega arith)
 each_command (l ∷ ls) [] h j lt = absurd h
 
 -- the line at i is held too
-pub held_next : (lines : List (Bor (List ℕ))) (d : Bor (List ℕ)) (xs : List CommandLine) (i : ℕ) (x : CommandLine) → SpellHeld (take i (map (λ l. l.now) lines)) xs → i < length lines → ((c : Command) → IsCommandOf x c → SpellsCommand (words_of (get_or lines i d).now) c) → SpellHeld (take (i + 1) (map (λ l. l.now) lines)) (xs ++ x ∷ [])
+pub held_next : (lines : List (Bor (List ℕ))) (d : Bor (List ℕ)) (xs : List CommandLine) (i : ℕ) (x : CommandLine) → SpellsAllHeld (take i (map (λ l. l.now) lines)) xs → i < length lines → ((c : Command) → IsCommandOf x c → SpellsCommand (words_of (get_or lines i d).now) c) → SpellsAllHeld (take (i + 1) (map (λ l. l.now) lines)) (xs ++ x ∷ [])
 held_next lines d xs i x h lt s =
     let texts = map (λ (l : Bor (List ℕ)). l.now) lines in
     let count = length-map lines (λ (l : Bor (List ℕ)). l.now) in
@@ -70,7 +70,7 @@ held_next lines d xs i x h lt s =
     rw more (rw line (all_zipped_more SpellsHeld (take i texts) xs (get_or lines i d).now x h s))
 
 -- the line at i is the first that spells no command
-pub stops_here : (lines : List (Bor (List ℕ))) (d : Bor (List ℕ)) (xs : List CommandLine) (i k : ℕ) → SpellHeld (take i (map (λ l. l.now) lines)) xs → i < length lines → k ≡ length xs + 3 → ((c : Command) → ¬ (SpellsCommand (words_of (get_or lines i d).now) c)) → StopsCommands (map (λ l. l.now) lines) (BadLine k)
+pub stops_here : (lines : List (Bor (List ℕ))) (d : Bor (List ℕ)) (xs : List CommandLine) (i k : ℕ) → SpellsAllHeld (take i (map (λ l. l.now) lines)) xs → i < length lines → k ≡ length xs + 3 → ((c : Command) → ¬ (SpellsCommand (words_of (get_or lines i d).now) c)) → StopsCommands (map (λ l. l.now) lines) (BadLine k)
 stops_here lines d xs i k h lt e bad =
     let texts = map (λ (l : Bor (List ℕ)). l.now) lines in
     let count = length-map lines (λ (l : Bor (List ℕ)). l.now) in

@@ -13,7 +13,7 @@ use Rattle.scroll.specs.declared.runner.Command.{Command}
 use Rattle.scroll.specs.declared.runner.Value.{Value}
 use Rattle.scroll.specs.declared.runner.Value.TheVariants as value
 use Rattle.scroll_run.specs.Commands.{AreCommandsOf}
-use Rattle.scroll_run.specs.Lines.{lines_of, SpellScript, IsFirstBadLine}
+use Rattle.scroll_run.specs.Lines.{lines_of, SpellsScript, IsFirstBadLine}
 use Rattle.scroll_run.specs.Output.{AppendsFront}
 use Rattle.scroll_run.specs.declared.lines.Script.{Script}
 
@@ -93,7 +93,7 @@ pub record IsAnswered (input text : List ℕ) (status : ℕ) : Type 0 where
   pub buffer : List ℕ
   pub cursor : ℕ
   pub commands : List Command
-  pub spelled : SpellScript (lines_of input) buffer cursor commands
+  pub spelled : SpellsScript (lines_of input) buffer cursor commands
   pub runs : RunsCommands buffer cursor commands text
   pub status_is : status ≡ 0
 

@@ -2,9 +2,10 @@
 use Rattle.std.specs.Prelude.{◌≡◌, ◌<◌, ◌≤◌, ◌+◌, ◌-◌, ◌^◌, ◌++◌, ◌==◌, ⊤, ℕ, zero, suc, List, [], ◌∷◌, length, max, slice_index, slice_index_or, take, codes, if◌then◌else◌}
 use Rattle.std.specs.List.{slice_split, AllZip}
 use Rattle.scroll.specs.declared.runner.Command.{Command}
-use Rattle.scroll_run.specs.Commands.{IsCommandOf, SpellsCommand}
+use Rattle.scroll_run.specs.Commands.{AreCommandsOf, IsCommandOf, SpellsCommand}
 use Rattle.scroll_run.specs.Words.{SpellsBytes, SpellsNumber, words_of}
 use Rattle.scroll_run.specs.declared.commands.CommandLine.{CommandLine}
+use Rattle.scroll_run.specs.declared.lines.Script.{Script}
 use Rattle.scroll_run.specs.declared.lines.Stop.{Stop}
 use Rattle.scroll_run.specs.declared.lines.Stop.TheVariants.{BadLine, NoMemory}
 
@@ -26,26 +27,32 @@ abbrev pub SpellsCursor : List ℕ → ℕ → Type 0
 SpellsCursor line n = (word : List ℕ) × (line ≡ codes "cursor " ++ word) × SpellsNumber (2 ^ 64) word n
 
 -- the lines spell the commands, one each
-abbrev pub SpellCommands : List (List ℕ) → List Command → Type 0
-SpellCommands lines commands = AllZip (λ line c. SpellsCommand (words_of line) c) lines commands
+abbrev pub SpellsAllCommands : List (List ℕ) → List Command → Type 0
+SpellsAllCommands lines commands = AllZip (λ line c. SpellsCommand (words_of line) c) lines commands
 
 -- every command that borrows from `x` is spelled by the line
 abbrev pub SpellsHeld : List ℕ → CommandLine → Type 0
 SpellsHeld line x = (c : Command) → IsCommandOf x c → SpellsCommand (words_of line) c
 
--- the same of all lines, with what is held of each
-abbrev pub SpellHeld : List (List ℕ) → List CommandLine → Type 0
-SpellHeld lines held = AllZip SpellsHeld lines held
+-- `SpellsAllHeld lines held`: each line spells every command that borrows from what is held of it
+abbrev pub SpellsAllHeld : List (List ℕ) → List CommandLine → Type 0
+SpellsAllHeld lines held = AllZip SpellsHeld lines held
 
 -- the lines spell the buffer, the cursor and the commands
-pub record SpellScript (lines : List (List ℕ)) (buffer : List ℕ) (cursor : ℕ) (commands : List Command) : Type 0 where
+pub record SpellsScript (lines : List (List ℕ)) (buffer : List ℕ) (cursor : ℕ) (commands : List Command) : Type 0 where
   pub first : List ℕ
   pub second : List ℕ
   pub rest : List (List ℕ)
   pub lines_are : lines ≡ first ∷ second ∷ rest
   pub buffer_is : SpellsBuffer first buffer
   pub cursor_is : SpellsCursor second cursor
-  pub commands_are : SpellCommands rest commands
+  pub commands_are : SpellsAllCommands rest commands
+
+-- every list of commands that borrows from the script is spelled, with the script's buffer and cursor
+abbrev pub HoldsScript : List (List ℕ) → Script → Type 0
+HoldsScript lines script =
+    (commands : List Command) → AreCommandsOf script.commands.items commands
+    → SpellsScript lines script.buffer.items script.cursor commands
 
 -- the line spells some command
 abbrev pub IsCommand : List ℕ → Type 0

@@ -1,96 +1,67 @@
 -- What is written. The words of a command name it, after the offset where there is one, and spell its value.
-use Rattle.std.specs.Prelude.{◌≡◌, ◌^◌, ℕ, ℤ, List, [], ◌∷◌, length, string_bytes, IsUtf8, Option, None, Some}
+use Rattle.std.specs.Prelude.{◌≡◌, ◌^◌, ℕ, ℤ, List, [], ◌∷◌, length, codes, string_bytes, IsUtf8}
 use Rattle.std.specs.Borrow.{Bor}
+use Rattle.std.specs.List.{AllZip}
 use Rattle.scroll.specs.CStringTexts.{c_str_text, c_string_text}
 use Rattle.scroll.specs.Leb128.{Counted}
 use Rattle.scroll.specs.LebWrites.{IsLeast}
 use Rattle.scroll.specs.Spelling.{HasSpelling, HasSignedSpelling}
 use Rattle.scroll.specs.Texts.{first_place}
 use Rattle.scroll.specs.declared.cstr.CStr.{CStr}
-use Rattle.scroll.specs.declared.endian.Endian.{Endian}
+use Rattle.scroll.specs.declared.runner.Number.{Number}
+use Rattle.scroll.specs.declared.runner.Number.TheVariants as number
 use Rattle.scroll.specs.declared.runner.Put.{Put}
 use Rattle.scroll.specs.declared.runner.Put.TheVariants as put
 use Rattle.scroll.specs.declared.runner.Width.{Width}
 use Rattle.scroll.specs.declared.runner.Width.TheVariants as width
-use Rattle.scroll_run.specs.Kinds.{SpellLastNumber}
-use Rattle.scroll_run.specs.Words.{SpellsBytes, SpellsNumber, SpellsSigned, name_word, order_word}
-use Rattle.scroll_run.specs.declared.words.Name.{Name}
-use Rattle.scroll_run.specs.declared.words.Name.TheVariants as name
+use Rattle.scroll_run.specs.Words.{SpellsBytes, SpellsNumber, SpellsSigned, order_word, width_word}
 use Rattle.scroll_run.specs.declared.puts.OwnedPut.{OwnedPut}
 use Rattle.scroll_run.specs.declared.puts.OwnedPut.TheVariants as owned
 
--- `SpellsValue w order word p`: the word spells a number in the range of its type, to be written in the byte order
-abbrev pub SpellsValue : Width → Endian → List ℕ → Put → Type 0
-SpellsValue width.U8 order word p = (x : ℕ) × SpellsNumber (2 ^ 8) word x × (p ≡ put.U8 x order)
-SpellsValue width.I8 order word p = (x : ℤ) × SpellsSigned (2 ^ 7) word x × (p ≡ put.I8 x order)
-SpellsValue width.U16 order word p = (x : ℕ) × SpellsNumber (2 ^ 16) word x × (p ≡ put.U16 x order)
-SpellsValue width.I16 order word p = (x : ℤ) × SpellsSigned (2 ^ 15) word x × (p ≡ put.I16 x order)
-SpellsValue width.U32 order word p = (x : ℕ) × SpellsNumber (2 ^ 32) word x × (p ≡ put.U32 x order)
-SpellsValue width.I32 order word p = (x : ℤ) × SpellsSigned (2 ^ 31) word x × (p ≡ put.I32 x order)
-SpellsValue width.U64 order word p = (x : ℕ) × SpellsNumber (2 ^ 64) word x × (p ≡ put.U64 x order)
-SpellsValue width.I64 order word p = (x : ℤ) × SpellsSigned (2 ^ 63) word x × (p ≡ put.I64 x order)
-SpellsValue width.U128 order word p = (x : ℕ) × SpellsNumber (2 ^ 128) word x × (p ≡ put.U128 x order)
-SpellsValue width.I128 order word p = (x : ℤ) × SpellsSigned (2 ^ 127) word x × (p ≡ put.I128 x order)
+-- `SpellsValue w word n`: the word spells a number of the type, in its range
+abbrev pub SpellsValue : Width → List ℕ → Number → Type 0
+SpellsValue width.U8 word n = (x : ℕ) × SpellsNumber (2 ^ 8) word x × (n ≡ number.U8 x)
+SpellsValue width.I8 word n = (x : ℤ) × SpellsSigned (2 ^ 7) word x × (n ≡ number.I8 x)
+SpellsValue width.U16 word n = (x : ℕ) × SpellsNumber (2 ^ 16) word x × (n ≡ number.U16 x)
+SpellsValue width.I16 word n = (x : ℤ) × SpellsSigned (2 ^ 15) word x × (n ≡ number.I16 x)
+SpellsValue width.U32 word n = (x : ℕ) × SpellsNumber (2 ^ 32) word x × (n ≡ number.U32 x)
+SpellsValue width.I32 word n = (x : ℤ) × SpellsSigned (2 ^ 31) word x × (n ≡ number.I32 x)
+SpellsValue width.U64 word n = (x : ℕ) × SpellsNumber (2 ^ 64) word x × (n ≡ number.U64 x)
+SpellsValue width.I64 word n = (x : ℤ) × SpellsSigned (2 ^ 63) word x × (n ≡ number.I64 x)
+SpellsValue width.U128 word n = (x : ℕ) × SpellsNumber (2 ^ 128) word x × (n ≡ number.U128 x)
+SpellsValue width.I128 word n = (x : ℤ) × SpellsSigned (2 ^ 127) word x × (n ≡ number.I128 x)
 
--- the words spell a byte order and such a number
-abbrev pub SpellOrderedNumber : Width → List (List ℕ) → Put → Type 0
-SpellOrderedNumber w words p =
-    (order : Endian) × (word : List ℕ) × (words ≡ order_word order ∷ word ∷ []) × SpellsValue w order word p
+-- the word spells the bytes of a text in UTF-8
+abbrev pub SpellsText : List ℕ → List ℕ → Type 0
+SpellsText word text = SpellsBytes word text × IsUtf8 text
 
--- there is one word, which spells bytes
-abbrev pub SpellLastBytes : List (List ℕ) → List ℕ → Type 0
-SpellLastBytes words bytes = (word : List ℕ) × (words ≡ word ∷ []) × SpellsBytes word bytes
+-- the word spells the bytes of a text without a zero; the zero after it is not spelled
+abbrev pub SpellsCString : List ℕ → List ℕ → Type 0
+SpellsCString word text = SpellsBytes word text × (first_place 0 text ≡ length text)
 
--- there is one word, which spells the bytes of a text in UTF-8
-abbrev pub SpellText : List (List ℕ) → List ℕ → Type 0
-SpellText words text = SpellLastBytes words text × IsUtf8 text
+-- the word spells the number of `x`, unsigned or signed, and `x.count` is the length of the shortest encoding
+abbrev pub SpellsUleb : List ℕ → Counted ℕ → Type 0
+SpellsUleb word x = SpellsNumber (2 ^ 64) word x.value × IsLeast (HasSpelling x.value) x.count
 
--- there is one word, which spells the bytes of a text without a zero; the zero after it is not spelled
-abbrev pub SpellCString : List (List ℕ) → List ℕ → Type 0
-SpellCString words text = SpellLastBytes words text × (first_place 0 text ≡ length text)
+abbrev pub SpellsSleb : List ℕ → Counted ℤ → Type 0
+SpellsSleb word x = SpellsSigned (2 ^ 63) word x.value × IsLeast (HasSignedSpelling x.value) x.count
 
--- the words spell a byte order and three numbers of 16 bits
-abbrev pub SpellThree : List (List ℕ) → Put → Type 0
-SpellThree words p =
-    (order : Endian) × (first second third : List ℕ) × (x y z : ℕ) × (words ≡ order_word order ∷ first ∷ second ∷ third ∷ [])
-    × SpellsNumber (2 ^ 16) first x × SpellsNumber (2 ^ 16) second y × SpellsNumber (2 ^ 16) third z
-    × (p ≡ put.U16x3 (x ∷ y ∷ z ∷ []) order)
-
--- there are two words, and each spells bytes
-abbrev pub SpellTwo : List (List ℕ) → List ℕ → List ℕ → Type 0
-SpellTwo words x y =
-    (first : List ℕ) × (rest : List (List ℕ)) × (words ≡ first ∷ rest) × SpellsBytes first x × SpellLastBytes rest y
-
--- there is one word, which spells a signed number of 64 bits
-abbrev pub SpellLastSigned : List (List ℕ) → ℤ → Type 0
-SpellLastSigned words x = (word : List ℕ) × (words ≡ word ∷ []) × SpellsSigned (2 ^ 63) word x
-
--- there is one word, which spells the number of `x`, unsigned or signed, and `x.count` is the length of the shortest
--- encoding
-abbrev pub SpellUleb : List (List ℕ) → Counted ℕ → Type 0
-SpellUleb words x = SpellLastNumber words x.value × IsLeast (HasSpelling x.value) x.count
-
-abbrev pub SpellSleb : List (List ℕ) → Counted ℤ → Type 0
-SpellSleb words x = SpellLastSigned words x.value × IsLeast (HasSignedSpelling x.value) x.count
-
--- `SpellPutRest n words p`: the words after the first one spell the rest of what is written, by what the first one
--- names
-abbrev pub SpellPutRest : Name → List (List ℕ) → Put → Type 0
-SpellPutRest (name.Number w) words p = SpellOrderedNumber w words p
-SpellPutRest name.Text words p = (text : Bor (List ℕ)) × SpellText words text.now × (p ≡ put.Text text)
-SpellPutRest name.Bytes words p = (bytes : Bor (List ℕ)) × SpellLastBytes words bytes.now × (p ≡ put.Bytes bytes)
-SpellPutRest name.CStr words p = (text : CStr) × SpellCString words (c_str_text text) × (p ≡ put.CStr text)
-SpellPutRest name.Uleb words p = (x : Counted ℕ) × SpellUleb words x × (p ≡ put.Uleb x)
-SpellPutRest name.Sleb words p = (x : Counted ℤ) × SpellSleb words x × (p ≡ put.Sleb x)
-SpellPutRest name.U16x3 words p = SpellThree words p
-SpellPutRest name.Bytesx2 words p = (x y : Bor (List ℕ)) × SpellTwo words x.now y.now × (p ≡ put.Bytesx2 x y)
-SpellPutRest name.CString words p = ⊥
-SpellPutRest name.U8x0 words p = ⊥
-SpellPutRest name.Textx2 words p = ⊥
-
--- the words spell what is written
+-- `SpellsPut words p`: the words spell what is written:
 abbrev pub SpellsPut : List (List ℕ) → Put → Type 0
-SpellsPut words p = (n : Name) × (rest : List (List ℕ)) × (words ≡ name_word n ∷ rest) × SpellPutRest n rest p
+SpellsPut words (put.Number x order) =
+    (w : Width) × (word : List ℕ) × (words ≡ width_word w ∷ order_word order ∷ word ∷ []) × SpellsValue w word x
+SpellsPut words (put.Text text) = (word : List ℕ) × (words ≡ codes "str" ∷ word ∷ []) × SpellsText word text.now
+SpellsPut words (put.Bytes bytes) = (word : List ℕ) × (words ≡ codes "bytes" ∷ word ∷ []) × SpellsBytes word bytes.now
+SpellsPut words (put.CStr text) =
+    (word : List ℕ) × (words ≡ codes "cstr" ∷ word ∷ []) × SpellsCString word (c_str_text text)
+SpellsPut words (put.Uleb x) = (word : List ℕ) × (words ≡ codes "uleb" ∷ word ∷ []) × SpellsUleb word x
+SpellsPut words (put.Sleb x) = (word : List ℕ) × (words ≡ codes "sleb" ∷ word ∷ []) × SpellsSleb word x
+SpellsPut words (put.U16x3 xs order) =
+    (first second third : List ℕ) × (words ≡ codes "u16x3" ∷ order_word order ∷ first ∷ second ∷ third ∷ [])
+    × AllZip (SpellsNumber (2 ^ 16)) (first ∷ second ∷ third ∷ []) xs
+SpellsPut words (put.Bytesx2 x y) =
+    (first second : List ℕ) × (words ≡ codes "bytesx2" ∷ first ∷ second ∷ []) × SpellsBytes first x.now
+    × SpellsBytes second y.now
 
 -- `IsPutOf x p`: `p` is the value to write that borrows from `x`, which holds what a line spells
 abbrev pub IsPutOf : OwnedPut → Put → Type 0
@@ -100,9 +71,3 @@ IsPutOf (owned.Bytes v) p = (bytes : Bor (List ℕ)) × (p ≡ put.Bytes bytes) 
 IsPutOf (owned.CStr s) p = (text : CStr) × (p ≡ put.CStr text) × (c_str_text text ≡ c_string_text s)
 IsPutOf (owned.Bytesx2 v w) p =
     (x y : Bor (List ℕ)) × (p ≡ put.Bytesx2 x y) × (x.now ≡ v.items) × (y.now ≡ w.items)
-
--- `FindsPut IsSpelled found`: nothing was found in a line, and no value is spelled; or something was found, and every
--- value that borrows from it is spelled
-abbrev pub FindsPut : (Put → Type 0) → Option OwnedPut → Type 0
-FindsPut IsSpelled None = (p : Put) → ¬ (IsSpelled p)
-FindsPut IsSpelled (Some x) = (p : Put) → IsPutOf x p → IsSpelled p

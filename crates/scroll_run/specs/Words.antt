@@ -1,5 +1,6 @@
 -- Words. A line is split at its spaces, and each word spells a number, some bytes or a name.
-use Rattle.std.specs.Prelude.{◌≡◌, ◌≢◌, ◌<◌, ◌+◌, ◌++◌, ◌⊎◌, ℕ, ℤ, pos, neg_ℤ, List, [], ◌∷◌, length, Ok, codes, ◌==◌}
+use Rattle.std.specs.Prelude.{◌≡◌, ◌<◌, ◌+◌, ◌++◌, ◌⊎◌, ℕ, ℤ, pos, neg_ℤ, List, [], ◌∷◌, length, map, Ok, codes, ◌==◌, Option, MatchOption}
+use Rattle.std.specs.Borrow.{Bor}
 use Rattle.std.specs.List.{slice_split}
 use Rattle.std.specs.Str.Parse.{IsNumeral, digits_value}
 use Rattle.hex.specs.Hex.{decode_of, decode_sized}
@@ -7,12 +8,28 @@ use Rattle.scroll.specs.declared.endian.Endian.{Endian}
 use Rattle.scroll.specs.declared.endian.Endian.TheVariants.{Little, Big}
 use Rattle.scroll.specs.declared.runner.Width.{Width}
 use Rattle.scroll.specs.declared.runner.Width.TheVariants as width
-use Rattle.scroll_run.specs.declared.words.Name.{Name}
-use Rattle.scroll_run.specs.declared.words.Name.TheVariants as name
 
 -- what is before, between and after the spaces of a line
 abbrev pub words_of : List ℕ → List (List ℕ)
 words_of line = slice_split (λ b. b == 32) line
+
+-- the bytes of each word
+abbrev pub texts_of : List (Bor (List ℕ)) → List (List ℕ)
+texts_of words = map (λ word. word.now) words
+
+-- `ParsesAs value IsSpelled found`: the value of what was found is spelled, or nothing was found and nothing is spelled
+abbrev pub ParsesAs : {X Y : Type 0} → (X → Y) → (Y → Type 0) → Option X → Type 0
+ParsesAs {X} {Y} value IsSpelled found = MatchOption found ((y : Y) → ¬ (IsSpelled y)) (λ x. IsSpelled (value x))
+
+-- `Parses IsSpelled found`: what was found is spelled, or nothing was found and nothing is spelled
+abbrev pub Parses : {X : Type 0} → (X → Type 0) → Option X → Type 0
+Parses IsSpelled found = ParsesAs (λ x. x) IsSpelled found
+
+-- `Finds Borrows IsSpelled found`: all that borrows from what was found is spelled, or nothing was found and nothing is
+-- spelled
+abbrev pub Finds : {X Y : Type 0} → (X → Y → Type 0) → (Y → Type 0) → Option X → Type 0
+Finds {X} {Y} Borrows IsSpelled found =
+    MatchOption found ((y : Y) → ¬ (IsSpelled y)) (λ x. (y : Y) → Borrows x y → IsSpelled y)
 
 -- the word is one decimal digit or more, with the value `x`, which is below the limit
 abbrev pub SpellsNumber : ℕ → List ℕ → ℕ → Type 0
@@ -50,23 +67,3 @@ width_word width.I128 = codes "i128"
 abbrev pub order_word : Endian → List ℕ
 order_word Little = codes "le"
 order_word Big = codes "be"
-
--- `name_word n`: the word of what is read or written:
-abbrev pub name_word : Name → List ℕ
-name_word (name.Number w) = width_word w
-name_word name.Text = codes "str"
-name_word name.Bytes = codes "bytes"
-name_word name.CStr = codes "cstr"
-name_word name.CString = codes "cstring"
-name_word name.Uleb = codes "uleb"
-name_word name.Sleb = codes "sleb"
-name_word name.U8x0 = codes "u8x0"
-name_word name.U16x3 = codes "u16x3"
-name_word name.Textx2 = codes "strx2"
-name_word name.Bytesx2 = codes "bytesx2"
-
--- the word is none of those that name what is read or written, except perhaps that of a number type
-abbrev pub NamesNoOther : List ℕ → Type 0
-NamesNoOther word =
-    (word ≢ codes "str") × (word ≢ codes "strx2") × (word ≢ codes "bytes") × (word ≢ codes "bytesx2") × (word ≢ codes "cstr")
-    × (word ≢ codes "cstring") × (word ≢ codes "uleb") × (word ≢ codes "sleb") × (word ≢ codes "u8x0") × (word ≢ codes "u16x3")

@@ -1,9 +1,7 @@
 //! The lines that hold commands.
-ghost use Rattle.std.specs.Prelude.{◌≡◌, ℕ, List, IfOk, MatchOption, map};
-ghost use Rattle.scroll.specs.declared.runner.Command.{Command};
-ghost use Rattle.scroll_run.specs.Commands.{AreCommandsOf, FindsCommand, IsCommandOf, SpellsCommand, SpellsOffset, SpellsRead, SpellsRest, SpellsWrite, verb_word};
-ghost use Rattle.scroll_run.specs.Words.{words_of};
-ghost use Rattle.scroll_run.specs.declared.commands.Verb.{Verb};
+ghost use Rattle.std.specs.Prelude.{IfOk, codes, ◌∷◌};
+ghost use Rattle.scroll_run.specs.Commands.{AreCommandsOf, IsCommandOf, SpellsCommand};
+ghost use Rattle.scroll_run.specs.Words.{Finds, texts_of, words_of};
 
 use crate::kinds::parse_kind;
 use crate::puts::{OwnedPut, parse_put};
@@ -18,19 +16,6 @@ pub enum CommandLine {
     Read(Place, Kind),
     /// Writes at an offset or at the cursor.
     Write(Place, OwnedPut),
-}
-
-// What a command does.
-#[derive(Clone, Copy)]
-enum Verb {
-    // Reads at an offset.
-    Pread,
-    // Reads at the cursor.
-    Gread,
-    // Writes at an offset.
-    Pwrite,
-    // Writes at the cursor.
-    Gwrite,
 }
 
 impl CommandLine {
@@ -60,89 +45,66 @@ pub fn borrow_commands(alloc: Global, lines: &[CommandLine]) -> Result<Vec<Comma
 
 /// Returns the command that a line spells, or `None` for a bad line. The only error is an allocation failure.
 pub fn parse_command(alloc: Global, line: &[u8]) -> Result<Option<CommandLine>, AllocError>
-    ensures { IfOk result (FindsCommand (SpellsCommand (words_of line.now))) }
+    ensures { IfOk result (Finds IsCommandOf (SpellsCommand (words_of line.now))) }
 {
     let words = split(alloc, line, b' ')?;
     parse_words(alloc, &words)
 }
 
-// Returns the command that the words spell.
 fn parse_words(alloc: Global, words: &[&[u8]]) -> Result<Option<CommandLine>, AllocError>
-    ensures { let texts = map (λ word. word.now) words.now in
-        IfOk result (FindsCommand (SpellsCommand texts)) }
+    ensures { IfOk result (Finds IsCommandOf (SpellsCommand (texts_of words.now))) }
+{
+    let Some((verb, rest)) = words.split_first() else {
+        return Ok(None);
+    };
+    match *verb {
+        b"pread" => Ok(parse_pread(rest)),
+        b"gread" => Ok(parse_gread(rest)),
+        b"pwrite" => parse_pwrite(alloc, rest),
+        b"gwrite" => parse_gwrite(alloc, rest),
+        _ => Ok(None),
+    }
+}
+
+fn parse_pread(words: &[&[u8]]) -> Option<CommandLine>
+    ensures { Finds IsCommandOf (SpellsCommand (codes "pread" ∷ texts_of words.now)) result }
+{
+    let Some((word, rest)) = words.split_first() else {
+        return None;
+    };
+    let offset = parse_usize(word)?;
+    let kind = parse_kind(rest)?;
+    Some(CommandLine::Read(Place::At(offset), kind))
+}
+
+fn parse_gread(words: &[&[u8]]) -> Option<CommandLine>
+    ensures { Finds IsCommandOf (SpellsCommand (codes "gread" ∷ texts_of words.now)) result }
+{
+    Some(CommandLine::Read(Place::Cursor, parse_kind(words)?))
+}
+
+fn parse_pwrite(alloc: Global, words: &[&[u8]]) -> Result<Option<CommandLine>, AllocError>
+    ensures { IfOk result
+        (Finds IsCommandOf (SpellsCommand (codes "pwrite" ∷ texts_of words.now))) }
 {
     let Some((word, rest)) = words.split_first() else {
         return Ok(None);
     };
-    match parse_verb(word) {
-        Some(verb) => parse_rest(alloc, verb, rest),
+    let Some(offset) = parse_usize(word) else {
+        return Ok(None);
+    };
+    match parse_put(alloc, rest)? {
+        Some(put) => Ok(Some(CommandLine::Write(Place::At(offset), put))),
         None => Ok(None),
     }
 }
 
-// Returns the command of a verb and the words after it.
-fn parse_rest(alloc: Global, verb: Verb, words: &[&[u8]]) -> Result<Option<CommandLine>, AllocError>
-    ensures { let texts = map (λ word. word.now) words.now in
-        IfOk result (FindsCommand (SpellsRest verb texts)) }
-{
-    match verb {
-        Verb::Pread => match parse_offset(words) {
-            Some((offset, rest)) => Ok(parse_read(Place::At(offset), rest)),
-            None => Ok(None),
-        },
-        Verb::Gread => Ok(parse_read(Place::Cursor, words)),
-        Verb::Pwrite => match parse_offset(words) {
-            Some((offset, rest)) => parse_write(alloc, Place::At(offset), rest),
-            None => Ok(None),
-        },
-        Verb::Gwrite => parse_write(alloc, Place::Cursor, words),
-    }
-}
-
-// Returns the verb that a word spells.
-fn parse_verb(word: &[u8]) -> Option<Verb>
-    ensures { MatchOption result ((verb : Verb) → ¬ (word.now ≡ verb_word verb)) (λ verb.
-        word.now ≡ verb_word verb) }
-{
-    match word {
-        b"pread" => Some(Verb::Pread),
-        b"gread" => Some(Verb::Gread),
-        b"pwrite" => Some(Verb::Pwrite),
-        b"gwrite" => Some(Verb::Gwrite),
-        _ => None,
-    }
-}
-
-// Returns the offset that the first word spells, and the words after it.
-fn parse_offset<'w, 'a>(words: &'w [&'a [u8]]) -> Option<(usize, &'w [&'a [u8]])>
-    ensures { let texts = map (λ word. word.now) words.now in
-        MatchOption result ((offset : ℕ) (rest : List (List ℕ))
-        → ¬ (SpellsOffset texts offset rest)) (λ p.
-        SpellsOffset texts p.0 (map (λ word. word.now) p.1.now)) }
-{
-    let (word, rest) = words.split_first()?;
-    Some((parse_usize(word)?, rest))
-}
-
-// Returns the read, at an offset or at the cursor, that the words spell.
-fn parse_read(place: Place, words: &[&[u8]]) -> Option<CommandLine>
-    ensures { let texts = map (λ word. word.now) words.now in
-        FindsCommand (SpellsRead place texts) result }
-{
-    Some(CommandLine::Read(place, parse_kind(words)?))
-}
-
-// Returns the write, at an offset or at the cursor, that the words spell.
-fn parse_write(
-    alloc: Global,
-    place: Place,
-    words: &[&[u8]],
-) -> Result<Option<CommandLine>, AllocError>
-    ensures { let texts = map (λ word. word.now) words.now in
-        IfOk result (FindsCommand (SpellsWrite place texts)) }
+fn parse_gwrite(alloc: Global, words: &[&[u8]]) -> Result<Option<CommandLine>, AllocError>
+    ensures { IfOk result
+        (Finds IsCommandOf (SpellsCommand (codes "gwrite" ∷ texts_of words.now))) }
 {
     match parse_put(alloc, words)? {
-        Some(written) => Ok(Some(CommandLine::Write(place, written))),
+        Some(put) => Ok(Some(CommandLine::Write(Place::Cursor, put))),
         None => Ok(None),
     }
 }

@@ -9,10 +9,10 @@ use std::io;
 use std::io::{ErrorKind, Read};
 
 /// The maximum number of bytes that are read: one more than an input may have.
-pub const MOST_READ: usize = 65_537;
+pub const MAX_READ: usize = 65_537;
 
 // The maximum number of calls of the reader.
-const MOST_CALLS: usize = 131_072;
+const MAX_CALLS: usize = 131_072;
 
 // The number of bytes that one call of the reader asks for.
 const CHUNK: usize = 4096;
@@ -34,7 +34,7 @@ impl From<AllocError> for ReadError {
     }
 }
 
-/// Reads the input up to its end, but at most its first [`MOST_READ`] bytes.
+/// Reads the input up to its end, but at most its first [`MAX_READ`] bytes.
 ///
 /// An interrupted call of the reader is repeated. After too many calls, it returns an error of kind `Other`.
 pub fn read_input<R: Read>(alloc: Global, input: &mut R) -> Result<Vec<u8>, ReadError>
@@ -46,13 +46,13 @@ pub fn read_input<R: Read>(alloc: Global, input: &mut R) -> Result<Vec<u8>, Read
 {
     let mut bytes = Vec::new(alloc);
     let mut chunk = [0u8; CHUNK];
-    for _ in 0..MOST_CALLS {
-        let room = (MOST_READ - bytes.len()).min(CHUNK);
+    for _ in 0..MAX_CALLS {
+        let room = (MAX_READ - bytes.len()).min(CHUNK);
         match input.read(&mut chunk[..room]) {
             Ok(0) => return Ok(bytes),
             Ok(count) => {
                 bytes.extend_from_slice(&chunk[..count])?;
-                if bytes.len() == MOST_READ {
+                if bytes.len() == MAX_READ {
                     return Ok(bytes);
                 }
             }

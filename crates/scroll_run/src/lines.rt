@@ -1,8 +1,7 @@
 //! The lines of an input.
-ghost use Rattle.std.specs.Prelude.{◌≡◌, ℕ, List, IfOk, MatchOption, MatchResult, map};
-ghost use Rattle.scroll.specs.declared.runner.Command.{Command};
-ghost use Rattle.scroll_run.specs.Commands.{AreCommandsOf};
-ghost use Rattle.scroll_run.specs.Lines.{lines_of, without_feed, SpellHeld, SpellScript, SpellsBuffer, SpellsCursor, Stops, StopsCommands};
+ghost use Rattle.std.specs.Prelude.{◌≡◌, IfOk, MatchResult};
+ghost use Rattle.scroll_run.specs.Lines.{lines_of, without_feed, HoldsScript, SpellsAllHeld, SpellsBuffer, SpellsCursor, Stops, StopsCommands};
+ghost use Rattle.scroll_run.specs.Words.{Parses, ParsesAs, texts_of};
 ghost use Rattle.scroll_run.specs.declared.lines.Stop.TheVariants.{NoMemory};
 
 use crate::commands::{CommandLine, parse_command};
@@ -47,16 +46,12 @@ pub struct Script {
 
 /// Returns what the lines of an input spell. A line feed ends each line; the last line may lack it.
 pub fn parse_script(alloc: Global, input: &[u8]) -> Result<Script, Stop>
-    ensures { MatchResult result (λ script. (commands : List Command)
-        → AreCommandsOf script.commands.items commands
-        → SpellScript (lines_of input.now) script.buffer.items script.cursor commands)
-        (Stops (lines_of input.now)) }
+    ensures { MatchResult result (HoldsScript (lines_of input.now)) (Stops (lines_of input.now)) }
 {
     let lines = split(alloc, without_last_feed(input), b'\n')?;
     parse_lines(alloc, &lines)
 }
 
-// Returns the input without a line feed at its end.
 fn without_last_feed(input: &[u8]) -> &[u8]
     ensures { result.now ≡ without_feed input.now }
 {
@@ -66,12 +61,8 @@ fn without_last_feed(input: &[u8]) -> &[u8]
     }
 }
 
-// Returns what the lines spell.
 fn parse_lines(alloc: Global, lines: &[&[u8]]) -> Result<Script, Stop>
-    ensures { let texts = map (λ line. line.now) lines.now in
-        MatchResult result (λ script. (commands : List Command)
-        → AreCommandsOf script.commands.items commands
-        → SpellScript texts script.buffer.items script.cursor commands) (Stops texts) }
+    ensures { MatchResult result (HoldsScript (texts_of lines.now)) (Stops (texts_of lines.now)) }
 {
     let Some((first, rest)) = lines.split_first() else {
         return Err(Stop::BadLine(1));
@@ -95,8 +86,7 @@ fn parse_lines(alloc: Global, lines: &[&[u8]]) -> Result<Script, Stop>
 
 // Returns the bytes of a `buffer` line, or `None` for a bad line.
 fn parse_buffer(alloc: Global, line: &[u8]) -> Result<Option<Vec<u8>>, AllocError>
-    ensures { IfOk result (λ found. MatchOption found ((bytes : List ℕ)
-        → ¬ (SpellsBuffer line.now bytes)) (λ bytes. SpellsBuffer line.now bytes.items)) }
+    ensures { IfOk result (ParsesAs (λ bytes. bytes.items) (SpellsBuffer line.now)) }
 {
     match line.strip_prefix(b"buffer ") {
         Some(word) => parse_bytes(alloc, word),
@@ -106,15 +96,15 @@ fn parse_buffer(alloc: Global, line: &[u8]) -> Result<Option<Vec<u8>>, AllocErro
 
 // Returns the number of a `cursor` line, or `None` for a bad line.
 fn parse_cursor(line: &[u8]) -> Option<usize>
-    ensures { MatchOption result ((n : ℕ) → ¬ (SpellsCursor line.now n)) (SpellsCursor line.now) }
+    ensures { Parses (SpellsCursor line.now) result }
 {
     parse_usize(line.strip_prefix(b"cursor ")?)
 }
 
 // Returns the commands of the lines from the third on.
 fn parse_commands(alloc: Global, lines: &[&[u8]]) -> Result<Vec<CommandLine>, Stop>
-    ensures { let texts = map (λ line. line.now) lines.now in
-        MatchResult result (λ held. SpellHeld texts held.items) (StopsCommands texts) }
+    ensures { MatchResult result (λ held. SpellsAllHeld (texts_of lines.now) held.items)
+        (StopsCommands (texts_of lines.now)) }
 {
     let mut commands = Vec::new(alloc);
     for line in lines {

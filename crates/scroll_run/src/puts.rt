@@ -1,14 +1,12 @@
 //! The values that are written, as the words of a line spell them.
-ghost use Rattle.std.specs.Prelude.{◌≡◌, ◌^◌, ℕ, ℤ, List, IfOk, MatchOption, map};
-ghost use Rattle.scroll.specs.declared.runner.Put.{Put};
-ghost use Rattle.scroll_run.specs.Kinds.{SpellLastNumber};
-ghost use Rattle.scroll_run.specs.Puts.{FindsPut, IsPutOf, SpellLastBytes, SpellLastSigned, SpellOrderedNumber, SpellPutRest, SpellThree, SpellsPut, SpellsValue};
-ghost use Rattle.scroll_run.specs.Words.{SpellsNumber, SpellsSigned};
-ghost use Rattle.scroll_run.specs.declared.words.Name.TheVariants as name;
+ghost use Rattle.std.specs.Prelude.{◌≡◌, ◌^◌, [], ◌∷◌, codes, IfOk};
+ghost use Rattle.scroll.specs.declared.runner.Put.TheVariants as put;
+ghost use Rattle.scroll_run.specs.Puts.{IsPutOf, SpellsPut, SpellsValue};
+ghost use Rattle.scroll_run.specs.Words.{Finds, Parses, SpellsNumber, SpellsSigned, texts_of};
 
-use crate::words::{Name, parse_bytes, parse_name, parse_number, parse_order, parse_signed};
+use crate::words::{parse_bytes, parse_number, parse_order, parse_signed, parse_width};
 use scroll::cstr::CString;
-use scroll::runner::{Put, Width};
+use scroll::runner::{Number, Put, Width};
 use scroll::{Endian, Error, Sleb128, Uleb128};
 use std::alloc::{AllocError, Global};
 
@@ -48,16 +46,7 @@ fn copied(put: &Put<'static>) -> Put<'static>
     ensures { result ≡ put.now }
 {
     match put {
-        Put::U8(x, order) => Put::U8(*x, *order),
-        Put::I8(x, order) => Put::I8(*x, *order),
-        Put::U16(x, order) => Put::U16(*x, *order),
-        Put::I16(x, order) => Put::I16(*x, *order),
-        Put::U32(x, order) => Put::U32(*x, *order),
-        Put::I32(x, order) => Put::I32(*x, *order),
-        Put::U64(x, order) => Put::U64(*x, *order),
-        Put::I64(x, order) => Put::I64(*x, *order),
-        Put::U128(x, order) => Put::U128(*x, *order),
-        Put::I128(x, order) => Put::I128(*x, *order),
+        Put::Number(number, order) => Put::Number(*number, *order),
         Put::Text(text) => Put::Text(text),
         Put::Bytes(bytes) => Put::Bytes(bytes),
         Put::CStr(text) => Put::CStr(*text),
@@ -70,92 +59,113 @@ fn copied(put: &Put<'static>) -> Put<'static>
 
 /// Returns the value that the words spell, or `None` where they spell none. The only error is an allocation failure.
 pub fn parse_put(alloc: Global, words: &[&[u8]]) -> Result<Option<OwnedPut>, AllocError>
-    ensures { let texts = map (λ word. word.now) words.now in
-        IfOk result (FindsPut (SpellsPut texts)) }
-{
-    let Some((word, rest)) = words.split_first() else {
-        return Ok(None);
-    };
-    match parse_name(word) {
-        Some(name) => parse_put_rest(alloc, name, rest),
-        None => Ok(None),
-    }
-}
-
-// Returns the value of a name and the words after it.
-fn parse_put_rest(
-    alloc: Global,
-    name: Name,
-    words: &[&[u8]],
-) -> Result<Option<OwnedPut>, AllocError>
-    ensures { let texts = map (λ word. word.now) words.now in
-        IfOk result (FindsPut (SpellPutRest name texts)) }
-{
-    match name {
-        Name::Number(width) => Ok(parse_number_words(width, words)),
-        Name::Text => parse_text(alloc, words),
-        Name::Bytes => parse_slice(alloc, words),
-        Name::CStr => parse_c_string(alloc, words),
-        Name::Uleb => Ok(parse_uleb(words)),
-        Name::Sleb => Ok(parse_sleb(words)),
-        Name::U16x3 => Ok(parse_three(words)),
-        Name::Bytesx2 => parse_two(alloc, words),
-        Name::CString | Name::U8x0 | Name::Textx2 => Ok(None),
-    }
-}
-
-// Returns the number of a type that a byte order and a value spell.
-fn parse_number_words(width: Width, words: &[&[u8]]) -> Option<OwnedPut>
-    ensures { let texts = map (λ word. word.now) words.now in
-        FindsPut (SpellOrderedNumber width texts) result }
-{
-    let [order, value] = words else {
-        return None;
-    };
-    // (the prover doesn't take `?` on what may hold a number in LEB128)
-    match parse_number_put(width, parse_order(order)?, value) {
-        Some(put) => Some(OwnedPut::Plain(put)),
-        None => None,
-    }
-}
-
-// Returns the number of a width that a word spells.
-fn parse_number_put(width: Width, order: Endian, word: &[u8]) -> Option<Put<'static>>
-    ensures { MatchOption result ((put : Put)
-        → ¬ (SpellsValue width order word.now put)) (SpellsValue width order word.now) }
-{
-    match width {
-        Width::U8 => Some(Put::U8(u8::try_from(parse_number(word)?).ok()?, order)),
-        Width::I8 => Some(Put::I8(i8::try_from(parse_signed(word)?).ok()?, order)),
-        Width::U16 => Some(Put::U16(parse_u16(word)?, order)),
-        Width::I16 => Some(Put::I16(i16::try_from(parse_signed(word)?).ok()?, order)),
-        Width::U32 => Some(Put::U32(u32::try_from(parse_number(word)?).ok()?, order)),
-        Width::I32 => Some(Put::I32(i32::try_from(parse_signed(word)?).ok()?, order)),
-        Width::U64 => Some(Put::U64(parse_u64(word)?, order)),
-        Width::I64 => Some(Put::I64(parse_i64(word)?, order)),
-        Width::U128 => Some(Put::U128(parse_number(word)?, order)),
-        Width::I128 => Some(Put::I128(parse_signed(word)?, order)),
-    }
-}
-
-// Returns the bytes that the only word spells.
-fn parse_last_bytes(alloc: Global, words: &[&[u8]]) -> Result<Option<Vec<u8>>, AllocError>
-    ensures { let texts = map (λ word. word.now) words.now in
-        IfOk result (λ found. MatchOption found ((bytes : List ℕ)
-        → ¬ (SpellLastBytes texts bytes)) (λ bytes. SpellLastBytes texts bytes.items)) }
+    ensures { IfOk result (Finds IsPutOf (SpellsPut (texts_of words.now))) }
 {
     match words {
-        [word] => parse_bytes(alloc, word),
+        [name, word] => parse_put_of_two(alloc, name, word),
+        [name, first, second] => parse_put_of_three(alloc, name, first, second),
+        [name, order, first, second, third] => {
+            Ok(parse_put_of_five(name, order, first, second, third))
+        }
         _ => Ok(None),
     }
 }
 
-// Returns the string that the words spell.
-fn parse_text(alloc: Global, words: &[&[u8]]) -> Result<Option<OwnedPut>, AllocError>
-    ensures { let texts = map (λ word. word.now) words.now in
-        IfOk result (FindsPut (SpellPutRest name.Text texts)) }
+fn parse_put_of_two(alloc: Global, name: &[u8], word: &[u8]) -> Result<Option<OwnedPut>, AllocError>
+    ensures { IfOk result (Finds IsPutOf (SpellsPut (name.now ∷ word.now ∷ []))) }
 {
-    let Some(bytes) = parse_last_bytes(alloc, words)? else {
+    match name {
+        b"str" => parse_text(alloc, word),
+        b"bytes" => parse_slice(alloc, word),
+        b"cstr" => parse_c_string(alloc, word),
+        b"uleb" => Ok(parse_uleb(word)),
+        b"sleb" => Ok(parse_sleb(word)),
+        _ => Ok(None),
+    }
+}
+
+fn parse_put_of_three(
+    alloc: Global,
+    name: &[u8],
+    first: &[u8],
+    second: &[u8],
+) -> Result<Option<OwnedPut>, AllocError>
+    ensures { IfOk result
+        (Finds IsPutOf (SpellsPut (name.now ∷ first.now ∷ second.now ∷ []))) }
+{
+    if let Some((number, order)) = parse_number_put(name, first, second) {
+        return Ok(Some(OwnedPut::Plain(Put::Number(number, order))));
+    }
+    match name {
+        b"bytesx2" => parse_two(alloc, first, second),
+        _ => Ok(None),
+    }
+}
+
+fn parse_put_of_five(
+    name: &[u8],
+    order: &[u8],
+    first: &[u8],
+    second: &[u8],
+    third: &[u8],
+) -> Option<OwnedPut>
+    ensures { Finds IsPutOf (SpellsPut
+        (name.now ∷ order.now ∷ first.now ∷ second.now ∷ third.now ∷ [])) result }
+{
+    match name {
+        b"u16x3" => parse_three(order, first, second, third),
+        _ => None,
+    }
+}
+
+fn parse_number_put(name: &[u8], order: &[u8], word: &[u8]) -> Option<(Number, Endian)>
+    ensures { Parses (λ p.
+        SpellsPut (name.now ∷ order.now ∷ word.now ∷ []) (put.Number p.0 p.1)) result }
+{
+    let width = parse_width(name)?;
+    let order = parse_order(order)?;
+    Some((parse_value(width, word)?, order))
+}
+
+fn parse_value(width: Width, word: &[u8]) -> Option<Number>
+    ensures { Parses (SpellsValue width word.now) result }
+{
+    match width {
+        Width::U8 => Some(Number::U8(u8::try_from(parse_number(word)?).ok()?)),
+        Width::I8 => Some(Number::I8(i8::try_from(parse_signed(word)?).ok()?)),
+        Width::U16 => Some(Number::U16(parse_u16(word)?)),
+        Width::I16 => Some(Number::I16(i16::try_from(parse_signed(word)?).ok()?)),
+        Width::U32 => Some(Number::U32(u32::try_from(parse_number(word)?).ok()?)),
+        Width::I32 => Some(Number::I32(i32::try_from(parse_signed(word)?).ok()?)),
+        Width::U64 => Some(Number::U64(parse_u64(word)?)),
+        Width::I64 => Some(Number::I64(parse_i64(word)?)),
+        Width::U128 => Some(Number::U128(parse_number(word)?)),
+        Width::I128 => Some(Number::I128(parse_signed(word)?)),
+    }
+}
+
+fn parse_u16(word: &[u8]) -> Option<u16>
+    ensures { Parses (SpellsNumber (2 ^ 16) word.now) result }
+{
+    u16::try_from(parse_number(word)?).ok()
+}
+
+fn parse_u64(word: &[u8]) -> Option<u64>
+    ensures { Parses (SpellsNumber (2 ^ 64) word.now) result }
+{
+    u64::try_from(parse_number(word)?).ok()
+}
+
+fn parse_i64(word: &[u8]) -> Option<i64>
+    ensures { Parses (SpellsSigned (2 ^ 63) word.now) result }
+{
+    i64::try_from(parse_signed(word)?).ok()
+}
+
+fn parse_text(alloc: Global, word: &[u8]) -> Result<Option<OwnedPut>, AllocError>
+    ensures { IfOk result (Finds IsPutOf (SpellsPut (codes "str" ∷ word.now ∷ []))) }
+{
+    let Some(bytes) = parse_bytes(alloc, word)? else {
         return Ok(None);
     };
     match String::from_utf8(bytes) {
@@ -164,23 +174,19 @@ fn parse_text(alloc: Global, words: &[&[u8]]) -> Result<Option<OwnedPut>, AllocE
     }
 }
 
-// Returns the slice that the words spell.
-fn parse_slice(alloc: Global, words: &[&[u8]]) -> Result<Option<OwnedPut>, AllocError>
-    ensures { let texts = map (λ word. word.now) words.now in
-        IfOk result (FindsPut (SpellPutRest name.Bytes texts)) }
+fn parse_slice(alloc: Global, word: &[u8]) -> Result<Option<OwnedPut>, AllocError>
+    ensures { IfOk result (Finds IsPutOf (SpellsPut (codes "bytes" ∷ word.now ∷ []))) }
 {
-    match parse_last_bytes(alloc, words)? {
+    match parse_bytes(alloc, word)? {
         Some(bytes) => Ok(Some(OwnedPut::Bytes(bytes))),
         None => Ok(None),
     }
 }
 
-// Returns the C string whose text the words spell.
-fn parse_c_string(alloc: Global, words: &[&[u8]]) -> Result<Option<OwnedPut>, AllocError>
-    ensures { let texts = map (λ word. word.now) words.now in
-        IfOk result (FindsPut (SpellPutRest name.CStr texts)) }
+fn parse_c_string(alloc: Global, word: &[u8]) -> Result<Option<OwnedPut>, AllocError>
+    ensures { IfOk result (Finds IsPutOf (SpellsPut (codes "cstr" ∷ word.now ∷ []))) }
 {
-    let Some(text) = parse_last_bytes(alloc, words)? else {
+    let Some(text) = parse_bytes(alloc, word)? else {
         return Ok(None);
     };
     match CString::new(alloc, &text) {
@@ -190,69 +196,26 @@ fn parse_c_string(alloc: Global, words: &[&[u8]]) -> Result<Option<OwnedPut>, Al
     }
 }
 
-// Returns the number in LEB128, with its shortest encoding.
-fn parse_uleb(words: &[&[u8]]) -> Option<OwnedPut>
-    ensures { let texts = map (λ word. word.now) words.now in
-        FindsPut (SpellPutRest name.Uleb texts) result }
+// Returns the number with its shortest encoding.
+fn parse_uleb(word: &[u8]) -> Option<OwnedPut>
+    ensures { Finds IsPutOf (SpellsPut (codes "uleb" ∷ word.now ∷ [])) result }
 {
-    let value = parse_last_u64(words)?;
+    let value = parse_u64(word)?;
     Some(OwnedPut::Plain(Put::Uleb(Uleb128::shortest(value))))
 }
 
-// Returns the signed number in LEB128, with its shortest encoding.
-fn parse_sleb(words: &[&[u8]]) -> Option<OwnedPut>
-    ensures { let texts = map (λ word. word.now) words.now in
-        FindsPut (SpellPutRest name.Sleb texts) result }
+// Returns the signed number with its shortest encoding.
+fn parse_sleb(word: &[u8]) -> Option<OwnedPut>
+    ensures { Finds IsPutOf (SpellsPut (codes "sleb" ∷ word.now ∷ [])) result }
 {
-    let value = parse_last_i64(words)?;
+    let value = parse_i64(word)?;
     Some(OwnedPut::Plain(Put::Sleb(Sleb128::shortest(value))))
 }
 
-// Returns the number of 64 bits that the only word spells.
-fn parse_last_u64(words: &[&[u8]]) -> Option<u64>
-    ensures { let texts = map (λ word. word.now) words.now in
-        MatchOption result ((x : ℕ) → ¬ (SpellLastNumber texts x)) (SpellLastNumber texts) }
+fn parse_three(order: &[u8], first: &[u8], second: &[u8], third: &[u8]) -> Option<OwnedPut>
+    ensures { Finds IsPutOf (SpellsPut
+        (codes "u16x3" ∷ order.now ∷ first.now ∷ second.now ∷ third.now ∷ [])) result }
 {
-    match words {
-        [word] => parse_u64(word),
-        _ => None,
-    }
-}
-
-// Returns the number of 64 bits that a word spells.
-fn parse_u64(word: &[u8]) -> Option<u64>
-    ensures { MatchOption result ((x : ℕ)
-        → ¬ (SpellsNumber (2 ^ 64) word.now x)) (SpellsNumber (2 ^ 64) word.now) }
-{
-    u64::try_from(parse_number(word)?).ok()
-}
-
-// Returns the signed number of 64 bits that the only word spells.
-fn parse_last_i64(words: &[&[u8]]) -> Option<i64>
-    ensures { let texts = map (λ word. word.now) words.now in
-        MatchOption result ((x : ℤ) → ¬ (SpellLastSigned texts x)) (SpellLastSigned texts) }
-{
-    match words {
-        [word] => parse_i64(word),
-        _ => None,
-    }
-}
-
-// Returns the signed number of 64 bits that a word spells.
-fn parse_i64(word: &[u8]) -> Option<i64>
-    ensures { MatchOption result ((x : ℤ)
-        → ¬ (SpellsSigned (2 ^ 63) word.now x)) (SpellsSigned (2 ^ 63) word.now) }
-{
-    i64::try_from(parse_signed(word)?).ok()
-}
-
-// Returns the three numbers of 16 bits that a byte order and three values spell.
-fn parse_three(words: &[&[u8]]) -> Option<OwnedPut>
-    ensures { let texts = map (λ word. word.now) words.now in FindsPut (SpellThree texts) result }
-{
-    let [order, first, second, third] = words else {
-        return None;
-    };
     let order = parse_order(order)?;
     let first = parse_u16(first)?;
     let second = parse_u16(second)?;
@@ -260,26 +223,14 @@ fn parse_three(words: &[&[u8]]) -> Option<OwnedPut>
     Some(OwnedPut::Plain(Put::U16x3([first, second, third], order)))
 }
 
-// Returns the number of 16 bits that a word spells.
-fn parse_u16(word: &[u8]) -> Option<u16>
-    ensures { MatchOption result ((x : ℕ)
-        → ¬ (SpellsNumber (2 ^ 16) word.now x)) (SpellsNumber (2 ^ 16) word.now) }
+fn parse_two(alloc: Global, first: &[u8], second: &[u8]) -> Result<Option<OwnedPut>, AllocError>
+    ensures { IfOk result
+        (Finds IsPutOf (SpellsPut (codes "bytesx2" ∷ first.now ∷ second.now ∷ []))) }
 {
-    u16::try_from(parse_number(word)?).ok()
-}
-
-// Returns the two slices that the words spell.
-fn parse_two(alloc: Global, words: &[&[u8]]) -> Result<Option<OwnedPut>, AllocError>
-    ensures { let texts = map (λ word. word.now) words.now in
-        IfOk result (FindsPut (SpellPutRest name.Bytesx2 texts)) }
-{
-    let Some((word, rest)) = words.split_first() else {
+    let Some(first) = parse_bytes(alloc, first)? else {
         return Ok(None);
     };
-    let Some(first) = parse_bytes(alloc, word)? else {
-        return Ok(None);
-    };
-    match parse_last_bytes(alloc, rest)? {
+    match parse_bytes(alloc, second)? {
         Some(second) => Ok(Some(OwnedPut::Bytesx2(first, second))),
         None => Ok(None),
     }

@@ -6,7 +6,7 @@ ghost use Rattle.scroll_run.specs.Answers.{AnswersInput, AnswersSession, BreaksO
 
 use crate::answers::print_answers;
 use crate::commands::borrow_commands;
-use crate::input::{MOST_READ, ReadError, read_input};
+use crate::input::{MAX_READ, ReadError, read_input};
 use crate::lines::{Script, Stop, parse_script};
 use crate::output::write_output;
 use scroll::runner::run;
@@ -61,7 +61,7 @@ fn answer_input(alloc: Global, input: &[u8]) -> Result<Outcome, AllocError>
     ensures { IfOk result (λ outcome.
         AnswersInput input.now (string_bytes outcome.text) outcome.status) }
 {
-    if input.len() >= MOST_READ {
+    if input.len() >= MAX_READ {
         return Ok(Outcome {
             text: String::from_str(alloc, "input too long\n")?,
             status: BAD_INPUT,

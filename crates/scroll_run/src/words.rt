@@ -1,11 +1,8 @@
 //! Lines and words, and what a word spells.
-ghost use Rattle.std.specs.Prelude.{◌≡◌, ◌≢◌, codes, ◌<◌, ◌^◌, IfOk, MatchOption, SomeIff, ℕ, ℤ, List, ◌==◌, map};
+ghost use Rattle.std.specs.Prelude.{◌≡◌, ◌<◌, ◌^◌, IfOk, SomeIff, ◌==◌};
 ghost use Rattle.std.specs.List.{slice_split};
 ghost use Rattle.std.specs.Str.Parse.{IsNumeral, digits_value};
-ghost use Rattle.scroll.specs.declared.endian.Endian.{Endian};
-ghost use Rattle.scroll.specs.declared.runner.Width.{Width};
-ghost use Rattle.scroll_run.specs.Words.{NamesNoOther, SpellsByte, SpellsBytes, SpellsSigned, name_word, order_word, width_word};
-ghost use Rattle.scroll_run.specs.declared.words.Name.{Name};
+ghost use Rattle.scroll_run.specs.Words.{Parses, ParsesAs, SpellsByte, SpellsBytes, SpellsSigned, order_word, texts_of, width_word};
 
 use hex::{FromHex, FromHexError};
 use scroll::Endian;
@@ -13,37 +10,10 @@ use scroll::runner::Width;
 use std::alloc::{AllocError, Global};
 use std::str;
 
-/// The type of a value that is read or written, as a word names it.
-#[derive(Clone, Copy)]
-pub enum Name {
-    /// A number of a type.
-    Number(Width),
-    /// A string.
-    Text,
-    /// A slice of bytes.
-    Bytes,
-    /// A C string; a read borrows it.
-    CStr,
-    /// A C string that owns its memory.
-    CString,
-    /// An unsigned number in LEB128.
-    Uleb,
-    /// A signed number in LEB128.
-    Sleb,
-    /// An array of no `u8`.
-    U8x0,
-    /// An array of three `u16`.
-    U16x3,
-    /// An array of two strings.
-    Textx2,
-    /// An array of two slices of bytes.
-    Bytesx2,
-}
-
 /// Returns the parts of a text before, between and after its separators.
 pub fn split(alloc: Global, text: &[u8], separator: u8) -> Result<Vec<&[u8]>, AllocError>
     ensures { IfOk result (λ parts.
-        map (λ part. part.now) parts.items ≡ slice_split (λ b. b == separator) text.now) }
+        texts_of parts.items ≡ slice_split (λ b. b == separator) text.now) }
 {
     let mut parts = Vec::new(alloc);
     for part in text.split(|byte| *byte == separator) {
@@ -69,8 +39,7 @@ pub fn parse_number(word: &[u8]) -> Option<u128>
 
 /// Returns the number that digits spell, after a minus or not, if it is in the range of `i128`.
 pub fn parse_signed(word: &[u8]) -> Option<i128>
-    ensures { MatchOption result ((x : ℤ)
-        → ¬ (SpellsSigned (2 ^ 127) word.now x)) (SpellsSigned (2 ^ 127) word.now) }
+    ensures { Parses (SpellsSigned (2 ^ 127) word.now) result }
 {
     match word.strip_prefix(b"-") {
         Some(digits) => 0_i128.checked_sub_unsigned(parse_number(digits)?),
@@ -89,8 +58,7 @@ pub fn parse_usize(word: &[u8]) -> Option<usize>
 /// Returns the bytes that a word spells: `-` for none, or two hexadecimal digits of either case for each byte. Returns
 /// `None` for any other word. The only error is an allocation failure.
 pub fn parse_bytes(alloc: Global, word: &[u8]) -> Result<Option<Vec<u8>>, AllocError>
-    ensures { IfOk result (λ found. MatchOption found ((bytes : List ℕ)
-        → ¬ (SpellsBytes word.now bytes)) (λ bytes. SpellsBytes word.now bytes.items)) }
+    ensures { IfOk result (ParsesAs (λ bytes. bytes.items) (SpellsBytes word.now)) }
 {
     if word == b"-".as_slice() {
         return Ok(Some(Vec::new(alloc)));
@@ -107,46 +75,15 @@ pub fn parse_bytes(alloc: Global, word: &[u8]) -> Result<Option<Vec<u8>>, AllocE
 
 /// Returns the byte that two hexadecimal digits of either case spell.
 pub fn parse_byte(word: &[u8]) -> Option<u8>
-    ensures { MatchOption result ((byte : ℕ) → ¬ (SpellsByte word.now byte)) (SpellsByte word.now) }
+    ensures { Parses (SpellsByte word.now) result }
 {
     let bytes = <[u8; 1] as FromHex>::from_hex(word).ok()?;
     Some(bytes[0])
 }
 
-/// Returns what a word names.
-pub fn parse_name(word: &[u8]) -> Option<Name>
-    ensures { MatchOption result ((name : Name) → ¬ (word.now ≡ name_word name)) (λ name.
-        word.now ≡ name_word name) }
-{
-    match parse_other_name(word) {
-        Some(name) => Some(name),
-        None => Some(Name::Number(parse_width(word)?)),
-    }
-}
-
-// Returns what a word names if that isn't one number.
-fn parse_other_name(word: &[u8]) -> Option<Name>
-    ensures { MatchOption result (NamesNoOther word.now) (λ name. word.now ≡ name_word name) }
-{
-    match word {
-        b"str" => Some(Name::Text),
-        b"strx2" => Some(Name::Textx2),
-        b"bytes" => Some(Name::Bytes),
-        b"bytesx2" => Some(Name::Bytesx2),
-        b"cstr" => Some(Name::CStr),
-        b"cstring" => Some(Name::CString),
-        b"uleb" => Some(Name::Uleb),
-        b"sleb" => Some(Name::Sleb),
-        b"u8x0" => Some(Name::U8x0),
-        b"u16x3" => Some(Name::U16x3),
-        _ => None,
-    }
-}
-
 /// Returns the number type that a word names.
 pub fn parse_width(word: &[u8]) -> Option<Width>
-    ensures { MatchOption result ((width : Width) → ¬ (word.now ≡ width_word width)) (λ width.
-        word.now ≡ width_word width) }
+    ensures { Parses (λ width. word.now ≡ width_word width) result }
 {
     match word {
         b"u8" => Some(Width::U8),
@@ -165,8 +102,7 @@ pub fn parse_width(word: &[u8]) -> Option<Width>
 
 /// Returns the byte order that a word names.
 pub fn parse_order(word: &[u8]) -> Option<Endian>
-    ensures { MatchOption result ((order : Endian) → ¬ (word.now ≡ order_word order)) (λ order.
-        word.now ≡ order_word order) }
+    ensures { Parses (λ order. word.now ≡ order_word order) result }
 {
     match word {
         b"le" => Some(Endian::Little),

@@ -1,4 +1,5 @@
 pub mod LeafLemmas
+pub mod PlainLemmas
 pub mod RunLemmas
 pub mod SeenLemmas
 pub mod StandLemmas

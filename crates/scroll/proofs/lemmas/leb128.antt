@@ -2,9 +2,4 @@ pub mod BlockLemmas
 pub mod LebLemmas
 pub mod LebReadLemmas
 pub mod LebWriteLemmas
-pub mod LoadLemmas
-pub mod SignedLemmas
-pub mod SignedSpellingLemmas
-pub mod SignedWriteLemmas
 pub mod SpellingLemmas
-pub mod SpreadLemmas

@@ -1,4 +1,3 @@
-pub mod FlagLemmas
 pub mod SearchLemmas
 pub mod StopLemmas
 pub mod VectorLemmas

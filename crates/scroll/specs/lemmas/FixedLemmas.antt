@@ -4,8 +4,6 @@ use Rattle.std.proofs.Common.{◌≡◌, ℕ, ℤ, pos, neg_ℤ, ◌*ℤ◌, ◌
 use Rattle.std.proofs.Math.Seq.{drop-append_seam}
 use Rattle.std.proofs.lemmas.List.{drop-drop, take-take, drop-take}
 use Rattle.std.specs.Prelude.{from_bits}
-use Rattle.scroll.specs.Bytes.{WritesFront}
-use Rattle.scroll.specs.lemmas.Frames.{drop-front}
 use Rattle.std.specs.Float.{Float, Format}
 use Rattle.std.specs.Float.Ieee.{fits}
 use Rattle.scroll.specs.Fixed.{One, SameAt}
@@ -77,10 +75,3 @@ record-one {R} {X} {P} {Q} parts_of of_parts again there one of to = record {
   is = of (of_parts one.value) (subst P (sym (there one.value)) one.is);
   only = λ x h. sym (again x) ∙ ap of_parts (one.only (parts_of x) (to x h));
 }
-
--- bytes that are written over the front of a target leave those after them unchanged
-pub bytes-keep : (w : ℕ) (bytes old new : List ℕ) → length bytes ≡ w → new ≡ bytes ++ drop w old → drop w new ≡ drop w old
-bytes-keep w bytes old new len is = drop-front w bytes old new len is
-
-pub write-keeps : (w : ℕ) (bytes old new : List ℕ) (n : ℕ) → length bytes ≡ w → WritesFront w bytes old new n → drop n new ≡ drop n old
-write-keeps w bytes old new n len h = rw h.size (drop-front w bytes old new len h.after)

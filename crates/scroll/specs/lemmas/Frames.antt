@@ -7,12 +7,8 @@ use Rattle.std.proofs.lemmas.List.{drop-drop, length-replicate}
 use Rattle.std.proofs.lemmas.List.FromFn.{length-map-range_with_len}
 use Rattle.scroll.specs.Arrays.{WritesAll, WritesArray, LeavesAll, FillsArray}
 use Rattle.scroll.specs.Bytes.{WritesFront}
-use Rattle.scroll.specs.Exact.{LeavesExactly, WritesExactly}
-use Rattle.scroll.specs.Leb128.{Counted}
-use Rattle.scroll.specs.LebWrites.{WritesUleb, WritesSleb}
 use Rattle.scroll.specs.Numbers.{number_bytes, signed_bytes, WritesNumber}
-use Rattle.scroll.specs.Zeros.{zeros}
-use Rattle.scroll.specs.Spelling.{spelled_byte, spelling, unsigned_form}
+use Rattle.scroll.specs.Spelling.{spelled_byte, spelling}
 use Rattle.scroll.specs.declared.endian.Endian.{Endian}
 use Rattle.scroll.specs.declared.endian.Endian.TheVariants.{Little, Big}
 
@@ -28,18 +24,12 @@ length-signed_bytes order w x = length-number_bytes order w _
 pub drop-front : (w : ℕ) (bytes old new : List ℕ) → length bytes ≡ w → new ≡ bytes ++ drop w old → drop w new ≡ drop w old
 drop-front w bytes old new len is = grind (arith, common_steps)
 
-pub number_bytes-keeps : (w : ℕ) (order : Endian) (x : ℕ) (old new : List ℕ) → new ≡ number_bytes order w x ++ drop w old → drop w new ≡ drop w old
-number_bytes-keeps w order x old new is = drop-front w (number_bytes order w x) old new (length-number_bytes order w x) is
+-- so does a write of them
+pub drop-written : {w : ℕ} {bytes old new : List ℕ} {n : ℕ} → length bytes ≡ w → WritesFront w bytes old new n → drop n new ≡ drop n old
+drop-written {w} {bytes} {old} {new} len h = rw h.size (drop-front w bytes old new len h.after)
 
-pub signed_bytes-keeps : (w : ℕ) (order : Endian) (x : ℤ) (old new : List ℕ) → new ≡ signed_bytes order w x ++ drop w old → drop w new ≡ drop w old
-signed_bytes-keeps w order x old new is = drop-front w (signed_bytes order w x) old new (length-signed_bytes order w x) is
-
-pub WritesNumber-keeps : (w : ℕ) (order : Endian) (x : ℕ) (old new : List ℕ) (n : ℕ) → WritesNumber w order x old new n → drop n new ≡ drop n old
-WritesNumber-keeps w order x old new n h = rw h.size (number_bytes-keeps w order x old new h.after)
-
--- `WritesFront` leaves the bytes after those that it writes unchanged
 pub WritesFront-keeps : (bytes old new : List ℕ) (n : ℕ) → WritesFront (length bytes) bytes old new n → drop n new ≡ drop n old
-WritesFront-keeps bytes old new n h = let after = h.after in let size = h.size in grind (arith, common_steps)
+WritesFront-keeps bytes old new n h = drop-written refl h
 
 -- lists that are equal from an index on are equal from every later index on
 pub drop-same : {X : Type 0} (n k : ℕ) (xs ys : List X) → n ≤ k → drop n xs ≡ drop n ys → drop k xs ≡ drop k ys
@@ -63,15 +53,6 @@ WritesArray-keeps writes keeps vs old new n h = (WritesAll-keeps writes keeps ol
 pub length-spelling : (v n : ℕ) → length (spelling v n) ≡ n
 length-spelling v n = length-map-range_with_len (spelled_byte v n) 0 n
 
-spelling-keeps : (v w : ℕ) (old new : List ℕ) (n : ℕ) → WritesFront w (spelling v w) old new n → drop n new ≡ drop n old
-spelling-keeps v w old new n h = rw h.size (drop-front w (spelling v w) old new (length-spelling v w) h.after)
-
-pub WritesUleb-keeps : (x : Counted ℕ) (old new : List ℕ) (n : ℕ) → WritesUleb x old new n → drop n new ≡ drop n old
-WritesUleb-keeps x old new n h = spelling-keeps x.value x.count old new n h
-
-pub WritesSleb-keeps : (x : Counted ℤ) (old new : List ℕ) (n : ℕ) → WritesSleb x old new n → drop n new ≡ drop n old
-WritesSleb-keeps x old new n h = spelling-keeps (unsigned_form x.value x.count) x.count old new n h
-
 -- values that are put one after another leave the bytes after the last of them unchanged
 LeavesAll-keeps : {V : Type 0} (width need : ℕ) (leaves : V → List ℕ → List ℕ → Type 0) → ((x : V) (old new : List ℕ) → leaves x old new → drop need new ≡ drop need old) → (end : ℕ) (old : List ℕ) (from : ℕ) (vs : List V) (new : List ℕ) → from + max width need * length vs ≤ end → LeavesAll width leaves old from vs new → drop end new ≡ drop end old
 LeavesAll-keeps width need leaves keeps end old from [] new le h = ap (drop end) h
@@ -90,17 +71,3 @@ FillsArray-keeps width need leaves keeps count vs old new h =
 pub slice-keeps : (n : ℕ) (slice old new : List ℕ) → new ≡ take n slice ++ drop (length (take n slice)) old → drop n new ≡ drop n old
 slice-keeps n slice old new is =
     drop-same (length (take n slice)) n new old (omega (arith, length-take n slice)) (drop-front (length (take n slice)) (take n slice) old new refl is)
-
--- zeros
-pub zeros-keeps : (n : ℕ) (old new : List ℕ) → new ≡ zeros n ++ drop n old → drop n new ≡ drop n old
-zeros-keeps n old new is = drop-front n (zeros n) old new (length-replicate n 0) is
-
-pub WritesZeros-keeps : (n : ℕ) (old new : List ℕ) (size : ℕ) → WritesFront n (zeros n) old new size → drop size new ≡ drop size old
-WritesZeros-keeps n old new size h = rw h.size (zeros-keeps n old new h.after)
-
--- values with an array among their fields
-pub LeavesExactly-keeps : {w : ℕ} {bytes old new : List ℕ} → LeavesExactly w bytes old new → drop w new ≡ drop w old
-LeavesExactly-keeps {w} {bytes} {old} {new} h = drop-front w bytes old new h.len h.after
-
-pub WritesExactly-keeps : {w : ℕ} {bytes old new : List ℕ} {n : ℕ} → WritesExactly w bytes old new n → drop n new ≡ drop n old
-WritesExactly-keeps {w} {bytes} {old} {new} h = rw h.size (drop-front w bytes old new h.len h.after)

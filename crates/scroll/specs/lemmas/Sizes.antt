@@ -4,7 +4,7 @@ use Rattle.std.proofs.Common.{ℕ, ◌+◌, ◌≤◌, ◌==◌, not, List, [], 
 use Rattle.std.proofs.lemmas.List.Sums.{prefix_len-le-length}
 use Rattle.scroll.specs.Arrays.{ReadsArray, WritesAll, WritesArray}
 use Rattle.scroll.specs.CStrings.{ReadsCString}
-use Rattle.scroll.specs.Reads.{ReadsAll}
+use Rattle.scroll.specs.Reads.{IsBounded, ReadsAll}
 use Rattle.scroll.specs.Texts.{first_place, ReadsText}
 use Rattle.scroll.specs.declared.ctx.str_ctx.StrCtx.{StrCtx}
 use Rattle.scroll.specs.declared.ctx.str_ctx.StrCtx.TheVariants.{Delimiter, DelimiterUntil, Length, Required}
@@ -14,25 +14,25 @@ pub first_place-le : (d : ℕ) (s : List ℕ) → first_place d s ≤ length s
 first_place-le d s = prefix_len-le-length (λ b. not (b == d)) s
 
 -- the size of a text is at most one more than the length of the source
-pub ReadsText-bounded : (ctx : StrCtx) (source text : List ℕ) (n : ℕ) → ReadsText ctx source text n → n ≤ length source + 1
+pub ReadsText-bounded : (ctx : StrCtx) → IsBounded (ReadsText ctx)
 ReadsText-bounded (Delimiter d) source text n h = let within = first_place-le d source in omega (arith, h.size)
 ReadsText-bounded (DelimiterUntil d limit) source text n h = let within = first_place-le d source in omega (arith, h.size)
 ReadsText-bounded (Length len) source text n h = omega (arith, h.size, h.room)
 ReadsText-bounded (Required d) source text n h = omega (arith, h.size, h.there)
 
 -- so is the size of a C string
-pub ReadsCString-bounded : (source text : List ℕ) (n : ℕ) → ReadsCString source text n → n ≤ length source + 1
+pub ReadsCString-bounded : IsBounded ReadsCString
 ReadsCString-bounded source text n h = omega (arith, h.found, h.size)
 
 -- reads one after another end at most one byte past the end
-ReadsAll-bounded : {V : Type 0} (reads : List ℕ → V → ℕ → Type 0) → ((s : List ℕ) (x : V) (n : ℕ) → reads s x n → n ≤ length s + 1) → (s : List ℕ) (from : ℕ) (vs : List V) (to : ℕ) → from ≤ length s + 1 → ReadsAll reads s from vs to → to ≤ length s + 1
+ReadsAll-bounded : {V : Type 0} (reads : List ℕ → V → ℕ → Type 0) → IsBounded reads → (s : List ℕ) (from : ℕ) (vs : List V) (to : ℕ) → from ≤ length s + 1 → ReadsAll reads s from vs to → to ≤ length s + 1
 ReadsAll-bounded reads bound s from [] to le h = omega (arith, le, h)
 ReadsAll-bounded reads bound s from (v ∷ vs) to le h =
     let size = bound (drop from s) v h.0 h.1.value in
     let left = length-drop from s in
     ReadsAll-bounded reads bound s (from + h.0) vs to (omega (arith, size, left, h.1.inside)) h.2
 
-pub ReadsArray-bounded : {V : Type 0} (reads : List ℕ → V → ℕ → Type 0) → ((s : List ℕ) (x : V) (n : ℕ) → reads s x n → n ≤ length s + 1) → (count : ℕ) (s : List ℕ) (vs : List V) (n : ℕ) → ReadsArray reads count s vs n → n ≤ length s + 1
+pub ReadsArray-bounded : {V : Type 0} (reads : List ℕ → V → ℕ → Type 0) → IsBounded reads → (count : ℕ) → IsBounded (ReadsArray reads count)
 ReadsArray-bounded reads bound count s vs n h = ReadsAll-bounded reads bound s 0 vs n (omega arith) h.each
 
 -- writes one after another end within the target

@@ -110,6 +110,7 @@ impl<
 
     ghost reads_bounded = { λ ctx. ReadsArray-bounded (T.reads ctx) (T.reads_bounded ctx) N };
 
+    #[inline(always)]
     fn try_from_ctx(from: &'a [u8], ctx: Ctx) -> result::Result<([T; N], usize), E> {
         if !fits::<ArrayVec<Option<T>, N>>() {
             return Err(E::from(Error::NoMemory));

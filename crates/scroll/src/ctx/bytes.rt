@@ -1,8 +1,8 @@
 // Byte slices.
 ghost use Rattle.std.specs.Prelude.{◌≡◌, ◌++◌, length, take, drop};
 ghost use Rattle.std.proofs.Common.{rules};
-ghost use Rattle.scroll.specs.Bytes.{WritesFront, LeavesShort};
-ghost use Rattle.scroll.specs.Texts.{ReadsSlice, RefusesSlice};
+ghost use Rattle.scroll.specs.Bytes.{WritesFront, LeavesShort, RefusesShort};
+ghost use Rattle.scroll.specs.Texts.{ReadsSlice};
 ghost use Rattle.scroll.specs.lemmas.Frames.{WritesFront-keeps, slice-keeps};
 
 use crate::ctx::{IntoCtx, TryFromCtx, TryIntoCtx};
@@ -17,7 +17,7 @@ impl<'a> TryFromCtx<'a, usize> for &'a [u8] {
 
     ghost reads = { λ n source slice. ReadsSlice n source slice.now };
 
-    ghost refuses = { RefusesSlice };
+    ghost refuses = { RefusesShort };
 
     ghost reads_bounded = { λ n source slice size h. Prim.search rules };
 

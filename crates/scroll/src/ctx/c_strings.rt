@@ -47,10 +47,13 @@ impl<'a, 'm> TryFromCtx<'a, &'m Global> for CString {
     /// Copies the text before the first zero of `from`; the size in bytes counts the zero. A source without a zero
     /// returns [`Error::BadInput`] with the size 0 and the message `The input doesn't contain a null byte`, before memory
     /// is allocated. An allocation failure returns [`Error::NoMemory`].
+    #[inline(always)]
     fn try_from_ctx(from: &'a [u8], ctx: &'m Global) -> Result<(CString, usize)> {
         let (text, size) = CStr::try_from_ctx(from, ())?;
-        let text = CString::new(*ctx, text.to_bytes())?;
-        Ok((text, size))
+        match CString::copied(*ctx, text) {
+            Ok(text) => Ok((text, size)),
+            Err(_) => Err(Error::NoMemory),
+        }
     }
 }
 

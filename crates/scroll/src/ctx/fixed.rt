@@ -5,7 +5,8 @@ ghost use Rattle.std.proofs.lemmas.List.Elements.{All-drop};
 ghost use Rattle.std.specs.List.{All};
 ghost use Rattle.scroll.specs.Bytes.{ReadsMade, RefusesShort, WritesFront, LeavesShort};
 ghost use Rattle.scroll.specs.Fixed.{One, SameAt};
-ghost use Rattle.scroll.specs.lemmas.FixedLemmas.{record-one, bytes-keep, write-keeps};
+ghost use Rattle.scroll.specs.lemmas.FixedLemmas.{record-one};
+ghost use Rattle.scroll.specs.lemmas.Frames.{drop-front, drop-written};
 ghost use Rattle.scroll.specs.declared.endian.Endian.{Endian};
 
 mod arrays;
@@ -253,7 +254,8 @@ impl<W: Written> IntoCtx<Endian> for W {
 
     ghost leaves = { λ order x old new. new ≡ W.Value.bytes order (W.value_of x) ++ drop W.Value.width old };
 
-    ghost leaves_keeps = { λ order x old new h. bytes-keep W.Value.width (W.Value.bytes order (W.value_of x)) old new (W.Value.bytes_len order (W.value_of x)) h };
+    ghost leaves_keeps = { λ order x old new h.
+        drop-front W.Value.width _ old new (W.Value.bytes_len order (W.value_of x)) h };
 
     fn into_ctx(self, dst: &mut [u8], ctx: Endian) {
         self.value().write_front(dst, ctx)
@@ -272,7 +274,7 @@ impl<W: Written> TryIntoCtx<Endian> for W {
 
     ghost writes_bounded = { λ order x old new n h. Prim.search rules };
 
-    ghost writes_keeps = { λ order x old new n h. write-keeps W.Value.width (W.Value.bytes order (W.value_of x)) old new n (W.Value.bytes_len order (W.value_of x)) h };
+    ghost writes_keeps = { λ order x old new n h. drop-written (W.Value.bytes_len order (W.value_of x)) h };
 
     fn try_into_ctx(self, dst: &mut [u8], ctx: Endian) -> Result<usize> {
         check_room(W::Value::width(), dst.len())?;

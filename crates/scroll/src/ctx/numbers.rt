@@ -1,5 +1,5 @@
 // Numbers: what their implementations of `Fixed` share.
-ghost use Rattle.std.specs.Prelude.{◌≡◌, ◌≤◌, ◌++◌, length, drop};
+ghost use Rattle.std.specs.Prelude.{◌≡◌, ◌≤◌, ◌+◌, ◌++◌, length, take, drop};
 ghost use Rattle.std.specs.Int.{w64, to_le_bytes};
 ghost use Rattle.scroll.specs.Numbers.{number_bytes};
 
@@ -8,6 +8,15 @@ use crate::endian::Endian;
 mod floats;
 mod signed;
 mod unsigned;
+
+// Returns the `N` bytes from `offset` on.
+#[inline]
+fn bytes_at<const N: usize>(from: &[u8], offset: usize) -> [u8; N]
+    requires { offset + N ≤ length from.now }
+    ensures { result ≡ take N (drop offset from.now) }
+{
+    *from[offset..].first_chunk().unwrap()
+}
 
 // Writes the bytes of a number to the front of a target.
 #[inline]

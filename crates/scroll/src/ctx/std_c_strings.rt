@@ -40,6 +40,7 @@ impl<'a, 'm> TryFromCtx<'a, &'m Global> for CString {
     ghost reads_bounded = { λ _ source s. ReadsCString-bounded source (c_string_bytes s) };
 
     /// Reads like [`cstr::CString`].
+    #[inline(always)]
     fn try_from_ctx(from: &'a [u8], ctx: &'m Global) -> Result<(CString, usize)> {
         let (text, size) = cstr::CString::try_from_ctx(from, ctx)?;
         Ok((CString::from(text), size))

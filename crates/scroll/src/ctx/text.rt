@@ -1,4 +1,5 @@
 // Strings.
+ghost use Rattle.std.specs.Str.{IsAscii};
 ghost use Rattle.std.specs.Prelude.{◌≡◌, ℕ, ◌+◌, ◌≤◌, List, length, take, codes, ◌<◌, ◌⊎◌, IfOk, IfErr, OnOk, OnErr, IfSome, IfNone, IsUtf8};
 ghost use Rattle.scroll.specs.Errors.{IsBadInput};
 ghost use Rattle.std.proofs.Common.{rules};
@@ -9,7 +10,7 @@ ghost use Rattle.scroll.specs.lemmas.Frames.{WritesFront-keeps};
 
 use crate::ctx::{StrCtx, TryFromCtx, TryIntoCtx};
 use crate::error::{Error, Result, check_room};
-use crate::search::{first_place, text_before};
+use crate::search::{first_place, first_stop};
 
 /// Reads a string up to where the context ends it. This is zero-copy: the string borrows the source.
 ///
@@ -30,6 +31,7 @@ impl<'a> TryFromCtx<'a, StrCtx> for &'a str {
     ghost reads_bounded = { λ ctx source text. ReadsText-bounded ctx source text.now };
 
     #[inline(always)]
+    #[tactic(auto, using(crate::proofs::lemmas::texts::TextLemmas::text_lens))]
     fn try_from_ctx(from: &'a [u8], ctx: StrCtx) -> Result<(&'a str, usize)> {
         match text_in(from, ctx)? {
             Some(text) => Ok((text, text.len() + ctx.len())),
@@ -41,15 +43,14 @@ impl<'a> TryFromCtx<'a, StrCtx> for &'a str {
     }
 }
 
-// Returns the string, or `None` where the bytes aren't UTF-8. A limit and a length are checked before the search.
+// Returns the string, or `None` where the bytes aren't UTF-8. A limit and a length are checked before the search, and a
+// missing delimiter is found before UTF-8 is checked.
 #[inline(always)]
 #[tactic(auto, using(crate::proofs::lemmas::texts::TextLemmas::first_places))]
 fn text_in(from: &[u8], ctx: StrCtx) -> Result<Option<&str>>
     ensures room { IfOk result (λ _. wanted_len ctx ≤ length from.now) }
     ensures text { IfOk result (λ found. IfSome found
         (λ text. text.now ≡ take (text_len ctx from.now) from.now)) }
-    ensures len { IfOk result (λ found. IfSome found
-        (λ text. length text.now ≡ text_len ctx from.now)) }
     ensures none { IfOk result (λ found. IfNone found
         (¬ (IsUtf8 (take (text_len ctx from.now) from.now)))) }
     ensures there { OnOk result (HasDelimiter ctx from.now) }
@@ -57,47 +58,53 @@ fn text_in(from: &[u8], ctx: StrCtx) -> Result<Option<&str>>
         ⊎ RefusesMissing ctx from.now e) }
 {
     match ctx {
-        StrCtx::Delimiter(delimiter) => Ok(text_before(delimiter, from)),
+        StrCtx::Delimiter(delimiter) => Ok(text_before(delimiter, from).1),
         StrCtx::DelimiterUntil(delimiter, limit) => {
             check_room(limit, from.len())?;
-            Ok(text_before(delimiter, &from[..limit]))
+            Ok(text_before(delimiter, &from[..limit]).1)
         }
         StrCtx::Length(len) => {
             check_room(len, from.len())?;
             Ok(str::from_utf8(&from[..len]).ok())
         }
-        StrCtx::Required(delimiter) => required_text(delimiter, from),
+        StrCtx::Required(delimiter) => {
+            let (place, text) = text_before(delimiter, from);
+            if place == from.len() {
+                return Err(Error::BadInput {
+                    size: place,
+                    msg: "missing delimiter",
+                });
+            }
+            Ok(text)
+        }
     }
 }
 
-// Returns the string before a delimiter that the source must contain. A missing delimiter is found before UTF-8 is
-// checked.
+// Returns the offset of the first delimiter, or the length of the source if there is none, and the string before it, or
+// `None` where the bytes aren't UTF-8. The bytes are examined once if they are ASCII.
 #[inline(always)]
-fn required_text(delimiter: u8, from: &[u8]) -> Result<Option<&str>>
-    ensures there { OnOk result (first_place delimiter from.now < length from.now) }
-    ensures text { IfOk result (λ found. IfSome found
-        (λ text. text.now ≡ take (first_place delimiter from.now) from.now)) }
-    ensures len { IfOk result (λ found. IfSome found
-        (λ text. length text.now ≡ first_place delimiter from.now)) }
-    ensures none { IfOk result (λ found. IfNone found
-        (¬ (IsUtf8 (take (first_place delimiter from.now) from.now)))) }
-    ensures missing { OnErr result (¬ (first_place delimiter from.now < length from.now)) }
-    ensures refused { IfErr result (λ e.
-        IsBadInput e (length from.now) (codes "missing delimiter")) }
+#[tactic(auto, using(crate::proofs::lemmas::texts::TextLemmas::first_places))]
+fn text_before(delimiter: u8, source: &[u8]) -> (usize, Option<&str>)
+    ensures place { result.0 ≡ first_place delimiter source.now }
+    ensures text { IfSome result.1 (λ text. text.now ≡ take result.0 source.now) }
+    ensures none { IfNone result.1 (¬ (IsUtf8 (take result.0 source.now))) }
 {
-    let size = from.len();
-    let found = text_before(delimiter, from);
-    let place = match found {
-        Some(text) => text.len(),
-        None => first_place(delimiter, from),
-    };
-    if place == size {
-        return Err(Error::BadInput {
-            size,
-            msg: "missing delimiter",
-        });
+    let stop = first_stop(delimiter, source);
+    if stop == source.len() || source[stop] == delimiter {
+        return (stop, Some(text_of_ascii(&source[..stop])));
     }
-    Ok(found)
+    let place = stop + first_place(delimiter, &source[stop..]);
+    (place, str::from_utf8(&source[..place]).ok())
+}
+
+// Returns ASCII bytes as a string.
+#[inline(always)]
+fn text_of_ascii(bytes: &[u8]) -> &str
+    requires { IsAscii bytes.now }
+    ensures { result.now ≡ bytes.now }
+{
+    // ASCII is UTF-8: the premise of this call is proved for every call of `text_of_ascii`.
+    unsafe { str::from_utf8_unchecked(bytes) }
 }
 
 /// Writes the bytes of the string, without a delimiter or a length. A shorter target returns [`Error::TooBig`] with the

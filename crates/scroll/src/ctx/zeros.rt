@@ -3,7 +3,8 @@ ghost use Rattle.std.specs.Prelude.{◌≡◌, ◌≢◌, ℕ, ◌≤◌, ◌<�
 ghost use Rattle.std.proofs.Common.{rules};
 ghost use Rattle.scroll.specs.Bytes.{WritesFront, LeavesShort};
 ghost use Rattle.scroll.specs.Zeros.{padding_len, zeros, ReadsZeros, RefusesZeros};
-ghost use Rattle.scroll.specs.lemmas.Frames.{zeros-keeps, WritesZeros-keeps};
+ghost use Rattle.std.proofs.lemmas.List.{length-replicate};
+ghost use Rattle.scroll.specs.lemmas.Frames.{drop-front, drop-written};
 
 use crate::ctx::{IntoCtx, TryFromCtx, TryIntoCtx};
 use crate::error::{Error, Result, check_room};
@@ -16,7 +17,11 @@ use crate::error::{Error, Result, check_room};
 /// unchanged. [`padding`] says how many bytes there are before the next multiple of a size.
 ///
 /// ```rust
-/// file.gread_with::<Zeros>(&mut offset, padding(offset, 8))?;
+/// let file: &[u8] = &[7, 0, 0, 0, 0, 0, 0, 0, 9];
+/// let mut offset = 1;
+/// let count = padding(offset, 8);
+/// file.gread_with::<Zeros>(&mut offset, count)?;
+/// assert_eq!(rt; offset, 8);
 /// ```
 #[derive(Clone, Copy, Debug, PartialEq, Eq)]
 pub struct Zeros;
@@ -76,7 +81,7 @@ impl IntoCtx<usize> for Zeros {
 
     ghost leaves = { λ n _ old new. new ≡ zeros n ++ drop n old };
 
-    ghost leaves_keeps = { λ n _. zeros-keeps n };
+    ghost leaves_keeps = { λ n _ old new h. drop-front n (zeros n) old new (length-replicate n 0) h };
 
     fn into_ctx(self, dst: &mut [u8], ctx: usize) {
         dst[..ctx].fill(0);
@@ -92,7 +97,7 @@ impl TryIntoCtx<usize> for Zeros {
 
     ghost writes_bounded = { λ n x old new size h. Prim.search rules };
 
-    ghost writes_keeps = { λ n _. WritesZeros-keeps n };
+    ghost writes_keeps = { λ n _ old new size h. drop-written (length-replicate n 0) h };
 
     fn try_into_ctx(self, dst: &mut [u8], ctx: usize) -> Result<usize> {
         check_room(ctx, dst.len())?;

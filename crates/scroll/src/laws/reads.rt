@@ -4,9 +4,10 @@ ghost use Rattle.scroll.specs.Arrays.{ReadsNested, RefusesNested};
 ghost use Rattle.scroll.specs.Bytes.{RefusesShort};
 ghost use Rattle.scroll.specs.CStrings.{ReadsCString, RefusesCString};
 ghost use Rattle.scroll.specs.Errors.{IsBadOffset};
-ghost use Rattle.scroll.specs.Laws.{IsLocal, IsBounded, IsWithin, IsReader, IsReaderWithin};
+ghost use Rattle.scroll.specs.Laws.{IsLocal, IsWithin, IsReader, IsReaderWithin};
 ghost use Rattle.scroll.specs.Leb128.{ReadsUleb, ReadsSleb, ReadsCountedUleb, ReadsCountedSleb};
 ghost use Rattle.scroll.specs.LebRefusals.{RefusesUleb, RefusesSleb};
+ghost use Rattle.scroll.specs.Reads.{IsBounded};
 ghost use Rattle.scroll.specs.Texts.{ReadsText, RefusesText, ReadsSlice};
 ghost use Rattle.scroll.specs.Zeros.{ReadsZeros, RefusesZeros};
 ghost use Rattle.scroll.specs.declared.ctx.str_ctx.StrCtx.{StrCtx};
@@ -40,7 +41,7 @@ pub fn reads_keep_their_laws()
 pub fn arrays_keep_their_laws<'a, Ctx: Copy, T: TryFromCtx<'a, Ctx, Error = Error>>()
     ensures { (ctx : Ctx) (counts : List ℕ) → IsReader (T.reads ctx) (T.refuses ctx)
         → IsReader (ReadsNested (T.reads ctx) counts)
-            (RefusesNested (T.reads ctx) (T.refuses ctx) IsBadOffset counts) }
+        (RefusesNested (T.reads ctx) (T.refuses ctx) IsBadOffset counts) }
 {}
 
 /// Arrays of a type with any error depend on their bytes and are bounded as their elements are.

@@ -1,7 +1,7 @@
 // LEB128 encodings within a word of eight bytes.
 ghost use Rattle.std.specs.Prelude.{◌≡◌, ◌-◌, ◌<◌, ◌≤◌, ◌*◌, ◌^◌, nat_lt, pos, ◌-ℤ◌, if◌then◌else◌, IfSome, IfNone, MatchOption};
 ghost use Rattle.std.specs.Int.{w64, to_le_bytes};
-ghost use Rattle.scroll.specs.Leb128.{end_of, groups_value, EndsInBlock, EndsInSignedBlock};
+ghost use Rattle.scroll.specs.Leb128.{end_of, groups_value, ReadsGroups, ReadsSleb, ReadsUleb};
 
 // The low seven bits of each byte.
 const GROUPS: u64 = 0x7f7f_7f7f_7f7f_7f7f;
@@ -10,7 +10,7 @@ const GROUPS: u64 = 0x7f7f_7f7f_7f7f_7f7f;
 /// `None` where none of the eight bytes ends it.
 #[inline(always)]
 pub fn uleb_block(b: [u8; 8]) -> Option<(u64, usize)>
-    ensures read { IfSome result (λ read. EndsInBlock b read.0 read.1) }
+    ensures read { IfSome result (λ read. ReadsUleb b read.0 read.1) }
     ensures none { IfNone result (8 ≤ end_of b) }
 {
     groups_in(u64::from_le_bytes(b))
@@ -20,7 +20,7 @@ pub fn uleb_block(b: [u8; 8]) -> Option<(u64, usize)>
 /// `None` where none of the eight bytes ends it.
 #[inline(always)]
 pub fn sleb_block(b: [u8; 8]) -> Option<(i64, usize)>
-    ensures read { IfSome result (λ read. EndsInSignedBlock b read.0 read.1) }
+    ensures read { IfSome result (λ read. ReadsSleb b read.0 read.1) }
     ensures none { IfNone result (8 ≤ end_of b) }
 {
     signed_in(u64::from_le_bytes(b))
@@ -34,11 +34,11 @@ pub(crate) fn block_groups(b: [u8; 8]) -> u64
     gathered(u64::from_le_bytes(b))
 }
 
-// Returns the groups up to the end of the encoding as one number, and how many there are.
+// Returns the groups up to the end of the encoding as one number, and how many there are. (`signed_in` is its twin.)
 #[inline(always)]
 fn groups_in(word: u64) -> Option<(u64, usize)>
     ensures { MatchOption result (8 ≤ end_of (to_le_bytes w64 word)) (λ read.
-        EndsInBlock (to_le_bytes w64 word) read.0 read.1) }
+        ReadsGroups (to_le_bytes w64 word) read.0 read.1) }
 {
     // Most encodings have one or two bytes: a predicted branch takes less time than waiting for a count.
     if word & 0x80 == 0 {
@@ -50,11 +50,12 @@ fn groups_in(word: u64) -> Option<(u64, usize)>
     counted_groups(word)
 }
 
-// Returns the signed number that the groups encode, and how many groups there are.
+// Returns the signed number that the groups encode, and how many groups there are. It tests for one and two bytes itself,
+// as its twin `groups_in` does: where it took the groups and their count from there, it would shift by a count.
 #[inline(always)]
 fn signed_in(word: u64) -> Option<(i64, usize)>
     ensures { MatchOption result (8 ≤ end_of (to_le_bytes w64 word)) (λ read.
-        EndsInSignedBlock (to_le_bytes w64 word) read.0 read.1) }
+        ReadsSleb (to_le_bytes w64 word) read.0 read.1) }
 {
     // A shift by a constant takes one step, and a shift by a count takes three.
     if word & 0x80 == 0 {
@@ -71,7 +72,7 @@ fn signed_in(word: u64) -> Option<(i64, usize)>
 #[inline(always)]
 fn counted_groups(word: u64) -> Option<(u64, usize)>
     ensures { MatchOption result (8 ≤ end_of (to_le_bytes w64 word)) (λ read.
-        EndsInBlock (to_le_bytes w64 word) read.0 read.1) }
+        ReadsGroups (to_le_bytes w64 word) read.0 read.1) }
 {
     let filled = word | GROUPS;
     if filled == u64::MAX {

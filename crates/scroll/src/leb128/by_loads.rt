@@ -1,12 +1,14 @@
 // LEB128 by counted loads, the first of which takes eight bytes at once.
-ghost use Rattle.std.specs.Prelude.{◌≡◌, ◌-◌, ◌<◌, ◌≤◌, ◌^◌, length, IfOk, IfErr};
-ghost use Rattle.scroll.specs.Leb128.{end_of, groups_value, ReadsUleb, ReadsSleb, ReadsGroups};
+ghost use Rattle.std.specs.Prelude.{◌≡◌, ◌-◌, ◌<◌, ◌≤◌, ◌^◌, length, take, IfOk, IfErr};
+ghost use Rattle.scroll.specs.Leb128.{end_of, ReadsUleb, ReadsSleb};
+ghost use Rattle.scroll.specs.LebGroups.{HasGroups};
 ghost use Rattle.scroll.specs.LebRefusals.{RefusesUleb, RefusesSleb, RefusesCut};
-ghost use Rattle.scroll.specs.Loads.{Loaded, ReadsNine, most_loads};
+ghost use Rattle.scroll.specs.Loads.{Loaded, most_loads};
 
 use super::TRUNCATED;
-use super::block::{block_groups, sign_extend, sleb_block, uleb_block};
-use crate::error::{Error, Result};
+use super::block::{block_groups, sleb_block, uleb_block};
+use super::groups::{Groups, signed, unsigned};
+use crate::error::Result;
 use crate::loads::Loads;
 
 /// Reads the unsigned number at the front of a source, and returns its value and its size in bytes. It makes at most
@@ -22,7 +24,8 @@ pub fn uleb_loads(src: &mut Loads<'_>) -> Result<(u64, usize)>
     ensures loads { Loaded src.old src.new (most_loads src.old.bytes) }
 {
     if src.len() < 8 {
-        return short_groups(src);
+        let groups = short_groups(src)?;
+        return unsigned(groups, src.len());
     }
     let Some(block) = src.word() else {
         unreachable!()
@@ -30,15 +33,8 @@ pub fn uleb_loads(src: &mut Loads<'_>) -> Result<(u64, usize)>
     if let Some(read) = uleb_block(block) {
         return Ok(read);
     }
-    let (groups, tenth) = nine_groups(src, block_groups(block))?;
-    match tenth {
-        None => Ok((groups, 9)),
-        Some(tenth) if tenth <= 1 => Ok((groups | u64::from(tenth) << 63, 10)),
-        Some(_) => Err(Error::BadInput {
-            size: src.len(),
-            msg: "failed to parse",
-        }),
-    }
+    let groups = long_groups(src, block)?;
+    unsigned(groups, src.len())
 }
 
 /// Reads the signed number at the front of a source, and returns its value and its size in bytes. It makes at most
@@ -54,8 +50,8 @@ pub fn sleb_loads(src: &mut Loads<'_>) -> Result<(i64, usize)>
     ensures loads { Loaded src.old src.new (most_loads src.old.bytes) }
 {
     if src.len() < 8 {
-        let (groups, count) = short_groups(src)?;
-        return Ok((sign_extend(groups, count), count));
+        let groups = short_groups(src)?;
+        return signed(groups, src.len());
     }
     let Some(block) = src.word() else {
         unreachable!()
@@ -63,50 +59,40 @@ pub fn sleb_loads(src: &mut Loads<'_>) -> Result<(i64, usize)>
     if let Some(read) = sleb_block(block) {
         return Ok(read);
     }
-    let (groups, tenth) = nine_groups(src, block_groups(block))?;
-    match tenth {
-        None => Ok((sign_extend(groups, 9), 9)),
-        // All bits of the tenth byte are the sign.
-        Some(tenth) if tenth == (tenth & 1) * 0x7f => {
-            Ok(((groups | u64::from(tenth) << 63).cast_signed(), 10))
-        }
-        Some(_) => Err(Error::BadInput {
-            size: src.len(),
-            msg: "failed to parse",
-        }),
-    }
+    let groups = long_groups(src, block)?;
+    signed(groups, src.len())
 }
 
-// Returns the groups of the first nine bytes, of which `low` has the first eight, and the tenth byte if the ninth
-// doesn't end the encoding.
+// Reads the groups of a source whose first eight bytes, `block`, don't end the encoding.
 #[inline(always)]
-fn nine_groups(src: &mut Loads<'_>, low: u64) -> Result<(u64, Option<u8>)>
+fn long_groups(src: &mut Loads<'_>, block: [u8; 8]) -> Result<Groups>
     requires few { src.old.made < 2 ^ 63 - 2 }
-    requires eight { (8 ≤ length src.old.bytes) × (8 ≤ end_of src.old.bytes) }
-    requires low { low ≡ groups_value src.old.bytes 8 }
-    ensures read { IfOk result (λ read. ReadsNine src.old.bytes read.0 read.1) }
+    requires first { (8 ≤ length src.old.bytes) × (block ≡ take 8 src.old.bytes) }
+    requires open { 8 ≤ end_of block }
+    ensures read { IfOk result (HasGroups src.old.bytes) }
     ensures refused { IfErr result (RefusesCut src.old.bytes) }
     ensures loads { Loaded src.old src.new 2 }
 {
+    let low = block_groups(block);
     let Some(ninth) = src.byte(8) else {
         return Err(TRUNCATED);
     };
     let groups = low | u64::from(ninth & 0x7f) << 56;
     if ninth < 0x80 {
-        return Ok((groups, None));
+        return Ok(Groups::UpToNine(groups, 9));
     }
     match src.byte(9) {
-        Some(tenth) => Ok((groups, Some(tenth))),
+        Some(tenth) => Ok(Groups::Ten(groups, tenth)),
         None => Err(TRUNCATED),
     }
 }
 
 // Reads the groups of a source of fewer than eight bytes, byte by byte.
 #[inline(always)]
-fn short_groups(src: &mut Loads<'_>) -> Result<(u64, usize)>
+fn short_groups(src: &mut Loads<'_>) -> Result<Groups>
     requires few { src.old.made < 2 ^ 62 }
     requires short { length src.old.bytes < 8 }
-    ensures read { IfOk result (λ read. ReadsGroups src.old.bytes read.0 read.1) }
+    ensures read { IfOk result (HasGroups src.old.bytes) }
     ensures refused { IfErr result (RefusesCut src.old.bytes) }
     ensures loads { Loaded src.old src.new (length src.old.bytes) }
 {
@@ -121,7 +107,7 @@ fn short_groups(src: &mut Loads<'_>) -> Result<(u64, usize)>
         };
         groups |= u64::from(byte & 0x7f) << (7 * i);
         if byte < 0x80 {
-            return Ok((groups, i + 1));
+            return Ok(Groups::UpToNine(groups, i + 1));
         }
     }
     Err(TRUNCATED)

@@ -1,7 +1,7 @@
 // Writes of LEB128 encodings.
 ghost use Rattle.std.specs.Prelude.{◌≡◌, ℕ, ◌+◌, ◌-◌, ◌*◌, ◌/◌, ◌%◌, ◌^◌, ◌<◌, ◌≤◌, ◌++◌, length, drop, slice_index, IfOk, IfErr};
 ghost use Rattle.scroll.specs.Bytes.{sum_below, WritesFront, LeavesShort};
-ghost use Rattle.scroll.specs.Spelling.{spelling, spelled_byte, unsigned_form, HoldsGroups, HasSpelling, HasSignedSpelling};
+ghost use Rattle.scroll.specs.Spelling.{spelling, spelled_byte, HoldsGroups};
 ghost use Rattle.scroll.specs.LebWrites.{ten_groups, turned_round, IsLeast};
 
 use crate::error::{Result, check_room};
@@ -41,34 +41,10 @@ pub(crate) fn turned(value: i64) -> u64
     }
 }
 
-// Writes the encoding of `value` in `count` bytes to the front of a target, and returns `count`. A shorter target
-// returns `TooBig`, and is unchanged.
-#[inline(always)]
-pub(crate) fn put_uleb(dst: &mut [u8], value: u64, count: usize) -> Result<usize>
-    requires spelled { HasSpelling value count }
-    ensures wrote { IfOk result (WritesFront count (spelling value count) dst.old dst.new) }
-    ensures refused { IfErr result (LeavesShort count dst.old dst.new) }
-{
-    put_groups(dst, value, (value >> 63) as u8, count)
-}
-
-// The same for a signed `value`.
-#[inline(always)]
-pub(crate) fn put_sleb(dst: &mut [u8], value: i64, count: usize) -> Result<usize>
-    requires spelled { HasSignedSpelling value count }
-    ensures wrote { IfOk result (WritesFront count
-        (spelling (unsigned_form value count) count) dst.old dst.new) }
-    ensures refused { IfErr result (LeavesShort count dst.old dst.new) }
-{
-    // Above the highest digit every bit is the sign.
-    let tenth = if value < 0 { 0x7f } else { 0 };
-    put_groups(dst, value.cast_unsigned(), tenth, count)
-}
-
 // Writes an encoding of `count` groups to the front of a target, and returns `count`. The first nine groups are those
 // of `low`, and the tenth is `tenth`. A shorter target returns `TooBig`, and is unchanged.
 #[inline(always)]
-fn put_groups(dst: &mut [u8], low: u64, tenth: u8, count: usize) -> Result<usize>
+pub(crate) fn put_groups(dst: &mut [u8], low: u64, tenth: u8, count: usize) -> Result<usize>
     requires group { tenth < 128 }
     requires some { 1 ≤ count }
     requires few { count ≤ 10 }

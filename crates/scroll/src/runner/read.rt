@@ -1,7 +1,7 @@
 // The reads of a run.
-ghost use Rattle.std.specs.Prelude.{◌≡◌, [], ◌∷◌, IfOk, IfErr, OnErr};
+ghost use Rattle.std.specs.Prelude.{◌≡◌, ◌≢◌, [], ◌∷◌, IfOk, IfErr, IsOk, OnErr};
 ghost use Rattle.std.specs.String.{string_bytes};
-ghost use Rattle.scroll.specs.Runs.{Reads, Refuses, ReadsHere, RefusesHere, ReadStep, UnlessNoMemory, ReadsWide, is_signed, bytes_in};
+ghost use Rattle.scroll.specs.Runs.{Copies, ReadsKind, RefusesKind, ReadsHere, RefusesHere, ReadStep, UnlessNoMemory, ReadsWide, is_signed, bytes_in};
 ghost use Rattle.scroll.specs.Arrays.{ReadsArray, RefusesArray};
 ghost use Rattle.scroll.specs.Bytes.{RefusesShort};
 ghost use Rattle.scroll.specs.Errors.{IsBadOffset, PastEnd};
@@ -29,6 +29,7 @@ pub(crate) fn read(
     ensures answered { IfOk result (λ answer.
         ReadStep buffer.now cursor.old place kind answer cursor.new) }
     ensures only_memory { IfErr result (λ e. e ≡ NoMemory) }
+    ensures succeeds { ¬ (Copies kind) → IsOk result }
     ensures stays { OnErr result (cursor.new ≡ cursor.old) }
 {
     let mut after = *cursor;
@@ -52,9 +53,10 @@ fn read_value(
     kind: Kind,
 ) -> Result<Value>
     ensures read { IfOk result (λ x.
-        ReadsHere (Reads kind) buffer.now cursor.old place x cursor.new) }
+        ReadsHere (ReadsKind kind) buffer.now cursor.old place x cursor.new) }
     ensures refused { IfErr result (UnlessNoMemory (λ e.
-        RefusesHere (Refuses kind) IsBadOffset buffer.now cursor.old place e cursor.new)) }
+        RefusesHere (RefusesKind kind) IsBadOffset buffer.now cursor.old place e cursor.new)) }
+    ensures copies { IfErr result (λ e. ¬ (Copies kind) → e ≢ NoMemory) }
 {
     match kind {
         Kind::Number(width, order) => read_number(buffer, cursor, place, width, order),

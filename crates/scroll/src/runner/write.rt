@@ -1,13 +1,14 @@
 // The writes of a run.
-ghost use Rattle.std.specs.Prelude.{◌≡◌, ℕ, ◌+◌, length, IfOk, OnOk, OnErr, MatchResult};
+ghost use Rattle.std.specs.Prelude.{◌≡◌, [], ◌∷◌, ℕ, ◌+◌, length, IfOk, OnOk, OnErr, MatchResult};
 ghost use Rattle.scroll.specs.History.{seen};
 ghost use Rattle.scroll.specs.Leaves.{pieces, WritesLeaves};
-ghost use Rattle.scroll.specs.Runs.{WriteStep, leaves_of, place_of, moved};
+ghost use Rattle.scroll.specs.Runs.{WriteStep, leaf_of, leaves_of, place_of, moved};
 ghost use Rattle.scroll.specs.Writes.{AnswersWrite};
 ghost use Rattle.scroll.specs.declared.error.Error.TheVariants.{BadOffset};
 
-use super::{Answer, Place, Put};
+use super::{Answer, Number, Place, Put};
 use crate::ctx::TryIntoCtx;
+use crate::endian::Endian;
 use crate::error::{Error, Result};
 use crate::slice;
 
@@ -30,16 +31,7 @@ fn write_value(buffer: &mut [u8], cursor: &mut usize, place: Place, put: &Put<'_
     ensures stays { OnErr result (cursor.new ≡ cursor.old) }
 {
     match *put {
-        Put::U8(x, order) => write_at(buffer, cursor, place, x, order),
-        Put::I8(x, order) => write_at(buffer, cursor, place, x, order),
-        Put::U16(x, order) => write_at(buffer, cursor, place, x, order),
-        Put::I16(x, order) => write_at(buffer, cursor, place, x, order),
-        Put::U32(x, order) => write_at(buffer, cursor, place, x, order),
-        Put::I32(x, order) => write_at(buffer, cursor, place, x, order),
-        Put::U64(x, order) => write_at(buffer, cursor, place, x, order),
-        Put::I64(x, order) => write_at(buffer, cursor, place, x, order),
-        Put::U128(x, order) => write_at(buffer, cursor, place, x, order),
-        Put::I128(x, order) => write_at(buffer, cursor, place, x, order),
+        Put::Number(number, order) => write_number(buffer, cursor, place, number, order),
         Put::Text(text) => write_at(buffer, cursor, place, text, ()),
         Put::Bytes(bytes) => write_at(buffer, cursor, place, bytes, ()),
         Put::CStr(text) => write_at(buffer, cursor, place, text, ()),
@@ -47,6 +39,32 @@ fn write_value(buffer: &mut [u8], cursor: &mut usize, place: Place, put: &Put<'_
         Put::Sleb(number) => write_at(buffer, cursor, place, number, ()),
         Put::U16x3(xs, order) => write_at(buffer, cursor, place, xs, order),
         Put::Bytesx2(first, second) => write_at(buffer, cursor, place, [first, second], ()),
+    }
+}
+
+fn write_number(
+    buffer: &mut [u8],
+    cursor: &mut usize,
+    place: Place,
+    number: Number,
+    order: Endian,
+) -> Result<usize>
+    ensures wrote { WritesLeaves buffer.old (place_of place cursor.old)
+        (leaf_of order number ∷ []) buffer.new result }
+    ensures moves { IfOk result (λ n. cursor.new ≡ moved place cursor.old n) }
+    ensures stays { OnErr result (cursor.new ≡ cursor.old) }
+{
+    match number {
+        Number::U8(x) => write_at(buffer, cursor, place, x, order),
+        Number::I8(x) => write_at(buffer, cursor, place, x, order),
+        Number::U16(x) => write_at(buffer, cursor, place, x, order),
+        Number::I16(x) => write_at(buffer, cursor, place, x, order),
+        Number::U32(x) => write_at(buffer, cursor, place, x, order),
+        Number::I32(x) => write_at(buffer, cursor, place, x, order),
+        Number::U64(x) => write_at(buffer, cursor, place, x, order),
+        Number::I64(x) => write_at(buffer, cursor, place, x, order),
+        Number::U128(x) => write_at(buffer, cursor, place, x, order),
+        Number::I128(x) => write_at(buffer, cursor, place, x, order),
     }
 }
 

@@ -1,35 +1,22 @@
 // What a search stops at: one byte, or that byte and every byte that isn't ASCII.
-ghost use Rattle.std.specs.Prelude.{◌≡◌, ◌<◌, ◌==◌, ℕ, Bool, List, length, position, IfSome};
-ghost use Rattle.scroll.specs.Search.{is_stop};
+ghost use Rattle.std.specs.Prelude.{◌≡◌, ◌≤◌, ◌==◌, ℕ, Bool, map};
+ghost use Rattle.std.specs.Simd.Lanes.{mask_l};
+ghost use Rattle.scroll.specs.Texts.{is_stop};
 
 use std::simd::prelude::*;
 
-// In each byte of a word: a 1, the high bit, and the other bits.
-const ONES: u64 = 0x0101_0101_0101_0101;
-
-const HIGH: u64 = 0x8080_8080_8080_8080;
-
-const LOW: u64 = 0x7f7f_7f7f_7f7f_7f7f;
-
-/// The bytes that a search stops at, and how it finds the first of them in a vector, in a word and byte by byte.
+/// The bytes that a search stops at.
 pub(crate) trait Stops: Copy {
     // Whether the search stops at a byte.
     ghost stops: { Self → ℕ → Bool };
+}
 
-    /// Returns the offset of the first stop in 32 bytes, which are compared at once.
-    fn in_vector(self, block: [u8; 32]) -> Option<usize>
-        ensures place { result ≡ position (stops self) block }
-        ensures within { IfSome result (λ place. place < 32) };
-
-    /// Returns the offset of the first stop in the eight bytes of a word.
-    fn in_word(self, block: [u8; 8]) -> Option<usize>
-        ensures place { result ≡ position (stops self) block }
-        ensures within { IfSome result (λ place. place < 8) };
-
-    /// Returns the offset of the first stop, byte by byte.
-    fn in_tail(self, tail: &[u8]) -> Option<usize>
-        ensures place { result ≡ position (stops self) tail.now }
-        ensures within { IfSome result (λ place. place < length tail.now) };
+/// The stops in a block of N bytes, which are compared at once.
+pub(crate) trait StopsIn<const N: usize>: Stops {
+    /// Returns which bytes of a block are stops: bit `i` is set where the byte at offset `i` is one.
+    fn marks(self, block: &[u8; N]) -> u64
+        requires { N ≤ 64 }
+        ensures { result ≡ mask_l (map (Self.stops self) block.now) };
 }
 
 /// Stops at one byte.
@@ -42,64 +29,27 @@ pub(crate) struct AtOrNotAscii(pub(crate) u8);
 
 impl Stops for At {
     ghost stops = { λ at b. b == at.0 };
+}
 
+impl<const N: usize> StopsIn<N> for At {
     #[inline(always)]
-    fn in_vector(self, block: [u8; 32]) -> Option<usize> {
-        let marks = u8x32::from_array(block)
-            .simd_eq(u8x32::splat(self.0))
-            .to_bitmask();
-        if marks == 0 {
-            return None;
-        }
-        Some(marks.trailing_zeros() as usize)
-    }
-
-    #[inline(always)]
-    fn in_word(self, block: [u8; 8]) -> Option<usize> {
-        let differences = u64::from_le_bytes(block) ^ u64::from(self.0) * ONES;
-        // No sum carries into the next byte, so the high bit of each byte says whether the byte differs.
-        let flags = !((differences & LOW) + LOW | differences) & HIGH;
-        if flags == 0 {
-            return None;
-        }
-        Some(flags.trailing_zeros() as usize / 8)
-    }
-
-    #[inline(always)]
-    fn in_tail(self, tail: &[u8]) -> Option<usize> {
-        tail.iter().position(|b| *b == self.0)
+    fn marks(self, block: &[u8; N]) -> u64 {
+        Simd::from_array(*block)
+            .simd_eq(Simd::splat(self.0))
+            .to_bitmask()
     }
 }
 
 impl Stops for AtOrNotAscii {
     ghost stops = { λ at. is_stop at.0 };
+}
 
+impl<const N: usize> StopsIn<N> for AtOrNotAscii {
     #[inline(always)]
-    fn in_vector(self, block: [u8; 32]) -> Option<usize> {
-        let bytes = u8x32::from_array(block);
-        let delimiters = bytes.simd_eq(u8x32::splat(self.0)).to_bitmask();
-        let others = bytes.simd_ge(u8x32::splat(128)).to_bitmask();
-        let stops = delimiters | others;
-        if stops == 0 {
-            return None;
-        }
-        Some(stops.trailing_zeros() as usize)
-    }
-
-    // (the high bit of a byte that isn't ASCII is its own flag)
-    #[inline(always)]
-    fn in_word(self, block: [u8; 8]) -> Option<usize> {
-        let word = u64::from_le_bytes(block);
-        let differences = word ^ u64::from(self.0) * ONES;
-        let stops = (!((differences & LOW) + LOW | differences) | word) & HIGH;
-        if stops == 0 {
-            return None;
-        }
-        Some(stops.trailing_zeros() as usize / 8)
-    }
-
-    #[inline(always)]
-    fn in_tail(self, tail: &[u8]) -> Option<usize> {
-        tail.iter().position(|b| *b == self.0 || 128 <= *b)
+    fn marks(self, block: &[u8; N]) -> u64 {
+        let bytes = Simd::from_array(*block);
+        let delimiters = bytes.simd_eq(Simd::splat(self.0)).to_bitmask();
+        let others = bytes.simd_ge(Simd::splat(128)).to_bitmask();
+        delimiters | others
     }
 }

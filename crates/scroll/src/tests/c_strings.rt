@@ -9,6 +9,7 @@ use crate::tests::results::{
 };
 use crate::{Error, Pread, Pwrite, Result};
 use std::alloc::Global;
+use std::ffi;
 use std::process::Abort;
 
 pub const NO_ZERO: &str = "The input doesn't contain a null byte";
@@ -93,9 +94,19 @@ fn check_held(rt: &impl Abort, alloc: Global, text: &[u8], wanted: &[u8]) {
 }
 
 #[test]
+fn parse_a_cstr(rt: HostRuntime) {
+    let rt = &rt;
+    let string = make(rt, rt.alloc(), b"Hello World");
+    let text = string.as_c_str();
+    let bytes = string.as_bytes_with_nul();
+    check_value(rt, CStr::try_from_ctx(bytes, ()), (text, 12));
+}
+
+#[test]
 fn round_trip_a_c_str(rt: HostRuntime) {
     let rt = &rt;
-    let text = borrow(rt, b"Hello World\0");
+    let string = make(rt, rt.alloc(), b"Hello World");
+    let text = string.as_c_str();
     let mut bytes = [0u8; 12];
     check_value(rt, text.try_into_ctx(&mut bytes, ()), 12);
     check_value(rt, CStr::try_from_ctx(&bytes, ()), (text, 12));
@@ -135,6 +146,8 @@ fn texts_of_each_length(rt: HostRuntime) {
         check_eq(rt, string.as_bytes(), text.as_slice());
         let source = string.as_bytes_with_nul();
         check_reads(rt, &alloc, source, 0, source, len + 1);
+        let copy: ffi::CString = read_copy(rt, &alloc, source, 0, len + 1);
+        check_eq(rt, copy.as_bytes(), text.as_slice());
     }
 }
 

@@ -11,6 +11,11 @@ fn byte_orders(rt: HostRuntime) {
     check_eq(rt, [Endian::network(), Endian::default()], [BE, LE]);
     check_eq(rt, [Endian::from(true), Endian::from(false)], [LE, BE]);
     check_eq(rt, [LE.is_little(), BE.is_little()], [true, false]);
+    check_eq(
+        rt,
+        [LE == little, LE == big, BE == big],
+        [true, false, true],
+    );
 }
 
 #[test]

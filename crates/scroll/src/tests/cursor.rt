@@ -16,10 +16,16 @@ fn pread(rt: HostRuntime) {
 const ONE_TO_EIGHT: [u8; 8] = [1, 2, 3, 4, 5, 6, 7, 8];
 
 #[test]
-fn each_byte(rt: HostRuntime) {
-    let mut offset = 0;
+fn pread_with_iter_bytes(rt: HostRuntime) {
     for (i, byte) in ONE_TO_EIGHT.iter().enumerate() {
         check_value(&rt, ONE_TO_EIGHT.pread(i), *byte);
+    }
+}
+
+#[test]
+fn gread_with_iter_bytes(rt: HostRuntime) {
+    let mut offset = 0;
+    for byte in ONE_TO_EIGHT.iter() {
         check_value(&rt, ONE_TO_EIGHT.gread(&mut offset), *byte);
     }
     check_eq(&rt, offset, 8);
@@ -28,21 +34,53 @@ fn each_byte(rt: HostRuntime) {
 const BYTES: [u8; 8] = [0x0f, 0x0e, 0x0e, 0x0b, 0x0d, 0x0a, 0x0e, 0x0d];
 
 #[test]
-fn simple_gread(rt: HostRuntime) {
+fn simple_gread_u16(rt: HostRuntime) {
     check_read(&rt, &BYTES, 0, LE, 3599u16, 2);
+}
+
+#[test]
+fn simple_gread_u32(rt: HostRuntime) {
     check_read(&rt, &BYTES, 0, LE, 185470479u32, 4);
+}
+
+#[test]
+fn simple_gread_u64(rt: HostRuntime) {
     check_read(&rt, &BYTES, 0, LE, 940700423303335439u64, 8);
+}
+
+#[test]
+fn simple_gread_i64(rt: HostRuntime) {
     check_read(&rt, &BYTES, 0, LE, 940700423303335439i64, 8);
 }
 
 #[test]
-fn gread_gwrite(rt: HostRuntime) {
-    for value in &[0i64, -1213213211111, -3000] {
-        check_gread_gwrite(&rt, &mut [0; 16], *value, 8);
-    }
-    for value in &[0i32, -1213213232, -3000] {
-        check_gread_gwrite(&rt, &mut [0; 16], *value, 4);
-    }
+fn gread_gwrite_i64_1(rt: HostRuntime) {
+    check_gread_gwrite(&rt, &mut [0; 16], 0i64, 8);
+}
+
+#[test]
+fn gread_gwrite_i64_2(rt: HostRuntime) {
+    check_gread_gwrite(&rt, &mut [0; 16], -1213213211111i64, 8);
+}
+
+#[test]
+fn gread_gwrite_i64_3(rt: HostRuntime) {
+    check_gread_gwrite(&rt, &mut [0; 16], -3000i64, 8);
+}
+
+#[test]
+fn gread_gwrite_i32_1(rt: HostRuntime) {
+    check_gread_gwrite(&rt, &mut [0; 16], 0i32, 4);
+}
+
+#[test]
+fn gread_gwrite_i32_2(rt: HostRuntime) {
+    check_gread_gwrite(&rt, &mut [0; 16], -1213213232i32, 4);
+}
+
+#[test]
+fn gread_gwrite_i32_3(rt: HostRuntime) {
+    check_gread_gwrite(&rt, &mut [0; 16], -3000i32, 4);
 }
 
 #[test]

@@ -3,7 +3,7 @@
 ghost use Rattle.std.specs.Prelude.{◌≡◌, ◌≤◌, length};
 ghost use Rattle.std.proofs.Common.{rules};
 ghost use Rattle.scroll.specs.Bytes.{RefusesShort, LeavesShort};
-ghost use Rattle.scroll.specs.lemmas.Frames.{WritesNumber-keeps};
+ghost use Rattle.scroll.specs.lemmas.Frames.{drop-written, length-number_bytes};
 ghost use Rattle.scroll.specs.Numbers.{WritesNumber};
 ghost use Rattle.scroll.specs.declared.endian.Endian.TheVariants.{Little};
 
@@ -49,7 +49,7 @@ impl<'c> TryIntoCtx<()> for Counted<'c> {
 
     ghost writes_bounded = { λ _ x old new n h. Prim.search rules };
 
-    ghost writes_keeps = { λ _ x. WritesNumber-keeps 1 Little x.byte };
+    ghost writes_keeps = { λ _ x old new n h. drop-written (length-number_bytes Little 1 x.byte) h };
 
     fn try_into_ctx(self, dst: &mut [u8], _ctx: ()) -> Result<usize> {
         self.byte.try_into_ctx(dst, LE)

@@ -12,19 +12,46 @@ use std::io;
 use std::io::ErrorKind;
 use std::process::Abort;
 
-// The floats of the Rust crate's tests.
+const HALF: [u8; 8] = [0, 0, 0, 0, 0, 0, 224, 63];
+
 #[test]
-fn gread_and_gwrite(rt: HostRuntime) {
-    let rt = &rt;
-    let bytes: &[u8] = &[0, 0, 0, 0, 0, 0, 224, 63];
-    check_read(rt, bytes, 0, LE, 0f32, 4);
-    check_read(rt, bytes, 0, LE, 0.5f64, 8);
-    for value in &[0.25f64, 0.5, 0.064] {
-        check_gread_gwrite(rt, &mut [0; 16], *value, 8);
-    }
-    for value in &[0.25f32, 0.5, 0.0] {
-        check_gread_gwrite(rt, &mut [0; 16], *value, 4);
-    }
+fn gread_f32(rt: HostRuntime) {
+    check_read(&rt, &HALF, 0, LE, 0f32, 4);
+}
+
+#[test]
+fn gread_f64(rt: HostRuntime) {
+    check_read(&rt, &HALF, 0, LE, 0.5f64, 8);
+}
+
+#[test]
+fn gread_gwrite_f64_1(rt: HostRuntime) {
+    check_gread_gwrite(&rt, &mut [0; 16], 0.25f64, 8);
+}
+
+#[test]
+fn gread_gwrite_f64_2(rt: HostRuntime) {
+    check_gread_gwrite(&rt, &mut [0; 16], 0.5f64, 8);
+}
+
+#[test]
+fn gread_gwrite_f64_3(rt: HostRuntime) {
+    check_gread_gwrite(&rt, &mut [0; 16], 0.064f64, 8);
+}
+
+#[test]
+fn gread_gwrite_f32_1(rt: HostRuntime) {
+    check_gread_gwrite(&rt, &mut [0; 16], 0.25f32, 4);
+}
+
+#[test]
+fn gread_gwrite_f32_2(rt: HostRuntime) {
+    check_gread_gwrite(&rt, &mut [0; 16], 0.5f32, 4);
+}
+
+#[test]
+fn gread_gwrite_f32_3(rt: HostRuntime) {
+    check_gread_gwrite(&rt, &mut [0; 16], 0.0f32, 4);
 }
 
 // Floats and their bytes, as the Rust crate writes them in big-endian order: zeros of both signs, the least and the

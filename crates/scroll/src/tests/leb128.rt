@@ -42,22 +42,36 @@ pub fn read<'a, N: TryFromCtx<'a, (), Error = Error> + Drop>(
     source.pread(0).expect(rt, "a number")
 }
 
-const NUMBERS: [(&[u8], u64, usize); 3] = [
-    (&[0x82, 1], 130, 2),
-    (&[0, 1], 0, 1),
-    (&[0x21, 0], 33, 1),
-];
+const NUMBERS: [(&[u8], u64, usize); 3] = [(&[0x82, 1], 130, 2), (&[0, 1], 0, 1), (&[0x21], 33, 1)];
 
 #[test]
-fn single_numbers(rt: HostRuntime) {
+fn uleb_size(rt: HostRuntime) {
     for (bytes, value, size) in NUMBERS.iter() {
         check_value(&rt, unsigned(bytes), (*value, *size));
     }
+}
+
+#[test]
+fn uleb128(rt: HostRuntime) {
     let bytes: [u8; 2] = [0x82, 1];
     let number: Uleb128 = read(&rt, &bytes);
     check_eq(&rt, u64::from(number), 130);
-    check_value(&rt, Uleb128::read(&bytes, &mut 0), 130);
     check_value(&rt, bytes.pread_with::<u16>(0, LE), 386);
+}
+
+const OVERFLOW: [u8; 11] = [
+    0x82, 0x82, 0x82, 0x82, 0x82, 0x82, 0x82, 0x82, 0x82, 0x82, 1,
+];
+
+#[test]
+fn uleb128_overflow(rt: HostRuntime) {
+    check_refused(&rt, &OVERFLOW);
+}
+
+#[test]
+fn sleb128(rt: HostRuntime) {
+    let number: Sleb128 = read(&rt, &[0xff, 0x7e]);
+    check_eq(&rt, i64::from(number), -129);
     check_value(&rt, Sleb128::read(&[0xff, 0x7e], &mut 0), -129);
 }
 
@@ -102,12 +116,6 @@ fn padded_texts(rt: HostRuntime) {
         &rt,
         &[
             0x80, 0x80, 0x80, 0x80, 0x80, 0x80, 0x80, 0x80, 0x80, 0x80, 0,
-        ],
-    );
-    check_refused(
-        &rt,
-        &[
-            0x82, 0x82, 0x82, 0x82, 0x82, 0x82, 0x82, 0x82, 0x82, 0x82, 1,
         ],
     );
 }

@@ -40,16 +40,45 @@ fn check_pread<'a, N: TryFromCtx<'a, Endian, Error = Error> + PartialEq + Debug 
 }
 
 #[test]
-fn pwrite_and_pread_roundtrip(rt: HostRuntime) {
+fn pwrite_and_pread_roundtrip_u16(rt: HostRuntime) {
     let mut bytes = [0; 8];
-    for order in [LE, BE] {
-        check_roundtrip(&rt, &mut bytes, order, 0xbeefu16, 2);
-        check_roundtrip(&rt, &mut bytes, order, 0x7eefi16, 2);
-        check_roundtrip(&rt, &mut bytes, order, 0xbeefbeefu32, 4);
-        check_roundtrip(&rt, &mut bytes, order, 0x7eefbeefi32, 4);
-        check_roundtrip(&rt, &mut bytes, order, 0xbeefbeef7eef7eefu64, 8);
-        check_roundtrip(&rt, &mut bytes, order, 0x7eefbeef7eef7eefi64, 8);
-    }
+    check_roundtrip(&rt, &mut bytes, LE, 0xbeefu16, 2);
+    check_roundtrip(&rt, &mut bytes, BE, 0xbeefu16, 2);
+}
+
+#[test]
+fn pwrite_and_pread_roundtrip_i16(rt: HostRuntime) {
+    let mut bytes = [0; 8];
+    check_roundtrip(&rt, &mut bytes, LE, 0x7eefi16, 2);
+    check_roundtrip(&rt, &mut bytes, BE, 0x7eefi16, 2);
+}
+
+#[test]
+fn pwrite_and_pread_roundtrip_u32(rt: HostRuntime) {
+    let mut bytes = [0; 8];
+    check_roundtrip(&rt, &mut bytes, LE, 0xbeefbeefu32, 4);
+    check_roundtrip(&rt, &mut bytes, BE, 0xbeefbeefu32, 4);
+}
+
+#[test]
+fn pwrite_and_pread_roundtrip_i32(rt: HostRuntime) {
+    let mut bytes = [0; 8];
+    check_roundtrip(&rt, &mut bytes, LE, 0x7eefbeefi32, 4);
+    check_roundtrip(&rt, &mut bytes, BE, 0x7eefbeefi32, 4);
+}
+
+#[test]
+fn pwrite_and_pread_roundtrip_u64(rt: HostRuntime) {
+    let mut bytes = [0; 8];
+    check_roundtrip(&rt, &mut bytes, LE, 0xbeefbeef7eef7eefu64, 8);
+    check_roundtrip(&rt, &mut bytes, BE, 0xbeefbeef7eef7eefu64, 8);
+}
+
+#[test]
+fn pwrite_and_pread_roundtrip_i64(rt: HostRuntime) {
+    let mut bytes = [0; 8];
+    check_roundtrip(&rt, &mut bytes, LE, 0x7eefbeef7eef7eefi64, 8);
+    check_roundtrip(&rt, &mut bytes, BE, 0x7eefbeef7eef7eefi64, 8);
 }
 
 #[test]
@@ -84,9 +113,13 @@ fn test_measurable(rt: HostRuntime) {
 }
 
 #[test]
-fn numbers_are_read(rt: HostRuntime) {
+fn pread_with_be(rt: HostRuntime) {
     check_pread(&rt, &[0x7e, 0xef], BE, 0x7eefu16);
     check_pread(&rt, &[0xde, 0xad], BE, 0xdeadu16);
+}
+
+#[test]
+fn numbers_are_read(rt: HostRuntime) {
     let bytes: [u8; 4] = [0x80, 0, 0xff, 0xff];
     check_pread(&rt, &bytes, LE, -128i8);
     check_pread(&rt, &bytes, BE, -32768i16);

@@ -86,8 +86,8 @@ fn check_copies(rt: &impl Abort, answers: &[Answer], bytes: &[u8]) {
 
 // Checks that a string, a slice and C strings of one length are copied.
 fn check_length(rt: &impl Abort, alloc: Global, len: usize) -> Result<(), AllocError> {
-    assert!(rt; len < 4097);
-    let mut room = [b'a'; 4097];
+    assert!(rt; len < 8193);
+    let mut room = [b'a'; 8193];
     let buffer = &mut room[..len + 1];
     buffer[len] = 0;
     let commands = [
@@ -102,14 +102,14 @@ fn check_length(rt: &impl Abort, alloc: Global, len: usize) -> Result<(), AllocE
         return Err(AllocError);
     }
     check_eq(rt, cursor, len + 1);
-    check_copies(rt, &answers, &[b'a'; 4096][..len]);
+    check_copies(rt, &answers, &[b'a'; 8192][..len]);
     Ok(())
 }
 
 // An allocation failure ends the test.
 #[test]
 fn values_of_each_length(rt: HostRuntime) -> Result<(), AllocError> {
-    for len in &[0, 1, 255, 256, 4096] {
+    for len in &[0, 1, 255, 256, 4096, 8192] {
         check_length(&rt, rt.alloc(), *len)?;
     }
     Ok(())

@@ -1,7 +1,7 @@
 // Runs of commands. Each run also passes where an allocation fails (`rt try --test --fail-alloc N`): the answers are
 // then those of the first commands, and the buffer and the cursor are as these left them.
 use crate::ctx::StrCtx;
-use crate::runner::{Answer, Command, Kind, Place, Put, Width, run};
+use crate::runner::{Answer, Command, Kind, Number, Place, Put, Width, run};
 use crate::tests::results::check_eq;
 use crate::{BE, Error, LE};
 use arrayvec::ArrayString;
@@ -125,16 +125,16 @@ fn four_numbers(rt: HostRuntime) {
         [0; 8],
         5,
         &[
-            Command::Write(WHOLE, Put::U64(72623859790382856, BE)),
+            Command::Write(WHOLE, Put::Number(Number::U64(72623859790382856), BE)),
             Command::Read(WHOLE, Kind::Number(Width::U64, LE)),
             Command::Read(Place::At(6), Kind::Number(Width::U32, BE)),
             Command::Read(Place::At(8), Kind::Number(Width::U8, LE)),
-            Command::Write(Place::At(9), Put::U8(0, LE)),
-            Command::Write(Place::At(7), Put::U16(1, LE)),
-            Command::Write(Place::At(2), Put::U16(0xcafe, BE)),
-            Command::Write(Place::At(4), Put::U32(1, LE)),
+            Command::Write(Place::At(9), Put::Number(Number::U8(0), LE)),
+            Command::Write(Place::At(7), Put::Number(Number::U16(1), LE)),
+            Command::Write(Place::At(2), Put::Number(Number::U16(0xcafe), BE)),
+            Command::Write(Place::At(4), Put::Number(Number::U32(1), LE)),
             Command::Read(Place::At(1), Kind::Number(Width::U16, BE)),
-            Command::Write(WHOLE, Put::U8(255, BE)),
+            Command::Write(WHOLE, Put::Number(Number::U8(255), BE)),
         ],
         &[
             "Wrote(8)",
@@ -161,13 +161,13 @@ fn numbers_at_the_cursor(rt: HostRuntime) {
         [0; 8],
         0,
         &[
-            Command::Write(HERE, Put::I32(-3000, LE)),
+            Command::Write(HERE, Put::Number(Number::I32(-3000), LE)),
             Command::Read(HERE, Kind::Number(Width::U8, LE)),
-            Command::Write(HERE, Put::I64(1, BE)),
+            Command::Write(HERE, Put::Number(Number::I64(1), BE)),
             Command::Read(WHOLE, Kind::Number(Width::I32, LE)),
-            Command::Write(Place::At(6), Put::I16(-2, BE)),
+            Command::Write(Place::At(6), Put::Number(Number::I16(-2), BE)),
             Command::Read(HERE, Kind::Number(Width::I128, LE)),
-            Command::Write(HERE, Put::I8(-1, BE)),
+            Command::Write(HERE, Put::Number(Number::I8(-1), BE)),
             Command::Read(HERE, Kind::Number(Width::I16, BE)),
             Command::Read(HERE, Kind::Number(Width::U8, BE)),
         ],
@@ -192,7 +192,7 @@ fn numbers_at_the_cursor(rt: HostRuntime) {
         usize::MAX,
         &[
             Command::Read(HERE, Kind::Number(Width::U8, LE)),
-            Command::Write(HERE, Put::U128(0, LE)),
+            Command::Write(HERE, Put::Number(Number::U128(0), LE)),
         ],
         &[
             "Refused(BadOffset(18446744073709551615))",
@@ -221,7 +221,7 @@ const ANSWERS: [&str; 7] = [
 ];
 
 const COMMANDS: [Command<'static>; 3] = [
-    Command::Write(HERE, Put::U8(98, LE)),
+    Command::Write(HERE, Put::Number(Number::U8(98), LE)),
     Command::Read(HERE, Kind::CString),
     Command::Read(WHOLE, Kind::Text(StrCtx::Length(1))),
 ];

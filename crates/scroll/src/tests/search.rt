@@ -1,5 +1,7 @@
 // The search for a byte compared with a plain one, at every length that a vector, a word and a tail can leave.
-use crate::search::{first_place, first_stop, text_before};
+use crate::Pread;
+use crate::ctx::StrCtx;
+use crate::search::{first_place, first_stop};
 use crate::tests::results::check_eq;
 use std::process::Abort;
 
@@ -31,6 +33,11 @@ fn fill(bytes: &mut [u8; 70], delimiter: u8, place: usize, before: u8, behind: u
             delimiter ^ behind
         };
     }
+}
+
+// Returns the text before the delimiter, or `None` if it isn't UTF-8.
+fn text_before(delimiter: u8, source: &[u8]) -> Option<&str> {
+    source.pread_with(0, StrCtx::Delimiter(delimiter)).ok()
 }
 
 // Expects that each search stops where a plain one does.

@@ -65,6 +65,20 @@ fn arrays_and_vectors_are_read_as_they_are(rt: HostRuntime) -> Result<()> {
 }
 
 #[test]
+fn arrays_and_vectors_are_written_as_they_are(rt: HostRuntime) -> Result<()> {
+    let mut bytes = [0u8; 3];
+    check_value(&rt, bytes.pwrite_with(0x0102u16, 1, BE), 2);
+    check_eq(&rt, bytes, [0, 1, 2]);
+    let Ok(mut bytes) = vec![in rt.alloc(); 0u8, 0, 0] else {
+        return Err(Error::NoMemory);
+    };
+    let offset = &mut 1;
+    check_value(&rt, bytes.gwrite_with(0x0102u16, offset, BE), 2);
+    check_eq(&rt, bytes.as_slice(), &[0, 1, 2]);
+    Ok(())
+}
+
+#[test]
 fn a_slice_that_was_lent_is_written_through_the_trait(rt: HostRuntime) {
     let mut bytes = [0u8; 3];
     check_value(&rt, write_through(&mut bytes), 2);

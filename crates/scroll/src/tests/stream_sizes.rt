@@ -1,7 +1,7 @@
 // Types of each size that a stream call takes, and one whose size is more than it needs.
 ghost use Rattle.std.specs.Prelude.{◌≡◌, ◌≤◌, ◌++◌, length, take, drop};
 ghost use Rattle.scroll.specs.Numbers.{number, number_bytes};
-ghost use Rattle.scroll.specs.lemmas.Frames.{number_bytes-keeps, drop-front};
+ghost use Rattle.scroll.specs.lemmas.Frames.{drop-front, length-number_bytes};
 
 use crate::ctx::{FromCtx, IntoCtx, SizeWith};
 use crate::tests::results::{check_eq, check_value, expect_value};
@@ -128,7 +128,7 @@ impl IntoCtx<Endian> for Wide {
 
     ghost leaves = { λ order x old new. new ≡ number_bytes order 2 x.number ++ drop 2 old };
 
-    ghost leaves_keeps = { λ order x. number_bytes-keeps 2 order x.number };
+    ghost leaves_keeps = { λ order x old new h. drop-front 2 _ old new (length-number_bytes order 2 x.number) h };
 
     fn into_ctx(self, dst: &mut [u8], ctx: Endian) {
         self.number.into_ctx(dst, ctx)

@@ -71,7 +71,7 @@ impl<'a> Read for Source<'a> {
     }
 }
 
-// A writer that takes one byte per call, ends early, and fails when it is flushed.
+// A writer that takes one byte per call, ends early, and fails when it is flushed, which counts as a call.
 #[derive(Drop)]
 struct Sink<'a> {
     rest: &'a mut [u8],
@@ -90,6 +90,7 @@ impl<'a> Write for Sink<'a> {
     }
 
     fn flush(&mut self) -> io::Result<()> {
+        self.calls = self.calls.saturating_add(1);
         Err(io::Error::from(ErrorKind::BrokenPipe))
     }
 }
@@ -163,7 +164,7 @@ fn write_slowly(room: usize, fault: Fault, order: Option<Endian>) -> (Outcome<[u
     }
 }
 
-// Nothing is flushed: the writer would fail.
+// Nothing is flushed: the writer would fail, and count a call more.
 #[test]
 fn streams_of_one_byte_a_call(rt: HostRuntime) {
     let rt = &rt;
@@ -234,6 +235,8 @@ fn numbers_from_memory(rt: HostRuntime) {
     check_value(rt, source.ioread_with::<u64>(LE), 1);
     check_eq(rt, source.len(), 4);
     check_kind(rt, source.ioread_with::<u64>(LE), ErrorKind::UnexpectedEof);
+    let mut source: &[u8] = &[0; 16];
+    check_value(rt, source.ioread_with::<u128>(LE), 0);
 }
 
 #[test]
@@ -255,4 +258,8 @@ fn numbers_to_memory(rt: HostRuntime) {
     check_value(rt, target.iowrite(0xdeadbeefu32), ());
     check_kind(rt, target.iowrite(1u16), ErrorKind::WriteZero);
     check_eq(rt, &bytes[..4], &[0xef, 0xbe, 0xad, 0xde]);
+    let mut bytes = [7u8; 16];
+    let mut target: &mut [u8] = &mut bytes;
+    check_value(rt, target.iowrite_with(0u128, LE), ());
+    check_eq(rt, bytes, [0; 16]);
 }

@@ -45,47 +45,65 @@ fn test_measure_with_bytes(rt: HostRuntime) {
 fn pread_slice(rt: HostRuntime) {
     let rt = &rt;
     let bytes: &[u8] = &[0x7e, 0xef];
+    check_too_big(rt, bytes.pread_with::<&str>(0, StrCtx::Length(3)), 3, 2);
     check_value(rt, bytes.pread::<&[u8]>(1), &[]);
     check_bad_offset(rt, bytes.pread::<&[u8]>(3), 3);
+}
+
+#[test]
+fn gread_slice(rt: HostRuntime) {
+    let rt = &rt;
+    let bytes: &[u8] = &[0x7e, 0xef];
+    let mut offset = 0;
+    let long = bytes.gread_with::<&str>(&mut offset, StrCtx::Length(3));
+    check_too_big(rt, long, 3, 2);
+    check_eq(rt, offset, 0);
+    check_read(rt, b"EBD", 0, StrCtx::Length(2), "EB", 2);
     check_read(rt, bytes, 0, 2, bytes, 2);
 }
 
 const HELLO: &[u8] = b"hello, world!\0some_other_things";
 
 // Texts that are read: the bytes, the cursor, the context, the text, and the cursor after it.
-const READ: [(&[u8], usize, StrCtx, &str, usize); 17] = [
-    (HELLO, 0, StrCtx::Delimiter(NULL), "hello, world!", 14),
-    (HELLO, 0, StrCtx::Delimiter(SPACE), "hello,", 7),
-    (HELLO, 6, StrCtx::Delimiter(SPACE), "", 7),
+const READ: [(&[u8], usize, StrCtx, &str, usize); 10] = [
     (HELLO, 7, StrCtx::Delimiter(NULL), "world!", 14),
-    (
-        HELLO,
-        7,
-        StrCtx::Delimiter(SPACE),
-        "world!\0some_other_things",
-        32,
-    ),
     (HELLO, 14, StrCtx::Delimiter(TAB), "some_other_things", 32),
     (b"more\0bytes", 0, StrCtx::Delimiter(NULL), "more", 5),
     (b"more\0bytes", 5, StrCtx::Delimiter(NULL), "bytes", 11),
     (b"ab", 0, StrCtx::Delimiter(NULL), "ab", 3),
-    (b"\0", 0, StrCtx::Delimiter(NULL), "", 1),
-    (b"", 0, StrCtx::Delimiter(NULL), "", 1),
     (b"abcd", 0, StrCtx::DelimiterUntil(NULL, 2), "ab", 3),
     (b"abc", 0, StrCtx::DelimiterUntil(b'b', 3), "a", 2),
     (b"abc", 2, StrCtx::DelimiterUntil(b'b', 1), "c", 4),
-    (b"EBD", 0, StrCtx::Length(2), "EB", 2),
     (b"a\xff", 0, StrCtx::Length(1), "a", 1),
     (b"\xc3\xa9", 0, StrCtx::Length(2), "\u{e9}", 2),
 ];
 
 #[test]
-fn texts_at_the_cursor(rt: HostRuntime) {
+fn pread_str(rt: HostRuntime) {
     let rt = &rt;
     let dot: &[u8] = b".\0";
     check_value(rt, dot.pread::<&str>(0), ".");
+    check_read(rt, HELLO, 0, StrCtx::Delimiter(NULL), "hello, world!", 14);
+    check_read(rt, HELLO, 0, StrCtx::Delimiter(SPACE), "hello,", 7);
+    check_read(rt, HELLO, 6, StrCtx::Delimiter(SPACE), "", 7);
+    let rest = "world!\0some_other_things";
+    check_read(rt, HELLO, 7, StrCtx::Delimiter(SPACE), rest, 32);
+}
+
+#[test]
+fn pread_str_weird(rt: HostRuntime) {
+    let rt = &rt;
+    let none: &[u8] = b"";
+    check_read(rt, none, 0, StrCtx::Delimiter(NULL), "", 1);
+    let past = none.pread_with::<&str>(7, StrCtx::Delimiter(SPACE));
+    check_bad_offset(rt, past, 7);
     let zero: &[u8] = b"\0";
     check_value(rt, zero.pread::<&str>(0), "");
+}
+
+#[test]
+fn texts_at_the_cursor(rt: HostRuntime) {
+    let rt = &rt;
     for &(bytes, from, ctx, wanted, to) in &READ {
         check_read(rt, bytes, from, ctx, wanted, to);
     }
@@ -95,14 +113,6 @@ fn texts_at_the_cursor(rt: HostRuntime) {
 fn refused_texts(rt: HostRuntime) {
     let rt = &rt;
     let mut at = 0;
-    let none: &[u8] = b"";
-    let past: Result<&str> = none.pread_with(7, StrCtx::Delimiter(SPACE));
-    check_bad_offset(rt, past, 7);
-    let two: &[u8] = &[0x7e, 0xef];
-    let long: Result<&str> = two.pread_with(0, StrCtx::Length(3));
-    check_too_big(rt, long, 3, 2);
-    let long: Result<&str> = two.gread_with(&mut at, StrCtx::Length(3));
-    check_too_big(rt, long, 3, 2);
     let three: &[u8] = b"a\0c";
     let short: Result<&str> = three.gread_with(&mut at, StrCtx::DelimiterUntil(NULL, 4));
     check_too_big(rt, short, 4, 3);

@@ -6,8 +6,8 @@ use Rattle.scroll.specs.Bytes.{ReadsMade, ReadsFront, RefusesShort}
 use Rattle.scroll.specs.Fixed.{One}
 use Rattle.scroll.specs.Leb128.{Counted}
 use Rattle.scroll.proofs.lemmas.numbers.LocalLemmas.{local-array, bounded-array, within-array}
-use Rattle.scroll.specs.Laws.{IsLocal, IsBounded, IsWithin, SameError, SameAnswer, Allows, AllowsOne, AllowsOneAtEach, IsReader, IsReaderWithin}
-use Rattle.scroll.specs.Reads.{ReadsAt, RefusesAt, ReadsAll}
+use Rattle.scroll.specs.Laws.{IsLocal, IsWithin, SameError, SameAnswer, Allows, AllowsOne, AllowsOneAtEach, IsReader, IsReaderWithin}
+use Rattle.scroll.specs.Reads.{IsBounded, ReadsAt, RefusesAt, ReadsAll}
 use Rattle.scroll.specs.Errors.{IsBadOffset}
 use Rattle.scroll.specs.declared.error.Error.{Error}
 use Rattle.scroll.specs.declared.error.Error.TheVariants.{TooBig, BadOffset}

@@ -9,8 +9,7 @@ use Rattle.scroll.specs.Spelling.{HasSpelling, HasSignedSpelling}
 use Rattle.scroll.specs.Reads.{ReadsAt}
 use Rattle.scroll.specs.Texts.{ReadsSlice, ReadsText}
 use Rattle.scroll.specs.declared.ctx.str_ctx.StrCtx.TheVariants.{Length}
-use Rattle.scroll.proofs.lemmas.leb128.LebWriteLemmas.{written_reads}
-use Rattle.scroll.proofs.lemmas.leb128.SignedWriteLemmas.{signed_written_reads}
+use Rattle.scroll.proofs.lemmas.leb128.SpellingLemmas.{written_reads, unsigned-form, signed-form}
 
 -- from the offset `at` on, the bytes of `s` are `rest`
 pub record Rest (at : ℕ) (rest s : List ℕ) : Type 0 where
@@ -68,7 +67,7 @@ value-begins value_of x w bytes size begins rest = record { room = omega (arith,
 
 -- a number in LEB128
 pub uleb-begins : (x : Counted ℕ) → HasSpelling x.value x.count → (rest : List ℕ) → ReadsCountedUleb (uleb_text x ++ rest) x x.count
-uleb-begins x has rest = (written_reads x.value x.count (uleb_text x ++ rest) rest has refl, refl)
+uleb-begins x has rest = (written_reads unsigned-form x.value x.count (uleb_text x ++ rest) rest has refl, refl)
 
 pub sleb-begins : (x : Counted ℤ) → HasSignedSpelling x.value x.count → (rest : List ℕ) → ReadsCountedSleb (sleb_text x ++ rest) x x.count
-sleb-begins x has rest = (signed_written_reads x.value x.count (sleb_text x ++ rest) rest has refl, refl)
+sleb-begins x has rest = (written_reads signed-form x.value x.count (sleb_text x ++ rest) rest has refl, refl)

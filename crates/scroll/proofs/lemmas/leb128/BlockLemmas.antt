@@ -12,16 +12,16 @@ use Rattle.std.specs.Int.{w64, to_le_bytes}
 use Rattle.std.specs.Int.Count.{count_trailing_zeros}
 use Rattle.std.specs.Int.Bits.{and_zero_r, or_shifted_r}
 use Rattle.std.specs.List.{AllByRecursion}
-use Rattle.scroll.specs.Leb128.{end_of, count_of, group, groups_value, unsigned_of, EndsInBlock}
+use Rattle.scroll.specs.Leb128.{end_of, count_of, group, groups_value, unsigned_of, ReadsGroups}
 use Rattle.scroll.proofs.lemmas.words.LaneLemmas.{lanes_word, flipped, each_itself}
 use Rattle.scroll.proofs.lemmas.leb128.LebLemmas.{groups_same, groups_more, end_at}
 use Rattle.scroll.proofs.lemmas.words.WordLemmas.{lanes, Lanewise, done, lane, and_lanes, or_lanes, keep, word_lanes, bytes_small}
 use Rattle.scroll.proofs.lemmas.words.ZeroLemmas.{zeros_odd, zeros_shifted}
 
--- a result by cases, as two facts
-pub by_clauses : {X : Type 0} (none : Type 0) (some : X → Type 0) (o : Option X) → MatchOption o none some → IfSome o some × IfNone o none
-by_clauses none some None h = (tt, h)
-by_clauses none some (Some x) h = (h, tt)
+-- a result by cases, as two facts, of which the second may say more
+pub by_clauses : {X : Type 0} (none : Type 0) (some more : X → Type 0) (o : Option X) → ((x : X) → some x → more x) → MatchOption o none some → IfSome o more × IfNone o none
+by_clauses none some more None f h = (tt, h)
+by_clauses none some more (Some x) f h = (f x h, tt)
 
 -- a byte whose low seven bits are filled
 pub full : ℕ → ℕ
@@ -334,13 +334,14 @@ bit_clear n k h =
     let e = sym (and_pow n k) ∙ h in
     elim (cases_lt (n / 2 ^ k % 2) 1) [ inl z ↦ omega arith | inr o ↦ let one : n / 2 ^ k % 2 ≡ 1 = omega arith in let f = rw one at e in absurd (omega arith) ]
 
-pub one_byte : (n : ℕ) → n < 2 ^ 64 → bit_and n 128 ≡ 0 → EndsInBlock (to_le_bytes w64 n) (bit_and n 127) 1
+pub one_byte : (n : ℕ) → n < 2 ^ 64 → bit_and n 128 ≡ 0 → ReadsGroups (to_le_bytes w64 n) (bit_and n 127) 1
 one_byte n fits h =
     let clear = bit_clear n 7 h in
     let e : end_of (to_le_bytes w64 n) ≡ 0 = end_at (to_le_bytes w64 n) 0 (omega arith) (λ k l. absurd (omega arith)) (omega arith) in
     let value : n % 128 ≡ groups_value (to_le_bytes w64 n) (0 + 1) = omega arith in
     record {
-      within = rw e (omega arith);
+      complete = (rw e (omega arith), rw e (omega arith));
+      fits = tt;
       value = and_mask n 7 ∙ value ∙ ap (λ i. groups_value (to_le_bytes w64 n) (i + 1)) (sym e);
       size = ap (λ i. i + 1) (sym e);
     }
@@ -358,7 +359,7 @@ second_group n =
     ap (λ m. bit_and m 32512) split ∙ e ∙ rw (and_mask (n / 256) 7, and_zero_r (n % 256)) (omega arith)
 
 pub two_bytes : (n : ℕ) → n < 2 ^ 64 → (bit_and n 128 ≡ 0 → ⊥) → bit_and n 32768 ≡ 0
-    → EndsInBlock (to_le_bytes w64 n) (bit_or (bit_and n 127) (bit_and n 32512 / 2)) 2
+    → ReadsGroups (to_le_bytes w64 n) (bit_or (bit_and n 127) (bit_and n 32512 / 2)) 2
 two_bytes n fits h g =
     let more = bit_set n 7 h in
     let clear = bit_clear n 15 g in
@@ -368,7 +369,8 @@ two_bytes n fits h g =
     let joined_is : bit_or (n % 128) (n / 256 % 128 * 2 ^ 7) ≡ n / 256 % 128 * 2 ^ 7 + n % 128 = or_shifted_r (n / 256 % 128) 7 (n % 128) (omega arith) in
     let value : n / 256 % 128 * 2 ^ 7 + n % 128 ≡ groups_value (to_le_bytes w64 n) (1 + 1) = omega arith in
     record {
-      within = rw e (omega arith);
+      complete = (rw e (omega arith), rw e (omega arith));
+      fits = tt;
       value = rw (and_mask n 7, high) joined_is ∙ value ∙ ap (λ i. groups_value (to_le_bytes w64 n) (i + 1)) (sym e);
       size = ap (λ i. i + 1) (sym e);
     }

@@ -1,13 +1,17 @@
-use Rattle.std.proofs.Common.{◌≡◌, ℕ, zero, suc, ◌+◌, ◌-◌, ◌*◌, ◌%◌, ◌^◌, ◌<◌, ◌≤◌, inl, inr, true, false, nat_lt, List, length, take, get_or, bit_and, bit_or, refl, sym, ap, ◌∙◌, arith, add-one, pow-suc}
-use Rattle.std.proofs.Math.Nat.{mod-eq_of_lt, pow-le-pow_right, mul-le-mul, mul-le-mul_right}
-use Rattle.std.proofs.lemmas.Nat.{pow-add, mul-add-lt, and_mask}
+-- The groups of an encoding: their sums, where they end, and their sign.
+use Rattle.std.proofs.Common.{◌≡◌, ℕ, zero, suc, ◌+◌, ◌-◌, ◌*◌, ◌/◌, ◌%◌, ◌^◌, ◌<◌, ◌≤◌, inl, inr, true, false, nat_lt, if◌then◌else◌, List, length, get_or, bit_and, bit_or, bit_xor, pos, negsuc, ◌-ℤ◌, to_z, refl, sym, ap, ◌∙◌, arith, add-one, pow-suc}
+use Rattle.std.proofs.Math.Nat.{mod-eq_of_lt, mul_comm, one-le-pow, pow-le-pow_right, mul-le-mul, mul-le-mul_right}
+use Rattle.std.proofs.Math.Facts.{to_z-neg}
+use Rattle.std.proofs.lemmas.Nat.{pow-add, mul-add-lt, div-mul-add, mod-mul-add, and_mask}
+use Rattle.std.proofs.lemmas.Nat.Bits.{and_pow}
+use Rattle.std.proofs.lemmas.Int.{ints, to_z_pos}
 use Rattle.std.proofs.lemmas.Bool.{cases_lt}
 use Rattle.std.proofs.lemmas.Bool.Decides.{nat_tests}
 use Rattle.std.proofs.lemmas.List.Sums.{position_or_len_is, passes_at_first, fails_before_first}
-use Rattle.std.specs.Int.Bits.{or_shifted_r}
+use Rattle.std.specs.Int.{w64}
+use Rattle.std.specs.Int.Bits.{or_shifted_r, xor_add_and}
 use Rattle.std.proofs.Common.{Some, None}
 use Rattle.std.proofs.lemmas.Option.{slice_get-get_or, get_or_from_slice_get}
-use Rattle.std.proofs.lemmas.List.{get_or-take, length-take-le}
 use Rattle.std.specs.List.{slice_get}
 use Rattle.scroll.specs.lemmas.SumLemmas.{digits-bound}
 use Rattle.scroll.specs.Leb128.{group, groups_value, end_of, unsigned_of, count_of, ReadsGroups}
@@ -18,6 +22,9 @@ pow_128 zero = refl
 pow_128 (suc i) =
     let e : 7 * suc i ≡ 7 * i + 7 = omega arith in
     ap (λ k. 2 ^ k) e ∙ pow-add 2 (7 * i) 7 ∙ ap (λ x. x * 128) (pow_128 i) ∙ sym (pow-suc 128 i)
+
+pub power_more : (i : ℕ) → 128 ^ (i + 1) ≡ 128 * 128 ^ i
+power_more i = rw add-one (pow-suc 128 i ∙ mul_comm (128 ^ i) 128)
 
 pub groups_more : (s : List ℕ) (n : ℕ) → groups_value s (n + 1) ≡ groups_value s n + group s n * 128 ^ n
 groups_more s n = rw add-one refl
@@ -98,23 +105,11 @@ pub gives_at : (s : List ℕ) (i v r b : ℕ) → i < length s → i < 9 → ((k
 gives_at s i v r b within early more byte last value_is r_is =
     let e = end_at s i within more (omega arith) in
     let value = or_group s i v r early value_is (rw byte r_is) in
-    record { complete = (omega arith, omega arith); value = value ∙ ap (λ j. groups_value s (j + 1)) (sym e); size = ap (λ j. j + 1) (sym e) }
+    record { complete = (omega arith, omega arith); fits = tt; value = value ∙ ap (λ j. groups_value s (j + 1)) (sym e); size = ap (λ j. j + 1) (sym e) }
 
 pub groups_same : (a b : List ℕ) (n : ℕ) → ((k : ℕ) → k < n → get_or a k 0 ≡ get_or b k 0) → groups_value a n ≡ groups_value b n
 groups_same a b zero h = refl
 groups_same a b (suc n) h = rw (groups_same a b n (λ k l. h k (omega arith)), h n (omega arith)) refl
-
--- the first bytes of a source that end the encoding say what the source says
-pub gives_front : (s b : List ℕ) (v n : ℕ) → 8 ≤ length s → b ≡ take 8 s → end_of b < 8 → v ≡ unsigned_of b → n ≡ count_of b → ReadsGroups s v n
-gives_front s b v n eight front within value_is n_is =
-    let same = λ (k : ℕ) (h : k < 8). ap (λ l. get_or l k 0) front ∙ get_or-take 8 s k 0 h in
-    let b_length : length b ≡ 8 = ap length front ∙ length-take-le 8 s eight in
-    let last = end_below b (omega arith) in
-    let e : end_of s ≡ end_of b = end_at s (end_of b) (omega arith)
-    (λ k h. let o = open_before b k h in let f = same k (omega arith) in omega arith)
-    (let f = same (end_of b) within in omega arith) in
-    let groups = groups_same b s (count_of b) (λ k h. same k (omega arith)) in
-    record { complete = (omega arith, omega arith); value = value_is ∙ groups ∙ ap (λ j. groups_value s (j + 1)) (sym e); size = n_is ∙ ap (λ j. j + 1) (sym e) }
 
 -- past the end there is no byte
 pub none_past : (s : List ℕ) (i : ℕ) → None ≡ slice_get s i → length s ≤ i
@@ -136,3 +131,53 @@ tenth_there s i g b t e nine more value =
 
 pub not_there : (s : List ℕ) (i : ℕ) → false ≡ nat_lt i (length s) → length s ≤ i
 not_there s i t = grind (arith, nat_tests)
+
+-- ---- two's complement, by a sign bit that is flipped and then subtracted
+-- a number minus a larger one
+pub less_whole : (u p k : ℕ) → u + suc k ≡ p → negsuc k ≡ pos u -ℤ pos p
+less_whole u p k h = omega (arith, ints)
+
+-- the highest bit h of a number, flipped and then subtracted
+turned : (g k h : ℕ) → h ≡ 2 ^ k → h ≤ 2 ^ 62 → g < 2 * h
+    → to_z w64 ((bit_xor g h + (2 ^ 64 - h)) % 2 ^ 64) ≡ (if nat_lt g h then pos g else pos g -ℤ pos (2 * h))
+turned g k h is small room =
+    let total : bit_xor g h + bit_and g h * 2 ≡ g + h = xor_add_and g h in
+    let form : bit_and g h ≡ g / h % 2 * h = rw (← is) at (and_pow g k) in
+    let some : 0 < h = omega (arith, is, one-le-pow k 2 (omega arith)) in
+    elim (cases_lt g h) [
+      | inl low ↦
+          let t : nat_lt g h ≡ true = grind (arith, nat_tests) in
+          let value : 0 * h + g ≡ g = omega arith in
+          let none : g / h ≡ 0 = rw value at (div-mul-add 0 h g low) in
+          let nothing : 0 % 2 * h ≡ 0 = omega arith in
+          let clear : bit_and g h ≡ 0 = form ∙ ap (λ q. q % 2 * h) none ∙ nothing in
+          let sum : bit_xor g h + (2 ^ 64 - h) ≡ 1 * 2 ^ 64 + g = omega (arith, total, clear) in
+          let word : (bit_xor g h + (2 ^ 64 - h)) % 2 ^ 64 ≡ g = ap (λ x. x % 2 ^ 64) sum ∙ mod-mul-add 1 (2 ^ 64) g (omega arith) in
+          rw (t, word) (to_z_pos w64 g (omega arith))
+      | inr high ↦
+          let t : nat_lt g h ≡ false = grind (arith, nat_tests) in
+          let rest = 2 * h - g - 1 in
+          let value : 1 * h + (g - h) ≡ g = omega arith in
+          let one : g / h ≡ 1 = rw value at (div-mul-add 1 h (g - h) (omega arith)) in
+          let once : 1 % 2 * h ≡ h = omega arith in
+          let set : bit_and g h ≡ h = form ∙ ap (λ q. q % 2 * h) one ∙ once in
+          let sum : bit_xor g h + (2 ^ 64 - h) ≡ 2 ^ 64 - suc rest = omega (arith, total, set) in
+          let word : (bit_xor g h + (2 ^ 64 - h)) % 2 ^ 64 ≡ 2 ^ 64 - suc rest = ap (λ x. x % 2 ^ 64) sum ∙ mod-eq_of_lt (omega arith) in
+          rw (t, word) (to_z-neg w64 rest (omega arith) ∙ less_whole g (2 * h) rest (omega arith))
+    ]
+
+-- up to nine groups in two's complement
+pub signed_groups : (g n : ℕ) → 1 ≤ n → n ≤ 9 → g < 128 ^ n
+    → to_z w64 ((bit_xor g (64 * 2 ^ (7 * (n - 1)) % 2 ^ 64) + (2 ^ 64 - 64 * 2 ^ (7 * (n - 1)) % 2 ^ 64)) % 2 ^ 64)
+    ≡ (if nat_lt g (64 * 128 ^ (n - 1)) then pos g else pos g -ℤ pos (128 ^ n))
+signed_groups g n some few room =
+    let h = 64 * 128 ^ (n - 1) in
+    let back : n - 1 + 1 ≡ n = omega arith in
+    let power = rw back at (power_more (n - 1)) in
+    let whole : 2 * h ≡ 128 ^ n = omega (arith, power) in
+    let eight : n - 1 ≤ 8 = omega arith in
+    let most : 128 ^ (n - 1) ≤ 128 ^ 8 = pow-le-pow_right {n = 128} (omega arith) eight in
+    let places : 64 * 2 ^ (7 * (n - 1)) ≡ h = ap (λ x. 64 * x) (pow_128 (n - 1)) in
+    let bit : h ≡ 2 ^ (6 + 7 * (n - 1)) = sym places ∙ sym (pow-add 2 6 (7 * (n - 1))) in
+    let sign : 64 * 2 ^ (7 * (n - 1)) % 2 ^ 64 ≡ h = ap (λ x. x % 2 ^ 64) places ∙ mod-eq_of_lt (omega (arith, most)) in
+    rw (sign, ← whole) (turned g (6 + 7 * (n - 1)) h bit (omega (arith, most)) (rw (← whole) at room))

@@ -1,22 +1,22 @@
--- Digits to the base 128, and the encodings that they make.
-use Rattle.std.proofs.Common.{◌≡◌, ℕ, ◌+◌, ◌-◌, ◌*◌, ◌/◌, ◌%◌, ◌^◌, ◌<◌, ◌≤◌, ◌↔◌, inl, inr, true, false, nat_lt, List, ◌++◌, take, length, get_or, refl, sym, ap, ◌∙◌, arith, add-one, pow-suc}
-use Rattle.std.proofs.Math.Nat.{mod-eq_of_lt, mul_comm, one-le-pow, pow-le-pow_right}
+-- Digits to the base 128, the encodings that they make, and numbers of either sign that are encoded so.
+use Rattle.std.proofs.Common.{◌≡◌, ℕ, suc, ◌+◌, ◌-◌, ◌*◌, ◌/◌, ◌%◌, ◌^◌, ◌<◌, ◌≤◌, ◌↔◌, inl, inr, true, false, nat_lt, List, ◌++◌, take, drop, length, get_or, refl, sym, ap, subst, ◌∙◌, arith, ℤ, pos, negsuc, ◌-ℤ◌, FitsSigned}
+use Rattle.std.proofs.Math.Nat.{mod-eq_of_lt, one-le-pow, pow-le-pow_right}
 use Rattle.std.proofs.lemmas.Nat.{div_below}
+use Rattle.std.proofs.lemmas.Int.{ints}
 use Rattle.std.proofs.lemmas.Bool.{cases_lt}
 use Rattle.std.proofs.lemmas.Bool.Decides.{nat_tests}
 use Rattle.std.proofs.lemmas.List.{get_or-take, length-take, length-take-le}
 use Rattle.std.proofs.lemmas.List.FromFn.{fill_by_all, get_or-map-range_with_len}
 use Rattle.std.proofs.lemmas.List.Elements.{All-get_or}
 use Rattle.std.proofs.Math.Seq.{take-append_seam}
+use Rattle.std.specs.Int.{w64}
 use Rattle.std.specs.List.{All}
-use Rattle.scroll.specs.Leb128.{group, groups_value, end_of, count_of, ReadsGroups, ReadsUleb}
+use Rattle.scroll.specs.Leb128.{group, groups_value, end_of, count_of, unsigned_of, signed_of, Counted, ReadsLeb, ReadsSleb, ReadsGroups, ReadsCounted}
+use Rattle.scroll.specs.LebWrites.{WritesLeb}
 use Rattle.scroll.specs.lemmas.Frames.{length-spelling}
 use Rattle.scroll.specs.lemmas.SumLemmas.{sum_below-same, digits-sum, digit-at}
-use Rattle.scroll.specs.Spelling.{spelled_byte, spelling, HoldsGroups, HasSpelling, BeginsWith}
-use Rattle.scroll.proofs.lemmas.leb128.LebLemmas.{groups_lt, end_at, end_below, open_before}
-
-pub power_more : (i : ℕ) → 128 ^ (i + 1) ≡ 128 * 128 ^ i
-power_more i = rw add-one (pow-suc 128 i ∙ mul_comm (128 ^ i) 128)
+use Rattle.scroll.specs.Spelling.{spelled_byte, spelling, unsigned_form, Room, SignedRoom, HasLeb, HoldsGroups, HasSignedSpelling, BeginsWithLeb}
+use Rattle.scroll.proofs.lemmas.leb128.LebLemmas.{power_more, groups_lt, end_at, end_below, open_before, sign_is_top}
 
 -- what a byte of an encoding says
 before_last : (s : List ℕ) (v n k : ℕ) → get_or s k 0 ≡ spelled_byte v n k → k + 1 < n → 128 ≤ get_or s k 0
@@ -83,7 +83,7 @@ to_spelling s v n bytes g =
     let room : v < 128 ^ n = rw v_is (groups_lt s n) in
     let within : n ≤ length s = omega (arith, g.complete.0) in
     let byte = λ (k : ℕ) (h : k < n). spelled_at s v n k within bytes n_is v_is room (g.complete.0) h in (
-      record { some = omega arith; few = omega (arith, g.complete.1); room = room },
+      record { some = omega arith; few = omega (arith, g.complete.1); room = room; fits = tt },
       fill_by_all (spelled_byte v n) (take n s) n 0 (length-take-le n s within) (λ k h. get_or-take n s k 0 h ∙ byte k h),
     )
 
@@ -98,46 +98,150 @@ from_spelling s v n has is =
     let n_is : n ≡ count_of s = omega (arith, has.some) in
     record {
       complete = (omega (arith, has.some), omega (arith, has.few));
+      fits = tt;
       value = sym (mod-eq_of_lt has.room) ∙ sym (digits_sum s v n digits) ∙ ap (groups_value s) n_is;
       size = n_is;
     }
-
--- a read of an unsigned number, and the encoding at the front
-pub reads_spelling : (s : List ℕ) (v n : ℕ) → All (λ b. b < 256) s → ReadsUleb s v n ↔ BeginsWith s v n
-reads_spelling s v n bytes = (
-  λ (g : ReadsUleb s v n).
-      let r = to_spelling s v n (λ i h. All-get_or (λ x. x < 256) s i 0 h bytes) (record { complete = g.complete; value = g.value; size = g.size }) in
-      record { has = record { groups = r.0; fits = omega (arith, g.value, g.fits) }; front = r.1 },
-  λ (b : BeginsWith s v n).
-      let g = from_spelling s v n b.has.groups b.front in
-      record { complete = g.complete; fits = omega (arith, g.value, b.has.fits); value = g.value; size = g.size },
-)
 
 -- bytes that are an encoding, and then anything, begin with the encoding
 pub spelling_front : (v n : ℕ) (t rest : List ℕ) → t ≡ spelling v n ++ rest → take n t ≡ spelling v n
 spelling_front v n t rest is = ap (take n) is ∙ ap (λ j. take j (spelling v n ++ rest)) (sym (length-spelling v n)) ∙ take-append_seam (spelling v n) rest
 
--- no encoding is a prefix of another
-pub one_spelling : (v w m n : ℕ) (x y : List ℕ) → HoldsGroups v m → HoldsGroups w n → spelling v m ++ x ≡ spelling w n ++ y → (v ≡ w) × (m ≡ n)
-one_spelling v w m n x y p q same =
-    let a = from_spelling (spelling v m ++ x) v m p (spelling_front v m (spelling v m ++ x) x refl) in
-    let b = from_spelling (spelling v m ++ x) w n q (spelling_front w n (spelling v m ++ x) y same) in
-    (a.value ∙ sym b.value, a.size ∙ sym b.size)
+-- ---- numbers of either sign
+-- the encodings of the numbers `v` are those of the unsigned numbers `form v n`
+pub record IsForm {V : Type 0} (value_of : List ℕ → V) (Fits : V → Type 0) (HasRoom : V → ℕ → Type 0) (form : V → ℕ → ℕ) : Type 0 where
+  pub holds : (v : V) (n : ℕ) → HasLeb HasRoom Fits v n → HoldsGroups (form v n) n
+  pub value : (s : List ℕ) (v : V) (n : ℕ) → HasLeb HasRoom Fits v n → ReadsGroups s (form v n) n → v ≡ value_of s
+  pub of_read : (s : List ℕ) (v : V) (n : ℕ) → ReadsLeb value_of Fits s v n → HasRoom v n × (form v n ≡ unsigned_of s)
+  pub more : (v : V) (m n : ℕ) → 1 ≤ m → m ≤ n → HasRoom v m → HasRoom v n
 
--- what was read has an encoding
-pub gives_spelling : (s : List ℕ) (v n : ℕ) → ReadsUleb s v n → HasSpelling v n
-gives_spelling s v n g =
-    let room : v < 128 ^ n = rw (g.value, g.size) (groups_lt s (count_of s)) in
-    record {
-      groups = record { some = omega (arith, g.size); few = omega (arith, g.complete, g.size); room = room };
-      fits = omega (arith, g.value, g.fits);
-    }
+module _ {V : Type 0} {value_of : List ℕ → V} {Fits : V → Type 0} {HasRoom : V → ℕ → Type 0} {form : V → ℕ → ℕ} (is : IsForm value_of Fits HasRoom form) where
+  -- what was read has an encoding
+  pub gives_spelling : (s : List ℕ) (v : V) (n : ℕ) → ReadsLeb value_of Fits s v n → HasLeb HasRoom Fits v n
+  gives_spelling s v n g = record {
+    some = omega (arith, g.size);
+    few = omega (arith, g.complete, g.size);
+    room = (is.of_read s v n g).0;
+    fits = subst Fits (sym g.value) g.fits;
+  }
 
--- a longer one is padded
-pub longer_spelling : (v m n : ℕ) → HasSpelling v m → m ≤ n → n ≤ 10 → HasSpelling v n
-longer_spelling v m n h more few =
-    let power : 128 ^ m ≤ 128 ^ n = pow-le-pow_right {n = 128} (omega arith) more in
-    record {
-      groups = record { some = omega (arith, h.groups.some); few = few; room = omega (arith, h.groups.room, power) };
-      fits = h.fits;
-    }
+  pub begins_reads : (s : List ℕ) (v : V) (n : ℕ) → HasLeb HasRoom Fits v n → take n s ≡ spelling (form v n) n → ReadsLeb value_of Fits s v n
+  begins_reads s v n has front =
+      let g = from_spelling s (form v n) n (is.holds v n has) front in
+      let e = is.value s v n has g in
+      record { complete = g.complete; fits = subst Fits e has.fits; value = e; size = g.size }
+
+  -- a read of a number, and the encoding at the front
+  pub reads_spelling : (s : List ℕ) (v : V) (n : ℕ) → All (λ b. b < 256) s → ReadsLeb value_of Fits s v n ↔ BeginsWithLeb (HasLeb HasRoom Fits) form s v n
+  reads_spelling s v n bytes = (
+    λ (g : ReadsLeb value_of Fits s v n).
+        let groups : ReadsGroups s (unsigned_of s) n = record { complete = g.complete; fits = tt; value = refl; size = g.size } in
+        let r = to_spelling s (unsigned_of s) n (λ i h. All-get_or (λ x. x < 256) s i 0 h bytes) groups in
+        record { has = gives_spelling s v n g; front = rw (is.of_read s v n g).1 r.1 },
+    λ (b : BeginsWithLeb (HasLeb HasRoom Fits) form s v n). begins_reads s v n b.has b.front,
+  )
+
+  -- no encoding is a prefix of another
+  pub one_spelling : (v w : V) (m n : ℕ) (x y : List ℕ) → HasLeb HasRoom Fits v m → HasLeb HasRoom Fits w n
+      → spelling (form v m) m ++ x ≡ spelling (form w n) n ++ y → (v ≡ w) × (m ≡ n)
+  one_spelling v w m n x y p q same =
+      let s = spelling (form v m) m ++ x in
+      let a = begins_reads s v m p (spelling_front (form v m) m s x refl) in
+      let b = begins_reads s w n q (spelling_front (form w n) n s y same) in
+      (a.value ∙ sym b.value, a.size ∙ sym b.size)
+
+  -- a longer one is padded
+  pub longer_spelling : (v : V) (m n : ℕ) → HasLeb HasRoom Fits v m → m ≤ n → n ≤ 10 → HasLeb HasRoom Fits v n
+  longer_spelling v m n h more few = record { some = omega (arith, h.some, more); few = few; room = is.more v m n h.some more h.room; fits = h.fits }
+
+  -- what was written reads as the number, and a source that begins otherwise doesn't read so
+  pub written_reads : (v : V) (n : ℕ) (t rest : List ℕ) → HasLeb HasRoom Fits v n → t ≡ spelling (form v n) n ++ rest → ReadsLeb value_of Fits t v n
+  written_reads v n t rest has e = begins_reads t v n has (spelling_front (form v n) n t rest e)
+
+  pub read_is_written : (v : V) (n : ℕ) (s t rest : List ℕ) → t ≡ spelling (form v n) n ++ rest → All (λ b. b < 256) s → ReadsLeb value_of Fits s v n → take n s ≡ take n t
+  read_is_written v n s t rest e bytes g = ((reads_spelling s v n bytes).0 g).front ∙ sym (spelling_front (form v n) n t rest e)
+
+  -- what was read, written back, and what was written, read again
+  pub spelling_back : (s old new : List ℕ) (x : Counted V) (m n : ℕ) → All (λ b. b < 256) s → ReadsCounted (ReadsLeb value_of Fits) s x n
+      → WritesLeb form x old new m → (m ≡ n) × (new ≡ take n s ++ drop n old)
+  spelling_back s old new x m n bytes g w =
+      let w_n = rw g.1 at w in
+      (w_n.size, w_n.after ∙ ap (λ t. t ++ drop n old) (sym ((reads_spelling s x.value n bytes).0 g.0).front))
+
+  pub spelling_begins : (s old new : List ℕ) (x : Counted V) (m n : ℕ) → All (λ b. b < 256) s → ReadsCounted (ReadsLeb value_of Fits) s x n
+      → WritesLeb form x old new m → take m s ≡ take m new
+  spelling_begins s old new x m n bytes g w =
+      let w_n = rw g.1 at w in
+      rw w_n.size (read_is_written x.value n s new (drop n old) w_n.after bytes g.0)
+
+  pub spelling_again : (old new after : List ℕ) (x : Counted V) (n : ℕ) → HasLeb HasRoom Fits x.value x.count
+      → WritesLeb form x old new n → ReadsCounted (ReadsLeb value_of Fits) (take n new ++ after) x n
+  spelling_again old new after x n has w =
+      let w_n = rw (← w.size) at w in
+      let front = spelling_front (form x.value n) n new (drop n old) w_n.after in
+      (written_reads x.value n (take n new ++ after) after (rw (← w.size) at has) (ap (λ t. t ++ after) front), sym w.size)
+
+-- ---- unsigned numbers
+pub unsigned-form : IsForm unsigned_of (λ v. v < 2 ^ 64) Room (λ v n. v)
+unsigned-form = record {
+  holds = λ v n h. record { some = h.some; few = h.few; room = h.room; fits = tt };
+  value = λ s v n h g. g.value;
+  of_read = λ s v n r. (rw (r.value, r.size) (groups_lt s (count_of s)), r.value);
+  more = λ v m n some le room. let power : 128 ^ m ≤ 128 ^ n = pow-le-pow_right {n = 128} (omega arith) le in omega (arith, room, power);
+}
+
+-- ---- signed numbers
+-- 128 ^ n, for n above 0
+pub power_last : (n : ℕ) → 1 ≤ n → 128 ^ n ≡ 128 * 128 ^ (n - 1)
+power_last n some = let back : n - 1 + 1 ≡ n = omega arith in rw back at (power_more (n - 1))
+
+-- the number that encodes a signed number is below 128 ^ n
+form_small : (v : ℤ) (n : ℕ) → HasSignedSpelling v n → HoldsGroups (unsigned_form v n) n
+form_small (pos a) n h = record { some = h.some; few = h.few; room = omega (arith, ints, power_last n h.some, h.room); fits = tt }
+form_small (negsuc k) n h = record { some = h.some; few = h.few; room = omega (arith, ints, power_last n h.some, h.room); fits = tt }
+
+-- a signed value is the one that its groups encode
+form_signed : (s : List ℕ) (v : ℤ) (n : ℕ) → HasSignedSpelling v n → ReadsGroups s (unsigned_form v n) n → v ≡ signed_of s
+form_signed s (pos a) n h g =
+    let top = sign_is_top s a n g.complete.0 g.value g.size in
+    let below : nat_lt a (64 * 128 ^ (n - 1)) ≡ true = let l : a < 64 * 128 ^ (n - 1) = omega (arith, ints, h.room) in grind (arith, nat_tests) in
+    rw (sym top ∙ below) (ap pos g.value)
+form_signed s (negsuc k) n h g =
+    let top = sign_is_top s (128 ^ n - suc k) n g.complete.0 g.value g.size in
+    let power = power_last n h.some in
+    let small : suc k ≤ 64 * 128 ^ (n - 1) = omega (arith, ints, h.room) in
+    let above : nat_lt (128 ^ n - suc k) (64 * 128 ^ (n - 1)) ≡ false = grind (arith, nat_tests) in
+    let value : negsuc k ≡ pos (128 ^ n - suc k) -ℤ pos (128 ^ n) = omega (arith, ints) in
+    rw (sym top ∙ above, ← g.value, ← g.size) value
+
+positive_form : (v : ℤ) (u n : ℕ) → u < 64 * 128 ^ (n - 1) → v ≡ pos u → SignedRoom v n × (unsigned_form v n ≡ u)
+positive_form v u n below e = rw e ((omega (arith, ints), omega (arith, ints)), refl)
+
+negative_form : (v : ℤ) (u n : ℕ) → 1 ≤ n → u < 128 ^ n → 64 * 128 ^ (n - 1) ≤ u → v ≡ pos u -ℤ pos (128 ^ n) → SignedRoom v n × (unsigned_form v n ≡ u)
+negative_form (pos a) u n some room above e = absurd (omega (arith, ints))
+negative_form (negsuc k) u n some room above e =
+    let power = power_last n some in
+    ((omega (arith, ints), omega (arith, ints)), omega (arith, ints))
+
+-- and the groups are those of its form
+signed_form : (s : List ℕ) (v : ℤ) (n : ℕ) → ReadsSleb s v n → SignedRoom v n × (unsigned_form v n ≡ unsigned_of s)
+signed_form s v n g =
+    let top = sign_is_top s (unsigned_of s) n g.complete.0 refl g.size in
+    elim (cases_lt (unsigned_of s) (64 * 128 ^ (n - 1))) [
+      | inl below ↦
+          let t : nat_lt (unsigned_of s) (64 * 128 ^ (n - 1)) ≡ true = grind (arith, nat_tests) in
+          positive_form v (unsigned_of s) n below (g.value ∙ rw (sym top ∙ t) refl)
+      | inr above ↦
+          let t : nat_lt (unsigned_of s) (64 * 128 ^ (n - 1)) ≡ false = grind (arith, nat_tests) in
+          let room : unsigned_of s < 128 ^ n = rw g.size (groups_lt s (count_of s)) in
+          negative_form v (unsigned_of s) n (omega (arith, g.size)) room above (g.value ∙ rw (sym top ∙ t, g.size) refl)
+    ]
+
+signed_more : (v : ℤ) (m n : ℕ) → 1 ≤ m → m ≤ n → SignedRoom v m → SignedRoom v n
+signed_more v m n some le room =
+    let before : m - 1 ≤ n - 1 = omega (arith, le) in
+    let power : 128 ^ (m - 1) ≤ 128 ^ (n - 1) = pow-le-pow_right {n = 128} (omega arith) before in
+    (omega (arith, ints, room, power), omega (arith, ints, room, power))
+
+pub signed-form : IsForm signed_of (FitsSigned w64) SignedRoom unsigned_form
+signed-form = record { holds = form_small; value = form_signed; of_read = signed_form; more = signed_more }

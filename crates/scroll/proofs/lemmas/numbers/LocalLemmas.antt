@@ -4,9 +4,9 @@ use Rattle.std.proofs.lemmas.List.{take-take, drop-take}
 use Rattle.scroll.specs.lemmas.Sizes.{ReadsArray-bounded}
 use Rattle.scroll.specs.Arrays.{ReadsArray}
 use Rattle.scroll.specs.Bytes.{ReadsMade}
-use Rattle.scroll.specs.Laws.{IsLocal, IsBounded, IsWithin}
+use Rattle.scroll.specs.Laws.{IsLocal, IsWithin}
 use Rattle.scroll.specs.Numbers.{ReadsNumber, ReadsSigned}
-use Rattle.scroll.specs.Reads.{ReadsAll}
+use Rattle.scroll.specs.Reads.{IsBounded, ReadsAll}
 use Rattle.scroll.specs.declared.endian.Endian.{Endian}
 -- lists with the same first w bytes have the same number there
 pub use Rattle.scroll.specs.lemmas.NumberBytes.{number-same, signed-same}

@@ -1,5 +1,5 @@
 -- Masks of a vector's lanes.
-use Rattle.std.proofs.Common.{◌≡◌, ℕ, ◌+◌, ◌*◌, ◌%◌, ◌^◌, ◌<◌, ◌≤◌, inl, inr, Bool, true, false, cond, eqb, leb, nat_le, ◌==◌, ◌||◌, List, [], ◌∷◌, map, length, replicate, bit_or, Some, None, position, refl, sym, ap, ◌∙◌, arith, w8}
+use Rattle.std.proofs.Common.{◌≡◌, ℕ, ◌+◌, ◌*◌, ◌%◌, ◌^◌, ◌<◌, ◌≤◌, inl, inr, Bool, true, false, cond, eqb, leb, nat_le, ◌==◌, ◌||◌, List, [], ◌∷◌, map, length, replicate, bit_or, refl, sym, ap, ◌∙◌, arith, w8}
 use Rattle.std.proofs.lemmas.Nat.{or_block}
 use Rattle.std.proofs.lemmas.Simd.{bitmask_splat, leading_from_mask_l, trailing_mask_l, tops_compared, mask_l-mod, zip2_splat_left}
 use Rattle.std.proofs.lemmas.Bool.{cases_lt, cases_Bool}
@@ -8,8 +8,7 @@ use Rattle.std.specs.Int.Count.{count_trailing_zeros}
 use Rattle.std.specs.Int.Bits.{or_zero_l}
 use Rattle.std.specs.List.{position_or_len}
 use Rattle.std.specs.Simd.Lanes.{zip2, mask_l, top}
-use Rattle.scroll.specs.Search.{is_stop}
-use Rattle.scroll.proofs.lemmas.search.SearchLemmas.{position_none, position_some}
+use Rattle.scroll.specs.Texts.{is_stop}
 
 bit_small : (t : Bool) → cond {A = ℕ} t 1 0 < 2
 bit_small true = omega arith
@@ -40,29 +39,26 @@ empty_mask p (b ∷ bs) h = elim (cases_Bool (p b)) [
       rw t (omega (arith, empty_mask p bs g))
 ]
 
-pub mask_none : (p : ℕ → Bool) (bs : List ℕ) (w : ℕ) → w ≡ mask_l (map p bs) → w ≡ 0 → None ≡ position p bs
-mask_none p bs w e h = position_none p bs (omega (arith, leading_from_mask_l p bs (sym e ∙ h)))
+-- no bit is set where no byte passes
+pub none_marked : (p : ℕ → Bool) (bs : List ℕ) (marks : ℕ) → marks ≡ mask_l (map p bs) → marks ≡ 0 → position_or_len p bs ≡ length bs
+none_marked p bs marks e h = leading_from_mask_l p bs (sym e ∙ h)
 
-mask_place : (p : ℕ → Bool) (bs : List ℕ) (w : ℕ) → length bs ≤ 64 → w ≡ mask_l (map p bs) → (w ≡ 0 → ⊥) → (count_trailing_zeros 64 w ≡ position_or_len p bs) × (position_or_len p bs < length bs)
-mask_place p bs w l e h =
-    let place : count_trailing_zeros 64 w ≡ position_or_len p bs = ap (count_trailing_zeros 64) e ∙ trailing_mask_l p 64 bs l (omega (arith, h, e)) in
+-- the lowest bit that is set is that of the first byte that passes
+pub first_marked : (p : ℕ → Bool) (bs : List ℕ) (marks : ℕ) → length bs ≤ 64 → marks ≡ mask_l (map p bs) → (marks ≡ 0 → ⊥)
+    → (count_trailing_zeros 64 marks ≡ position_or_len p bs) × (position_or_len p bs < length bs)
+first_marked p bs marks l e h =
+    let place : count_trailing_zeros 64 marks ≡ position_or_len p bs = ap (count_trailing_zeros 64) e ∙ trailing_mask_l p 64 bs l (omega (arith, h, e)) in
     (place, elim (cases_lt (position_or_len p bs) (length bs)) [ inl inside ↦ inside | inr past ↦ absurd (h (e ∙ empty_mask p bs past)) ])
 
-pub mask_some : (p : ℕ → Bool) (bs : List ℕ) (w : ℕ) → length bs ≡ 32 → w ≡ mask_l (map p bs) → (w ≡ 0 → ⊥) → Some (count_trailing_zeros 64 w) ≡ position p bs
-mask_some p bs w l e h = let f = mask_place p bs w (omega arith) e h in position_some p bs (count_trailing_zeros 64 w) f.0 f.1
+pub equal_marks : (n d : ℕ) (bs : List ℕ) → length bs ≡ n → n ≤ 64 → mask_l (map (top 7) (zip2 (λ a b. cond (eqb a b) 255 0) bs (replicate n d))) % 2 ^ 64 ≡ mask_l (map (λ b. b == d) bs)
+equal_marks n d bs l h = bitmask_splat w8 eqb bs n d l h
 
-pub mask_inside : (p : ℕ → Bool) (bs : List ℕ) (w : ℕ) → length bs ≡ 32 → w ≡ mask_l (map p bs) → (w ≡ 0 → ⊥) → count_trailing_zeros 64 w < 32
-mask_inside p bs w l e h = let f = mask_place p bs w (omega arith) e h in omega (arith, f.0, f.1)
-
-pub place_mask : (d : ℕ) (bs : List ℕ) → length bs ≡ 32 → mask_l (map (top 7) (zip2 (λ a b. cond (eqb a b) 255 0) bs (replicate 32 d))) % 2 ^ 64 ≡ mask_l (map (λ b. b == d) bs)
-place_mask d bs l = bitmask_splat w8 eqb bs 32 d l (omega arith)
-
-wide_mask : (bs : List ℕ) → length bs ≡ 32 → mask_l (map (top 7) (zip2 (λ a b. cond (leb a b) 255 0) (replicate 32 128) bs)) % 2 ^ 64 ≡ mask_l (map (nat_le 128) bs)
-wide_mask bs l =
-    ap (λ ms. mask_l ms % 2 ^ 64) (tops_compared w8 leb (replicate 32 128) bs ∙ zip2_splat_left leb 128 32 bs l)
+wide_marks : (n : ℕ) (bs : List ℕ) → length bs ≡ n → n ≤ 64 → mask_l (map (top 7) (zip2 (λ a b. cond (leb a b) 255 0) (replicate n 128) bs)) % 2 ^ 64 ≡ mask_l (map (nat_le 128) bs)
+wide_marks n bs l h =
+    ap (λ ms. mask_l ms % 2 ^ 64) (tops_compared w8 leb (replicate n 128) bs ∙ zip2_splat_left leb 128 n bs l)
     ∙ mask_l-mod (map (nat_le 128) bs) 64 (omega (arith, length-map bs (nat_le 128)))
 
-pub stop_mask : (d : ℕ) (bs : List ℕ) → length bs ≡ 32
-    → bit_or (mask_l (map (top 7) (zip2 (λ a b. cond (eqb a b) 255 0) bs (replicate 32 d))) % 2 ^ 64) (mask_l (map (top 7) (zip2 (λ a b. cond (leb a b) 255 0) (replicate 32 128) bs)) % 2 ^ 64)
+pub stop_marks : (n d : ℕ) (bs : List ℕ) → length bs ≡ n → n ≤ 64
+    → bit_or (mask_l (map (top 7) (zip2 (λ a b. cond (eqb a b) 255 0) bs (replicate n d))) % 2 ^ 64) (mask_l (map (top 7) (zip2 (λ a b. cond (leb a b) 255 0) (replicate n 128) bs)) % 2 ^ 64)
     ≡ mask_l (map (is_stop d) bs)
-stop_mask d bs l = rw (place_mask d bs l, wide_mask bs l) (mask_or (λ b. b == d) (nat_le 128) bs)
+stop_marks n d bs l h = rw (equal_marks n d bs l h, wide_marks n bs l h) (mask_or (λ b. b == d) (nat_le 128) bs)

@@ -1,14 +1,16 @@
-use Rattle.std.proofs.Common.{◌≡◌, ◌++◌, ◌∷◌, [], ap, ◌∙◌, sym, subst, get_or, rules}
+use Rattle.std.proofs.Common.{◌≡◌, arith, ◌++◌, ◌∷◌, [], ap, ◌∙◌, sym, subst, get_or, rules}
 use Rattle.scroll.proofs.lemmas.history.RunLemmas.{IsRun-none, IsRun-next}
 use Rattle.scroll.specs.Runs.{IsStep}
 use Rattle.scroll.proofs.runner.run.Goals as goal
 
 pub loop-command-init : goal.loop-command-init
-loop-command-init c = IsRun-none c.args.buffer.now c.args.cursor.now c.args.answers.now.items
+loop-command-init c = (IsRun-none c.args.buffer.now c.args.cursor.now c.args.answers.now.items, omega arith, omega arith)
 
 pub loop-command-preserved : goal.loop-command-preserved
 loop-command-preserved c =
     let items = c.push_reserved.ensures.items ∙ ap (λ xs. xs ++ c.in_ok-answer.answer ∷ []) c.reserve.ensures.items in
     let command : get_or c.args.commands.now c.loop-command.command-index c.command-item.result ≡ c.command-item.result = search rules in
     let step = subst (λ k. IsStep c.loop-command.buffer c.step.new.buffer c.loop-command.cursor k c.in_ok-answer.answer c.step.new.cursor) (sym command) c.in_ok-answer.ensures.answered in
-    IsRun-next _ _ _ _ _ _ _ _ _ _ _ _ _ c.loop-command-test.true c.loop-command.invariant items step
+    let inv = c.loop-command.invariant in
+    let run = IsRun-next _ _ _ _ _ _ _ _ _ _ _ _ _ c.loop-command-test.true inv.0 items step in
+    (run, omega (arith, inv.1, c.reserve.ensures.len, c.push_reserved.ensures.len), omega (arith, inv.2, c.reserve.ensures.capacity, c.push_reserved.ensures.capacity))

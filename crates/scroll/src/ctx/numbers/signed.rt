@@ -6,9 +6,8 @@ ghost use Rattle.scroll.specs.lemmas.FixedLemmas.{one-value, signed-back-at, sig
 ghost use Rattle.scroll.specs.lemmas.Frames.{length-signed_bytes};
 ghost use Rattle.scroll.specs.lemmas.NumberBack.{signed-kept};
 
-use super::{put_front, put_sixteen};
+use super::{bytes_at, put_front, put_sixteen};
 use crate::ctx::fixed::{Fixed, Plain, RoundTrip, Written};
-use crate::ctx::made::bytes_at;
 use crate::endian::Endian;
 
 impl Fixed for i8 {

@@ -6,9 +6,8 @@ ghost use Rattle.scroll.specs.lemmas.FixedLemmas.{one-value, number-back-at, num
 ghost use Rattle.scroll.specs.lemmas.Frames.{length-number_bytes};
 ghost use Rattle.scroll.specs.lemmas.NumberBack.{number-kept};
 
-use super::{put_front, put_sixteen};
+use super::{bytes_at, put_front, put_sixteen};
 use crate::ctx::fixed::{Fixed, Plain, RoundTrip, Written};
-use crate::ctx::made::bytes_at;
 use crate::endian::Endian;
 
 impl Fixed for u8 {

@@ -1,9 +1,24 @@
-use Rattle.std.proofs.Common.{◌∷◌, map, ap, ◌∙◌}
-use Rattle.scroll_run.proofs.CommandLemmas.{command_by_verb}
+use Rattle.std.proofs.Common.{◌∷◌, codes, ap, rules, ◌∙◌}
+use Rattle.std.proofs.lemmas.Slice.Eq.{text_from_reads}
+use Rattle.scroll_run.specs.Words.{texts_of}
 use Rattle.scroll_run.proofs.commands.parse_words.Goals as goal
 
-pub returns-in-Some-parse_verb : goal.returns-in-Some-parse_verb
-returns-in-Some-parse_verb c =
-    let words = ap (map (λ word. word.now)) c.in-Some.ensures.cases.0 in
-    let verb = c.in-Some-parse_verb.ensures in
-    command_by_verb _ _ _ _ (words ∙ ap (λ w. w ∷ map (λ word. word.now) c.in-Some.rest.now) verb) c.parse_rest.ensures
+pub returns-in-pread : goal.returns-in-pread
+returns-in-pread c =
+    let verb = text_from_reads c.in-Some.verb.now.now (codes "pread") (search rules) (search rules) in
+    rw (ap texts_of c.in-Some.ensures.cases.0 ∙ ap (λ w. w ∷ texts_of c.in-Some.rest.now) verb) c.parse_pread.ensures
+
+pub returns-in-gread : goal.returns-in-gread
+returns-in-gread c =
+    let verb = text_from_reads c.in-Some.verb.now.now (codes "gread") (search rules) (search rules) in
+    rw (ap texts_of c.in-Some.ensures.cases.0 ∙ ap (λ w. w ∷ texts_of c.in-Some.rest.now) verb) c.parse_gread.ensures
+
+pub returns-in-pwrite : goal.returns-in-pwrite
+returns-in-pwrite c =
+    let verb = text_from_reads c.in-Some.verb.now.now (codes "pwrite") (search rules) (search rules) in
+    rw (ap texts_of c.in-Some.ensures.cases.0 ∙ ap (λ w. w ∷ texts_of c.in-Some.rest.now) verb) c.parse_pwrite.ensures
+
+pub returns-in-gwrite : goal.returns-in-gwrite
+returns-in-gwrite c =
+    let verb = text_from_reads c.in-Some.verb.now.now (codes "gwrite") (search rules) (search rules) in
+    rw (ap texts_of c.in-Some.ensures.cases.0 ∙ ap (λ w. w ∷ texts_of c.in-Some.rest.now) verb) c.parse_gwrite.ensures

@@ -1,6 +1,6 @@
 use Rattle.std.proofs.Common.{◌∷◌, map, ap, ◌∙◌}
 use Rattle.std.proofs.lemmas.Result.{err_from_is_err_and}
-use Rattle.scroll_run.proofs.LineLemmas.{SpellHeld-commands, first_bad, second_bad, stops_lines}
+use Rattle.scroll_run.proofs.LineLemmas.{SpellsAllHeld-commands, first_bad, second_bad, stops_lines}
 use Rattle.scroll_run.proofs.lines.parse_lines.Goals as goal
 
 pub returns-in_default-2 : goal.returns-in_default-2
@@ -29,5 +29,5 @@ returns c =
       lines_are = ap (map (λ line. line.now)) both;
       buffer_is = rw c.in-Some-2.is at c.in_ok-buffer.ensures;
       cursor_is = c.in-Some-parse_cursor.ensures;
-      commands_are = SpellHeld-commands _ _ commands c.in_ok-commands.ensures held;
+      commands_are = SpellsAllHeld-commands _ _ commands c.in_ok-commands.ensures held;
     }

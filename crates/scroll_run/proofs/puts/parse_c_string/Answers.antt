@@ -1,11 +1,12 @@
-use Rattle.std.proofs.Common.{◌≡◌, ℕ, List, length, Bor, ◌∙◌, sym, subst, inl, inr, arith}
+use Rattle.std.proofs.Common.{◌≡◌, ℕ, List, length, Bor, ◌∙◌, sym, subst, refl, inl, inr, arith}
 use Rattle.std.proofs.lemmas.Grind.{common_steps}
 use Rattle.scroll.specs.CStrings.{RefusesToHold}
 use Rattle.scroll.specs.Texts.{first_place}
 use Rattle.scroll.specs.declared.error.Error.{Error}
 use Rattle.scroll.specs.declared.error.Error.TheVariants.{BadInput}
-use Rattle.scroll_run.specs.Puts.{SpellCString}
-use Rattle.scroll_run.proofs.CommandLemmas.{one_bytes}
+use Rattle.scroll_run.specs.Puts.{SpellsCString}
+use Rattle.scroll_run.proofs.CommandLemmas.{same_bytes}
+use Rattle.scroll_run.proofs.PutLemmas.{by_cstr}
 use Rattle.scroll_run.proofs.puts.parse_c_string.Goals as goal
 
 -- a text whose conversion fails with `BadInput` contains a zero
@@ -14,18 +15,22 @@ has_a_zero text other e size msg same none is (inl q) = let some = rw same at q.
 has_a_zero text other e size msg same none is (inr q) = let no = q.1 in grind (arith, common_steps)
 
 pub returns-in_default : goal.returns-in_default
-returns-in_default c = let none = rw c.in_default.is at c.in_ok-text.ensures in λ p s. none _ s.1.0
+returns-in_default c =
+    let none = rw c.in_default.is at c.in_ok-text.ensures in
+    λ p s. let t = by_cstr _ p s in let text = t.1 in none t.0 text.0
 
 pub returns-in-Ok : goal.returns-in-Ok
 returns-in-Ok c =
     let bytes = rw c.in-Some.is at c.in_ok-text.ensures in
     let text = c.in-Ok.ensures.text in
     let zero = c.in-Ok.ensures.no_zero in
-    λ p is. (is.0, subst (SpellCString _) (sym is.2) (rw (text ∙ c.deref.ensures.value) bytes, rw text zero), is.1)
+    λ p is. rw is.1 (_, refl, subst (SpellsCString _) (sym is.2) (rw (text ∙ c.deref.ensures.value) bytes, rw text zero))
 
 pub returns-in-Err-BadInput : goal.returns-in-Err-BadInput
 returns-in-Err-BadInput c =
     let bytes = rw c.in-Some.is at c.in_ok-text.ensures in
     λ p s.
-    let same = c.deref.ensures.value ∙ one_bytes _ _ _ bytes s.1.0 in
-    has_a_zero _ _ _ _ _ same s.1.1 c.in-Err-BadInput.field-0-is c.in-Err-BadInput.ensures.refused
+    let t = by_cstr _ p s in
+    let text = t.1 in
+    let same = c.deref.ensures.value ∙ same_bytes _ _ _ bytes text.0 in
+    has_a_zero _ _ _ _ _ same text.1 c.in-Err-BadInput.field-0-is c.in-Err-BadInput.ensures.refused

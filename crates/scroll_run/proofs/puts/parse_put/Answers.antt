@@ -1,9 +1,10 @@
-use Rattle.std.proofs.Common.{◌∷◌, map, ap, ◌∙◌}
-use Rattle.scroll_run.proofs.CommandLemmas.{put_by_name}
+use Rattle.std.proofs.Common.{rules}
+use Rattle.scroll_run.proofs.CommandLemmas.{by_index}
+use Rattle.scroll_run.proofs.PutLemmas.{no_count}
 use Rattle.scroll_run.proofs.puts.parse_put.Goals as goal
 
-pub returns-in-Some-parse_name : goal.returns-in-Some-parse_name
-returns-in-Some-parse_name c =
-    let words = ap (map (λ word. word.now)) c.in-Some.ensures.cases.0 in
-    let name = c.in-Some-parse_name.ensures in
-    put_by_name _ _ _ _ (words ∙ ap (λ w. w ∷ map (λ word. word.now) c.in-Some.rest.now) name) c.parse_put_rest.ensures
+pub returns-in-len5 : goal.returns-in-len5
+returns-in-len5 c = rw (by_index c.args.words.now 5 (search rules)) c.parse_put_of_five.ensures
+
+pub returns-in_default : goal.returns-in_default
+returns-in_default c = no_count c.args.words.now (search rules) (search rules) (search rules)

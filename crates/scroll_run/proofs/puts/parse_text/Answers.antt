@@ -1,13 +1,16 @@
-use Rattle.std.proofs.Common.{ap, sym, subst}
+use Rattle.std.proofs.Common.{ap, sym, subst, refl}
 use Rattle.std.proofs.lemmas.Str.{IsUtf8-string_bytes}
-use Rattle.scroll_run.specs.Puts.{SpellText}
+use Rattle.scroll_run.specs.Puts.{SpellsText}
+use Rattle.scroll_run.proofs.PutLemmas.{by_str}
 use Rattle.scroll_run.proofs.puts.parse_text.Goals as goal
 
 pub returns-in_default : goal.returns-in_default
-returns-in_default c = let none = rw c.in_default.is at c.in_ok-bytes.ensures in λ p s. none s.0.now s.1.0
+returns-in_default c =
+    let none = rw c.in_default.is at c.in_ok-bytes.ensures in
+    λ p s. let t = by_str _ p s in let bytes = t.1 in none t.0 bytes.0
 
 pub returns-in-Ok : goal.returns-in-Ok
 returns-in-Ok c =
     let bytes = rw c.in-Some.is at c.in_ok-bytes.ensures in
     let same = ap (λ v. v.items) c.in-Ok.ensures.ok in
-    λ p h. (h.0, subst (SpellText _) (sym h.2) (rw same bytes, IsUtf8-string_bytes c.in-Ok.text), h.1)
+    λ p is. rw is.1 (_, refl, subst (SpellsText _) (sym is.2) (rw same bytes, IsUtf8-string_bytes c.in-Ok.text))

@@ -1,41 +1,24 @@
-use Rattle.std.proofs.Common.{arith}
-use Rattle.scroll_run.proofs.CommandLemmas.{behind_order, each_of_three, four_words}
+use Rattle.std.proofs.Common.{List, ◌≡◌, ℕ, [], ◌∷◌, ◌^◌}
+use Rattle.std.specs.List.{AllZip}
+use Rattle.scroll_run.specs.Words.{SpellsNumber}
+use Rattle.scroll_run.proofs.PutLemmas.{by_u16x3}
 use Rattle.scroll_run.proofs.puts.parse_three.Goals as goal
 
+-- what each of three words spells
+each : (a b c xs : List ℕ) → AllZip (SpellsNumber (2 ^ 16)) (a ∷ b ∷ c ∷ []) xs → (x y z : ℕ) × SpellsNumber (2 ^ 16) a x × SpellsNumber (2 ^ 16) b y × SpellsNumber (2 ^ 16) c z
+each a b c [] h = absurd h
+each a b c (x ∷ []) h = absurd h.1
+each a b c (x ∷ y ∷ []) h = absurd h.1.1
+each a b c (x ∷ y ∷ z ∷ more) h = (x, y, z, h.0, h.1.0, h.1.1.0)
+
 pub returns-in_err-order : goal.returns-in_err-order
-returns-in_err-order c =
-    let words = four_words c.args.words.now _ (omega arith) in
-    rw c.from_residual.ensures (λ p s. let t = each_of_three _ _ _ _ _ words p s in c.in_err-order.ensures t.0 t.4)
+returns-in_err-order c = rw c.from_residual.ensures (λ p s. let t = by_u16x3 _ _ _ _ p s in c.in_err-order.ensures t.0 t.2)
 
 pub returns-in_err-first : goal.returns-in_err-first
-returns-in_err-first c =
-    let words = four_words c.args.words.now _ (omega arith) in
-    rw c.from_residual-in_err-first.ensures (λ p s. let t = each_of_three _ _ _ _ _ words p s in c.in_err-first.ensures t.1 t.5)
+returns-in_err-first c = rw c.from_residual-in_err-first.ensures (λ p s. let t = by_u16x3 _ _ _ _ p s in let n = each _ _ _ _ t.3 in c.in_err-first.ensures n.0 n.3)
 
 pub returns-in_err-second : goal.returns-in_err-second
-returns-in_err-second c =
-    let words = four_words c.args.words.now _ (omega arith) in
-    rw c.from_residual-in_err-second.ensures (λ p s. let t = each_of_three _ _ _ _ _ words p s in c.in_err-second.ensures t.2 t.6)
+returns-in_err-second c = rw c.from_residual-in_err-second.ensures (λ p s. let t = by_u16x3 _ _ _ _ p s in let n = each _ _ _ _ t.3 in c.in_err-second.ensures n.1 n.4)
 
 pub returns-in_err-third : goal.returns-in_err-third
-returns-in_err-third c =
-    let words = four_words c.args.words.now _ (omega arith) in
-    rw c.from_residual-in_err-third.ensures (λ p s. let t = each_of_three _ _ _ _ _ words p s in c.in_err-third.ensures t.3 t.7)
-
-pub returns : goal.returns
-returns c =
-    let words = four_words c.args.words.now _ (omega arith) in
-    λ p is. (
-      c.in_ok-order.order,
-      _,
-      _,
-      _,
-      _,
-      _,
-      _,
-      behind_order _ _ _ _ _ _ words c.in_ok-order.ensures,
-      c.in_ok-first.ensures,
-      c.in_ok-second.ensures,
-      c.in_ok-third.ensures,
-      is,
-    )
+returns-in_err-third c = rw c.from_residual-in_err-third.ensures (λ p s. let t = by_u16x3 _ _ _ _ p s in let n = each _ _ _ _ t.3 in c.in_err-third.ensures n.2 n.5)

@@ -3,7 +3,6 @@ use Rattle.std.specs.Float.{NotNan}
 use Rattle.scroll.specs.lemmas.NumberLemmas.{bytes-fit}
 use Rattle.scroll.proofs.lemmas.numbers.FloatLemmas.{float-begins, float-back, length-float_bytes}
 use Rattle.scroll.specs.Floats.{float_width, float, float_bytes}
-use Rattle.scroll.specs.lemmas.Frames.{number_bytes-keeps}
 use Rattle.scroll.proofs.laws.floats.float_is_written_back.Goals as goal
 
 pub returns : goal.returns

@@ -1,5 +1,5 @@
-use Rattle.scroll.proofs.lemmas.leb128.SignedSpellingLemmas.{reads_signed_spelling, longer_signed_spelling, one_signed_spelling}
+use Rattle.scroll.proofs.lemmas.leb128.SpellingLemmas.{signed-form, reads_spelling, longer_spelling, one_spelling}
 use Rattle.scroll.proofs.laws.leb128.signed_reads_are_spellings.Goals as goal
 
 pub returns : goal.returns
-returns c = record { reads = reads_signed_spelling; longer = longer_signed_spelling; one = one_signed_spelling }
+returns c = record { reads = reads_spelling signed-form; longer = longer_spelling signed-form; one = one_spelling signed-form }

@@ -1,3 +1,4 @@
+use Rattle.std.proofs.Common.{arith}
 use Rattle.scroll.proofs.lemmas.leb128.BlockLemmas.{word_none, word_some, word_carries, word_count, word_groups}
 use Rattle.scroll.proofs.leb128.block.counted_groups.Goals as goal
 
@@ -11,7 +12,8 @@ pub returns : goal.returns
 returns c =
     let within = word_some c.args.word c.ranges.word.fits c.if-filled.false in
     record {
-      within = within;
+      complete = (within, omega (arith, within));
+      fits = tt;
       value = word_groups c.args.word _ c.ranges.word.fits within c.gathered.ensures;
       size = word_count c.args.word c.ranges.word.fits within;
     }

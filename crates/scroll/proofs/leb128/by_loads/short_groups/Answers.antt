@@ -21,7 +21,7 @@ returns-then-byte-lt128-clause-read c =
     let i = c.loop-i.invariant in
     let byte = get_or_from_slice_get s c.loop-i.i _ 0 (sym c.in-Some.ensures.value) in
     let inside = slice_get_within s c.loop-i.i _ (sym c.in-Some.ensures.value) in
-    rw (← i.same) (gives_at s c.loop-i.i c.loop-i.groups c.from.result _ inside (omega arith) i.open_so_far byte c.if-byte-lt128.true i.value c.from.ensures)
+    (rw (← i.same) (gives_at s c.loop-i.i c.loop-i.groups c.from.result _ inside (omega arith) i.open_so_far byte c.if-byte-lt128.true i.value c.from.ensures), omega arith)
 
 pub loop-i-preserved : goal.loop-i-preserved
 loop-i-preserved c =

@@ -1,4 +1,4 @@
-use Rattle.scroll.proofs.lemmas.leb128.SpreadLemmas.{open_bytes}
+use Rattle.scroll.proofs.lemmas.leb128.LebWriteLemmas.{open_bytes}
 use Rattle.scroll.proofs.leb128.write.open_groups.Goals as goal
 
 pub returns : goal.returns

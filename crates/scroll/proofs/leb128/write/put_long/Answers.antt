@@ -5,7 +5,7 @@ use Rattle.std.proofs.lemmas.List.Edits.{fill_by_more}
 use Rattle.scroll.specs.Spelling.{spelled_byte}
 use Rattle.scroll.specs.LebWrites.{ten_groups}
 use Rattle.scroll.proofs.lemmas.leb128.LebWriteLemmas.{encoding_written}
-use Rattle.scroll.proofs.lemmas.leb128.SpreadLemmas.{eight_written}
+use Rattle.scroll.proofs.lemmas.leb128.LebWriteLemmas.{eight_written}
 use Rattle.scroll.proofs.leb128.write.put_long.Goals as goal
 
 pub returns-else-count-eq10 : goal.returns-else-count-eq10

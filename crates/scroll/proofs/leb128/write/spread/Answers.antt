@@ -1,5 +1,5 @@
 use Rattle.std.proofs.Common.{◌∙◌, arith}
-use Rattle.scroll.proofs.lemmas.leb128.SpreadLemmas.{spread_word}
+use Rattle.scroll.proofs.lemmas.leb128.LebWriteLemmas.{spread_word}
 use Rattle.scroll.proofs.leb128.write.spread.Goals as goal
 
 pub returns : goal.returns

@@ -1,7 +1,7 @@
 use Rattle.std.proofs.Common.{◌-◌, ap, ◌∙◌, of_z, arith}
 use Rattle.std.specs.Int.{w64}
 use Rattle.std.proofs.lemmas.Int.{to_z-of_z, of_z-to_z}
-use Rattle.scroll.proofs.lemmas.leb128.SignedWriteLemmas.{turned_below, turned_above}
+use Rattle.scroll.proofs.lemmas.leb128.LebWriteLemmas.{turned_below, turned_above}
 use Rattle.scroll.proofs.leb128.write.turned.Goals as goal
 
 pub returns-then-value-lt0 : goal.returns-then-value-lt0

@@ -1,5 +1,0 @@
-use Rattle.scroll.proofs.lemmas.leb128.SignedWriteLemmas.{unsigned_groups_form}
-use Rattle.scroll.proofs.leb128.write.put_uleb.Goals as goal
-
-pub returns-clause-wrote : goal.returns-clause-wrote
-returns-clause-wrote c = rw (unsigned_groups_form c.args.value c.args.count c.requires.spelled.groups.room) at c.put_groups.ensures.wrote

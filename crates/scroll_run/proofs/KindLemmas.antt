@@ -1,0 +1,68 @@
+-- Lemmas on the words of what is read, by the first of them.
+use Rattle.std.proofs.Common.{◌≡◌, ◌≤◌, ◌^◌, ℕ, List, [], ◌∷◌, codes, length, arith, ap, subst}
+use Rattle.scroll.specs.declared.ctx.str_ctx.StrCtx.{StrCtx}
+use Rattle.scroll.specs.declared.ctx.str_ctx.StrCtx.TheVariants as context
+use Rattle.scroll.specs.declared.runner.Kind.{Kind}
+use Rattle.scroll.specs.declared.runner.Kind.TheVariants as kind
+use Rattle.scroll.specs.declared.runner.Width.{Width}
+use Rattle.scroll.specs.declared.runner.Width.TheVariants as width
+use Rattle.scroll_run.specs.Kinds.{SpellsEnd, SpellsKind}
+use Rattle.scroll_run.specs.Words.{SpellsByte, SpellsNumber, width_word}
+use Rattle.scroll_run.proofs.CommandLemmas.{first_letter}
+
+-- lists with the same words
+same_second : (a b c : List ℕ) → a ∷ b ∷ [] ≡ a ∷ c ∷ [] → c ≡ b
+same_second a b c e = cc
+
+pub by_delim : (b : List ℕ) (ctx : StrCtx) → SpellsEnd (codes "delim" ∷ b ∷ []) ctx → (d : ℕ) × SpellsByte b d
+by_delim b (context.Delimiter d) s = (d, subst (λ w. SpellsByte w d) (same_second _ b s.0 s.1) s.2)
+by_delim b (context.DelimiterUntil d limit) s = let e = s.2 in absurd cc
+by_delim b (context.Length n) s = let e = s.1 in absurd cc
+by_delim b (context.Required d) s = let e = s.1 in absurd cc
+
+pub by_required : (b : List ℕ) (ctx : StrCtx) → SpellsEnd (codes "required" ∷ b ∷ []) ctx → (d : ℕ) × SpellsByte b d
+by_required b (context.Delimiter d) s = let e = s.1 in absurd cc
+by_required b (context.DelimiterUntil d limit) s = let e = s.2 in absurd cc
+by_required b (context.Length n) s = let e = s.1 in absurd cc
+by_required b (context.Required d) s = (d, subst (λ w. SpellsByte w d) (same_second _ b s.0 s.1) s.2)
+
+pub by_until : (b c : List ℕ) (ctx : StrCtx) → SpellsEnd (codes "until" ∷ b ∷ c ∷ []) ctx → (d limit : ℕ) × SpellsByte b d × SpellsNumber (2 ^ 64) c limit
+by_until b c (context.Delimiter d) s = let e = s.1 in absurd cc
+by_until b c (context.DelimiterUntil d limit) s =
+    let e = s.2 in
+    let first : s.0 ≡ b = cc in
+    let second : s.1 ≡ c = cc in
+    (d, limit, subst (λ w. SpellsByte w d) first s.3, subst (λ w. SpellsNumber (2 ^ 64) w limit) second s.4)
+by_until b c (context.Length n) s = let e = s.1 in absurd cc
+by_until b c (context.Required d) s = let e = s.1 in absurd cc
+
+-- the word of a number type has at most four bytes
+pub short_width : (w : Width) (a : List ℕ) → a ≡ width_word w → length a ≤ 4
+short_width width.U8 a e = let n = ap length e in omega (arith, n)
+short_width width.I8 a e = let n = ap length e in omega (arith, n)
+short_width width.U16 a e = let n = ap length e in omega (arith, n)
+short_width width.I16 a e = let n = ap length e in omega (arith, n)
+short_width width.U32 a e = let n = ap length e in omega (arith, n)
+short_width width.I32 a e = let n = ap length e in omega (arith, n)
+short_width width.U64 a e = let n = ap length e in omega (arith, n)
+short_width width.I64 a e = let n = ap length e in omega (arith, n)
+short_width width.U128 a e = let n = ap length e in omega (arith, n)
+short_width width.I128 a e = let n = ap length e in omega (arith, n)
+
+pub by_strx2 : (end : List (List ℕ)) (what : Kind) → SpellsKind (codes "strx2" ∷ end) what → (ctx : StrCtx) × SpellsEnd end ctx
+by_strx2 end (kind.Number w order) s =
+    let e : codes "strx2" ≡ width_word w = cc in
+    let n = short_width w _ e in
+    absurd (omega (arith, n))
+by_strx2 end (kind.Text ctx) s = let e = s.1 in absurd cc
+by_strx2 end (kind.Bytes len) s = let n : 115 ≡ 98 = ap first_letter s.1 in absurd (omega (arith, n))
+by_strx2 end kind.CStr s = let e = s in absurd cc
+by_strx2 end kind.CString s = let e = s in absurd cc
+by_strx2 end kind.Uleb s = let e = s in absurd cc
+by_strx2 end kind.Sleb s = let e = s in absurd cc
+by_strx2 end (kind.U8x0 order) s = let e = s in absurd cc
+by_strx2 end (kind.U16x3 order) s = let n : 115 ≡ 117 = ap first_letter s in absurd (omega (arith, n))
+by_strx2 end (kind.Textx2 ctx) s =
+    let e = s.1 in
+    let same : s.0 ≡ end = cc in
+    (ctx, subst (λ ws. SpellsEnd ws ctx) same s.2)

@@ -1,0 +1,23 @@
+use Rattle.std.proofs.Common.{◌^◌, arith}
+use Rattle.scroll_run.proofs.NumberLemmas.{widen}
+use Rattle.scroll_run.proofs.puts.parse_value.Goals as goal
+
+pub returns-in_err-parse_signed-in-I8 : goal.returns-in_err-parse_signed-in-I8
+returns-in_err-parse_signed-in-I8 c =
+    rw (c.from_residual-in_err-parse_signed-in-I8.ensures, c.in-I8.is) (λ n s. c.in_err-parse_signed-in-I8.ensures s.0 (widen (2 ^ 7) _ _ _ (omega arith) s.1))
+
+pub returns-in_err-parse_signed-in-I16 : goal.returns-in_err-parse_signed-in-I16
+returns-in_err-parse_signed-in-I16 c =
+    rw (c.from_residual-in_err-parse_signed-in-I16.ensures, c.in-I16.is) (λ n s. c.in_err-parse_signed-in-I16.ensures s.0 (widen (2 ^ 15) _ _ _ (omega arith) s.1))
+
+pub returns-in_err-parse_signed-in-I32 : goal.returns-in_err-parse_signed-in-I32
+returns-in_err-parse_signed-in-I32 c =
+    rw (c.from_residual-in_err-parse_signed-in-I32.ensures, c.in-I32.is) (λ n s. c.in_err-parse_signed-in-I32.ensures s.0 (widen (2 ^ 31) _ _ _ (omega arith) s.1))
+
+pub returns-in_err-parse_i64-in-I64 : goal.returns-in_err-parse_i64-in-I64
+returns-in_err-parse_i64-in-I64 c =
+    rw (c.from_residual-in_err-parse_i64-in-I64.ensures, c.in-I64.is) (λ n s. c.in_err-parse_i64-in-I64.ensures s.0 s.1)
+
+pub returns-in_err-parse_signed-in-I128 : goal.returns-in_err-parse_signed-in-I128
+returns-in_err-parse_signed-in-I128 c =
+    rw (c.from_residual-in_err-parse_signed-in-I128.ensures, c.in-I128.is) (λ n s. c.in_err-parse_signed-in-I128.ensures s.0 (widen (2 ^ 127) _ _ _ (omega arith) s.1))
