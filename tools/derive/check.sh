@@ -209,6 +209,12 @@ struct Owner<'a> {
     // #[scroll(ctx = len as usize)]
     text: &'a [u8],
 }
+struct Scale<'a> {
+    len: u8,
+    factor: f32,
+    // #[scroll(ctx = len as usize)]
+    text: &'a [u8],
+}
 END
 cp "$room/trial/src/bad.rt" "$room/bad.rt"
 cp "$room/bad.rt" "$room/bad.txt"
@@ -251,7 +257,8 @@ trial/src/bad.rt|Name|bad.rt:64: the constant MAGIC of the field mark is no lite
 trial/src/bad.rt|Note|bad.rt:68: the field mark has the note count = 1, and one `ctx = ..` or `is = ..` is known
 trial/src/bad.rt|Idle|bad.rt:72: the field mark is a number, and has a context
 trial/src/bad.rt|Pair|bad.rt:74: the struct Pair has fields without names
-trial/src/bad.rt|Owner|bad.rt:78: the context of the field text names len, which is no unsigned number of at most 64 bits
+trial/src/bad.rt|Owner|bad.rt:76: the field len is of a type whose size depends on its bytes, Uleb128
+trial/src/bad.rt|Scale|bad.rt:82: the field factor is a float in a struct of any size
 END
 refuses 'bad.rt:20: the struct Twenty is of a fixed size, and has no definitions of its own' --specs "$room/bad.rt" Twenty
 refuses 'usage: derive.sh \[--check | --specs | --back\] FILE STRUCT' "$room/bad.rt"

@@ -14,8 +14,7 @@
 # structs, whose length is a literal or a constant of FILE, or a struct of FILE for which the same was printed. It gets `Record`,
 # from which the other traits follow.
 #
-# A struct of any size is in the src/ of a crate. A field is a number, `&'a [u8]`, `&'a str`, `Uleb128` or `Sleb128`. In a comment
-# before it may stand
+# A struct of any size is in the src/ of a crate. A field is a whole number, `&'a [u8]` or `&'a str`. In a comment before it may stand
 #
 #     // #[scroll(ctx = len as usize)]     how many bytes a slice has: a sum of earlier fields and of a number; for a text
 #                                          within StrCtx::Length(..)

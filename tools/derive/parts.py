@@ -110,7 +110,7 @@ def offsets(parts: Sequence[Part]) -> List[int]:
 
 def is_format(raw: RawStruct) -> bool:
     """Returns whether a struct is read field by field: it borrows, or a field has a note or no fixed size."""
-    return raw.lifetime != "" or any(field.notes or field.type in ("Uleb128", "Sleb128") for field in raw.fields)
+    return raw.lifetime != "" or any(field.notes for field in raw.fields)
 
 
 def read_format(source: Source, raw: RawStruct) -> Format:
@@ -146,8 +146,6 @@ def read_part(source: Source, raw: RawStruct, field: RawField, before: Sequence[
         return Part(field.name, field.type, "text", count=read_count(source, raw, field, notes, before))
     if "ctx" in notes:
         source.refuse(field.place, f"the field {field.name} has a context that its type {field.type} doesn't take")
-    if field.type in ("Uleb128", "Sleb128"):
-        return Part(field.name, field.type, "leb")
     source.refuse(field.place, f"the field {field.name} is {kind_of(field.type)}")
 
 
@@ -164,6 +162,8 @@ def read_notes(source: Source, field: RawField) -> Dict[str, str]:
 def read_number(source: Source, field: RawField, notes: Dict[str, str]) -> Part:
     number = NUMBERS[field.type]
     constant = notes.get("is", "")
+    if number.kind == "float":
+        source.refuse(field.place, f"the field {field.name} is a float in a struct of any size")
     if "ctx" in notes:
         source.refuse(field.place, f"the field {field.name} is a number, and has a context")
     if constant and not CONSTANT.fullmatch(constant):
