@@ -92,6 +92,13 @@ def count_lines(files: Iterable[Path]) -> int:
     return sum(bool(line) for it in files for line in it.read_text(encoding="utf-8").split("\n"))
 
 
+def count_parts(crate: Path, end: str) -> List[int]:
+    """Returns the lines of code without the tests, of definitions and of proof, in files with this end of their names."""
+    sources = [it for it in (crate / "src").rglob(f"*.rt{end}")]
+    code = count_lines(it for it in sources if it.name != f"tests.rt{end}" and "tests" not in it.parts[len(crate.parts) :])
+    return [code, *(count_lines((crate / it).rglob(f"*.antt{end}")) for it in ("specs", "proofs"))]
+
+
 def test(step: Step, name: str, jobs: int, skipped: List[str]) -> str:
     """Tries a client, and returns what is printed of it. It is added to those where memory could not be refused."""
     begun = time.time()
@@ -111,9 +118,7 @@ def test(step: Step, name: str, jobs: int, skipped: List[str]) -> str:
         raise Wrong(f"    a test fails where memory is refused\n{refused.end()}")
     if refused.said.endswith(" skipped\n"):
         skipped.append(name)
-    sources = [it for it in (crate / "src").rglob("*.rt")]
-    code = count_lines(it for it in sources if it.name != "tests.rt" and "tests" not in it.parts[len(crate.parts) :])
-    definitions, proof = (count_lines((crate / it).rglob("*.antt")) for it in ("specs", "proofs"))
+    code, definitions, proof = count_parts(crate, "")
     return (
         f"{name}: {ran.proved('functions')} functions, {ran.tests()} tests, {code} lines of code, {definitions} of definitions,"
         f" {proof} of proof, {time.time() - begun:.0f} s"

@@ -2,12 +2,13 @@
 """Compares the documents with the sources.
 
     python3 gate/docs.py          compares
-    python3 gate/docs.py write    writes first what is made from the sources: docs/DEFINITIONS.md, and PROVED's column of edits
+    python3 gate/docs.py write    writes first what is made from the sources: docs/DEFINITIONS.md, PROVED's column of edits, and
+                                  the clients' columns of lines
 
 The code in CALLING.md and README.md is that of the files that it names (gate/calling.py). The names that the documents cite are
 in the sources, and their links lead somewhere (gate/cited.py). docs/DEFINITIONS.md has what the comments in specs/ say
-(gate/definitions.py). docs/PROVED.md has for each promise the edits that are for it (gate/promises.py). The bench has a row for
-each public call (gate/benched.py).
+(gate/definitions.py). docs/PROVED.md has for each promise the edits that are for it (gate/promises.py). clients/README.md has
+the lines of each client (gate/sizes.py). The bench has a row for each public call (gate/benched.py).
 """
 
 import sys
@@ -18,6 +19,7 @@ import calling
 import cited
 import definitions
 import promises
+import sizes
 from step import Step, Stop, run_step
 
 
@@ -26,6 +28,7 @@ def work(step: Step, words: List[str]) -> None:
         raise Stop(f"'{' '.join(words)}' is not `write`")
     definitions.try_all(step, words == ["write"])
     promises.try_all(step, words == ["write"])
+    sizes.try_all(step, words == ["write"])
     calling.try_all(step)
     cited.try_all(step)
     benched.try_all(step)

@@ -32,13 +32,19 @@ while read -r file name; do
     count $?
 done <<'END'
 clients/examples/src/format.rt.txt Format
-clients/examples/src/object_id.rt.txt ObjectId
+clients/examples/src/format.rt.txt Data
+clients/examples/src/stream.rt.txt Foo
+clients/examples/src/triangles.rt.txt Point
+clients/examples/src/triangles.rt.txt Triangle
+clients/object_files/src/sections.rt.txt Section
+clients/packets/src/headers.rt.txt DnsHeader
+clients/packets/src/headers.rt.txt UdpHeader
 clients/zip/src/file.rt.txt StoredFile
 clients/zip/src/end.rt.txt EndRecord
 END
 
 # Tests whether a file in which one line of the implementation differs is found out: --check ends with 1 and one line.
-first=$(grep -n '^impl Record' clients/examples/src/format.rt.txt | cut -d : -f 1)
+first=$(grep -n '^impl Record' clients/examples/src/format.rt.txt | head -n 1 | cut -d : -f 1)
 last=$(awk -v first="$first" 'NR > first && $0 == "}" { print NR; exit }' clients/examples/src/format.rt.txt)
 line=$first
 while [ "$line" -le "$last" ]; do

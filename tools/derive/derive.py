@@ -44,7 +44,9 @@ def run(option: str, path: str, name: str) -> int:
         block = record_block(read_struct(source, name))
         uses = record_uses(block)
     if option == "--check":
-        if f"\n{block}\n" not in f"\n{source.text}":
+        # The implementation for references may be left out.
+        needed = block.split("\n\nimpl<'a> Written for", 1)[0]
+        if f"\n{needed}\n" not in f"\n{source.text}":
             print(f"{path}: the implementation for {name} is not what tools/derive/derive.sh prints")
             return 1
         return check_specs(path, form) if form else 0

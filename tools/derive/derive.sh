@@ -2,7 +2,8 @@
 # Prints the implementations of the traits of scroll::ctx for a struct, in the context Endian:
 #
 #     sh tools/derive/derive.sh FILE STRUCT
-#     sh tools/derive/derive.sh --check FILE STRUCT     compares them with FILE, and prints nothing where they are in it
+#     sh tools/derive/derive.sh --check FILE STRUCT     compares them with FILE, and prints nothing where they are in it; that
+#                                                       for references, `Written`, may be left out
 #     sh tools/derive/derive.sh --specs FILE STRUCT     the definitions of a struct of any size
 #     sh tools/derive/derive.sh --back FILE STRUCT      the proof that what was written of it reads back
 #

@@ -20,28 +20,16 @@ const SMALL: usize = 16;
 /// An error is the reader's own, or one of kind `UnexpectedEof` where the reader ends too early. An interrupted call is
 /// repeated. After an error, the number of bytes taken is not specified.
 ///
-/// From `clients/examples/src/stream_fields.rt.txt`:
+/// From `clients/examples/src/stream.rt.txt`, of a struct that is a [`Record`](crate::ctx::Record):
 ///
 /// ```rust
-/// impl FromCtx<Endian> for Foo {
-///     ghost need = { λ _. 12 };
-///
-///     ghost makes = { λ order source x. (x.foo ≡ signed_number order 8 source) × (x.bar ≡ number order 4 (drop 8 source)) };
-///
-///     fn from_ctx(this: &[u8], ctx: Endian) -> Foo {
-///         Foo {
-///             foo: this.cread_with(0, ctx),
-///             bar: this.cread_with(8, ctx),
-///         }
-///     }
-/// }
-///
-/// impl SizeWith<Endian> for Foo {
-///     ghost size = { λ _. 12 };
-///
-///     fn size_with(_ctx: &Endian) -> usize {
-///         12
-///     }
+/// // Reads the next twelve bytes of a source.
+/// fn read_foo(source: &mut &[u8], order: Endian) -> io::Result<Foo>
+///     ensures foo { IfOk result (λ x. x.foo ≡ signed_number order 8 (take 12 source.old.now)) }
+///     ensures bar { IfOk result (λ x. x.bar ≡ number order 4 (drop 8 (take 12 source.old.now))) }
+///     ensures rest { OnOk result (source.new.now ≡ drop 12 source.old.now) }
+/// {
+///     source.ioread_with(order)
 /// }
 /// ```
 pub trait IOread<Ctx: Copy>: Read {
