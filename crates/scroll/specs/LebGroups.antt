@@ -1,4 +1,4 @@
--- The groups of a LEB128 encoding, as a reader finds them in its first ten bytes.
+-- Groups of LEB128. A reader finds them in the first ten bytes of an encoding.
 use Rattle.std.specs.Prelude.{◌≡◌, ℕ, ◌≤◌, List, Some}
 use Rattle.std.specs.List.{slice_get}
 use Rattle.scroll.specs.Leb128.{end_of, groups_value, ReadsGroups}

@@ -1,4 +1,4 @@
--- Words of the laws of LEB128, which are those of unsigned and of signed numbers alike. `Has v n` says that `v` has an
+-- Laws of LEB128. Their words are the same for unsigned and for signed numbers. `Has v n` says that `v` has an
 -- encoding of `n` bytes, which is that of the unsigned number `form v n`.
 use Rattle.std.specs.Prelude.{◌≡◌, ◌<◌, ◌≤◌, ◌++◌, ◌↔◌, ℕ, List, take, drop}
 use Rattle.std.specs.List.{All}

@@ -144,10 +144,12 @@ pub trait TryIntoCtx<Ctx: Copy>: Sized {
         ensures refused { IfErr result (λ e. refuses ctx self dst.old dst.new e) };
 
     // The size is at most the length of the target.
-    ghost writes_bounded: { (ctx : Ctx) (x : Self) (old new : List ℕ) (n : ℕ) → writes ctx x old new n → n ≤ length old };
+    ghost writes_bounded: { (ctx : Ctx) (x : Self) (old new : List ℕ) (n : ℕ)
+        → writes ctx x old new n → n ≤ length old };
 
     // The bytes after those that were written are unchanged.
-    ghost writes_keeps: { (ctx : Ctx) (x : Self) (old new : List ℕ) (n : ℕ) → writes ctx x old new n → drop n new ≡ drop n old };
+    ghost writes_keeps: { (ctx : Ctx) (x : Self) (old new : List ℕ) (n : ℕ) → writes ctx x old new n
+        → drop n new ≡ drop n old };
 }
 
 /// A type that can be read infallibly from enough bytes in a context.
@@ -180,7 +182,8 @@ pub trait IntoCtx<Ctx: Copy>: Sized {
         ensures { leaves ctx self dst.old dst.new };
 
     // The bytes after those that the type needs are unchanged.
-    ghost leaves_keeps: { (ctx : Ctx) (x : Self) (old new : List ℕ) → leaves ctx x old new → drop (need ctx) new ≡ drop (need ctx) old };
+    ghost leaves_keeps: { (ctx : Ctx) (x : Self) (old new : List ℕ) → leaves ctx x old new
+        → drop (need ctx) new ≡ drop (need ctx) old };
 }
 
 /// A type whose size in a context is the same for all values.

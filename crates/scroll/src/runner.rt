@@ -185,12 +185,14 @@ pub fn run(
     commands: &[Command<'_>],
     answers: &mut Vec<Answer>,
 ) -> Result<()>
-    ensures ran { OnOk result (IsRun buffer.old buffer.new cursor.old cursor.new commands.now answers.old.items answers.new.items) }
+    ensures ran { OnOk result (IsRun buffer.old buffer.new cursor.old cursor.new commands.now
+        answers.old.items answers.new.items) }
     ensures only_memory { IfErr result (λ e. e ≡ NoMemory) }
     ensures succeeds { vec_len answers.old + length commands.now ≤ vec_capacity answers.old
         → All CopiesNothing commands.now → IsOk result }
     ensures front { OnErr result
-        (IsFrontRun buffer.old buffer.new cursor.old cursor.new commands.now answers.old.items answers.new.items) }
+        (IsFrontRun buffer.old buffer.new cursor.old cursor.new commands.now
+        answers.old.items answers.new.items) }
 {
     for command in commands {
         if answers.reserve(1).is_err() {

@@ -3,11 +3,11 @@
 use Rattle.std.proofs.Common.{◌≡◌, ℕ, ℤ, max, ◌+◌, ◌*◌, ◌-◌, ◌/◌, ◌%◌, ◌^◌, ◌≤◌, ◌++◌, List, [], ◌∷◌, length, take, drop, length-take, refl, sym, ap, ◌∙◌, arith}
 use Rattle.std.proofs.Math.Nat.{mul-suc}
 use Rattle.std.proofs.lemmas.Grind.{common_steps}
-use Rattle.std.proofs.lemmas.List.{drop-drop, length-replicate}
+use Rattle.std.proofs.lemmas.List.{drop-drop}
 use Rattle.std.proofs.lemmas.List.FromFn.{length-map-range_with_len}
 use Rattle.scroll.specs.Arrays.{WritesAll, WritesArray, LeavesAll, FillsArray}
 use Rattle.scroll.specs.Bytes.{WritesFront}
-use Rattle.scroll.specs.Numbers.{number_bytes, signed_bytes, WritesNumber}
+use Rattle.scroll.specs.Numbers.{number_bytes, signed_bytes}
 use Rattle.scroll.specs.Spelling.{spelled_byte, spelling}
 use Rattle.scroll.specs.declared.endian.Endian.{Endian}
 use Rattle.scroll.specs.declared.endian.Endian.TheVariants.{Little, Big}

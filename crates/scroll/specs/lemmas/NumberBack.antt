@@ -1,6 +1,6 @@
 -- Numbers that were read have the bytes that were read. The implementations of `RoundTrip` cite these lemmas. They are
 -- proved, and promise nothing.
-use Rattle.std.proofs.Common.{◌≡◌, ℕ, ℤ, pos, nat_abs, ◌+ℤ◌, ◌-ℤ◌, ◌+◌, ◌-◌, ◌*◌, ◌/◌, ◌%◌, ◌^◌, ◌<◌, ◌≤◌, ◌++◌, List, length, take, drop, slice_index, Fits, w8, refl, sym, ap, subst, ◌∙◌, arith, get_or-take, length-drop}
+use Rattle.std.proofs.Common.{◌≡◌, ℕ, ℤ, pos, nat_abs, ◌+ℤ◌, ◌-ℤ◌, ◌+◌, ◌-◌, ◌*◌, ◌/◌, ◌%◌, ◌^◌, ◌<◌, ◌≤◌, ◌++◌, List, length, take, drop, slice_index, Fits, w8, refl, sym, ap, ◌∙◌, arith, get_or-take, length-drop}
 use Rattle.std.proofs.lemmas.Grind.{same_number_lists}
 use Rattle.std.proofs.lemmas.Int.{ints}
 use Rattle.std.proofs.lemmas.List.{get_or-drop, drop-drop, length-take-le}

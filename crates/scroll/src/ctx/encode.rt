@@ -1,13 +1,13 @@
 // Values that are written one after another, each with a number of bytes of its own.
 ghost use Rattle.std.specs.Prelude.{◌≡◌, ◌≤◌, ◌+◌, ◌-◌, ◌^◌, ◌++◌, [], ◌∷◌, ℕ, List, length, take, drop, min};
 ghost use Rattle.std.specs.CStr.{c_str_bytes};
-ghost use Rattle.scroll.specs.LebWrites.{uleb_text, sleb_text};
+ghost use Rattle.scroll.specs.LebWrites.{leb_text};
 ghost use Rattle.scroll.specs.declared.endian.Endian.{Endian};
 
 use crate::ctx::TryIntoCtx;
 use crate::ctx::fixed::Plain;
 use crate::endian::Endian;
-use crate::leb128::{Sleb128, Uleb128};
+use crate::leb128::{Leb128, LebNumber};
 use std::ffi::CStr;
 
 /// A value that is written as bytes, however many it has.
@@ -84,27 +84,11 @@ impl<'s> Encode for CStr<'s> {
     }
 }
 
-impl<'s> Encode for &'s Uleb128 {
-    ghost bytes = { λ _ x. uleb_text x.now };
+impl<'s, V: LebNumber> Encode for &'s Leb128<V> {
+    ghost bytes = { λ _ x. leb_text V.form x.now };
 
     fn size(self, _order: Endian) -> usize {
-        Uleb128::size(self)
-    }
-
-    #[inline(always)]
-    fn put(self, dst: &mut [u8], _order: Endian) {
-        match (*self).try_into_ctx(dst, ()) {
-            Ok(_size) => (),
-            Err(_short) => unreachable!(),
-        }
-    }
-}
-
-impl<'s> Encode for &'s Sleb128 {
-    ghost bytes = { λ _ x. sleb_text x.now };
-
-    fn size(self, _order: Endian) -> usize {
-        Sleb128::size(self)
+        Leb128::size(self)
     }
 
     #[inline(always)]
@@ -136,7 +120,8 @@ impl<A: Encode, B: Encode> Encode for (A, B) {
 fn put_behind<B: Encode>(second: B, dst: &mut [u8], offset: usize, order: Endian)
     requires { offset + length (B.bytes order second) ≤ length dst.old }
     ensures before { take offset dst.new ≡ take offset dst.old }
-    ensures after { drop offset dst.new ≡ B.bytes order second ++ drop (length (B.bytes order second)) (drop offset dst.old) }
+    ensures after { drop offset dst.new
+        ≡ B.bytes order second ++ drop (length (B.bytes order second)) (drop offset dst.old) }
 {
     second.put(&mut dst[offset..], order)
 }

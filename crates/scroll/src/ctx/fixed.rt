@@ -51,19 +51,23 @@ pub trait Fixed: Copy {
     ghost bytes_len: { (order : Endian) (x : Self) → length (bytes order x) ≡ width };
 
     // What was written reads back, whatever stands before and after it.
-    ghost back: { (order : Endian) (x : Self) (front rest : List ℕ) → fits x → makes order (front ++ (bytes order x ++ rest)) (length front) x };
+    ghost back: { (order : Endian) (x : Self) (front rest : List ℕ) → fits x
+        → makes order (front ++ (bytes order x ++ rest)) (length front) x };
 
     // A source makes one value at each offset.
     ghost one: { (order : Endian) (s : List ℕ) (at : ℕ) → One (makes order s at) };
 
     // The value depends on its own bytes alone.
-    ghost local: { (order : Endian) (s : List ℕ) (at : ℕ) (t : List ℕ) (to : ℕ) (x : Self) → SameAt width s at t to → makes order s at x → makes order t to x };
+    ghost local: { (order : Endian) (s : List ℕ) (at : ℕ) (t : List ℕ) (to : ℕ) (x : Self)
+        → SameAt width s at t to → makes order s at x → makes order t to x };
 }
 
 /// A type of a fixed size that is written back byte for byte as it was read: each but floats, and structs with floats.
 pub trait RoundTrip: Fixed {
     // The bytes of a value are those of which it was made.
-    ghost kept: { (order : Endian) (s : List ℕ) (at : ℕ) (x : Self) → All (λ b. b < 256) s → at + Self.Fixed.width ≤ length s → Self.Fixed.makes order s at x → Self.Fixed.bytes order x ≡ take Self.Fixed.width (drop at s) };
+    ghost kept: { (order : Endian) (s : List ℕ) (at : ℕ) (x : Self) → All (λ b. b < 256) s
+        → at + Self.Fixed.width ≤ length s → Self.Fixed.makes order s at x
+        → Self.Fixed.bytes order x ≡ take Self.Fixed.width (drop at s) };
 }
 
 /// A struct that is its fields, one after another in the order of its parts, with nothing between them.
@@ -122,9 +126,11 @@ pub trait Record: Copy {
     ghost there: { (p : Self.Parts) → parts_of (of_parts p) ≡ p };
 
     // What the parts are made of is what is said of the fields, and nothing else.
-    ghost fields_of_parts: { (order : Endian) (s : List ℕ) (x : Self) → Self.Parts.makes order s 0 (parts_of x) → fields_in order s x };
+    ghost fields_of_parts: { (order : Endian) (s : List ℕ) (x : Self)
+        → Self.Parts.makes order s 0 (parts_of x) → fields_in order s x };
 
-    ghost parts_of_fields: { (order : Endian) (s : List ℕ) (x : Self) → fields_in order s x → Self.Parts.makes order s 0 (parts_of x) };
+    ghost parts_of_fields: { (order : Endian) (s : List ℕ) (x : Self) → fields_in order s x
+        → Self.Parts.makes order s 0 (parts_of x) };
 
     // The number of bytes fits into a `usize`.
     ghost small: { Self.Parts.width < 2 ^ 64 };

@@ -56,7 +56,8 @@ impl<A: Fixed, B: Fixed> Fixed for (A, B) {
 pub(super) fn write_behind<B: Fixed>(value: B, dst: &mut [u8], offset: usize, order: Endian)
     requires { offset + B.width ≤ length dst.old }
     ensures before { take offset dst.new ≡ take offset dst.old }
-    ensures after { drop offset dst.new ≡ B.bytes order value ++ drop B.width (drop offset dst.old) }
+    ensures after { drop offset dst.new
+        ≡ B.bytes order value ++ drop B.width (drop offset dst.old) }
 {
     value.write_front(&mut dst[offset..], order)
 }

@@ -12,5 +12,6 @@ pub fn c_string_has_one_zero()
     ensures taken { (source text : List ℕ) (n : ℕ) → ReadsCString source text n
         → take n source ≡ text ++ 0 ∷ [] }
     ensures written_back { (source text old new : List ℕ) (n m : ℕ) → ReadsCString source text n
-        → WritesFront (length (text ++ 0 ∷ [])) (text ++ 0 ∷ []) old new m → (m ≡ n) × (take m new ≡ take n source) }
+        → WritesFront (length (text ++ 0 ∷ [])) (text ++ 0 ∷ []) old new m
+        → (m ≡ n) × (take m new ≡ take n source) }
 {}

@@ -31,7 +31,8 @@ pub fn fixed_size_is_kept<F: Fixed>()
 ///
 /// This holds for every type that is [`RoundTrip`]: all that are of a fixed size and have no float.
 pub fn fixed_size_is_written_back<F: RoundTrip>()
-    ensures back { (order : Endian) (source old new : List ℕ) (x : F) (m n : ℕ) → All (λ b. b < 256) source
+    ensures back { (order : Endian) (source old new : List ℕ) (x : F) (m n : ℕ)
+        → All (λ b. b < 256) source
         → ReadsMade F.width (λ s. F.makes order s 0) source x n
         → WritesFront F.width (F.bytes order x) old new m
         → (m ≡ n) × (new ≡ take n source ++ drop n old) }

@@ -9,7 +9,8 @@ ghost use Rattle.scroll.specs.declared.endian.Endian.{Endian};
 /// That a float which was written reads back, a NaN as a NaN, is
 /// [`fixed_size_is_kept`](super::fixed_size_is_kept).
 pub fn float_is_written_back()
-    ensures { (f : Format) (order : Endian) (source old new : List ℕ) (x : Float) (m n : ℕ) → All (λ b. b < 256) source
+    ensures { (f : Format) (order : Endian) (source old new : List ℕ) (x : Float) (m n : ℕ)
+        → All (λ b. b < 256) source
         → ReadsFloat f order source x n → NotNan x → WritesFloat f order x old new m
         → (m ≡ n) × (new ≡ take n source ++ drop n old) }
 {}

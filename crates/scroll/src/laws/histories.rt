@@ -28,23 +28,28 @@ use crate::error::Error;
 /// Each leaf of a write is a piece of the history, even if a later leaf of the same array failed. The leaves of a write
 /// don't overlap.
 pub fn what_was_written_stands()
-    ensures bytes { (first : List ℕ) (commands : List Command) (history : List Piece) → IsHistory first commands history
-        → (o : ℕ) (t : List ℕ) → WrittenLast history (o, t)
+    ensures bytes { (first : List ℕ) (commands : List Command) (history : List Piece)
+        → IsHistory first commands history → (o : ℕ) (t : List ℕ) → WrittenLast history (o, t)
         → (o + length t ≤ length first) × (take (length t) (drop o (seen first history)) ≡ t) }
-    ensures number { (first : List ℕ) (commands : List Command) (history : List Piece) → IsHistory first commands history
-        → (o w x : ℕ) (order : Endian) → x < 256 ^ w → WrittenLast history (o, number_bytes order w x)
+    ensures number { (first : List ℕ) (commands : List Command) (history : List Piece)
+        → IsHistory first commands history → (o w x : ℕ) (order : Endian) → x < 256 ^ w
+        → WrittenLast history (o, number_bytes order w x)
         → ReadsAt (ReadsNumber w order) (seen first history) o x w }
-    ensures signed { (first : List ℕ) (commands : List Command) (history : List Piece) → IsHistory first commands history
-        → (o w : ℕ) (x : ℤ) (order : Endian) → neg_ℤ (pos (256 ^ w)) ≤ℤ (pos 2 *ℤ x) → (pos 2 *ℤ x) <ℤ pos (256 ^ w)
+    ensures signed { (first : List ℕ) (commands : List Command) (history : List Piece)
+        → IsHistory first commands history
+        → (o w : ℕ) (x : ℤ) (order : Endian) → neg_ℤ (pos (256 ^ w)) ≤ℤ (pos 2 *ℤ x)
+        → (pos 2 *ℤ x) <ℤ pos (256 ^ w)
         → WrittenLast history (o, signed_bytes order w x)
         → ReadsAt (ReadsSigned w order) (seen first history) o x w }
-    ensures slice { (first : List ℕ) (commands : List Command) (history : List Piece) → IsHistory first commands history
-        → (o : ℕ) (t : List ℕ) → WrittenLast history (o, t)
+    ensures slice { (first : List ℕ) (commands : List Command) (history : List Piece)
+        → IsHistory first commands history → (o : ℕ) (t : List ℕ) → WrittenLast history (o, t)
         → ReadsAt (ReadsSlice (length t)) (seen first history) o t (length t) }
-    ensures text { (first : List ℕ) (commands : List Command) (history : List Piece) → IsHistory first commands history
+    ensures text { (first : List ℕ) (commands : List Command) (history : List Piece)
+        → IsHistory first commands history
         → (o : ℕ) (t : List ℕ) → IsUtf8 t → WrittenLast history (o, t)
         → ReadsAt (ReadsText (Length (length t))) (seen first history) o t (length t) }
-    ensures c_string { (first : List ℕ) (commands : List Command) (history : List Piece) → IsHistory first commands history
+    ensures c_string { (first : List ℕ) (commands : List Command) (history : List Piece)
+        → IsHistory first commands history
         → (o : ℕ) (t : List ℕ) → All (λ b. b ≢ 0) t → WrittenLast history (o, t ++ 0 ∷ [])
         → ReadsAt ReadsCString (seen first history) o t (length t + 1) }
     ensures leaves { (len o : ℕ) (leaves : List (List ℕ)) (before after : List Piece) (p : Piece)
@@ -54,10 +59,12 @@ pub fn what_was_written_stands()
 /// Two writes whose pieces don't overlap may be exchanged: they leave the same buffer, and both return the same, errors
 /// included.
 pub fn writes_apart_may_be_exchanged()
-    ensures { (old mid new : List ℕ) (place place' : ℕ) (leaves leaves' : List (List ℕ)) (r r' : Result ℕ Error)
+    ensures { (old mid new : List ℕ) (place place' : ℕ) (leaves leaves' : List (List ℕ))
+        (r r' : Result ℕ Error)
         → Apart (pieces (length old) place leaves) (pieces (length old) place' leaves')
         → WritesLeaves old place leaves mid r → WritesLeaves mid place' leaves' new r'
-        → (mid' : List ℕ) × WritesLeaves old place' leaves' mid' r' × WritesLeaves mid' place leaves new r }
+        → (mid' : List ℕ) × WritesLeaves old place' leaves' mid' r'
+        × WritesLeaves mid' place leaves new r }
 {}
 
 /// What is written is a list of leaves, each of them bytes that are written whole or not at all. A slice or a string, a
@@ -85,7 +92,8 @@ pub fn array_has_leaves<Ctx: Copy, T: TryIntoCtx<Ctx, Error = Error>>()
 /// what it leaves and what it returns, errors included. The two premises are the clauses `wrote` and `refused` of the
 /// call.
 pub fn write_is_of_its_leaves<Ctx: Copy, T: TryIntoCtx<Ctx, Error = Error>>()
-    ensures { (ctx : Ctx) (leaves : T → List (List ℕ)) → HasLeaves leaves (T.writes ctx) (T.refuses ctx)
+    ensures { (ctx : Ctx) (leaves : T → List (List ℕ))
+        → HasLeaves leaves (T.writes ctx) (T.refuses ctx)
         → (x : T) (old new : List ℕ) (place : ℕ) (r : Result ℕ Error)
         → IfOk r (WritesAt (T.writes ctx x) old place new)
         → IfErr r (RefusesWriteAt (T.refuses ctx x) IsBadOffset old place new)

@@ -22,7 +22,8 @@ use crate::error::Error;
 /// delimiter is missing. A read at an offset has exactly one result, a value with its size or an error, so a read at
 /// an offset and a read with a cursor there return the same.
 ///
-/// [`fixed_size_is_kept`](super::fixed_size_is_kept) says this of numbers, floats and structs.
+/// [`fixed_size_is_kept`](super::fixed_size_is_kept) says this of numbers, floats and structs, and
+/// [`arrays_keep_their_laws`] of arrays; those of values that borrow are here, which are compared by their bytes.
 pub fn reads_keep_their_laws()
     ensures slice { (n : ℕ) → IsReaderWithin (ReadsSlice n) (RefusesShort n) }
     ensures text { (ctx : StrCtx) → IsReader (ReadsText ctx) (RefusesText ctx) }
@@ -34,6 +35,12 @@ pub fn reads_keep_their_laws()
     ensures counted_sleb { IsReaderWithin ReadsCountedSleb RefusesSleb }
     ensures zeros { (n : ℕ)
         → IsReaderWithin (λ source (_ : Zeros) size. ReadsZeros n source size) (RefusesZeros n) }
+    ensures slices { (n : ℕ) (counts : List ℕ) → IsReader (ReadsNested (ReadsSlice n) counts)
+        (RefusesNested (ReadsSlice n) (RefusesShort n) IsBadOffset counts) }
+    ensures texts { (ctx : StrCtx) (counts : List ℕ) → IsReader (ReadsNested (ReadsText ctx) counts)
+        (RefusesNested (ReadsText ctx) (RefusesText ctx) IsBadOffset counts) }
+    ensures c_strings { (counts : List ℕ) → IsReader (ReadsNested ReadsCString counts)
+        (RefusesNested ReadsCString RefusesCString IsBadOffset counts) }
 {}
 
 /// Arrays of any type whose error is [`Error`] keep the laws that the type keeps, nested to any depth: `counts` has the

@@ -12,7 +12,9 @@ ghost use Rattle.scroll.specs.declared.error.Error.TheVariants.{BadOffset};
 pub fn required_text_is_within_its_source()
     ensures within { (d : ℕ) → IsWithin (ReadsText (Required d)) }
     ensures depends { (d : ℕ) (s t text : List ℕ) (n : ℕ)
-        → ReadsText (Required d) s text n → length s ≤ length t → take n t ≡ take n s → ReadsText (Required d) t text n }
+        → ReadsText (Required d) s text n → length s ≤ length t → take n t ≡ take n s
+        → ReadsText (Required d) t text n }
     ensures arrays { (d count place : ℕ) (s : List ℕ)
-        → RefusesArray (ReadsText (Required d)) (RefusesText (Required d)) IsBadOffset count s (BadOffset place) → ⊥ }
+        → RefusesArray (ReadsText (Required d)) (RefusesText (Required d)) IsBadOffset count s
+        (BadOffset place) → ⊥ }
 {}

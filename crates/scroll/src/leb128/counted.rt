@@ -49,7 +49,8 @@ pub trait LebNumber: Copy {
     /// `TooBig`, and is unchanged.
     fn put(self, dst: &mut [u8], count: usize) -> Result<usize>
         requires spelled { has self count }
-        ensures wrote { IfOk result (WritesFront count (spelling (form self count) count) dst.old dst.new) }
+        ensures wrote { IfOk result
+            (WritesFront count (spelling (form self count) count) dst.old dst.new) }
         ensures refused { IfErr result (LeavesShort count dst.old dst.new) }
         ensures reads { OnOk result (ReadsLeb value_of fits dst.new self count) }
         ensures begins { OnOk result ((source : List ℕ) → All (λ b. b < 256) source

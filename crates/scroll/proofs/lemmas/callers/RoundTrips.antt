@@ -1,24 +1,19 @@
 -- Lemmas for callers: round trips. What was read is written back, and what was written reads back.
-use Rattle.std.proofs.Common.{◌≡◌, ◌≢◌, ℕ, ℤ, pos, nat_abs, ◌+ℤ◌, ◌-ℤ◌, ◌+◌, ◌-◌, ◌*◌, ◌/◌, ◌%◌, ◌^◌, ◌<◌, ◌≤◌, ◌++◌, ◌==◌, true, List, [], ◌∷◌, length, take, drop, get_or, slice_index, Fits, w8, refl, sym, ap, subst, ◌∙◌, arith, IsUtf8, append_assoc, length-append, length-take, length-drop, get_or-take}
+use Rattle.std.proofs.Common.{◌≡◌, ◌≢◌, ℕ, ◌+◌, ◌^◌, ◌<◌, ◌≤◌, ◌++◌, ◌==◌, true, List, [], ◌∷◌, length, take, drop, get_or, slice_index, Fits, w8, refl, sym, ap, subst, ◌∙◌, arith, IsUtf8, append_assoc, length-append, length-take, length-drop}
 use Rattle.std.proofs.Math.Seq.{take-add}
-use Rattle.std.proofs.lemmas.Grind.{flat_map-append, same_number_lists}
-use Rattle.std.proofs.lemmas.Int.{ints}
+use Rattle.std.proofs.lemmas.Grind.{flat_map-append}
 use Rattle.std.proofs.lemmas.List.{append-nil, drop-drop, drop_at, take_at, take_all, take_more, take-append-drop, length-take-le}
 use Rattle.std.proofs.lemmas.List.Elements.{All-head, All-tail, All-weaker}
-use Rattle.std.proofs.lemmas.List.FromFn.{get_or-map-range_with_len}
 use Rattle.std.proofs.lemmas.List.Sums.{passes_at_first}
 use Rattle.std.specs.List.{All, flat_map}
-use Rattle.std.specs.Prelude.{int_lt, nat_lt, if◌then◌else◌}
 use Rattle.scroll.specs.lemmas.NumberLemmas.{bytes-fit}
-use Rattle.scroll.proofs.lemmas.callers.Cursors.{Begins, grow, byte-bound, number-bound}
+use Rattle.scroll.proofs.lemmas.callers.Cursors.{Begins, grow}
 use Rattle.scroll.specs.lemmas.Frames.{length-number_bytes}
 use Rattle.scroll.specs.Numbers.{number, number_bytes, signed_number, signed_bytes}
 use Rattle.scroll.specs.Reads.{ReadsAt, ReadsAll}
-use Rattle.scroll.specs.lemmas.SumLemmas.{sum_below-same, sum_below-backwards, digit-at}
 use Rattle.scroll.specs.Texts.{first_place, ReadsText}
 use Rattle.scroll.specs.declared.ctx.str_ctx.StrCtx.TheVariants.{Required}
 use Rattle.scroll.specs.declared.endian.Endian.{Endian}
-use Rattle.scroll.specs.declared.endian.Endian.TheVariants.{Little, Big}
 -- a list that begins with the bytes of a number begins with that number
 pub use Rattle.scroll.specs.lemmas.NumberBytes.{number-begins, signed-begins}
 -- the bytes of the number at an offset are the bytes there

@@ -1,8 +1,8 @@
-use Rattle.std.proofs.Common.{◌≡◌, ◌++◌, drop, take, to_bits, length, refl, sym, ap, subst, ◌∙◌, arith, length-append}
+use Rattle.std.proofs.Common.{◌≡◌, ◌++◌, drop, take, sym, ap, subst, ◌∙◌, arith}
 use Rattle.std.specs.Float.{NotNan}
 use Rattle.scroll.specs.lemmas.NumberLemmas.{bytes-fit}
-use Rattle.scroll.proofs.lemmas.numbers.FloatLemmas.{float-begins, float-back, length-float_bytes}
-use Rattle.scroll.specs.Floats.{float_width, float, float_bytes}
+use Rattle.scroll.proofs.lemmas.numbers.FloatLemmas.{float-back}
+use Rattle.scroll.specs.Floats.{float_bytes}
 use Rattle.scroll.proofs.laws.floats.float_is_written_back.Goals as goal
 
 pub returns : goal.returns

@@ -1,4 +1,4 @@
-use Rattle.std.proofs.Common.{◌≡◌, ◌*◌, drop, refl, ap, subst}
+use Rattle.std.proofs.Common.{◌*◌, drop, refl, ap, subst}
 use Rattle.scroll.proofs.ctx.fixed.arrays.element.Goals as goal
 
 pub returns : goal.returns

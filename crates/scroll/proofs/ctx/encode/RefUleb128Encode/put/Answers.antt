@@ -1,6 +1,0 @@
-use Rattle.std.proofs.Common.{arith}
-use Rattle.scroll.specs.lemmas.Frames.{length-spelling}
-use Rattle.scroll.proofs.ctx.encode.RefUleb128Encode.put.Goals as goal
-
-pub unreachable-requires : goal.unreachable-requires
-unreachable-requires c = omega (arith, c.in-Err.ensures.refused.short, c.requires, length-spelling c.args.self.now.value c.args.self.now.count)
