@@ -23,7 +23,7 @@ MODULES = [
     ("Rattle.scroll.specs.Bytes", ["RefusesShort", "WritesFront", "LeavesShort"]),
     ("Rattle.scroll.specs.Reads", ["ReadsAt", "RefusesAt"]),
     ("Rattle.scroll.specs.Errors", ["IsBadOffset", "IsBadInput"]),
-    ("Rattle.scroll.specs.Texts", ["ReadsSlice", "RefusesSlice", "ReadsText", "RefusesText"]),
+    ("Rattle.scroll.specs.Texts", ["ReadsSlice", "ReadsText", "RefusesText"]),
     ("Rattle.scroll.specs.Leb128", ["Counted", "ReadsCountedUleb", "ReadsCountedSleb"]),
     ("Rattle.scroll.specs.LebRefusals", ["RefusesUleb", "RefusesSleb"]),
     ("Rattle.scroll.specs.LebWrites", ["uleb_text", "sleb_text"]),
@@ -99,7 +99,7 @@ def refuses_of(part: Part, names: Dict[str, str]) -> str:
     if part.kind == "leb":
         return f"Refuses{part.type[0]}leb"
     if part.kind == "slice":
-        return f"(RefusesSlice {counted(part, names)})"
+        return f"(RefusesShort {counted(part, names)})"
     if part.kind == "text":
         return f"(RefusesText (Length {counted(part, names)}))"
     return f"(RefusesShort {width(part)})"
