@@ -37,7 +37,8 @@ pub use self::numbers::{
 };
 pub use self::reads::{
     array_depends_on_its_bytes, arrays_keep_their_laws, reads_keep_their_laws,
-    reads_keep_their_laws as law_4, reads_keep_their_laws as law_5, reads_keep_their_laws as law_10,
+    reads_keep_their_laws as law_4, reads_keep_their_laws as law_5,
+    reads_keep_their_laws as law_10,
 };
 pub use self::required::{
     required_text_is_within_its_source, required_text_is_within_its_source as law_required,

@@ -96,8 +96,8 @@ elements-kept w bytes (x ∷ xs) s kept =
     let first : bytes x ≡ take w s = kept 0 x (omega arith) ∙ ap (λ n. take w (drop n s)) here in
     let rest : flat_map bytes xs ≡ take (w * length xs) (drop w s) =
     elements-kept w bytes xs (drop w s) (λ i d l.
-        let place : w + w * i ≡ w * suc i = omega (arith, mul-suc w i) in
-        kept (suc i) d (omega (arith, l)) ∙ ap (take w) (ap (λ n. drop n s) (sym place) ∙ sym (drop-drop (w * i) w s))) in
+    let place : w + w * i ≡ w * suc i = omega (arith, mul-suc w i) in
+    kept (suc i) d (omega (arith, l)) ∙ ap (take w) (ap (λ n. drop n s) (sym place) ∙ sym (drop-drop (w * i) w s))) in
     let size : w + w * length xs ≡ w * suc (length xs) = omega (arith, mul-suc w (length xs)) in
     ap (λ l. l ++ flat_map bytes xs) first ∙ ap (λ l. take w s ++ l) rest ∙ sym (take-add w (w * length xs) s) ∙ ap (λ n. take n s) size
 
@@ -105,6 +105,6 @@ pub array-kept : {V : Type 0} (w n : ℕ) (bytes : V → List ℕ) (makes : List
 array-kept w n bytes makes len kept s xs all room h =
     exactly-all (w * n) (flat_map bytes xs) (length-elements w bytes len xs ∙ ap (λ k. w * k) h.len)
     ∙ elements-kept w bytes xs s (λ i d l.
-        let inside = element-inside w i n (omega (arith, l, h.len)) in
-        kept (drop (w * i) s) (slice_index_or xs i d) (all (w * i)) (omega (arith, inside, room, length-drop (w * i) s)) (h.each i d (omega (arith, l, h.len))))
+    let inside = element-inside w i n (omega (arith, l, h.len)) in
+    kept (drop (w * i) s) (slice_index_or xs i d) (all (w * i)) (omega (arith, inside, room, length-drop (w * i) s)) (h.each i d (omega (arith, l, h.len))))
     ∙ ap (λ k. take (w * k) s) h.len

@@ -28,8 +28,9 @@ impl<A: Fixed, B: Fixed> Fixed for (A, B) {
     ghost one = { λ order s at. both-one (A.one order s at) (B.one order s (at + A.width)) };
 
     ghost local = { λ order s at t to x same h. (
-        A.local order s at t to x.0 (same-first A.width B.width s at t to same) h.0,
-        B.local order s (at + A.width) t (to + A.width) x.1 (same-second A.width B.width s at t to same) h.1) };
+      A.local order s at t to x.0 (same-first A.width B.width s at t to same) h.0,
+      B.local order s (at + A.width) t (to + A.width) x.1 (same-second A.width B.width s at t to same) h.1,
+    ) };
 
     fn width() -> usize {
         A::width() + B::width()
@@ -81,22 +82,25 @@ impl<A: Fixed, B: Fixed, C: Fixed> Fixed for (A, B, C) {
         (λ s at. B.makes order s at x.1 × C.makes order s (at + B.width) x.2)
         (λ f t. A.back order x.0 f t h.0)
         (λ f t. both-back B.width (B.bytes order x.1) (C.bytes order x.2) f t
-            (B.bytes_len order x.1) (λ s at. B.makes order s at x.1) (λ s at. C.makes order s at x.2)
-            (λ f t. B.back order x.1 f t h.1.0) (λ f t. C.back order x.2 f t h.1.1)) };
+        (B.bytes_len order x.1) (λ s at. B.makes order s at x.1) (λ s at. C.makes order s at x.2)
+        (λ f t. B.back order x.1 f t h.1.0) (λ f t. C.back order x.2 f t h.1.1)) };
 
     ghost one = { λ order s at.
         record-one (λ x. (x.0, (x.1, x.2))) (λ p. (p.0, p.1.0, p.1.1)) (λ x. refl) (λ p. refl)
         (both-one (A.one order s at)
-            (both-one (B.one order s (at + A.width)) (C.one order s (at + A.width + B.width))))
+        (both-one (B.one order s (at + A.width)) (C.one order s (at + A.width + B.width))))
         (λ x h. h) (λ x h. h) };
 
     ghost local = { λ order s at t to x same h.
         let rest = same-second A.width (B.width + C.width) s at t to same in (
-        A.local order s at t to x.0 (same-first A.width (B.width + C.width) s at t to same) h.0, (
-        B.local order s (at + A.width) t (to + A.width) x.1
-        (same-first B.width C.width s (at + A.width) t (to + A.width) rest) h.1.0,
-        C.local order s (at + A.width + B.width) t (to + A.width + B.width) x.2
-        (same-second B.width C.width s (at + A.width) t (to + A.width) rest) h.1.1)) };
+          A.local order s at t to x.0 (same-first A.width (B.width + C.width) s at t to same) h.0,
+          (
+            B.local order s (at + A.width) t (to + A.width) x.1
+                (same-first B.width C.width s (at + A.width) t (to + A.width) rest) h.1.0,
+            C.local order s (at + A.width + B.width) t (to + A.width + B.width) x.2
+                (same-second B.width C.width s (at + A.width) t (to + A.width) rest) h.1.1,
+          ),
+        ) };
 
     fn width() -> usize {
         A::width() + (B::width() + C::width())
@@ -127,8 +131,8 @@ impl<A: Fixed, B: Fixed, C: Fixed, D: Fixed> Fixed for (A, B, C, D) {
     ghost makes = { λ order s at x.
         A.makes order s at x.0
         × (B.makes order s (at + A.width) x.1
-            × (C.makes order s (at + A.width + B.width) x.2
-                × D.makes order s (at + A.width + B.width + C.width) x.3)) };
+        × (C.makes order s (at + A.width + B.width) x.2
+        × D.makes order s (at + A.width + B.width + C.width) x.3)) };
 
     ghost fits = { λ x. A.fits x.0 × (B.fits x.1 × (C.fits x.2 × D.fits x.3)) };
 
@@ -136,40 +140,45 @@ impl<A: Fixed, B: Fixed, C: Fixed, D: Fixed> Fixed for (A, B, C, D) {
         both-len (A.bytes order x.0) (B.bytes order x.1 ++ (C.bytes order x.2 ++ D.bytes order x.3))
         (A.bytes_len order x.0)
         (both-len (B.bytes order x.1) (C.bytes order x.2 ++ D.bytes order x.3) (B.bytes_len order x.1)
-            (both-len (C.bytes order x.2) (D.bytes order x.3) (C.bytes_len order x.2) (D.bytes_len order x.3))) };
+        (both-len (C.bytes order x.2) (D.bytes order x.3) (C.bytes_len order x.2) (D.bytes_len order x.3))) };
 
     ghost back = { λ order x front rest h.
         both-back A.width (A.bytes order x.0) (B.bytes order x.1 ++ (C.bytes order x.2 ++ D.bytes order x.3))
         front rest (A.bytes_len order x.0) (λ s at. A.makes order s at x.0)
         (λ s at. B.makes order s at x.1
-            × (C.makes order s (at + B.width) x.2 × D.makes order s (at + B.width + C.width) x.3))
+        × (C.makes order s (at + B.width) x.2 × D.makes order s (at + B.width + C.width) x.3))
         (λ f t. A.back order x.0 f t h.0)
         (λ f t. both-back B.width (B.bytes order x.1) (C.bytes order x.2 ++ D.bytes order x.3) f t
-            (B.bytes_len order x.1) (λ s at. B.makes order s at x.1)
-            (λ s at. C.makes order s at x.2 × D.makes order s (at + C.width) x.3)
-            (λ f t. B.back order x.1 f t h.1.0)
-            (λ f t. both-back C.width (C.bytes order x.2) (D.bytes order x.3) f t
-                (C.bytes_len order x.2) (λ s at. C.makes order s at x.2) (λ s at. D.makes order s at x.3)
-                (λ f t. C.back order x.2 f t h.1.1.0) (λ f t. D.back order x.3 f t h.1.1.1))) };
+        (B.bytes_len order x.1) (λ s at. B.makes order s at x.1)
+        (λ s at. C.makes order s at x.2 × D.makes order s (at + C.width) x.3)
+        (λ f t. B.back order x.1 f t h.1.0)
+        (λ f t. both-back C.width (C.bytes order x.2) (D.bytes order x.3) f t
+        (C.bytes_len order x.2) (λ s at. C.makes order s at x.2) (λ s at. D.makes order s at x.3)
+        (λ f t. C.back order x.2 f t h.1.1.0) (λ f t. D.back order x.3 f t h.1.1.1))) };
 
     ghost one = { λ order s at.
         record-one (λ x. (x.0, (x.1, (x.2, x.3)))) (λ p. (p.0, p.1.0, p.1.1.0, p.1.1.1)) (λ x. refl) (λ p. refl)
         (both-one (A.one order s at)
-            (both-one (B.one order s (at + A.width))
-                (both-one (C.one order s (at + A.width + B.width))
-                    (D.one order s (at + A.width + B.width + C.width)))))
+        (both-one (B.one order s (at + A.width))
+        (both-one (C.one order s (at + A.width + B.width))
+        (D.one order s (at + A.width + B.width + C.width)))))
         (λ x h. h) (λ x h. h) };
 
     ghost local = { λ order s at t to x same h.
         let rest = same-second A.width (B.width + (C.width + D.width)) s at t to same in
         let last = same-second B.width (C.width + D.width) s (at + A.width) t (to + A.width) rest in (
-        A.local order s at t to x.0 (same-first A.width (B.width + (C.width + D.width)) s at t to same) h.0, (
-        B.local order s (at + A.width) t (to + A.width) x.1
-        (same-first B.width (C.width + D.width) s (at + A.width) t (to + A.width) rest) h.1.0, (
-        C.local order s (at + A.width + B.width) t (to + A.width + B.width) x.2
-        (same-first C.width D.width s (at + A.width + B.width) t (to + A.width + B.width) last) h.1.1.0,
-        D.local order s (at + A.width + B.width + C.width) t (to + A.width + B.width + C.width) x.3
-        (same-second C.width D.width s (at + A.width + B.width) t (to + A.width + B.width) last) h.1.1.1))) };
+          A.local order s at t to x.0 (same-first A.width (B.width + (C.width + D.width)) s at t to same) h.0,
+          (
+            B.local order s (at + A.width) t (to + A.width) x.1
+                (same-first B.width (C.width + D.width) s (at + A.width) t (to + A.width) rest) h.1.0,
+            (
+              C.local order s (at + A.width + B.width) t (to + A.width + B.width) x.2
+                  (same-first C.width D.width s (at + A.width + B.width) t (to + A.width + B.width) last) h.1.1.0,
+              D.local order s (at + A.width + B.width + C.width) t (to + A.width + B.width + C.width) x.3
+                  (same-second C.width D.width s (at + A.width + B.width) t (to + A.width + B.width) last) h.1.1.1,
+            ),
+          ),
+        ) };
 
     fn width() -> usize {
         A::width() + (B::width() + (C::width() + D::width()))
@@ -205,8 +214,8 @@ impl<A: RoundTrip, B: RoundTrip, C: RoundTrip> RoundTrip for (A, B, C) {
         both-kept A.width (B.width + C.width) s at
         (A.kept order s at x.0 all (omega (arith, room)) h.0)
         (both-kept B.width C.width s (at + A.width)
-            (B.kept order s (at + A.width) x.1 all (omega (arith, room)) h.1.0)
-            (C.kept order s (at + A.width + B.width) x.2 all (omega (arith, room)) h.1.1)) };
+        (B.kept order s (at + A.width) x.1 all (omega (arith, room)) h.1.0)
+        (C.kept order s (at + A.width + B.width) x.2 all (omega (arith, room)) h.1.1)) };
 }
 
 impl<A: RoundTrip, B: RoundTrip, C: RoundTrip, D: RoundTrip> RoundTrip for (A, B, C, D) {
@@ -214,8 +223,8 @@ impl<A: RoundTrip, B: RoundTrip, C: RoundTrip, D: RoundTrip> RoundTrip for (A, B
         both-kept A.width (B.width + (C.width + D.width)) s at
         (A.kept order s at x.0 all (omega (arith, room)) h.0)
         (both-kept B.width (C.width + D.width) s (at + A.width)
-            (B.kept order s (at + A.width) x.1 all (omega (arith, room)) h.1.0)
-            (both-kept C.width D.width s (at + A.width + B.width)
-                (C.kept order s (at + A.width + B.width) x.2 all (omega (arith, room)) h.1.1.0)
-                (D.kept order s (at + A.width + B.width + C.width) x.3 all (omega (arith, room)) h.1.1.1))) };
+        (B.kept order s (at + A.width) x.1 all (omega (arith, room)) h.1.0)
+        (both-kept C.width D.width s (at + A.width + B.width)
+        (C.kept order s (at + A.width + B.width) x.2 all (omega (arith, room)) h.1.1.0)
+        (D.kept order s (at + A.width + B.width + C.width) x.3 all (omega (arith, room)) h.1.1.1))) };
 }

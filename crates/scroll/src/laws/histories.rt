@@ -78,7 +78,7 @@ pub fn array_has_leaves<Ctx: Copy, T: TryIntoCtx<Ctx, Error = Error>>()
     ensures { (ctx : Ctx) (leaves : T → List (List ℕ)) (counts : List ℕ)
         → HasLeaves leaves (T.writes ctx) (T.refuses ctx)
         → HasLeaves (leaves_nested leaves counts) (WritesNested (T.writes ctx) counts)
-            (LeavesNested (T.writes ctx) (T.refuses ctx) counts) }
+        (LeavesNested (T.writes ctx) (T.refuses ctx) counts) }
 {}
 
 /// A call of `Pwrite` or of `slice` that writes at an offset writes the leaves of the value there: `WritesLeaves` says
