@@ -15,7 +15,8 @@ use crate::ctx::{FromCtx, IntoCtx, SizeWith, TryFromCtx, TryIntoCtx};
 use crate::endian::Endian;
 use crate::error::{Error, Result, check_room};
 
-/// A type whose values all have the same number of bytes: a number, a pair of such types, or a struct of them.
+/// A type whose values all have the same number of bytes: a number, a tuple or an array of such types, or a struct of
+/// them.
 ///
 /// For a struct implement [`Record`], which says its fields. An implementation of this trait says the bytes of a value
 /// and the value of bytes, in a byte order, and proves that these go together: what was written reads back.
