@@ -2,7 +2,6 @@ pub mod ByteArrays
 pub mod Cursors
 pub mod Leaves
 pub mod OneAnswer
-pub mod Records
 pub mod RoundTrips
 pub mod Sequences
 pub mod SpanLemmas
