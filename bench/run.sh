@@ -3,17 +3,24 @@
 # in gimli's form for writes of LEB128.
 #
 #     sh bench/run.sh [SET..]
+#     sh bench/run.sh jobs
 #
 # It proves the library where necessary, and the loops (bench/sets), builds them as a static library, links that with
 # the loops in Rust (bench/src) four times, with all code shifted by 0, 16, 32 and 48 bytes, and runs each program
 # twice. Without a SET it runs all sets, and writes bench/results/ and the table of docs/SPEED.md. With names of sets it
 # runs these, prints the table, and writes nothing into the repository.
 #
+# `jobs` times whole jobs by the clients beside `object`, `goblin`, `gimli`, `zip`, `scroll_derive`, `zerocopy` and
+# `byteorder`, and writes bench/results/jobs.csv and the table of jobs in docs/SPEED.md. It takes these crates from
+# Debian's packages (librust-NAME-dev), says which are missing, and runs what it can without them. If the results of a
+# job differ, it stops there and names it.
+#
 # It needs cargo, rt, a C compiler and Python 3. Variables:
 #
 #     CRATE=FOLDER    the source of the Rust crate `scroll` 0.13.0, instead of the one in cargo's registry
 #     ROUNDS=N        how often a program runs each loop; the best time counts (200)
 #     ROOM=FOLDER     a folder that keeps the build for the next run
+#     KEEP=1          `jobs` writes nothing into the repository
 #     JOBS=N          the jobs of each check, instead of rt's own choice
 #
 # The exit status is 0 if everything was built and both sides agree on every sum and on every byte that they write.
@@ -22,7 +29,7 @@ export PYTHONDONTWRITEBYTECODE=1
 
 top=$(CDPATH='' cd -- "$(dirname -- "$0")/.." && pwd) || exit 1
 here=$top/bench
-all='numbers cread floats writes texts c_strings slices leb_reads leb_writes own errors offsets streams owned calls files growth'
+all='numbers floats writes texts slices leb128 own errors streams calls files growth'
 
 fail() {
     echo "bench: $*" >&2
@@ -38,7 +45,9 @@ need rt "the library and the loops over it are proved and built by the Rattle ki
 need cc "the files that the set files reads are made by a C compiler"
 need python3 "the table and the charts are made by a script in Python"
 
-if [ $# -gt 0 ]; then
+if [ "$*" = jobs ]; then
+    sets=jobs
+elif [ $# -gt 0 ]; then
     sets=$*
     for set in $sets; do
         [ -f "$here/sets/$set.rt.txt" ] || fail "$set: no such set; there are: $all"
@@ -124,8 +133,106 @@ make_sample() {
     cc -gno-variable-location-views $flags 2>"$room/said" || quietly cc $flags
 }
 
-build_loops
-build_programs
+# Builds the jobs over the clients as a static library, and the records that bench/jobs/records.py writes.
+build_jobs() {
+    echo "bench: the library and the clients are proved and built" >&2
+    clients='debug_tables object_files git_index packets zip'
+    tree=$room/jobs_tree
+    loops=$tree/crates/loops
+    rm -rf "$tree"
+    # shellcheck disable=SC2086 # words
+    (cd "$top" && quietly python3 gate/clients.py --unpack "$tree" $clients) || exit 1
+    mkdir -p "$loops/src" "$loops/specs" "$side/src" || exit 1
+    echo "loops staticlib: scroll $clients" >>"$tree/crates.txt"
+    : >"$loops/specs/Lib.antt"
+    cp "$here/jobs/jobs.rt.txt" "$loops/src/lib.rt" || exit 1
+    quietly python3 "$here/jobs/records.py" "$loops/src" "$side/src/records.rs"
+    for client in $clients; do
+        cd "$tree/crates/$client" || exit 1
+        quietly rt lib ${JOBS:+--jobs "$JOBS"}
+    done
+    cd "$loops" || exit 1
+    quietly rt lib ${JOBS:+--jobs "$JOBS"}
+}
+
+# Writes the dependencies on the crates that Debian's packages have, and prints those that are missing.
+find_peers() {
+    peers=
+    for peer in object goblin gimli zip scroll scroll_derive zerocopy byteorder; do
+        found=$(ls -d "/usr/share/cargo/registry/$peer"-[0-9]* 2>/dev/null | head -n 1)
+        if [ -n "$found" ]; then
+            version=${found##*/"$peer"-}
+            echo "$peer $version" >>"$room/versions"
+            case $peer in
+                object) more=', default-features = false, features = ["read_core", "elf", "std"]' ;;
+                gimli) more=', default-features = false, features = ["read", "std"]' ;;
+                zip) more=', default-features = false' ;;
+                scroll)
+                    more=
+                    ls -d /usr/share/cargo/registry/scroll_derive-[0-9]* >/dev/null 2>&1 && more=', features = ["derive"]'
+                    ;;
+                *) more= ;;
+            esac
+            peers="$peers$peer = { version = \"=$version\", optional = true$more }
+"
+        else
+            echo "bench: the crate $peer is missing (apt-get install librust-$(echo "$peer" | tr _ -)-dev): its rows are left out" >&2
+        fi
+    done
+    printf '%s' "$peers"
+}
+
+# Makes an object file of some 4,000 sections, and an archive of 20,000 files.
+make_files() {
+    python3 - "$room" <<'END' || exit 1
+import sys
+import zipfile
+
+with open(f"{sys.argv[1]}/many.c", "w") as file:
+    for i in range(4000):
+        name = "a_function_of_some_number_"[: 1 + i * 7 % 26]
+        file.write(f"int {name}{i}(int a) {{ return a + {i}; }}\n")
+with zipfile.ZipFile(f"{sys.argv[1]}/archive.zip", "w") as archive:
+    for i in range(20000):
+        archive.writestr(zipfile.ZipInfo(f"folder{i // 100}/file{i}.txt"), b"contents " * (i % 7))
+END
+    (cd "$room" && quietly cc -O1 -ffunction-sections -fno-asynchronous-unwind-tables -c many.c -o many.o) || exit 1
+}
+
+# Builds the programs with the jobs, once for each layout, with the crates of Debian's packages.
+build_job_programs() {
+    echo "bench: cargo builds the jobs, in four layouts" >&2
+    : >"$room/versions"
+    find_peers >"$room/peers"
+    cp "$here"/jobs/*.rs "$here/src/timing.rs" "$here/src/inputs.rs" "$here/src/dwarf.rs" "$side/src/" && cp "$here/build.rs" "$side/" || exit 1
+    awk -v peers="$room/peers" '/@PEERS@/ { while ((getline line < peers) > 0) print line; next } { print }' "$here/jobs/Cargo.toml.in" >"$side/Cargo.toml" || exit 1
+    mkdir -p "$side/.cargo" || exit 1
+    cat >"$side/.cargo/config.toml" <<'END'
+[source.crates-io]
+replace-with = "debian"
+[source.debian]
+directory = "/usr/share/cargo/registry"
+END
+    cd "$side" || exit 1
+    features=$(cut -d ' ' -f 1 "$room/versions" | tr '\n' ',')
+    export LOOPS="$loops/out" RUSTFLAGS='-C target-cpu=x86-64-v2' CARGO_TARGET_DIR="$side/target"
+    for shift in 0 16 32 48; do
+        export SHIFT="$shift"
+        quietly cargo build --release --offline --features "${features%,}"
+        cp target/release/jobs_beside "side_$shift" || exit 1
+    done
+}
+
+if [ "$sets" = jobs ]; then
+    side=$room/jobs_side
+    build_jobs
+    build_job_programs
+    make_files
+    export SECTIONS="$room/many.o" ARCHIVE="$room/archive.zip"
+else
+    build_loops
+    build_programs
+fi
 make_sample
 
 # Twice in turn, so that no layout runs at a quieter time than the others.
@@ -137,12 +244,15 @@ for pass in 1 2; do
         echo "bench: pass $pass, code shifted by $shift bytes" >&2
         SAMPLE=$room/sample.o "$side/side_$shift" >"$room/rows" 2>"$room/said" || status=1
         grep '^DIFFER' "$room/said" >&2
+        [ "$status" -eq 0 ] || tail -n 3 "$room/said" >&2
         sed "s/^/$shift,/" "$room/rows" >>"$raw"
     done
 done
 [ "$status" -eq 0 ] || fail 'the two sides disagree, or a program failed'
 
-if [ $# -gt 0 ]; then
+if [ "$sets" = jobs ]; then
+    python3 "$here/jobs.py" "$raw" "$room/said" "$room/versions" ${KEEP:+--keep}
+elif [ $# -gt 0 ]; then
     python3 "$here/draw.py" "$raw"
 else
     python3 "$here/draw.py" "$raw" "$top"

@@ -149,15 +149,16 @@ build_calls() {
     calls=$tree/crates/calls
     rm -rf "$calls/src" && mkdir -p "$calls/src" "$calls/specs" || exit 1
     : >"$calls/specs/Lib.antt"
-    for file in "$here"/calls/*.rt.txt "$here"/structs/*.rt.txt; do
+    for file in "$here"/calls/*.rt.txt; do
         name=${file##*/}
         cp "$file" "$calls/src/${name%.txt}" || exit 1
     done
-    for file in "$here"/structs/*.rt.txt; do
-        name=${file##*/}
-        struct=$(sed -n 's/^pub struct \([A-Za-z]*\) {$/\1/p' "$file")
-        sh "$top/tools/derive/derive.sh" "$file" "$struct" >>"$calls/src/${name%.txt}" || exit 1
-    done
+    structs=$here/calls/structs.rt.txt
+    for struct in $(sed -n 's/^pub struct \([A-Za-z]*\) {$/\1/p' "$structs"); do
+        sh "$top/tools/derive/derive.sh" "$structs" "$struct" || exit 1
+    done >"$room/derived" || exit 1
+    # (two structs import the same names)
+    awk '!/^(ghost )?use / || !seen[$0]++' "$room/derived" >>"$calls/src/structs.rt" || exit 1
     cd "$calls" || exit 1
     quietly rt lib ${JOBS:+--jobs "$JOBS"}
 }

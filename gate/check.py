@@ -5,6 +5,7 @@
     python3 gate/check.py edits       the bugs that the prover must refuse
     python3 gate/check.py verdict     the toolchain's own verdict, rt ci, over the files without the edits
     python3 gate/check.py all         what holds, and the edits
+    python3 gate/check.py kept        what holds, where the proofs may be those that checks on this machine kept
 
 Several of these words may be given; .ci/run gives `all verdict`. The steps are:
 
@@ -13,6 +14,7 @@ Several of these words may be given; .ci/run gives `all verdict`. The steps are:
     prove.py        each crate is proved from nothing and built, its tests are proved and run, and its stored run
     clients.py      each client of the library, proved and tested as a crate of its own
     prove.sh        what tools/derive/derive.sh prints for the structs of tools/derive/shapes/, proved and tested likewise
+    embed.py        the library of embed/ in C and Python, and in Rust where cargo is, on real files and on damaged ones
     depending.py    a repository that depends on the library, made by README's lines
     misuse.py       what must not compile
     sessions.py     the stored sessions, whole and with their buffers cut, by the program that was proved
@@ -25,8 +27,12 @@ Steps run side by side, and a step starts when those that it needs have ended. I
 workers (gate/step.py), since parts of a check run on one processor. The tests of the library and rt ci run in copies of
 their own; rt ci, which nothing waits for, runs at a low priority.
 
-Each step is named at the end with its counts, its time and the processor time that it took. The last line is
-`N passed, M failed`, the sums of the counts, with `, K skipped` after it where something was left out. A step that ends
+Each crate is proved from nothing once, by prove.py with `anew`: rt check itself would begin with what a check in another
+checkout on this machine kept. The steps after it go on with what that proof keeps, and the copies that they make have its
+files, under second names.
+
+A step's time and the processor time that it took are printed at its end, and again in a table at the end of all. The last line
+is `N passed, M failed`, the sums of the counts, with `, K skipped` after it where something was left out. A step that ends
 without its counts, or that fails without counting a failure, is one failure more. The exit status is 0 where M is 0.
 """
 
@@ -46,9 +52,10 @@ from queue import Queue
 from typing import Any, Dict, List, Sequence, Tuple
 
 from clients import list_clients
-from step import TOP, count_workers
+from step import TOP, copy_kept, count_workers
 
 GROUPS = ("stands", "edits", "verdict")
+WORDS = {"all": ("stands", "edits"), "kept": ("stands",)}
 COUNTS = re.compile(r"(\d+) passed, (\d+) failed(?:, (\d+) skipped)?")
 PROVE = "python3 gate/prove.py scroll"
 PROGRAM = "python3 gate/prove.py scroll_run"
@@ -85,10 +92,8 @@ class Step:
             failed = 1
         self.counts = (passed, failed, skipped)
 
-    def summary(self) -> str:
-        passed, failed, skipped = self.counts
-        left_out = f", {skipped} skipped" if skipped else ""
-        return f"check: {self.command}: {passed} passed, {failed} failed{left_out}, {self.seconds:.0f} s, {self.processor:.0f} processor s"
+    def row(self) -> str:
+        return "{:7} {:7} {:8} {:8.0f} {:12.0f}  {}".format(*self.counts, self.seconds, self.processor, self.command)
 
 
 @dataclass
@@ -103,10 +108,12 @@ class Gate:
     def copy_files(self, name: str) -> Path:
         """A copy of the files without what git and earlier checks keep; for the tests, of what was proved."""
         tree = self.room / name
-        kept = {".git"} if name == "tests" else {".git", "out"}
-        source = self.room / "tree" if name == "tests" else TOP
-        if not tree.exists():
-            shutil.copytree(source, tree, symlinks=True, ignore=lambda _, names: kept & {*names})
+        if tree.exists():
+            return tree
+        if name == "tests":
+            copy_kept(self.room / "tree", tree)
+            return tree
+        copy_kept(TOP, tree, (".git", "out"))
         if name == "verdict":
             for edit in tree.glob("crates/*/must-fail/*.edit"):
                 edit.unlink()
@@ -157,7 +164,7 @@ class Gate:
             step.count()
             if step.brings and (self.room / step.tree / step.brings).exists():
                 shutil.copy2(self.room / step.tree / step.brings, self.room / "tree" / step.brings)
-            print(f"== {step.command}\n{step.said}", end="", flush=True)
+            print(f"== {step.command}\n{step.said}check: {step.seconds:.0f} s, {step.processor:.0f} processor s, {len(left)} steps left", flush=True)
 
     def stop(self) -> None:
         """Ends what still runs, and waits for it."""
@@ -169,25 +176,26 @@ class Gate:
             del self.running[self.ended.get().command]
 
 
-def list_steps(groups: Sequence[str], workers: int) -> List[Step]:
+def list_steps(groups: Sequence[str], workers: int, anew: str) -> List[Step]:
     half = max(1, workers // 2)
+    library, program = PROVE + anew, PROGRAM + anew
     steps = []
     if "verdict" in groups:
         steps.append(Step("rt ci", 0, tree="verdict"))
     if "stands" in groups:
         steps += [Step("python3 gate/docs.py", 1), Step("sh tools/derive/check.sh", 1)]
         steps += [
-            Step(PROVE, workers),
-            Step(f"{PROVE} tests", half + 1, (PROVE,), "tests", "crates/scroll/out/scroll_tests"),
-            Step(PROGRAM, half, (PROVE,)),
-            Step(f"{PROGRAM} tests", half, (PROGRAM,)),
-            Step("python3 gate/faults.py", half, (PROGRAM, f"{PROVE} tests")),
+            Step(library, workers),
+            Step(f"{PROVE} tests", half + 1, (library,), "tests", "crates/scroll/out/scroll_tests"),
+            Step(program, half, (library,)),
+            Step(f"{PROGRAM} tests", half, (program,)),
+            Step("python3 gate/faults.py", half, (program, f"{PROVE} tests")),
         ]
-        steps += [Step(f"python3 gate/clients.py {it}", 1, (PROVE,)) for it in list_clients()]
-        steps.append(Step("sh tools/derive/prove.sh", 1, (PROVE,)))
-        steps += [Step(f"python3 gate/{it}.py", 1, (PROVE,)) for it in ("depending", "misuse")]
-        steps += [Step(f"python3 gate/{it}.py", 1, (PROGRAM,)) for it in ("sessions", "limits")]
-        steps.append(Step("sh compare/run.sh --gate", 1, (PROGRAM,)))
+        steps += [Step(f"python3 gate/clients.py {it}", 1, (library,)) for it in list_clients()]
+        steps.append(Step("sh tools/derive/prove.sh", 1, (library,)))
+        steps += [Step(f"python3 gate/{it}.py", 1, (library,)) for it in ("embed", "depending", "misuse")]
+        steps += [Step(f"python3 gate/{it}.py", 1, (program,)) for it in ("sessions", "limits")]
+        steps.append(Step("sh compare/run.sh --gate", 1, (program,)))
     if "edits" in groups:
         steps.append(Step("python3 gate/edits.py", workers, tuple(it.command for it in steps if it.jobs)))
         steps.append(Step("python3 gate/limits.py --edits", 1, ("python3 gate/edits.py",)))
@@ -195,14 +203,14 @@ def list_steps(groups: Sequence[str], workers: int) -> List[Step]:
 
 
 def main(words: List[str]) -> int:
-    groups = [group for word in words or ["stands"] for group in (("stands", "edits") if word == "all" else (word,))]
+    groups = [group for word in words or ["stands"] for group in WORDS.get(word, (word,))]
     for group in groups:
         if group not in GROUPS:
-            print(f"check: '{group}' is none of stands, edits, verdict and all\n0 passed, 1 failed")
+            print(f"check: '{group}' is none of stands, edits, verdict, all and kept\n0 passed, 1 failed")
             return 1
     begun = time.time()
     workers = count_workers()
-    steps = list_steps(groups, workers)
+    steps = list_steps(groups, workers, "" if "kept" in words else " anew")
     with tempfile.TemporaryDirectory(prefix="check-") as room:
         gate = Gate(Path(room), workers + 2)
         for number in (signal.SIGHUP, signal.SIGINT, signal.SIGTERM):
@@ -212,8 +220,7 @@ def main(words: List[str]) -> int:
         finally:
             gate.stop()
     passed, failed, skipped = (sum(it) for it in zip(*(step.counts for step in steps)))
-    for step in steps:
-        print(step.summary())
+    print(" passed  failed  skipped  seconds  processor s  step", *(step.row() for step in steps), sep="\n")
     print(f"check: all in {time.time() - begun:.0f} s, {sum(it.processor for it in steps):.0f} processor s")
     print(f"{passed} passed, {failed} failed" + (f", {skipped} skipped" if skipped else ""))
     return 0 if passed and not failed else 1

@@ -1,6 +1,6 @@
 """Looks up the names that the documents cite in the sources, and follows their links, so that none is out of date.
 
-A name is a word between backticks, or words joined by `::`, such as `Pread::gread_with`; in the tables of LAWS.md and
+A name is a word between backticks, or words joined by `::`, such as `Pread::gread_with`; in the tables of
 PROVED.md it may also be a lemma, such as `ReadsAll-push`. Each of its words must be in a file of code or in a session,
 outside of the comments of Rattle code, or be the name of an edit, a session, a script or a document, or one of the words
 below, of Rust or of a tool. The lines `bug:` and `breaks:` of the edits are looked up as well. CHANGELOG.md may name what
@@ -15,10 +15,10 @@ from typing import List, Set, Tuple
 import markdown
 from step import TOP, Step
 
-# Names of Rust, of its crates and of processors, and placeholders in docs/SESSIONS.md.
+# Names of Rust, of its crates and of processors, and placeholders in docs/SESSIONS.md and README.md.
 FOREIGN = set("""
 BoxedSlice CowSlice I Self::Units array::try_from_fn cause collect core::mem core::result f64 memchr scroll_derive x86-64-v2
-HEX HH ORD SESSION law_7 crates/first crates/first/src/lib.rt
+HEX HH ORD SESSION crates/first crates/first/src crates/first/src/lib.rt
 """.split())
 
 SPAN = re.compile(r"(?<!`)`([^`\n]+)`(?!`)")

@@ -26,13 +26,13 @@ from concurrent.futures import ThreadPoolExecutor
 from pathlib import Path
 from typing import Iterable, List, Optional
 
-from step import TOP, Step, Stop, count_workers, run_step
+from step import TOP, Step, Stop, copy_kept, count_workers, run_step
 
 CLIENTS = Path(os.environ.get("CLIENTS") or TOP / "clients").resolve()
 PART = re.compile(r"src/.*\.rt\.txt|(?:specs|proofs)/.*\.antt\.txt")
 PROOF = re.compile(r"scroll(?:\.|::)proofs(?!(?:\.|::)lemmas(?:\.|::)callers(?:\.|::))")
 # What the clients don't need of the library.
-LEFT_OUT = {"scroll": {"must-fail", "bugs"}, "out": {"incremental"}}
+LEFT_OUT = ("must-fail", "bugs", "incremental")
 
 
 class Wrong(Exception):
@@ -60,7 +60,7 @@ def copy_client(name: str, crate: Path) -> None:
 
 def make_workspace(names: List[str], tree: Path) -> None:
     """Makes a workspace with the library's build, and the clients as its crates."""
-    shutil.copytree(TOP / "crates" / "scroll", tree / "crates" / "scroll", ignore=lambda it, _: LEFT_OUT.get(Path(it).name, set()))
+    copy_kept(TOP / "crates" / "scroll", tree / "crates" / "scroll", LEFT_OUT)
     library = next(it for it in (TOP / "crates.txt").read_text().splitlines() if it.startswith("scroll:"))
     (tree / "crates.txt").write_text("".join(f"{it}\n" for it in [library, *(f"{name}: scroll" for name in names)]))
     shutil.copy(TOP / "HANDLES", tree)

@@ -1,4 +1,4 @@
-"""Makes docs/DEFINITIONS.md from the comments in specs/ of each crate, and compares it: each section must say what the comments
+"""Makes docs/DEFINITIONS.md from the comments in specs/ of the library, and compares it: each section must say what the comments
 of its file say.
 
 The files come in the order of specs/Lib.antt. The comment at the head of a file is the title of its section, up to the first
@@ -126,17 +126,17 @@ def try_all(step: Step, is_writing: bool) -> None:
     page = HEAD
     made: List[Tuple[Path, str]] = []
     failed = step.failed
-    for lib in sorted(TOP.glob("crates/*/specs/Lib.antt")):
-        sections: List[str] = []
-        for name in re.findall(r"^pub mod ([A-Z]\w*)", lib.read_text(encoding="utf-8"), re.M):
-            path = lib.parent / f"{name}.antt"
-            try:
-                sections.append(section(path))
-                made.append((path, sections[-1]))
-            except Bad as why:
-                step.count(f"{path.relative_to(TOP)}: {why}", "")
-        title, *text = headed(next(blocks(lib))[0])
-        page += "\n" + "\n\n".join([f"## {title.rstrip('.')}", *text, contents(sections)]) + "\n" + "".join(sections)
+    lib = TOP / "crates" / "scroll" / "specs" / "Lib.antt"
+    sections: List[str] = []
+    for name in re.findall(r"^pub mod ([A-Z]\w*)", lib.read_text(encoding="utf-8"), re.M):
+        path = lib.parent / f"{name}.antt"
+        try:
+            sections.append(section(path))
+            made.append((path, sections[-1]))
+        except Bad as why:
+            step.count(f"{path.relative_to(TOP)}: {why}", "")
+    title, *text = headed(next(blocks(lib))[0])
+    page += "\n" + "\n\n".join([f"## {title.rstrip('.')}", *text, contents(sections)]) + "\n" + "".join(sections)
     if is_writing and step.failed == failed:
         PAGE.write_text(page, encoding="utf-8")
     text = PAGE.read_text(encoding="utf-8") if PAGE.is_file() else ""

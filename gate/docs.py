@@ -2,11 +2,12 @@
 """Compares the documents with the sources.
 
     python3 gate/docs.py          compares
-    python3 gate/docs.py write    writes first what is made from the sources: docs/DEFINITIONS.md, PROVED's column of edits, and
-                                  the clients' columns of lines
+    python3 gate/docs.py write    writes first what is made from the sources: docs/API.md, docs/DEFINITIONS.md, PROVED's column of
+                                  edits, and the clients' columns of lines
 
 The code in CALLING.md and README.md is that of the files that it names (gate/calling.py). The names that the documents cite are
-in the sources, and their links lead somewhere (gate/cited.py). docs/DEFINITIONS.md has what the comments in specs/ say
+in the sources, and their links lead somewhere (gate/cited.py). docs/API.md has the library's doc comments (gate/api.py).
+docs/DEFINITIONS.md has what the comments in specs/ say
 (gate/definitions.py). docs/PROVED.md has for each promise the edits that are for it (gate/promises.py). clients/README.md has
 the lines of each client (gate/sizes.py). The bench has a row for each public call (gate/benched.py).
 """
@@ -14,6 +15,7 @@ the lines of each client (gate/sizes.py). The bench has a row for each public ca
 import sys
 from typing import List
 
+import api
 import benched
 import calling
 import cited
@@ -26,6 +28,7 @@ from step import Step, Stop, run_step
 def work(step: Step, words: List[str]) -> None:
     if words not in ([], ["write"]):
         raise Stop(f"'{' '.join(words)}' is not `write`")
+    api.try_all(step, words == ["write"])
     definitions.try_all(step, words == ["write"])
     promises.try_all(step, words == ["write"])
     sizes.try_all(step, words == ["write"])

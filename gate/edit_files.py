@@ -1,7 +1,9 @@
 """Edits: bugs in code that the prover must refuse. This module reads them and puts them into a copy of a crate.
 
-The folder `bugs/` of a crate has a file for each source file: bugs/slice.edits for src/slice.rt. It holds edits,
-one a block, with an empty line between two:
+The folder `bugs/` of a crate holds files of edits, one a block, with an empty line between two. The line `file:` stands before
+the edits of a source file:
+
+    file: src/slice.rt
 
     # write_start_at_the_end_is_refused
     bug: a write at the end of the slice is past the end
@@ -110,9 +112,12 @@ def blocks(crate: Path) -> Iterator[Block]:
             if folder == "must-fail":
                 yield Block(str(path.relative_to(crate.parent)), folder, str(inner), "", text.splitlines())
                 continue
-            file = f"src/{inner.with_suffix('.rt') if path.suffix == '.edits' else inner}"
+            file = ""
             for block in text.rstrip("\n").split("\n\n"):
                 title, *lines = block.split("\n")
+                if title.startswith("file: "):
+                    file = title[len("file: ") :]
+                    continue
                 yield Block(f"{path.relative_to(crate.parent)}, {title}", folder, title, file, lines)
 
 

@@ -34,7 +34,7 @@ from typing import Dict, List, Optional, Set, Tuple
 
 from edit_files import FOLDERS, Edit, Function, Texts, read_edits
 from edit_judge import Judge, Said, parse
-from step import TOP, Step, Stop, count_workers, run_step
+from step import TOP, Step, Stop, copy_kept, count_workers, run_step
 
 # The number of jobs of a check.
 JOBS = 2
@@ -59,7 +59,7 @@ class Gate:
             shutil.copy(self.base / name, to / name)
         for folder in sorted((self.base / "crates").iterdir()):
             left_out = [*FOLDERS, "rlib" if folder.name == crate else "incremental"]
-            shutil.copytree(folder, to / "crates" / folder.name, ignore=shutil.ignore_patterns(*left_out))
+            copy_kept(folder, to / "crates" / folder.name, left_out)
 
     def check(self, judge: Judge, batch: List[Edit]) -> Tuple[Dict[str, Set[Function]], Said, float]:
         """Checks a copy of the crate with the edits of a batch applied."""
@@ -109,7 +109,7 @@ def try_all(gate: Gate, judges: Dict[str, Judge], edits: List[Edit], workers: in
 def prepare(step: Step, crates: List[Path], workers: int) -> Optional[Gate]:
     """Copies the tree with what its checks kept, and checks there that each crate is proved without an edit."""
     gate = Gate(step, step.room / "base")
-    shutil.copytree(TOP, gate.base, ignore=shutil.ignore_patterns(".git", *FOLDERS))
+    copy_kept(TOP, gate.base, (".git", *FOLDERS))
     for crate in crates:
         ran = step.run(gate.base / "crates" / crate.name, "rt", "check", "--jobs", JOBS * workers)
         if ran.status:

@@ -42,7 +42,7 @@ FIRST_CALLS = 8
 LIMIT = 120
 ALWAYS = 10**9
 NO_MEMORY = b"out of memory\n"
-TOLD = re.compile(rb"(?m)(?:^|[ (])(?:AllocError|NoMemory|OutOfMemory)\)*$")
+TOLD = re.compile(rb"(?m)(?:^|[ (])(?:AllocError|NoMemory|OutOfMemory)(?:\)| \})*$")
 
 
 class Wrong(Exception):
@@ -135,7 +135,7 @@ class Tried:
     def want_as_ever(self, ran: Run) -> None:
         ran.want(self.session.status, self.session.output)
 
-    def want_front(self, ran: Run) -> None:
+    def want_prefix(self, ran: Run) -> None:
         """Expects status 4 and some first bytes of the output, and not all."""
         ran.want(4, self.session.output[: len(ran.output)])
         if ran.output == self.session.output:
@@ -162,7 +162,7 @@ class Tried:
 
     def streams(self) -> None:
         self.each("READ", "read", lambda ran: ran.want(4, b""))
-        self.each("WRITE", "write", self.want_front)
+        self.each("WRITE", "write", self.want_prefix)
 
     def pieces(self) -> None:
         self.want_as_ever(self.run("a read and a write move one byte", PIECES=1))

@@ -4,10 +4,10 @@
     python3 gate/limits.py [--program PROGRAM]
     python3 gate/limits.py --edits
 
-A contract says each answer, but a body that says `out of memory` at some input meets it too. So this gives the program
-inputs of each kind, on both sides of each power of two: texts, slices and C strings that are read, written and printed,
-lines, words, commands, numerals, bad lines and whole inputs. The status must be 0 or, of a bad or too long input, 2. PROGRAM
-is as in gate/sessions.py.
+A function of the library, or of the program's `Memory`, that allocates and says `out of memory` at some input meets its
+contract; the program's other functions don't. So this gives the program inputs of each kind, on both sides of each power of
+two: texts, slices and C strings that are read, written and printed, lines, words, commands, numerals, bad lines and whole
+inputs. The status must be 0 or, of a bad or too long input, 2. PROGRAM is as in gate/sessions.py.
 
 `--edits` plants the bugs of gate/limits/CRATE.edits, which the prover passes, all of a crate in one copy of it, which
 `rt try` builds. Their form is that of CONTRIBUTING, with a line `file:`. The program must then run out of memory at the input

@@ -1,4 +1,4 @@
-"""Makes the column of edits in docs/PROVED.md from the lines `promise:` of the edits, and compares it.
+"""Makes the column of edits in docs/PROVED.md, how many there are for each promise, from their lines `promise:`, and compares it.
 
 A row of PROVED.md that has an edit begins with its name, as in `**number is read**: a number reads as ..`. The line `promise:`
 of an edit has the names of the rows that it is for, with `, ` between two. Each row is a check.
@@ -39,18 +39,18 @@ def try_all(step: Step, is_writing: bool) -> None:
     names: List[str] = []
     for index, cells in document.rows():
         named = NAME.match(cells[0])
-        if len(cells) != COLUMNS or cells[EDITS] == "edit":
+        if len(cells) != COLUMNS or cells[EDITS] == "edits":
             continue
         name = named[1] if named else ""
         what = f"docs/PROVED.md:{index + 1}: {name or 'a row with no name'}"
         if name in names:
             step.count(f"{what} stands twice", "")
         names += [name] if name else []
-        wanted = ", ".join(f"`{it.name}`" for it in edits.get(name, []))
+        wanted = str(len(edits[name])) if name in edits else ""
         if is_writing and wanted != cells[EDITS]:
             cells[EDITS] = wanted
             lines[index] = f"| {' | '.join(cells)} |".replace("|  |", "| |")
-        step.count(f"{what}: the column has other edits than the lines `promise:`", None if wanted == cells[EDITS] else "")
+        step.count(f"{what}: the column has another number of edits than the lines `promise:`", None if wanted == cells[EDITS] else "")
     for it in edits.keys() - {*names}:
         step.count(f"{', '.join(edit.name for edit in edits[it])}: docs/PROVED.md has no row `**{it}**`", "")
     if is_writing:

@@ -2,10 +2,11 @@
 """Proves and runs what is in one crate of the repository.
 
     python3 gate/prove.py CRATE         its code, and a program's stored run
+    python3 gate/prove.py CRATE anew    the same, where the code is proved from nothing
     python3 gate/prove.py CRATE tests   its tests, which are proved and run
 
-It uses what earlier checks kept in the crate's out/; gate/check.py starts with nothing. A check gets as many jobs as there
-are workers (gate/step.py).
+It uses what earlier checks kept, but with `anew` for what is built and run after the proof. A check gets as many jobs as
+there are workers (gate/step.py).
 
 These count as one each: the layout of `rt fmt`; the proof, without what HANDLES doesn't allow, C functions of the crate's own
 and contracts that say nothing, as for `rt ci`; a library, built for those that use it, or a program, whose output for the
@@ -13,19 +14,35 @@ crate's file `stdin` is its file `stdout`; the tests, proved and run, none of wh
 """
 
 import re
+import shutil
 import subprocess
 import sys
 import time
 from pathlib import Path
 from typing import Callable, List, Optional
 
-from step import TOP, Ran, Step, Stop, count_workers, run_step
+from step import TOP, Ran, Step, Stop, check_command, count_workers, run_step, uses_of
 
 UNWANTED = re.compile(r"^logic=proved.* (?:main|foreign|hides|partial|bugs|may-abort|may-wait|may-serve)=", re.M)
 
 
 def prove(step: Step, crate: Path) -> Optional[str]:
-    ran = step.run(crate, "rt", "check", "--jobs", count_workers())
+    return proof_fault(step.run(crate, "rt", "check", "--jobs", count_workers()))
+
+
+def prove_anew(step: Step, crate: Path) -> Optional[str]:
+    kept = crate / "out" / "incremental"
+    shutil.rmtree(kept, ignore_errors=True)
+    kept.mkdir(parents=True)
+    for rlib in uses_of(crate.name).values():
+        if TOP in rlib.parents:
+            ran = step.run(rlib.parents[2], "rt", "lib")
+            if ran.status:
+                return ran.end(40, 300)
+    return proof_fault(step.run(crate, *check_command(crate.name, kept, count_workers())))
+
+
+def proof_fault(ran: Ran) -> Optional[str]:
     show(ran)
     return None if not ran.status and ran.proved("functions") and not UNWANTED.search(ran.said) else ran.end(40, 300)
 
@@ -62,12 +79,12 @@ def try_crate(step: Step, words: List[str]) -> None:
     is_program = (crate / "src" / "main.rt").is_file()
     if not name or not is_program and not (crate / "src" / "lib.rt").is_file():
         raise Stop(f"there is no crate '{name}'")
-    if words[1:] not in ([], ["tests"]):
-        raise Stop(f"'{' '.join(words[1:])}' is not `tests`")
+    if words[1:] not in ([], ["anew"], ["tests"]):
+        raise Stop(f"'{' '.join(words[1:])}' is neither `anew` nor `tests`")
     checks: "list[tuple[str, Callable[[Step, Path], Optional[str]]]]" = [("its tests are proved and pass", test)]
-    if not words[1:]:
+    if words[1:] != ["tests"]:
         last = ("its stored run prints what it must", run_program) if is_program else ("it is built for the crates above it", build)
-        checks = [("it is laid out by rt fmt", Step.layout_fault), ("it is proved", prove), last]
+        checks = [("it is laid out by rt fmt", Step.layout_fault), ("it is proved", prove_anew if words[1:] else prove), last]
     for what, check in checks:
         begun = time.time()
         fault = check(step, crate)

@@ -51,7 +51,7 @@ class Row(NamedTuple):
 
     def at(self, length: int) -> str:
         numbered = NUMBER.sub(lambda it: str(length + int(it[1] or 0)), self.answer)
-        return FRONT.sub(lambda it: front(it[1], length + int(it[2] or 0)), numbered)
+        return FRONT.sub(lambda it: prefix(it[1], length + int(it[2] or 0)), numbered)
 
 
 @dataclass
@@ -85,10 +85,10 @@ class Session:
         for line, rows in zip(self.output.decode().splitlines(), self.rows):
             row = next((it for it in rows if it.first <= length <= it.last), None)
             word, _, digits = line.partition(" ")
-            yield row.at(length) if row else f"buffer {front(digits, length)}" if word == "buffer" else line
+            yield row.at(length) if row else f"buffer {prefix(digits, length)}" if word == "buffer" else line
 
 
-def front(digits: str, length: int) -> str:
+def prefix(digits: str, length: int) -> str:
     """Returns the first bytes of a text of hexadecimal digits."""
     if not 0 <= 2 * length <= len(digits):
         raise Malformed(f"a row wants {length} bytes of {len(digits) // 2}")

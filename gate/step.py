@@ -4,6 +4,7 @@ The last line of a step is `N passed, M failed`, and `, K skipped` follows where
 where M is 0, and N is not or all was left out.
 """
 
+import contextlib
 import os
 import re
 import shutil
@@ -13,7 +14,7 @@ import sys
 import tempfile
 from dataclasses import dataclass, field
 from pathlib import Path
-from typing import Any, Callable, NamedTuple, Optional, Set
+from typing import Any, Callable, Dict, Iterable, List, NamedTuple, Optional, Set
 
 TOP = Path(__file__).resolve().parents[1]
 
@@ -114,6 +115,40 @@ class Step:
                 return formatted.end()
             compared = self.run(Path(folder), "diff", "-r", "before", "after")
             return compared.end(40) if compared.status else None
+
+
+def copy_kept(source: Path, to: Path, left_out: Iterable[str] = ()) -> None:
+    """Copies a folder without what has one of these names. What checks kept gets a second name in place of a copy, since a
+    check replaces such a file and never writes into it."""
+
+    def copy(one: str, other: str) -> object:
+        if one.endswith(".oantt"):
+            with contextlib.suppress(OSError):
+                return os.link(one, other)
+        return shutil.copy2(one, other)
+
+    shutil.copytree(source, to, symlinks=True, ignore=lambda _, names: {*left_out} & {*names}, copy_function=copy)
+
+
+def uses_of(crate: str) -> Dict[str, Path]:
+    """Returns the libraries that a crate of crates.txt uses, with their builds: those of the repository, and those of the kit."""
+    kit = Path(os.path.realpath(shutil.which("rt") or "rt")).parents[1]
+    uses = dict(line.split("#")[0].split(":") for line in (TOP / "crates.txt").read_text().splitlines() if ":" in line)
+    own = {name: TOP / "crates" / name / "out" / "rlib" / f"{name}.rlib" for name in uses}
+    return {name: own.get(name, kit / "rlibs" / f"{name}.rlib") for name in ("std", *uses[crate].split())}
+
+
+def check_command(crate: str, kept: Path, jobs: int) -> List[str]:
+    """Returns the command by which `rt check` checks a crate, but over this folder of kept proofs. (`rt check` would first put
+    there what a check in another checkout on this machine kept.) The libraries must have been built."""
+    rlibs = uses_of(crate)
+    kit = rlibs["std"].parents[1]
+    root = next(it for it in ("src/lib.rt", "src/main.rt") if (TOP / "crates" / crate / it).is_file())
+    words = [str(kit / "bin" / "rattle"), "check", "--crate-name", crate, root]
+    words += [word for name, rlib in rlibs.items() for word in ("--extern", f"{name}={rlib}")]
+    words += [word for it in sorted({str(it.parent) for it in rlibs.values()}) for word in ("-L", f"dependency={it}")]
+    words += ["--antt-project", str(kit / "rattle" / "logic" / "antt-project.json"), "--logic-built", str(kit / "logic_built")]
+    return [*words, "--jobs", str(jobs), "--incremental", str(kept)]
 
 
 def run_step(name: str, work: Callable[[Step], None]) -> int:

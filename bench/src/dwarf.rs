@@ -49,9 +49,9 @@ struct Cursor<'s> {
 
 impl<'s> Cursor<'s> {
     fn skip(&mut self, len: usize) -> Option<&'s [u8]> {
-        let (front, rest) = self.rest.split_at_checked(len)?;
+        let (prefix, rest) = self.rest.split_at_checked(len)?;
         self.rest = rest;
-        Some(front)
+        Some(prefix)
     }
 
     fn number(&mut self, width: usize) -> Option<usize> {

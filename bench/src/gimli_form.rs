@@ -3,7 +3,7 @@
 
 pub struct Full;
 
-/// Writes the shortest encoding of an unsigned number to the front of `target`, and returns its length.
+/// Writes the shortest encoding of an unsigned number to the prefix of `target`, and returns its length.
 #[inline(always)]
 pub fn put_uleb(target: &mut [u8], mut number: u64) -> Result<usize, Full> {
     let mut len = 0;
@@ -34,7 +34,7 @@ pub fn put_uleb_tested(target: &mut [u8], mut number: u64) -> Result<usize, Full
     Ok(len + 1)
 }
 
-/// Writes the shortest encoding of a signed number to the front of `target`, and returns its length.
+/// Writes the shortest encoding of a signed number to the prefix of `target`, and returns its length.
 #[inline(always)]
 pub fn put_sleb(target: &mut [u8], mut number: i64) -> Result<usize, Full> {
     let mut len = 0;

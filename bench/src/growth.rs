@@ -82,7 +82,7 @@ fn put_for(target: &mut [u8]) -> u64 {
     offset as u64
 }
 
-// Times the forms over a front of the job's bytes that grows by a factor of four.
+// Times the forms over a prefix of the job's bytes that grows by a factor of four.
 fn grow(bench: &mut Bench, name: &str, input: &[u8], output: &mut [u8], forms: &[Form]) {
     let mut len = LEAST;
     while len <= GREATEST {

@@ -9,12 +9,8 @@ mod inputs;
 #[allow(dead_code)]
 mod timing;
 
-#[cfg(feature = "c_strings")]
-mod c_strings;
 #[cfg(feature = "calls")]
 mod calls;
-#[cfg(feature = "cread")]
-mod cread;
 #[cfg(feature = "files")]
 mod dwarf;
 #[cfg(feature = "errors")]
@@ -23,22 +19,16 @@ mod errors;
 mod files;
 #[cfg(feature = "floats")]
 mod floats;
-#[cfg(any(feature = "files", feature = "leb_writes"))]
+#[cfg(any(feature = "files", feature = "leb128"))]
 mod gimli_form;
 #[cfg(feature = "growth")]
 mod growth;
-#[cfg(feature = "leb_reads")]
-mod leb_reads;
-#[cfg(feature = "leb_writes")]
-mod leb_writes;
+#[cfg(feature = "leb128")]
+mod leb128;
 #[cfg(feature = "numbers")]
 mod numbers;
-#[cfg(feature = "offsets")]
-mod offsets;
 #[cfg(feature = "own")]
 mod own;
-#[cfg(feature = "owned")]
-mod owned;
 #[cfg(feature = "slices")]
 mod slices;
 #[cfg(feature = "streams")]
@@ -100,22 +90,16 @@ fn main() {
     let mut bench = timing::Bench::from_env();
     #[cfg(feature = "numbers")]
     numbers::all(&mut bench);
-    #[cfg(feature = "cread")]
-    cread::all(&mut bench);
     #[cfg(feature = "floats")]
     floats::all(&mut bench);
     #[cfg(feature = "writes")]
     writes::all(&mut bench);
     #[cfg(feature = "texts")]
     texts::all(&mut bench);
-    #[cfg(feature = "c_strings")]
-    c_strings::all(&mut bench);
     #[cfg(feature = "slices")]
     slices::all(&mut bench);
-    #[cfg(feature = "leb_reads")]
-    leb_reads::all(&mut bench);
-    #[cfg(feature = "leb_writes")]
-    leb_writes::all(&mut bench);
+    #[cfg(feature = "leb128")]
+    leb128::all(&mut bench);
     #[cfg(feature = "files")]
     files::all(&mut bench);
     #[cfg(feature = "growth")]
@@ -124,10 +108,6 @@ fn main() {
     streams::all(&mut bench);
     #[cfg(feature = "own")]
     own::all(&mut bench);
-    #[cfg(feature = "offsets")]
-    offsets::all(&mut bench);
-    #[cfg(feature = "owned")]
-    owned::all(&mut bench);
     #[cfg(feature = "errors")]
     errors::all(&mut bench);
     #[cfg(feature = "calls")]

@@ -1,9 +1,11 @@
-//! Strings, by where they end, of several lengths and alphabets.
+//! Strings, by where they end, of several lengths and alphabets; C strings, by the crate's read of a `CStr` and by std's own
+//! function; C strings read into memory of their own; and sizes of what is there.
 
 use crate::inputs::{Letters, Random, SIZE, push_text};
 use crate::timing::{Bench, Form, ours, reading, rust};
 use scroll::Pread;
-use scroll::ctx::StrCtx;
+use scroll::ctx::{MeasureWith, StrCtx};
+use std::ffi::{CStr, CString};
 
 unsafe extern "C" {
     fn rt_texts(source: *const u8, len: usize) -> u64;
@@ -109,7 +111,7 @@ fn of_length() -> Form {
     ours("for", |job| unsafe { rt_texts_of_length(job.input.as_ptr(), job.input.len()) })
 }
 
-pub fn all(bench: &mut Bench) {
+fn all_texts(bench: &mut Bench) {
     let mut row = |row: &str, low, spread, letters, form: fn() -> Form| {
         let (source, count) = texts(low, spread, letters, false);
         let [a, b] = sums!(|_| 0);
@@ -138,4 +140,152 @@ pub fn all(bench: &mut Bench) {
         let forms = [of_length(), rust("while", |job| of_length_while(job.input)), rust("for", |job| of_length_for(job.input))];
         bench.row("texts", name, count, &mut reading(&source), &forms);
     }
+}
+
+unsafe extern "C" {
+    fn rt_c_strings(source: *const u8, len: usize) -> u64;
+}
+
+fn taste_c(text: &CStr) -> u64 {
+    let bytes = text.to_bytes();
+    bytes.len() as u64 ^ u64::from(bytes.first().copied().unwrap_or(7))
+}
+
+#[inline(never)]
+fn by_gread(source: &[u8]) -> u64 {
+    let mut offset = 0;
+    let mut total: u64 = 0;
+    while offset < source.len() {
+        let Ok(text) = source.gread::<&CStr>(&mut offset) else { break };
+        total = total.wrapping_add(taste_c(text));
+    }
+    total
+}
+
+#[inline(never)]
+fn by_gread_for(source: &[u8]) -> u64 {
+    let mut offset = 0;
+    let mut total: u64 = 0;
+    for _ in 0..source.len() {
+        if offset >= source.len() {
+            break;
+        }
+        match source.gread::<&CStr>(&mut offset) {
+            Ok(text) => total = total.wrapping_add(taste_c(text)),
+            Err(_) => break,
+        }
+    }
+    total
+}
+
+#[inline(never)]
+fn by_std(source: &[u8]) -> u64 {
+    let mut rest = source;
+    let mut total: u64 = 0;
+    while !rest.is_empty() {
+        let Ok(text) = CStr::from_bytes_until_nul(rest) else { break };
+        total = total.wrapping_add(taste_c(text));
+        rest = &rest[text.count_bytes() + 1..];
+    }
+    total
+}
+
+fn all_c_strings(bench: &mut Bench) {
+    for (name, low, spread) in [
+        ("0 to 7 bytes", 0, 8),
+        ("0 to 15 bytes", 0, 16),
+        ("0 to 23 bytes", 0, 24),
+        ("24 to 63 bytes", 24, 40),
+        ("64 to 191 bytes", 64, 128),
+        ("1000 bytes", 1000, 1),
+    ] {
+        let mut random = Random::new();
+        let mut source = Vec::new();
+        let mut count = 0;
+        while source.len() < SIZE {
+            let len = (low + random.below(spread)) as usize;
+            push_text(&mut source, len, Letters::Ascii, &mut random);
+            source.push(0);
+            count += 1;
+        }
+        let forms = [
+            ours("for", |job| unsafe { rt_c_strings(job.input.as_ptr(), job.input.len()) }),
+            rust("while", |job| by_gread(job.input)),
+            rust("for", |job| by_gread_for(job.input)),
+            rust("std", |job| by_std(job.input)),
+        ];
+        bench.row("c_strings", name, count, &mut reading(&source), &forms);
+    }
+}
+
+unsafe extern "C" {
+    fn rt_owned(source: *const u8, len: usize) -> u64;
+    fn rt_owned_std(source: *const u8, len: usize) -> u64;
+    fn rt_make_owned(source: *const u8, len: usize) -> u64;
+    fn rt_measure(source: *const u8, len: usize) -> u64;
+}
+
+#[inline(never)]
+fn owned(source: &[u8]) -> u64 {
+    let mut offset = 0;
+    let mut total: u64 = 0;
+    while let Ok(text) = source.gread::<&CStr>(&mut offset) {
+        // (kept from being left out)
+        let text: CString = std::hint::black_box(text.to_owned());
+        total = total.wrapping_add(text.as_bytes().len() as u64);
+    }
+    total
+}
+
+#[inline(never)]
+fn make_owned(source: &[u8]) -> u64 {
+    let mut total: u64 = 0;
+    for text in source.chunks_exact(7) {
+        match CString::new(text) {
+            Ok(text) => total = total.wrapping_add(std::hint::black_box(text).as_bytes_with_nul().len() as u64),
+            Err(_) => break,
+        }
+    }
+    total
+}
+
+#[inline(never)]
+fn measure(source: &[u8]) -> u64 {
+    let mut total: u64 = 0;
+    for part in source.chunks_exact(8) {
+        total = total.wrapping_add(part.measure_with(&()) as u64);
+    }
+    total
+}
+
+macro_rules! source {
+    ($name:ident) => {
+        ours("for", |job| unsafe { $name(job.input.as_ptr(), job.input.len()) })
+    };
+}
+
+fn all_owned(bench: &mut Bench) {
+    for (row, row_std, low, spread) in [("7 bytes", "7 bytes of std", 7, 1), ("0 to 63 bytes", "0 to 63 bytes of std", 0, 64)] {
+        let mut random = Random::new();
+        let mut source = Vec::new();
+        let mut count = 0;
+        while source.len() < SIZE {
+            push_text(&mut source, (low + random.below(spread)) as usize, Letters::Ascii, &mut random);
+            source.push(0);
+            count += 1;
+        }
+        let mut job = reading(&source);
+        bench.row("owned", row, count, &mut job, &[source!(rt_owned), rust("while", |job| owned(job.input))]);
+        bench.row("owned", row_std, count, &mut job, &[source!(rt_owned_std), rust("while", |job| owned(job.input))]);
+    }
+    let letters = vec![b'n'; SIZE];
+    let mut job = reading(&letters);
+    bench.row("owned", "made of 7 bytes", SIZE as u64 / 7, &mut job, &[source!(rt_make_owned), rust("for", |job| make_owned(job.input))]);
+    bench.row("owned", "sizes", SIZE as u64 / 8, &mut job, &[source!(rt_measure), rust("for", |job| measure(job.input))]);
+}
+
+pub fn all(bench: &mut Bench) {
+    all_texts(bench);
+    all_c_strings(bench);
+    all_owned(bench);
 }

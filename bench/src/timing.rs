@@ -59,9 +59,12 @@ impl Bench {
         self.differs
     }
 
-    /// Times the forms of a row of `count` steps.
+    /// Times the forms of a row of `count` steps, or none of them if they disagree.
     pub fn row(&mut self, set: &str, row: &str, count: u64, job: &mut Job, forms: &[Form]) {
-        self.compare(set, row, job, forms);
+        if !self.agree(set, row, job, forms) {
+            self.differs = true;
+            return;
+        }
         let mut best = vec![f64::MAX; forms.len()];
         let start = Instant::now();
         for round in 0..self.rounds {
@@ -85,9 +88,10 @@ impl Bench {
         }
     }
 
-    // Runs each form once over a cleared output, and compares what it returned and wrote.
-    fn compare(&mut self, set: &str, row: &str, job: &mut Job, forms: &[Form]) {
+    // Runs each form once over a cleared output, and returns whether all of them return and write the same.
+    fn agree(&self, set: &str, row: &str, job: &mut Job, forms: &[Form]) -> bool {
         let mut first = None;
+        let mut same = true;
         for form in forms {
             job.output.fill(0);
             let sum = (form.run)(job);
@@ -97,10 +101,11 @@ impl Bench {
                 Some(wanted) if wanted == got => {}
                 Some(wanted) => {
                     eprintln!("DIFFER: {set}, {row}: {}: {got:?} in place of {wanted:?}", form.name);
-                    self.differs = true;
+                    same = false;
                 }
             }
         }
+        same
     }
 }
 

@@ -1,15 +1,14 @@
 //! Calls that no session reaches: which there are, random ones, and what both sides answer.
 
-use crate::case::{Case, Verdict, lower, removals};
+use crate::cases::{Case, FLOATS, LEB128, Random, TEXTS, Verdict, lower, removals};
 #[cfg(feature = "derive")]
 use crate::derived;
-use crate::random::{FLOATS, LEB128, Random, TEXTS};
 use crate::reply::Reply;
 use crate::spoken::hex;
 use crate::theirs;
 
 /// Which value is read or written, where, by which form of the call, and two numbers that make the context: as in
-/// compare/calls/forms.rt.txt.
+/// compare/calls/call.rt.txt.
 #[repr(C)]
 #[derive(Clone, Copy)]
 pub struct Asked {

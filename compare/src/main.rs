@@ -8,18 +8,16 @@
 //! docs/DIFFERENCES.md doesn't say.
 
 mod calls;
-mod case;
+mod cases;
 #[cfg(feature = "derive")]
 mod derived;
-mod heap;
-mod program;
-mod random;
+mod ours;
 mod reply;
 mod sessions;
 mod spoken;
 mod theirs;
 
-use case::{Case, Verdict, shrink};
+use cases::{Case, Random, Verdict, shrink};
 use std::collections::BTreeMap;
 use std::io::IsTerminal;
 use std::sync::Mutex;
@@ -27,7 +25,6 @@ use std::sync::atomic::{AtomicU64, Ordering};
 use std::time::{Duration, Instant};
 
 use calls::Call;
-use random::Random;
 use sessions::Session;
 
 /// One case in so many is a session.
@@ -39,7 +36,7 @@ const ENOUGH: u64 = 1000;
 /// Of so many kinds of calls, and of sessions, a difference is shown.
 const SHOWN: usize = 8;
 /// The most bytes of a buffer, as a power of two.
-const MOST_BITS: u64 = 20;
+const MAX_BITS: u64 = 20;
 /// With faults, one session in so many is run with them.
 const SAMPLE: u64 = 200;
 
@@ -67,7 +64,7 @@ struct Run {
 
 impl Run {
     fn bits(&self, case: u64) -> u32 {
-        (case * (MOST_BITS + 1) / self.cases) as u32
+        (case * (MAX_BITS + 1) / self.cases) as u32
     }
 
     fn session(&self, case: u64) -> Session {
@@ -158,7 +155,7 @@ impl Run {
             if !session.is_short() {
                 continue;
             }
-            let result = program::with_faults(&session.input, library);
+            let result = ours::with_faults(&session.input, library);
             let mut found = found.lock().unwrap();
             found.0 += 1;
             match result {
@@ -212,14 +209,14 @@ fn main() {
     let number = |word: String| word.parse::<u64>().unwrap_or_else(|_| panic!("{word} is no number"));
     while let Some(flag) = words.next_if(|word| word.starts_with("--")) {
         match flag.as_str() {
-            "--long" => program::LONG.set(words.next().unwrap()).unwrap(),
+            "--long" => ours::LONG.set(words.next().unwrap()).unwrap(),
             "--faults" => faults = words.next(),
             "--seconds" => seconds = words.next().map(number),
             "--lie" => spoken::LIES.store(true, Ordering::Relaxed),
             _ => panic!("there is no {flag}"),
         }
     }
-    program::PROGRAM.set(words.next().unwrap()).unwrap();
+    ours::PROGRAM.set(words.next().unwrap()).unwrap();
     let [seed, count, workers] = [0; 3].map(|_| number(words.next().unwrap()));
     let run = Run {
         seed,

@@ -1,8 +1,7 @@
 //! Random sessions.
 
-use crate::case::{Case, Verdict, lower, parts, removals};
-use crate::program;
-use crate::random::{LEB128, Random, TEXTS};
+use crate::cases::{Case, LEB128, Random, TEXTS, Verdict, lower, parts, removals};
+use crate::ours;
 use crate::spoken::{self, LIMIT, LONG_LIMIT, hex};
 
 /// The greatest product of the bytes of a buffer and the commands, but for sessions of the greatest length.
@@ -202,7 +201,7 @@ impl Words<'_> {
 impl Session {
     /// A random session with a buffer of about 2 to the power of `bits` bytes at most, as far as an input has room.
     pub fn random(random: &mut Random, bits: u32) -> Session {
-        if bits > 15 && program::LONG.get().is_some() && random.below(150) == 0 {
+        if bits > 15 && ours::LONG.get().is_some() && random.below(150) == 0 {
             return Session::long(random, bits);
         }
         let subject = if random.chance(2) { Subject::Full } else { random.pick(&SUBJECTS[..6]) };
@@ -267,11 +266,11 @@ impl Session {
 
     fn answers(&self) -> [(Vec<u8>, Option<i32>); 2] {
         let (program, limit) = match self.subject {
-            Subject::Long => (&program::LONG, LONG_LIMIT),
-            _ => (&program::PROGRAM, LIMIT),
+            Subject::Long => (&ours::LONG, LONG_LIMIT),
+            _ => (&ours::PROGRAM, LIMIT),
         };
         let (printed, status) = spoken::answer(&self.input, limit);
-        [program::run(program.get().unwrap(), &self.input, &[]), (printed, Some(status))]
+        [ours::run(program.get().unwrap(), &self.input, &[]), (printed, Some(status))]
     }
 }
 

@@ -176,11 +176,11 @@ pub fn write_array(asked: &Asked, bytes: &mut [u8], given: &[u8], reply: &mut Re
 }
 
 pub fn write_bytes(asked: &Asked, bytes: &mut [u8], given: &[u8], reply: &mut Reply) {
-    let front = given.get(..(asked.b % 16) as usize).unwrap_or(given);
+    let prefix = given.get(..(asked.b % 16) as usize).unwrap_or(given);
     let text = std::str::from_utf8(given);
     match asked.kind {
         0 => write(asked, bytes, reply, given, ()),
-        1 => write(asked, bytes, reply, [front, given, front], ()),
+        1 => write(asked, bytes, reply, [prefix, given, prefix], ()),
         2 => drop(text.map(|text| write(asked, bytes, reply, text, ()))),
         3 => drop(text.map(|text| write(asked, bytes, reply, [text, text], ()))),
         4 | 5 => drop(CStr::from_bytes_until_nul(given).map(|text| write(asked, bytes, reply, text, ()))),

@@ -34,13 +34,15 @@ done <<'END'
 clients/examples/src/format.rt.txt Format
 clients/examples/src/format.rt.txt Data
 clients/examples/src/stream.rt.txt Foo
-clients/examples/src/triangles.rt.txt Point
-clients/examples/src/triangles.rt.txt Triangle
+clients/examples/src/arrays.rt.txt Point
+clients/examples/src/arrays.rt.txt Triangle
 clients/object_files/src/sections.rt.txt Section
 clients/packets/src/headers.rt.txt DnsHeader
 clients/packets/src/headers.rt.txt UdpHeader
 clients/zip/src/file.rt.txt StoredFile
 clients/zip/src/end.rt.txt EndRecord
+clients/git_index/src/entry.rt.txt Stat
+clients/git_index/src/entry.rt.txt Entry
 END
 
 # Tests whether a file in which one line of the implementation differs is found out: --check ends with 1 and one line.
@@ -209,11 +211,32 @@ struct Owner<'a> {
     // #[scroll(ctx = len as usize)]
     text: &'a [u8],
 }
-struct Scale<'a> {
+struct Grid<'a> {
     len: u8,
-    factor: f32,
-    // #[scroll(ctx = len as usize)]
+    cells: [[u8; 2]; 2],
+    text: CStr<'a>,
+}
+struct Line<'a> {
+    // #[scroll(ctx = 3)]
+    text: CStr<'a>,
+}
+struct Tail<'a> {
+    text: CStr<'a>,
+    pad: Zeros,
+}
+struct Cells<'a> {
+    len: u8,
+    // #[scroll(ctx = padding(offset, 4))]
     text: &'a [u8],
+}
+struct Many<'a> {
+    len: u8,
+    // #[scroll(ctx = len as usize * 18446744073709551615)]
+    text: &'a [u8],
+}
+struct Kind<'a> {
+    text: CStr<'a>,
+    kind: char,
 }
 END
 cp "$room/trial/src/bad.rt" "$room/bad.rt"
@@ -249,16 +272,21 @@ trial/src/bad.rt|Later|bad.rt:27: the context of the field text names len, which
 trial/src/bad.rt|Other|bad.rt:32: the context of the field text names width, which is no field
 trial/src/bad.rt|Signed|bad.rt:37: the context of the field text names len, which is no unsigned number of at most 64 bits
 trial/src/bad.rt|Words|bad.rt:42: the context len as usize of the field text is no StrCtx::Length(..)
-trial/src/bad.rt|Less|bad.rt:47: the context len as usize - 1 of the field text is no sum of fields `as usize` and numbers
+trial/src/bad.rt|Less|bad.rt:47: the context len as usize - 1 of the field text is no sum of fields `as usize`, each times a number, and of numbers
 trial/src/bad.rt|Wide|bad.rt:52: the context len as usize + 1 of the field text adds to a number of more than 32 bits
 trial/src/bad.rt|Mark|bad.rt:56: the constant 0x100 of the field mark doesn't fit its type
 trial/src/bad.rt|Sign|bad.rt:60: the field mark has a constant, and is no unsigned number of at most 64 bits
 trial/src/bad.rt|Name|bad.rt:64: the constant MAGIC of the field mark is no literal
 trial/src/bad.rt|Note|bad.rt:68: the field mark has the note count = 1, and one `ctx = ..` or `is = ..` is known
-trial/src/bad.rt|Idle|bad.rt:72: the field mark is a number, and has a context
+trial/src/bad.rt|Idle|bad.rt:72: the field mark has a context that its type u8 doesn't take
 trial/src/bad.rt|Pair|bad.rt:74: the struct Pair has fields without names
-trial/src/bad.rt|Owner|bad.rt:76: the field len is of a type whose size depends on its bytes, Uleb128
-trial/src/bad.rt|Scale|bad.rt:82: the field factor is a float in a struct of any size
+trial/src/bad.rt|Owner|bad.rt:78: the context of the field text names len, which is no unsigned number of at most 64 bits
+trial/src/bad.rt|Grid|bad.rt:82: the field cells is an array of arrays in a struct of any size
+trial/src/bad.rt|Line|bad.rt:87: the field text has the note ctx, which its type CStr<'a> doesn't take
+trial/src/bad.rt|Tail|bad.rt:91: the field pad has no context: how many bytes it has
+trial/src/bad.rt|Cells|bad.rt:96: the context padding(offset, 4) of the field text is no sum of fields `as usize`, each times a number, and of numbers
+trial/src/bad.rt|Many|bad.rt:101: the context len as usize \* 18446744073709551615 of the field text adds to a number of more than 32 bits
+trial/src/bad.rt|Kind|bad.rt:105: the field kind is of the type char, which is no number of a fixed width, no array and no struct of this file
 END
 refuses 'bad.rt:20: the struct Twenty is of a fixed size, and has no definitions of its own' --specs "$room/bad.rt" Twenty
 refuses 'usage: derive.sh \[--check | --specs | --back\] FILE STRUCT' "$room/bad.rt"

@@ -14,10 +14,13 @@
 # structs, whose length is a literal or a constant of FILE, or a struct of FILE for which the same was printed. It gets `Record`,
 # from which the other traits follow.
 #
-# A struct of any size is in the src/ of a crate. A field is a whole number, `&'a [u8]` or `&'a str`. In a comment before it may stand
+# A struct of any size is in the src/ of a crate. A field is one of a fixed size (but no array of arrays), `Uleb128`, `Sleb128`,
+# `&'a [u8]`, `&'a str`, `CStr<'a>` of std::ffi, or `Zeros`. In a comment before it may stand
 #
-#     // #[scroll(ctx = len as usize)]     how many bytes a slice has: a sum of earlier fields and of a number; for a text
-#                                          within StrCtx::Length(..)
+#     // #[scroll(ctx = len as usize)]     how many bytes a slice has, or zeros: a sum of earlier fields, each of which may be
+#                                          times a number, as in `count as usize * 18`, and of a number; for a text within
+#                                          StrCtx::Length(..)
+#     // #[scroll(ctx = padding(offset, 8))]    of zeros: as many as there are up to a multiple, from the start of the struct
 #     // #[scroll(is = 0x04034b50)]        the constant that a number has to be
 #
 # It gets TryFromCtx and TryIntoCtx. What --specs prints is its specs/STRUCTFormat.antt, and what --back prints is its

@@ -13,8 +13,7 @@ GHOST_USES: List[Tuple[str, List[str]]] = [
     ("Rattle.std.specs.Float", ["binary32", "binary64"]),
     ("Rattle.std.proofs.Common", ["refl", "rules"]),
     ("Rattle.scroll.specs.Arrays", ["MakesArray"]),
-    ("Rattle.scroll.specs.Floats", ["float"]),
-    ("Rattle.scroll.specs.Numbers", ["number", "signed_number"]),
+    ("Rattle.scroll.specs.Numbers", ["float", "number", "signed_number"]),
 ]
 
 
@@ -23,7 +22,7 @@ def drop(at: int, source: str) -> str:
 
 
 def made(type: Type, source: str, value: str) -> str:
-    """Returns a clause: which value a source makes at its front."""
+    """Returns a clause: which value a source makes at its prefix."""
     if isinstance(type, Number):
         word = {"unsigned": "number", "signed": "signed_number", "float": f"float binary{8 * type.width}"}[type.kind]
         width = "" if type.kind == "float" else f" {type.width}"

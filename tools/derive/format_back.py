@@ -3,115 +3,303 @@
 from __future__ import annotations
 
 import re
-from typing import List, Tuple
+from dataclasses import dataclass
+from typing import Callable, Dict, List, Sequence, Tuple
 
-from format_words import bytes_of, fields_in, member, offsets_in, reads_of, size_in, use_lines, value_in, value_of
+from fixed import made
+from format_words import (
+    before,
+    bytes_of,
+    counted,
+    declared_uses,
+    fields_in,
+    fixed_bytes,
+    fixed_type,
+    member,
+    offsets_in,
+    reads_of,
+    size_in,
+    structs_in,
+    use_lines,
+    value_in,
+    value_of,
+    within,
+)
+from kinds import Array, Number, Struct, Type, width_of
+from layout import Tree, label, nested
 from parts import Format, Part, width
 
 MODULES = [
     (
         "Rattle.std.proofs.Common",
-        ["◌≡◌", "◌+◌", "◌^◌", "◌<◌", "◌≤◌", "◌≤ℤ◌", "◌<ℤ◌", "◌*ℤ◌", "◌++◌", "◌∙◌", "ℕ", "ℤ", "pos", "neg_ℤ", "List", "T", "IsUtf8", "length", "drop", "refl", "sym", "ap"]
-        + ["length-append", "length-drop", "arith"],
+        ["◌≡◌", "◌≢◌", "◌+◌", "◌*◌", "◌^◌", "◌<◌", "◌≤◌", "◌≤ℤ◌", "◌<ℤ◌", "◌*ℤ◌", "◌++◌", "[]", "◌∷◌", "◌∙◌", "ℕ", "ℤ", "pos", "neg_ℤ"]
+        + ["List", "T", "IsUtf8", "length", "drop", "to_bits", "refl", "sym", "ap", "length-append", "length-drop", "arith"],
     ),
+    ("Rattle.std.specs.CStr", ["c_str_bytes"]),
     ("Rattle.std.specs.Float", ["binary32", "binary64"]),
     ("Rattle.std.specs.Float.Ieee", ["fits"]),
-    ("Rattle.scroll.specs.Texts", ["ReadsSlice", "ReadsText"]),
+    ("Rattle.std.specs.List", ["All", "flat_map"]),
+    ("Rattle.std.proofs.lemmas.List", ["length-replicate"]),
+    ("Rattle.scroll.specs.Arrays", ["MakesArray"]),
+    ("Rattle.scroll.specs.Bytes", ["ReadsFixed"]),
+    ("Rattle.scroll.specs.CStrings", ["ReadsCString"]),
+    ("Rattle.scroll.specs.Encoding", ["HasEncoding", "HasSignedEncoding", "unsigned_form", "uleb_text", "sleb_text"]),
+    ("Rattle.scroll.specs.Fixed", ["exactly"]),
+    ("Rattle.scroll.specs.Numbers", ["float", "float_bytes", "ReadsFloat", "number", "number_bytes", "signed_number", "signed_bytes", "ReadsNumber", "ReadsSigned"]),
     ("Rattle.scroll.specs.Leb128", ["ReadsCountedUleb", "ReadsCountedSleb"]),
-    ("Rattle.scroll.specs.LebWrites", ["uleb_text", "sleb_text"]),
-    ("Rattle.scroll.specs.Spelling", ["HasSpelling", "HasSignedSpelling", "unsigned_form"]),
-    ("Rattle.scroll.specs.Floats", ["float", "float_bytes", "ReadsFloat"]),
-    ("Rattle.scroll.specs.Numbers", ["number", "number_bytes", "signed_number", "signed_bytes", "ReadsNumber", "ReadsSigned"]),
-    ("Rattle.scroll.specs.lemmas.Frames", ["length-number_bytes", "length-signed_bytes", "length-spelling"]),
-    ("Rattle.scroll.specs.lemmas.NumberBytes", ["number-begins", "signed-begins", "float-begins"]),
+    ("Rattle.scroll.specs.Texts", ["ReadsSlice", "ReadsText"]),
+    ("Rattle.scroll.specs.Zeros", ["padding_len", "zeros", "ReadsZeros"]),
+    ("Rattle.scroll.specs.lemmas.FixedLemmas", ["length-exactly"]),
+    ("Rattle.scroll.specs.lemmas.Frames", ["length-number_bytes", "length-signed_bytes", "length-encoding", "ReadsCString-bounded"]),
+    ("Rattle.scroll.specs.lemmas.NumberLemmas", ["number-begins", "signed-begins", "float-begins"]),
     ("Rattle.scroll.specs.declared.ctx.str_ctx.StrCtx.TheVariants", ["Length"]),
     ("Rattle.scroll.specs.declared.endian.Endian", ["Endian"]),
     (
         "Rattle.scroll.proofs.lemmas.callers.Sequences",
-        ["Rest", "rest-start", "rest-next", "rest-last", "rest-value", "rest-reads", "value-begins", "slice-begins", "text-begins", "uleb-begins", "sleb-begins"],
+        ["Rest", "rest-start", "rest-next", "rest-open", "rest-last", "rest-before", "rest-makes", "rest-reads", "fixed-begins", "array-begins"]
+        + ["slice-begins", "text-begins", "uleb-begins", "sleb-begins", "c_string-begins", "zeros-begin"],
     ),
 ]
+
+
+def snake(name: str) -> str:
+    return re.sub(r"(?<=[a-z0-9])(?=[A-Z])", "_", name).lower()
+
+
+def fixed_fit(type: Type, value: str) -> str:
+    """Returns which values a type of a fixed size can hold."""
+    if isinstance(type, Number):
+        size = f"256 ^ {type.width}"
+        if type.kind == "unsigned":
+            return f"{value} < {size}"
+        if type.kind == "float":
+            return f"T (fits binary{8 * type.width} {value})"
+        return f"(neg_ℤ (pos ({size})) ≤ℤ (pos 2 *ℤ {value})) × ((pos 2 *ℤ {value}) <ℤ pos ({size}))"
+    if isinstance(type, Array):
+        return f"(length {value} ≡ {type.length}) × All (λ v. {fixed_fit(type.element, 'v')}) {value}"
+    return " × ".join(f"({fixed_fit(field.type, f'{value}.{label(field.name)}')})" for field in type.fields)
 
 
 def fit_of(part: Part) -> str:
     """Returns which values of a field its type can hold, or nothing where that needn't be said."""
     value = f"x.{part.label}"
+    if part.fixed:
+        return fixed_fit(part.fixed, value)
     if part.kind == "leb":
-        return f"Has{'Signed' if part.type == 'Sleb128' else ''}Spelling {value}.value {value}.count"
-    if part.kind == "text":
-        return f"IsUtf8 {value}.now"
-    if not part.number:
-        return ""
-    size = f"256 ^ {part.number.width}"
-    if part.number.kind == "unsigned":
-        return f"{value} < {size}"
-    return f"(neg_ℤ (pos ({size})) ≤ℤ (pos 2 *ℤ {value})) × ((pos 2 *ℤ {value}) <ℤ pos ({size}))"
+        return f"Has{'Signed' if part.type == 'Sleb128' else ''}Encoding {value}.value {value}.count"
+    if part.kind == "c_string":
+        return f"All (λ b. b ≢ 0) (c_str_bytes {value})"
+    return f"IsUtf8 {value}.now" if part.kind == "text" else ""
 
 
-def begins_of(part: Part) -> str:
-    """Returns why a number begins its bytes."""
-    assert part.number
-    value, fit = f"x.{part.label}", f"held.{member(part)}"
-    if part.number.kind == "unsigned":
-        return f"(λ r. number-begins order {part.number.width} {value} r {fit})"
-    return f"(λ r. signed-begins order {part.number.width} {value} r {fit}.0 {fit}.1)"
+def fixed_begins(type: Type, value: str, rest: str, fit: str) -> str:
+    """Returns why a value of a fixed size is made of what begins with its bytes."""
+    if isinstance(type, Number):
+        if type.kind == "float":
+            return f"sym (float-begins binary{8 * type.width} order {value} {rest} {fit})"
+        fits = f"{fit}" if type.kind == "unsigned" else f"{fit}.0 {fit}.1"
+        return f"sym ({'number' if type.kind == 'unsigned' else 'signed'}-begins order {type.width} {value} {rest} {fits})"
+    if isinstance(type, Array):
+        element = type.element
+        parts = [
+            f"(λ v. {fixed_bytes(element, 'v')})",
+            f"(λ s v. {made(element, 's', 'v')})",
+            f"(λ v. {fixed_fit(element, 'v')})",
+            f"(λ v. {fixed_length(element, 'v')})",
+            f"(λ v rest h. {fixed_begins(element, 'v', 'rest', 'h')})",
+        ]
+        return f"array-begins {width_of(element)} {type.length} {' '.join(parts)} {value} {fit}.0 {fit}.1 {rest}"
+    return f"{snake(type.name)}-begins order {value} {rest} {fit}"
+
+
+def fixed_length(type: Type, value: str) -> str:
+    """Returns why the bytes of a value are as many as its width says."""
+    if isinstance(type, Number):
+        if type.kind == "float":
+            return f"length-number_bytes order {type.width} (to_bits binary{8 * type.width} {value})"
+        return f"length-{'signed' if type.kind == 'signed' else 'number'}_bytes order {type.width} {value}"
+    if isinstance(type, Array):
+        element = fixed_bytes(type.element, "v")
+        return f"length-exactly ({width_of(type.element)} * {type.length}) (flat_map (λ v. {element}) {value})"
+    return f"length-{snake(type.name)} order {value} []"
 
 
 def length_of(part: Part) -> str:
     """Returns why the bytes of a field are as many as its size says."""
     value = f"x.{part.label}"
+    if part.fixed:
+        return f"({fixed_length(part.fixed, value)})"
     if part.kind == "leb":
         text = f"{value}.value" if part.type == "Uleb128" else f"(unsigned_form {value}.value {value}.count)"
-        return f"(length-spelling {text} {value}.count)"
-    if part.count:
-        return f"(sym agrees.{member(part)})"
-    assert part.number
-    return f"(length-{'signed' if part.number.kind == 'signed' else 'number'}_bytes order {part.number.width} {value})"
+        return f"(length-encoding {text} {value}.count)"
+    if part.kind == "c_string":
+        return f"(length-append (c_str_bytes {value}) (0 ∷ []))"
+    if part.is_padding:
+        return f"(length-replicate {{A = ℕ}} _ 0 ∙ {part.name}-count)"
+    if part.kind == "zeros":
+        assert part.count
+        return f"(length-replicate {{A = ℕ}} {within(part.count.in_clause({name: f'x.{name}' for name in part.count.fields}))} 0)"
+    return f"(sym agrees.{member(part)})"
 
 
-def reads_back(part: Part, size: str) -> str:
+def reads_back(form: Format, part: Part, names: Dict[str, str], size: str) -> str:
     """Returns why a field that is read by a call of its own reads back."""
     value, fit = f"x.{part.label}", f"held.{member(part)}"
+    if part.fixed:
+        makes = f"λ s v. {made(part.fixed, 's', 'v')}"
+        begins = f"λ r. {fixed_begins(part.fixed, value, 'r', fit)}"
+        return f"(fixed-begins ({makes}) {value} {width(part)} ({bytes_of(form, part, names)}) {length_of(part)} ({begins}))"
     if part.kind == "leb":
         return f"({part.type[0].lower()}leb-begins {value} {fit})"
+    if part.kind == "c_string":
+        return f"(λ r. c_string-begins (c_str_bytes {value}) r {fit})"
+    if part.kind == "zeros":
+        assert part.count
+        if part.count.multiple:
+            return f"(zeros-begin (padding_len (length ({before(form, part)} order x)) {part.count.multiple}) {size} {part.name}-count)"
+        return f"(zeros-begin {size} {size} refl)"
     if part.kind == "slice":
         return f"(slice-begins {value}.now {size} {length_of(part)})"
-    if part.kind == "text":
-        return f"(text-begins {value}.now {size} {length_of(part)} {fit})"
-    return f"(value-begins ({value_of(part)}) {value} {width(part)} ({bytes_of(part, value)}) {length_of(part)} {begins_of(part)})"
+    return f"(text-begins {value}.now {size} {length_of(part)} {fit})"
 
 
 def argument(term: str) -> str:
     return f"({term})" if " " in term else term
 
 
+def ended_size(part: Part, at: str) -> str:
+    """Returns how many bytes a field has that says where it ends, at the offset `at`."""
+    if part.is_padding:
+        return counted(part, {}, at)[1:-1]
+    return f"x.{part.label}.count" if part.kind == "leb" else f"length (c_str_bytes x.{part.label}) + 1"
+
+
+def joined_bytes(trees: Sequence[Tree], lists: List[str]) -> str:
+    """Returns the bytes of parts one after another, as an argument; `lists` has those of the parts that are leaves."""
+    if not trees:
+        return "[]"
+    first, *others = trees
+    own = lists[int(first)] if isinstance(first, str) else joined_bytes(first, lists)
+    return f"({own} ++ {joined_bytes(others, lists)})" if others else own
+
+
+@dataclass(frozen=True)
+class Step:
+    """A part that comes first: its index, the name of what is left from it on (`begun`, and `here` with `[]` after the last), the
+    bytes after it, all bytes from it on, and, of a part that pads others, the name of what is left where those come first."""
+
+    index: int
+    begun: str
+    here: str
+    after: str
+    all: str
+    padded: str
+
+
+def visit(left: List[Tree], lists: List[str], leaf: Callable[[Step], Tuple[List[str], str, str]]) -> List[str]:
+    """Returns a step for each part, with what is left from its offset on. `leaf` returns of a part what comes before its step,
+    its size, and why it has so many bytes."""
+    padded: Dict[str, str] = {}
+    lets, step = ["    let p0 : Rest 0 s s = rest-start s in"], 0
+    # The check finds bytes by itself where none are those of an array and none are grouped.
+    is_plain = not any("exactly" in it for it in lists) and all(isinstance(it, str) for it in left)
+    while left:
+        first, *others = left
+        after = "_" if others and is_plain else joined_bytes(others, lists)
+        if isinstance(first, str):
+            own, here = lists[int(first)], f"p{step}"
+            if not others:
+                lets.append(f"    let last = rest-last {own} rest {here} in")
+                here = "last"
+            more, size, why = leaf(Step(int(first), f"p{step}", here, after, joined_bytes(left, lists), padded.get(first, "")))
+            lets += more
+            lets.append(f"    let p{step + 1} = rest-next {size} {own} {after} rest {why} {here} in")
+            step, left = step + 1, others
+        elif others:
+            inner = list(first)[1:]
+            lets.append(f"    let p{step + 1} = rest-open {joined_bytes(first[:1], lists)} {joined_bytes(inner, lists)} {after} rest p{step} in")
+            step, left = step + 1, [first[0], inner[0] if len(inner) == 1 else tuple(inner), *others]
+        else:
+            left = list(first)
+        if isinstance(first, tuple) and isinstance(first[-1], str):
+            padded[first[-1]] = f"p{step}"
+    return [*lets, f"    let end = p{step} in"]
+
+
 def steps(form: Format) -> Tuple[List[str], List[str]]:
     """Returns a step for each field, with what is left from its offset on, and the value of each."""
     names = fields_in(form)
-    lets = ["    let p0 : Rest 0 s s = rest-start s in"]
-    lets += [f"    let {part.name}-size = x.{part.label}.count in" for part in form.parts if part.kind == "leb"]
-    values = []
-    for index, part in enumerate(form.parts):
+    lists = [argument(bytes_of(form, part, names)) for part in form.parts]
+    values: List[str] = []
+    made_of: List[str] = []
+
+    tree: List[Tree] = []
+    for index in range(len(lists)):
+        tree = [(tree[0] if len(tree) == 1 else tuple(tree), str(index))] if index in form.paddings else [*tree, str(index)]
+    ats = dict(zip((part.name for part in form.tail), offsets_in(form)))
+
+    def leaf(step: Step) -> Tuple[List[str], str, str]:
+        index, here, after = step.index, step.here, step.after
+        part, counts = form.parts[index], []
+        at = ats.get(part.name, "")
         size = argument(size_in(part, names))
-        bytes = argument(bytes_of(part, f"x.{part.label}"))
-        here = f"p{index}"
-        if index == len(form.parts) - 1:
-            lets.append(f"    let last = rest-last {bytes} rest {here} in")
-            here = "last"
-        lets.append(f"    let p{index + 1} = rest-next {size} {bytes} _ rest {length_of(part)} {here} in")
-        if part.kind == "leb":
+        if index in form.paddings:
+            assert part.count
+            begun = f"rest-before ({before(form, part)} order x) {step.all} rest {step.padded} {step.begun}"
+            counts = [f"    let {part.name}-count = ap (λ n. padding_len n {part.count.multiple}) ({begun}) in"]
+        if part.is_ended:
             values.append(f"{part.name}-size = {part.name}-size;")
         if part in form.head:
-            value = f"rest-value ({value_of(part)}) x.{part.label} {bytes} _ rest {begins_of(part)} {here}"
-            values.append(f"{member(part)} = {value};")
+            assert part.fixed
+            begins = fixed_begins(part.fixed, f"x.{part.label}", "r", f"held.{member(part)}")
+            makes = f"(λ s. {made(part.fixed, 's', names[part.name])})"
+            made_of.append(f"    let {part.name}-made = rest-makes {makes} {lists[index]} {after} rest (λ r. {begins}) {here} in")
+            values.append(f"{member(part)} = {part.name}-made;")
             if part.constant:
-                values.append(f"{part.name}-is = sym ({value}) ∙ agrees.{member(part)};")
+                values.append(f"{part.name}-is = sym {part.name}-made ∙ agrees.{member(part)};")
         else:
-            read = reads_of(part, names)
-            values.append(f"{member(part)} = rest-reads {read} {value_in(part)} {size} {bytes} _ rest {reads_back(part, size)} {here};")
+            read = f"rest-reads {reads_of(part, names, at)} {value_in(part)} {size}"
+            values.append(f"{member(part)} = {read} {lists[index]} {after} rest {reads_back(form, part, names, size)} {here};")
             if part.constant:
                 values.append(f"{part.name}-is = agrees.{member(part)};")
-    return lets, values
+        return counts, size, length_of(part)
+
+    lets = [f"    let {part.name}-size = {ended_size(part, ats[part.name])} in" for part in form.parts if part.is_ended]
+    return [*lets, *visit(tree, lists, leaf), *made_of], values
+
+
+def struct_lemmas(struct: Struct) -> List[str]:
+    """Returns the lemmas that a struct of a fixed size has its bytes, and is made of what begins with them."""
+    name, bytes = snake(struct.name), fixed_bytes(struct, "v")
+    values = [f"v.{label(field.name)}" for field in struct.fields]
+    lists = [argument(fixed_bytes(field.type, value)) for field, value in zip(struct.fields, values)]
+    facts: List[str] = []
+
+    def leaf(step: Step) -> Tuple[List[str], str, str]:
+        index, here, after = step.index, step.here, step.after
+        type, value = struct.fields[index].type, values[index]
+        held = "held" if len(values) == 1 else f"held.{index}"
+        begins = fixed_begins(type, value, "r", held)
+        facts.append(f"rest-makes (λ s. {made(type, 's', value)}) {lists[index]} {after} rest (λ r. {begins}) {here}")
+        return [], str(width_of(type)), f"({fixed_length(type, value)})"
+
+    lets = visit([nested([str(index) for index in range(len(values))])], lists, leaf)
+    size, source = width_of(struct), f"(({bytes}) ++ rest)"
+    return [
+        f"-- a `{struct.name}` has its bytes, and is made of what begins with them",
+        f"length-{name} : (order : Endian) (v : {struct.name}) (rest : List ℕ) → length ({bytes}) ≡ {size}",
+        f"length-{name} order v rest =",
+        f"    let s = ({bytes}) ++ rest in",
+        *lets,
+        f"    omega (arith, end.inside, ap length end.is, length-drop {size} s, length-append ({bytes}) rest)",
+        "",
+        f"{name}-begins : (order : Endian) (v : {struct.name}) (rest : List ℕ) → {fixed_fit(struct, 'v')} → {made(struct, source, 'v')}",
+        f"{name}-begins order v rest held =",
+        f"    let s = ({bytes}) ++ rest in",
+        *lets,
+        f"    {facts[0]}" if len(facts) == 1 else f"    ({', '.join(facts)})",
+        "",
+    ]
 
 
 def bounded(form: Format) -> List[str]:
@@ -121,7 +309,10 @@ def bounded(form: Format) -> List[str]:
         part = form.tail[-1]
         at = re.sub(r"(?<![\w.])(\w+-size)", r"h.\1", offsets_in(form)[-2])
         here = f"h.{member(part)}"
-        ends = [f"{here}.value.0.complete.0", f"{here}.value.0.size"] if part.kind == "leb" else [f"{here}.value.room"]
+        ends = {
+            "leb": [f"{here}.value.0.complete.0", f"{here}.value.0.size"],
+            "c_string": [f"{here}.value.found", f"{here}.value.size"],
+        }.get(part.kind, [f"{here}.value.room"])
         facts += [f"{here}.inside", *ends, f"length-drop {argument(at)} s"]
     return [
         "-- its bytes are in the source",
@@ -134,21 +325,20 @@ def bounded(form: Format) -> List[str]:
 def format_back(form: Format) -> str:
     """Returns the file of the proof."""
     name, snake = form.name, form.snake
-    has_own = any(part.constant or part.count for part in form.parts)
+    has_own = any(part.constant or part.is_counted for part in form.parts)
     fits = [(part, fit_of(part)) for part in form.parts if fit_of(part)]
     end = offsets_in(form)[-1]
     lets, values = steps(form)
     agrees = [f"Agrees{name} x → "] if has_own else []
     premises = "".join([*agrees, *([f"Fits{name} x → "] if fits else [])])
     arguments = " ".join([*(["agrees"] if has_own else []), *(["held"] if fits else [])])
-    count = len(form.parts)
     body = [
         f"pub {snake}-back : (order : Endian) (x : {name}) (rest : List ℕ) → {premises}"
         f"Reads{name} order ({snake}_bytes order x ++ rest) x (length ({snake}_bytes order x))",
         f"{snake}-back order x rest {arguments} =",
         f"    let s = {snake}_bytes order x ++ rest in",
         *lets,
-        f"    let whole : length s ≡ {end} + length rest = omega (arith, p{count}.inside, ap length p{count}.is, length-drop ({end}) s) in",
+        f"    let whole : length s ≡ {end} + length rest = omega (arith, end.inside, ap length end.is, length-drop ({end}) s) in",
         f"    let size : length ({snake}_bytes order x) ≡ {end} = omega (arith, whole, length-append ({snake}_bytes order x) rest) in",
         "    record {",
         *(["      room = omega (arith, whole);"] if form.head else []),
@@ -162,12 +352,14 @@ def format_back(form: Format) -> str:
         *(f"  pub {member(part)} : {fit}" for part, fit in fits),
         "",
     ]
-    text = "\n".join([*bounded(form), *(fit_record if fits else []), "-- what was written reads back, whatever follows it", *body])
+    inner = [line for struct in structs_in(form) for line in struct_lemmas(struct)]
+    text = "\n".join([*bounded(form), *(fit_record if fits else []), *inner, "-- what was written reads back, whatever follows it", *body])
     own = [f"Reads{name}", *([f"Agrees{name}"] if has_own else []), f"{snake}_bytes"]
+    own += [before(form, form.parts[index]) for index in form.paddings]
     return "\n".join([
         f"-- A `{name}` that was written reads back. `tools/derive/derive.sh` printed this from the struct.",
         *use_lines(text, MODULES),
-        f"use {form.declared}.{{{name}}}",
+        *declared_uses(form, text),
         f"use Rattle.{form.crate}.specs.{name}Format.{{{', '.join(own)}}}",
         "",
         text,

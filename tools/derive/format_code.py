@@ -2,9 +2,11 @@
 
 from __future__ import annotations
 
+import re
 from typing import Dict, List
 
-from layout import struct_lines
+from kinds import Array
+from layout import MOST, struct_lines, tuple_lines
 from parts import Format, Part, offsets
 
 # Names that the body of a read has.
@@ -54,13 +56,12 @@ def constant_test(part: Part, value: str) -> List[str]:
 
 def context_of(form: Format, part: Part) -> str:
     names = locals_of(form)
-    if part.kind == "slice":
-        assert part.count
-        return part.count.in_code(names)
-    if part.kind == "text":
-        assert part.count
-        return f"StrCtx::Length({part.count.in_code(names)})"
-    return "ctx" if part.is_number else "()"
+    if part.is_padding:
+        return f"{part.name}_len"
+    if part.count:
+        count = part.count.in_code(names)
+        return f"StrCtx::Length({count})" if part.kind == "text" else count
+    return "ctx" if part.fixed else "()"
 
 
 def read_lines(form: Format) -> List[str]:
@@ -72,7 +73,7 @@ def read_lines(form: Format) -> List[str]:
     values: Dict[str, str] = {}
     for part, at in zip(form.head, offsets(form.head)):
         values[part.name] = f"from.cread_with({at}, ctx)"
-        if part.constant or part.name in counters:
+        if part.constant or part.name in counters or isinstance(part.fixed, Array):
             lines.append(f"        let {names[part.name]}: {part.type} = {values[part.name]};")
             values[part.name] = names[part.name]
         if part.constant:
@@ -80,12 +81,45 @@ def read_lines(form: Format) -> List[str]:
     lines.append(f"        let mut {cursor} = {form.room};")
     for part in form.tail:
         values[part.name] = names[part.name]
-        lines.append(f"        let {names[part.name]}: {part.type} = from.gread_with(&mut {cursor}, {context_of(form, part)})?;")
+        if part.count and part.is_padding:
+            lines.append(f"        let {part.name}_len = padding({cursor}, {part.count.multiple});")
+        call = f"read_fixed(from, &mut {cursor}, ctx)" if isinstance(part.fixed, Array) else f"from.gread_with(&mut {cursor}, {context_of(form, part)})"
+        lines.append(f"        let {names[part.name]}: {part.type} = {call}?;")
         if part.constant:
             lines += constant_test(part, names[part.name])
     made = struct_lines(form.name, [(part.name, values[part.name]) for part in form.parts], False, 12)
+    if len(made) == 1:
+        return [*lines, f"        Ok(({made[0].strip()}, {cursor}))"]
     made[-1] += ","
     return [*lines, "        Ok((", *made, f"            {cursor},", "        ))"]
+
+
+def is_taken(part: Part) -> bool:
+    """Returns whether a field gets a variable before it is written. (The borrow checker's part of a proof doesn't cover an array
+    that is stored straight, nor the borrow of a number in LEB128 in a struct that is borrowed.)"""
+    return isinstance(part.fixed, Array) or part.kind == "leb"
+
+
+def encoded(part: Part, names: Dict[str, str]) -> str:
+    """Returns a field as it is written."""
+    if isinstance(part.fixed, Array):
+        return part.name
+    if part.fixed:
+        return f"Value({names[part.name]})"
+    if part.kind == "zeros":
+        assert part.count
+        return f"Gap({part.count.in_code(names)})"
+    return f"&{part.name}" if part.kind == "leb" else names[part.name]
+
+
+def parts_lines(codes: List[str]) -> List[str]:
+    """Returns the lines that make the variable `parts` of parts, in tuples."""
+    lines: List[str] = []
+    last, rest = (codes[-MOST:], codes[:-MOST]) if len(codes) > 1 else ([], [])
+    while last:
+        lines += tuple_lines("let parts = ", tuple(last), ";", 8)
+        last, rest = ([*rest[1 - MOST :], "parts"], rest[: 1 - MOST]) if rest else ([], [])
+    return lines
 
 
 def write_lines(form: Format) -> List[str]:
@@ -95,18 +129,26 @@ def write_lines(form: Format) -> List[str]:
     for part in form.parts:
         if part.constant:
             lines += constant_test(part, names[part.name])
-        if part.count:
+        if part.is_counted:
+            assert part.count
             length = f"{names[part.name]}.len()"
             lines += [
                 f"        if {part.count.in_code(names)} != {length} {{",
                 *refusal(length, other_count(part), 12),
                 "        }",
             ]
-    codes = [f"Value({names[part.name]})" if part.is_number else names[part.name] for part in form.parts]
-    *rest, last = codes
-    if rest:
-        lines.append(f"        let parts = ({rest[-1]}, {last});")
-        lines += [f"        let parts = ({code}, parts);" for code in reversed(rest[:-1])]
+    lines += [f"        let {part.name} = self.{part.name};" for part in form.parts if is_taken(part)]
+    codes: List[str] = []
+    for part in form.parts:
+        if part.count and part.is_padding:
+            lines += parts_lines(codes)
+            codes = [f"Padded({codes[0] if len(codes) == 1 else 'parts'}, {part.count.multiple})"]
+        else:
+            codes.append(encoded(part, names))
+    lines += parts_lines(codes)
+    last = "parts" if len(codes) > 1 else codes[0]
+    if last.startswith("Padded"):
+        lines.append(f"        let parts = {last};")
         last = "parts"
     return [
         *lines,
@@ -122,7 +164,7 @@ def format_blocks(form: Format) -> str:
     name, snake = form.name, form.snake
     lifetime = form.lifetime or "'a"
     impl = f"impl<{form.lifetime}>" if form.lifetime else "impl"
-    keeps = f"WritesFront-keeps ({snake}_bytes order x) old new n h.wrote"
+    keeps = f"WritesPrefix-keeps ({snake}_bytes order x) old new n h.wrote"
     return "\n".join([
         f"impl<{lifetime}> TryFromCtx<{lifetime}, Endian> for {form.type} {{",
         "    type Error = Error;",
@@ -159,15 +201,19 @@ def format_blocks(form: Format) -> str:
 def format_uses(form: Format) -> List[str]:
     """Returns the `use` lines that the implementations need."""
     name, snake = form.name, form.snake
-    contexts = ["Encode", *(["StrCtx"] if any(part.kind == "text" for part in form.parts) else []), "TryFromCtx", "TryIntoCtx"]
-    contexts += ["Value"] if any(part.is_number for part in form.parts) else []
-    ours = [*(["Cread"] if form.head else []), "Endian", "Error", *(["Pread"] if form.tail else []), "Result", "check_room"]
+    block = format_blocks(form)
+    words = set(re.findall(r"\w+", block))
+    contexts = ["Encode", *(it for it in ("Gap", "Padded", "StrCtx", "TryFromCtx", "TryIntoCtx", "Value", "Zeros", "padding", "read_fixed") if it in words)]
+    calls = {"Cread": "cread_with", "Pread": "gread_with"}
+    ours = ("Cread", "Endian", "Error", "Pread", "Result", "Sleb128", "Uleb128", "check_room")
+    ours = [it for it in ours if calls.get(it, it) in words]
     return [
         "ghost use Rattle.std.proofs.Common.{rules};",
-        "ghost use Rattle.scroll.specs.lemmas.Frames.{WritesFront-keeps};",
+        "ghost use Rattle.scroll.specs.lemmas.Frames.{WritesPrefix-keeps};",
         f"ghost use Rattle.{form.crate}.specs.{name}Back.{{{snake}-bounded}};",
         f"ghost use Rattle.{form.crate}.specs.{name}Format.{{Reads{name}, Refuses{name}, Writes{name}, Keeps{name}, {snake}_bytes}};",
         "",
         f"use scroll::ctx::{{{', '.join(contexts)}}};",
         f"use scroll::{{{', '.join(ours)}}};",
+        *(["use std::ffi::CStr;"] if "CStr" in words else []),
     ]

@@ -4,11 +4,15 @@ from __future__ import annotations
 
 from typing import Dict, List
 
+from fixed import made
 from format_code import other_constant, other_count
 from format_words import (
     MODULES,
+    before,
     bytes_of,
     camel,
+    counted,
+    declared_uses,
     drop,
     fields_in,
     member,
@@ -21,12 +25,14 @@ from format_words import (
     value_in,
     value_of,
 )
+from kinds import Number
 from parts import Format, Part, offsets
 
 
 def head_values(form: Format) -> Dict[str, str]:
     """Returns the numbers of the head in a source."""
-    return {part.name: f"{value_of(part)} {drop(at, 's')}" for part, at in zip(form.head, offsets(form.head))}
+    found = zip(form.head, offsets(form.head))
+    return {part.name: f"{value_of(part)} {drop(at, 's')}" for part, at in found if isinstance(part.fixed, Number)}
 
 
 def room_lines(form: Format) -> List[str]:
@@ -41,15 +47,17 @@ def reads_record(form: Format) -> List[str]:
         f"pub record Reads{form.name} (order : Endian) (s : List ℕ) (x : {form.name}) (n : ℕ) : Type 0 where",
         *room_lines(form),
     ]
-    for part in form.head:
-        lines.append(f"  pub {member(part)} : x.{part.label} ≡ {found[part.name]}")
+    for part, at in zip(form.head, offsets(form.head)):
+        assert part.fixed
+        clause = made(part.fixed, drop(at, "s"), f"x.{part.label}")
+        lines.append(f"  pub {member(part)} : {clause[1:-1]}")
         if part.constant:
             lines.append(f"  pub {part.name}-is : {found[part.name]} ≡ {part.constant}")
     for part, at in zip(form.tail, offsets_in(form)):
         size = at_argument(size_in(part, names))
-        if part.kind == "leb":
+        if part.is_ended:
             lines.append(f"  pub {part.name}-size : ℕ")
-        lines.append(f"  pub {member(part)} : ReadsAt {reads_of(part, names)} s {at_argument(at)} {value_in(part)} {size}")
+        lines.append(f"  pub {member(part)} : ReadsAt {reads_of(part, names, at)} s {at_argument(at)} {value_in(part)} {size}")
         if part.constant:
             lines.append(f"  pub {part.name}-is : x.{part.label} ≡ {part.constant}")
     return [*lines, f"  pub whole : n ≡ {offsets_in(form)[-1]}"]
@@ -76,20 +84,25 @@ def refusal_records(form: Format) -> List[List[str]]:
             f"-- `{part.name}` is refused",
             f"pub record {name} (order : Endian) (s : List ℕ) (e : Error) : Type 0 where",
             *before,
-            f"  pub refused : RefusesAt {refuses_of(part, names)} IsBadOffset s {at_argument(at)} e",
+            f"  pub refused : RefusesAt {refuses_of(part, names, at)} IsBadOffset s {at_argument(at)} e",
         ])
-        before = [
-            *before,
-            f"  pub {member(part)} : {type_of(part)}",
-            f"  pub {part.name}-size : ℕ",
-            f"  pub {part.name}-read : ReadsAt {reads_of(part, names)} s {at_argument(at)} {member(part)} {part.name}-size",
-        ]
+        before = [*before, *read_before(part, names, at)]
         names[part.name] = member(part)
         at = f"{part.name}-size" if at == "0" else f"{at} + {part.name}-size"
         if part.constant:
             records.append(constant_record(form, part, before, member(part)))
             before = [*before, f"  pub {part.name}-is : {member(part)} ≡ {part.constant}"]
     return records
+
+
+def read_before(part: Part, names: Dict[str, str], at: str) -> List[str]:
+    """Returns the parts of a record that say that a field was read. (Zeros have no value that the search finds.)"""
+    size, read = f"{part.name}-size", f"{part.name}-read"
+    if part.kind == "zeros":
+        zeros = f"ReadsZeros {counted(part, names, at)} (drop {at_argument(at)} s) {size}"
+        return [f"  pub {size} : ℕ", f"  pub {part.name}-inside : {at} ≤ length s", f"  pub {read} : {zeros}"]
+    reads = f"ReadsAt {reads_of(part, names, at)} s {at_argument(at)} {member(part)} {size}"
+    return [f"  pub {member(part)} : {type_of(part)}", f"  pub {size} : ℕ", f"  pub {read} : {reads}"]
 
 
 def constant_record(form: Format, part: Part, before: List[str], value: str) -> List[str]:
@@ -124,16 +137,24 @@ def refuses(form: Format) -> List[str]:
 
 
 def bytes_definition(form: Format) -> List[str]:
-    lists = [bytes_of(part, f"x.{part.label}") for part in form.parts]
+    """Returns the definition of the bytes, and before it those of the bytes that a field pads."""
+    names = fields_in(form)
+    lists: List[str] = []
+    lines: List[str] = []
+    for part in form.parts:
+        if part.is_padding:
+            lines += bytes_lines(form, before(form, part), f"its bytes before `{part.name}`", lists)
+            lists = [f"{before(form, part)} order x ++ {bytes_of(form, part, names)}"]
+        else:
+            lists.append(bytes_of(form, part, names))
+    return [*lines, *bytes_lines(form, f"{form.snake}_bytes", "its bytes", lists)]
+
+
+def bytes_lines(form: Format, name: str, says: str, lists: List[str]) -> List[str]:
+    lists = [f"({it})" if " ++ " in it and len(lists) > 1 else it for it in lists]
     lines = [f"    {lists[0]}", *(f"    ++ ({it}" for it in lists[1:-1]), *([f"    ++ {lists[-1]}"] if len(lists) > 1 else [])]
     lines[-1] += ")" * (len(lists) - 2)
-    return [
-        "",
-        "-- its bytes",
-        f"abbrev pub {form.snake}_bytes : Endian → {form.name} → List ℕ",
-        f"{form.snake}_bytes order x =",
-        *lines,
-    ]
+    return ["", f"-- {says}", f"abbrev pub {name} : Endian → {form.name} → List ℕ", f"{name} order x =", *lines]
 
 
 def agreement(form: Format, part: Part) -> str:
@@ -147,7 +168,7 @@ def agreement(form: Format, part: Part) -> str:
 def writes(form: Format) -> List[str]:
     """Returns what a write leaves, and which errors it gives."""
     name = form.name
-    own = [part for part in form.parts if part.constant or part.count]
+    own = [part for part in form.parts if part.constant or part.is_counted]
     size = f"length ({form.snake}_bytes order x)"
     lines = []
     if own:
@@ -163,7 +184,7 @@ def writes(form: Format) -> List[str]:
         "-- it is written over the start of a target",
         f"pub record Writes{name} (order : Endian) (x : {name}) (old new : List ℕ) (n : ℕ) : Type 0 where",
         *agrees,
-        f"  pub wrote : WritesFront ({size}) ({form.snake}_bytes order x) old new n",
+        f"  pub wrote : WritesPrefix ({size}) ({form.snake}_bytes order x) old new n",
     ]
     for part in own:
         value = f"x.{part.label}" if part.constant else f"(length x.{part.label}.now)"
@@ -182,7 +203,7 @@ def writes(form: Format) -> List[str]:
         "-- the target is too short, and is unchanged",
         f"pub record Keeps{name}Short (order : Endian) (x : {name}) (old new : List ℕ) (e : Error) : Type 0 where",
         *agrees,
-        f"  pub short : LeavesShort (min ({size}) (2 ^ 64 - 1)) old new e",
+        f"  pub short : FailsShort (min ({size}) (2 ^ 64 - 1)) old new e",
         "",
         "-- its write fails: one of these is the error",
         f"abbrev pub Keeps{name} : Endian → {name} → List ℕ → List ℕ → Error → Type 0",
@@ -198,4 +219,4 @@ def format_specs(form: Format) -> str:
     text = "\n".join(lines)
     uses = use_lines(text, MODULES)
     head = f"-- `{form.name}` as bytes: its fields, one after another. `tools/derive/derive.sh` printed this from the struct."
-    return "\n".join([head, *uses, f"use {form.declared}.{{{form.name}}}", "", text])
+    return "\n".join([head, *uses, *declared_uses(form, text), "", text])

@@ -3,8 +3,11 @@
 from __future__ import annotations
 
 import re
-from typing import Dict, List, Sequence, Tuple
+from typing import Dict, List, Optional, Sequence, Tuple
 
+from fixed import made
+from kinds import Array, Number, Struct, Type, width_of
+from layout import Tree, label, nested
 from parts import Format, Part, width
 from source import closing
 
@@ -17,17 +20,22 @@ TAKEN = {
 MODULES = [
     (
         "Rattle.std.specs.Prelude",
-        ["◌≡◌", "◌≢◌", "◌≤◌", "◌<◌", "◌+◌", "◌-◌", "◌^◌", "◌++◌", "◌⊎◌", "ℕ", "ℤ", "List", "length", "drop", "min", "codes"],
+        ["◌≡◌", "◌≢◌", "◌≤◌", "◌<◌", "◌+◌", "◌-◌", "◌*◌", "◌^◌", "◌++◌", "[]", "◌∷◌", "◌⊎◌", "ℕ", "ℤ", "List", "length", "drop", "min", "codes"],
     ),
+    ("Rattle.std.specs.CStr", ["c_str_bytes"]),
     ("Rattle.std.specs.Float", ["Float", "binary32", "binary64"]),
-    ("Rattle.scroll.specs.Bytes", ["RefusesShort", "WritesFront", "LeavesShort"]),
+    ("Rattle.std.specs.List", ["flat_map"]),
+    ("Rattle.scroll.specs.Arrays", ["MakesArray"]),
+    ("Rattle.scroll.specs.Bytes", ["ReadsFixed", "RefusesShort", "WritesPrefix", "FailsShort"]),
+    ("Rattle.scroll.specs.CStrings", ["ReadsCString", "RefusesCString"]),
     ("Rattle.scroll.specs.Reads", ["ReadsAt", "RefusesAt"]),
     ("Rattle.scroll.specs.Errors", ["IsBadOffset", "IsBadInput"]),
+    ("Rattle.scroll.specs.Fixed", ["exactly"]),
+    ("Rattle.scroll.specs.Numbers", ["float", "float_bytes", "ReadsFloat"]),
+    ("Rattle.scroll.specs.Leb128", ["Counted", "ReadsCountedUleb", "ReadsCountedSleb", "RefusesUleb", "RefusesSleb"]),
+    ("Rattle.scroll.specs.Encoding", ["uleb_text", "sleb_text"]),
     ("Rattle.scroll.specs.Texts", ["ReadsSlice", "ReadsText", "RefusesText"]),
-    ("Rattle.scroll.specs.Leb128", ["Counted", "ReadsCountedUleb", "ReadsCountedSleb"]),
-    ("Rattle.scroll.specs.LebRefusals", ["RefusesUleb", "RefusesSleb"]),
-    ("Rattle.scroll.specs.LebWrites", ["uleb_text", "sleb_text"]),
-    ("Rattle.scroll.specs.Floats", ["float", "float_bytes", "ReadsFloat"]),
+    ("Rattle.scroll.specs.Zeros", ["padding_len", "zeros", "ReadsZeros", "RefusesZeros"]),
     (
         "Rattle.scroll.specs.Numbers",
         ["number", "number_bytes", "signed_number", "signed_bytes", "ReadsNumber", "ReadsSigned"],
@@ -58,72 +66,154 @@ def within(term: str) -> str:
 
 
 def value_of(part: Part) -> str:
-    """Returns the function from a source to a number."""
-    assert part.number
-    if part.number.kind == "float":
-        return f"float binary{8 * part.number.width} order"
-    return f"{'signed_' if part.number.kind == 'signed' else ''}number order {part.number.width}"
+    """Returns the function from a source to a number or a float."""
+    assert isinstance(part.fixed, Number)
+    return number_of(part.fixed)
 
 
-def bytes_of(part: Part, value: str) -> str:
+def number_of(number: Number) -> str:
+    if number.kind == "float":
+        return f"float binary{8 * number.width} order"
+    return f"{'signed_' if number.kind == 'signed' else ''}number order {number.width}"
+
+
+def fixed_bytes(type: Type, value: str) -> str:
+    """Returns the bytes of a value of a fixed size."""
+    if isinstance(type, Number):
+        if type.kind == "float":
+            return f"float_bytes binary{8 * type.width} order {value}"
+        return f"{'signed' if type.kind == 'signed' else 'number'}_bytes order {type.width} {value}"
+    if isinstance(type, Array):
+        element = fixed_bytes(type.element, "v")
+        return f"exactly ({width_of(type.element)} * {type.length}) (flat_map (λ v. {element}) {value})"
+    values = [within(fixed_bytes(field.type, f"{value}.{label(field.name)}")) for field in type.fields]
+    return joined(nested(values))
+
+
+def joined(tree: Tree) -> str:
+    """Returns the bytes of the parts of nested tuples, each of which is an argument."""
+    if isinstance(tree, str):
+        return tree
+    *parts, whole = (joined(part) if isinstance(part, str) else f"({joined(part)})" for part in tree)
+    whole = f"{parts.pop()} ++ {whole}"
+    while parts:
+        whole = f"{parts.pop()} ++ ({whole})"
+    return whole
+
+
+def bytes_of(form: Format, part: Part, names: Dict[str, str]) -> str:
     """Returns the bytes of a field."""
+    value = names[part.name]
+    if part.count and part.is_padding:
+        return f"zeros (padding_len (length ({before(form, part)} order x)) {part.count.multiple})"
+    if part.fixed:
+        return fixed_bytes(part.fixed, value)
     if part.kind == "leb":
         return f"{part.type[0].lower()}leb_text {value}"
-    if not part.number:
-        return f"{value}.now"
-    if part.number.kind == "float":
-        return f"float_bytes binary{8 * part.number.width} order {value}"
-    return f"{'signed' if part.number.kind == 'signed' else 'number'}_bytes order {part.number.width} {value}"
+    if part.kind == "c_string":
+        return f"c_str_bytes {value} ++ 0 ∷ []"
+    if part.kind == "zeros":
+        return f"zeros {counted(part, names, '')}"
+    return f"{value}.now"
 
 
-def counted(part: Part, names: Dict[str, str]) -> str:
+def before(form: Format, part: Part) -> str:
+    """Returns the name of the bytes before a field that pads them."""
+    return f"{form.snake}_before_{part.name}"
+
+
+def counted(part: Part, names: Dict[str, str], at: str) -> str:
+    """Returns how many bytes a field has, at the offset `at`, as an argument."""
     assert part.count
+    if part.count.multiple:
+        return f"(padding_len {within(at)} {part.count.multiple})"
     return within(part.count.in_clause(names))
 
 
-def reads_of(part: Part, names: Dict[str, str]) -> str:
+def reads_of(part: Part, names: Dict[str, str], at: str) -> str:
     """Returns which values a source may give for a field."""
+    if isinstance(part.fixed, Number):
+        if part.fixed.kind == "float":
+            return f"(ReadsFloat binary{8 * part.fixed.width} order)"
+        return f"(Reads{'Signed' if part.fixed.kind == 'signed' else 'Number'} {part.fixed.width} order)"
+    if part.fixed:
+        return f"(ReadsFixed {width(part)} (λ s v. {made(part.fixed, 's', 'v')}))"
     if part.kind == "leb":
         return f"ReadsCounted{part.type[0]}leb"
-    if part.kind == "slice":
-        return f"(ReadsSlice {counted(part, names)})"
-    if part.kind == "text":
-        return f"(ReadsText (Length {counted(part, names)}))"
-    assert part.number
-    if part.number.kind == "float":
-        return f"(ReadsFloat binary{8 * part.number.width} order)"
-    return f"(Reads{'Signed' if part.number.kind == 'signed' else 'Number'} {part.number.width} order)"
+    if part.kind == "c_string":
+        return "ReadsCString"
+    if part.kind == "zeros":
+        return f"(λ s _. ReadsZeros {counted(part, names, at)} s)"
+    return f"(ReadsSlice {counted(part, names, at)})" if part.kind == "slice" else f"(ReadsText (Length {counted(part, names, at)}))"
 
 
-def refuses_of(part: Part, names: Dict[str, str]) -> str:
+def refuses_of(part: Part, names: Dict[str, str], at: str) -> str:
+    if part.fixed:
+        return f"(RefusesShort {width(part)})"
     if part.kind == "leb":
         return f"Refuses{part.type[0]}leb"
-    if part.kind == "slice":
-        return f"(RefusesShort {counted(part, names)})"
-    if part.kind == "text":
-        return f"(RefusesText (Length {counted(part, names)}))"
-    return f"(RefusesShort {width(part)})"
+    if part.kind == "c_string":
+        return "RefusesCString"
+    if part.kind == "zeros":
+        return f"(RefusesZeros {counted(part, names, at)})"
+    return f"(RefusesShort {counted(part, names, at)})" if part.kind == "slice" else f"(RefusesText (Length {counted(part, names, at)}))"
 
 
 def type_of(part: Part) -> str:
     """Returns the type of what is read, as a clause says it."""
+    if part.fixed:
+        return fixed_type(part.fixed)
     if part.kind == "leb":
         return "Counted ℤ" if part.type == "Sleb128" else "Counted ℕ"
-    if not part.number:
-        return "List ℕ"
-    return {"unsigned": "ℕ", "signed": "ℤ", "float": "Float"}[part.number.kind]
+    return "List ℕ"
+
+
+def fixed_type(type: Type) -> str:
+    if isinstance(type, Number):
+        return {"unsigned": "ℕ", "signed": "ℤ", "float": "Float"}[type.kind]
+    return f"List {within(fixed_type(type.element))}" if isinstance(type, Array) else type.name
+
+
+def structs_of(type: Optional[Type]) -> List[Struct]:
+    """Returns the structs in a type, the inner ones first."""
+    if isinstance(type, Array):
+        return structs_of(type.element)
+    if not isinstance(type, Struct):
+        return []
+    return [*(it for field in type.fields for it in structs_of(field.type)), type]
+
+
+def structs_in(form: Format) -> List[Struct]:
+    """Returns the structs of a fixed size that fields are made of, each once."""
+    found: List[Struct] = []
+    for part in form.parts:
+        found += [it for it in structs_of(part.fixed) if it not in found]
+    return found
+
+
+def declared_uses(form: Format, text: str) -> List[str]:
+    """Returns the `use` lines for the struct and those of its fields."""
+    words = set(re.findall(r"\w+", text))
+    inner = [it for it in structs_in(form) if it.name in words]
+    module = form.declared.rsplit(".", 1)[0]
+    return [*(f"use {module}.{it.name}.{{{it.name}}}" for it in inner), f"use {form.declared}.{{{form.name}}}"]
 
 
 def value_in(part: Part) -> str:
     """Returns what is read, of the struct `x`."""
-    return f"x.{part.label}.now" if part.count else f"x.{part.label}"
+    value = f"x.{part.label}"
+    if part.kind == "c_string":
+        return f"(c_str_bytes {value})"
+    return f"{value}.now" if part.is_counted else value
 
 
 def size_in(part: Part, names: Dict[str, str]) -> str:
     """Returns how many bytes a field of the struct `x` has: a number, the field's count, or a part of the record that says it."""
-    if part.kind == "leb":
+    if part.is_ended:
         return f"{part.name}-size"
-    return part.count.in_clause(names) if part.count else str(width(part))
+    if not part.count:
+        return str(width(part))
+    return part.count.in_clause(names)
 
 
 def fields_in(form: Format) -> Dict[str, str]:
@@ -131,7 +221,7 @@ def fields_in(form: Format) -> Dict[str, str]:
 
 
 def offsets_in(form: Format) -> List[str]:
-    """Returns the offset of each field after the first numbers, and the size of all, for the struct `x`."""
+    """Returns the offset of each field after the first ones of a fixed size, and the size of all, for the struct `x`."""
     names = fields_in(form)
     found = [str(form.room)]
     for part in form.tail:
@@ -145,7 +235,7 @@ def use_lines(text: str, modules: Sequence[Tuple[str, List[str]]]) -> List[str]:
     words = set(re.findall(r"[\w_-]+|[^\w\s]", text))
     lines = []
     for module, names in modules:
-        used = [name for name in names if name in words or (name[0] == "◌" and name.strip("◌") in text)]
+        used = [name for name in names if name in words or (name[0] == "◌" and name.strip("◌") in text) or (name == "[]" and "[]" in text)]
         if used:
             lines.append(f"use {module}.{{{', '.join(used)}}}")
     return lines

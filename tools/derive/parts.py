@@ -7,20 +7,26 @@ from dataclasses import dataclass
 from pathlib import Path
 from typing import Dict, List, Optional, Sequence, Tuple
 
-from kinds import NUMBERS, Number, kind_of
+from kinds import Array, Number, Type, kind_of, read_type, width_of
 from layout import label
 from source import RawField, RawStruct, Source
 
-TERM = re.compile(r"(?:(?P<field>[A-Za-z_]\w*)\s+as\s+usize|(?P<number>\d+))")
+TERM = re.compile(r"(?:(?P<field>[A-Za-z_]\w*)\s+as\s+usize(?:\s*\*\s*(?P<times>\d+))?|(?P<number>\d+))")
+PADDING = re.compile(r"padding\(offset,\s*(\d+)\)")
 CONSTANT = re.compile(r"(?:0x[0-9a-fA-F_]+|\d[\d_]*)")
 
 
 @dataclass(frozen=True)
 class Count:
-    """A number of bytes: the sum of earlier fields and of a number."""
+    """A number of bytes: the sum of earlier fields, each times a number, and of a number; or what is left up to a multiple."""
 
-    fields: Tuple[str, ...]
+    terms: Tuple[Tuple[str, int], ...]
     number: int
+    multiple: int = 0
+
+    @property
+    def fields(self) -> Tuple[str, ...]:
+        return tuple(field for field, _ in self.terms)
 
     @property
     def text(self) -> str:
@@ -29,22 +35,29 @@ class Count:
 
     def in_code(self, names: Dict[str, str]) -> str:
         """Returns it in code, where a field has the name that `names` says."""
-        terms = [f"{names[field]} as usize" for field in self.fields]
-        return " + ".join([*terms, *([str(self.number)] if self.number or not terms else [])])
+        return self.said({field: f"{names[field]} as usize" for field in self.fields})
 
     def in_clause(self, names: Dict[str, str]) -> str:
-        terms = [names[field] for field in self.fields]
+        return self.said(names)
+
+    def said(self, values: Dict[str, str]) -> str:
+        terms = [values[field] if times == 1 else f"{values[field]} * {times}" for field, times in self.terms]
         return " + ".join([*terms, *([str(self.number)] if self.number or not terms else [])])
+
+
+# The types of fields that say by themselves where they end, and the kind of each.
+ENDED = {"Uleb128": "leb", "Sleb128": "leb", "CStr": "c_string"}
 
 
 @dataclass(frozen=True)
 class Part:
-    """A field. `kind` is number, slice, text or leb; a number may have to be a constant."""
+    """A field. `kind` is fixed, slice, text, zeros, leb or c_string. One of a fixed size has its type in `fixed`, and a number
+    may have to be a constant."""
 
     name: str
     type: str
     kind: str
-    number: Optional[Number] = None
+    fixed: Optional[Type] = None
     count: Optional[Count] = None
     constant: str = ""
 
@@ -53,8 +66,19 @@ class Part:
         return label(self.name)
 
     @property
-    def is_number(self) -> bool:
-        return self.kind == "number"
+    def is_ended(self) -> bool:
+        """Returns whether the field says where it ends, so that no earlier field does."""
+        return self.kind in ENDED.values() or self.is_padding
+
+    @property
+    def is_padding(self) -> bool:
+        """Returns whether the field pads those before it up to a multiple."""
+        return self.count is not None and self.count.multiple > 0
+
+    @property
+    def is_counted(self) -> bool:
+        """Returns whether an earlier field says how many bytes the field has."""
+        return self.kind in ("slice", "text")
 
 
 @dataclass(frozen=True)
@@ -77,8 +101,8 @@ class Format:
 
     @property
     def head(self) -> Tuple[Part, ...]:
-        """The numbers that come first, whose offsets are known."""
-        count = next((index for index, part in enumerate(self.parts) if not part.is_number), len(self.parts))
+        """The fields of a fixed size that come first, whose offsets are known."""
+        count = next((index for index, part in enumerate(self.parts) if not part.fixed), len(self.parts))
         return self.parts[:count]
 
     @property
@@ -90,18 +114,23 @@ class Format:
         return sum(width(part) for part in self.head)
 
     @property
+    def paddings(self) -> Tuple[int, ...]:
+        """The indices of the fields that pad those before them up to a multiple."""
+        return tuple(index for index, part in enumerate(self.parts) if part.is_padding)
+
+    @property
     def declared(self) -> str:
         """The module of the struct's name in clauses."""
         return ".".join(["Rattle", self.crate, "specs", "declared", *self.module, self.name])
 
 
 def width(part: Part) -> int:
-    assert part.number
-    return part.number.width
+    assert part.fixed
+    return width_of(part.fixed)
 
 
 def offsets(parts: Sequence[Part]) -> List[int]:
-    """Returns the offsets of numbers that follow one another."""
+    """Returns the offsets of fields of a fixed size that follow one another."""
     found = [0]
     for part in parts:
         found.append(found[-1] + width(part))
@@ -110,7 +139,7 @@ def offsets(parts: Sequence[Part]) -> List[int]:
 
 def is_format(raw: RawStruct) -> bool:
     """Returns whether a struct is read field by field: it borrows, or a field has a note or no fixed size."""
-    return raw.lifetime != "" or any(field.notes for field in raw.fields)
+    return raw.lifetime != "" or any(field.notes or field.type in ENDED for field in raw.fields)
 
 
 def read_format(source: Source, raw: RawStruct) -> Format:
@@ -136,17 +165,15 @@ def crate_of(source: Source, raw: RawStruct) -> Tuple[str, Tuple[str, ...]]:
 def read_part(source: Source, raw: RawStruct, field: RawField, before: Sequence[Part]) -> Part:
     notes = read_notes(source, field)
     borrow = f"&{raw.lifetime} "
-    if field.type in NUMBERS:
-        return read_number(source, field, notes)
-    if "is" in notes:
-        source.refuse(field.place, f"the field {field.name} is no number, and has a constant")
-    if field.type == f"{borrow}[u8]":
-        return Part(field.name, field.type, "slice", count=read_count(source, raw, field, notes, before))
-    if field.type == f"{borrow}str":
-        return Part(field.name, field.type, "text", count=read_count(source, raw, field, notes, before))
-    if "ctx" in notes:
-        source.refuse(field.place, f"the field {field.name} has a context that its type {field.type} doesn't take")
-    source.refuse(field.place, f"the field {field.name} is {kind_of(field.type)}")
+    kind = {f"{borrow}[u8]": "slice", f"{borrow}str": "text", "Zeros": "zeros"}.get(field.type, "")
+    if "is" not in notes and kind:
+        return Part(field.name, field.type, kind, count=read_count(source, raw, field, notes, before))
+    ended = ENDED.get(field.type.replace(f"<{raw.lifetime}>", "") if raw.lifetime else field.type)
+    if kind or ended:
+        if notes:
+            source.refuse(field.place, f"the field {field.name} has the note {next(iter(notes))}, which its type {field.type} doesn't take")
+        return Part(field.name, field.type, str(ended))
+    return read_fixed(source, raw, field, notes)
 
 
 def read_notes(source: Source, field: RawField) -> Dict[str, str]:
@@ -159,26 +186,31 @@ def read_notes(source: Source, field: RawField) -> Dict[str, str]:
     return notes
 
 
-def read_number(source: Source, field: RawField, notes: Dict[str, str]) -> Part:
-    number = NUMBERS[field.type]
+def read_fixed(source: Source, raw: RawStruct, field: RawField, notes: Dict[str, str]) -> Part:
+    fixed = read_type(source, field, field.type, (raw.name,))
     constant = notes.get("is", "")
-    if number.kind == "float":
-        source.refuse(field.place, f"the field {field.name} is a float in a struct of any size")
     if "ctx" in notes:
-        source.refuse(field.place, f"the field {field.name} is a number, and has a context")
+        source.refuse(field.place, f"the field {field.name} has a context that its type {field.type} doesn't take")
+    if isinstance(fixed, Array) and isinstance(fixed.element, Array):
+        source.refuse(field.place, f"the field {field.name} is an array of arrays in a struct of any size")
     if constant and not CONSTANT.fullmatch(constant):
         source.refuse(field.place, f"the constant {constant} of the field {field.name} is no literal")
-    if constant and (number.kind != "unsigned" or number.width > 8):
+    if constant and not is_counter(fixed):
         source.refuse(field.place, f"the field {field.name} has a constant, and is no unsigned number of at most 64 bits")
-    if constant and int(constant.replace("_", ""), 0) >= 256**number.width:
+    if constant and int(constant.replace("_", ""), 0) >= 256 ** width_of(fixed):
         source.refuse(field.place, f"the constant {constant} of the field {field.name} doesn't fit its type")
-    return Part(field.name, field.type, "number", number=number, constant=constant)
+    return Part(field.name, field.type, "fixed", fixed=fixed, constant=constant)
+
+
+def is_counter(fixed: Optional[Type]) -> bool:
+    """Returns whether a field can count, or be a constant."""
+    return isinstance(fixed, Number) and fixed.kind == "unsigned" and fixed.width <= 8
 
 
 def read_count(
     source: Source, raw: RawStruct, field: RawField, notes: Dict[str, str], before: Sequence[Part]
 ) -> Count:
-    """Returns how many bytes a slice or a text has."""
+    """Returns how many bytes a slice, a text or zeros have."""
     text = notes.get("ctx", "")
     if not text:
         source.refuse(field.place, f"the field {field.name} has no context: how many bytes it has")
@@ -187,20 +219,24 @@ def read_count(
         if not inner:
             source.refuse(field.place, f"the context {text} of the field {field.name} is no StrCtx::Length(..)")
         text = inner[1].strip()
-    fields: List[str] = []
+    padding = PADDING.fullmatch(text)
+    if padding and field.type == "Zeros":
+        return Count((), 0, int(padding[1]))
+    terms: List[Tuple[str, int]] = []
     number = 0
     for term in text.split("+"):
         found = TERM.fullmatch(term.strip())
         if not found:
-            source.refuse(field.place, f"the context {text} of the field {field.name} is no sum of fields `as usize` and numbers")
+            source.refuse(field.place, f"the context {text} of the field {field.name} is no sum of fields `as usize`, each times a number, and of numbers")
         if found["field"]:
-            fields.append(check_counter(source, raw, field, found["field"], before))
+            terms.append((check_counter(source, raw, field, found["field"], before), int(found["times"] or 1)))
         else:
             number += int(found["number"])
-    widths = [width(part) for part in before if part.name in fields]
-    if (len(fields) > 1 or number) and max(widths, default=0) > 4:
+    wide = [part for part in before if part.name in dict(terms) and width(part) > 4]
+    most = number + sum(256**4 * times for _, times in terms)
+    if (wide and (len(terms) > 1 or number or terms[0][1] > 1)) or most >= 2**64:
         source.refuse(field.place, f"the context {text} of the field {field.name} adds to a number of more than 32 bits")
-    return Count(tuple(fields), number)
+    return Count(tuple(terms), number)
 
 
 def check_counter(source: Source, raw: RawStruct, field: RawField, name: str, before: Sequence[Part]) -> str:
@@ -208,6 +244,6 @@ def check_counter(source: Source, raw: RawStruct, field: RawField, name: str, be
     if not part:
         where = "comes after it" if any(it.name == name for it in raw.fields) else "is no field"
         source.refuse(field.place, f"the context of the field {field.name} names {name}, which {where}")
-    if not part.number or part.number.kind != "unsigned" or part.number.width > 8:
+    if not is_counter(part.fixed):
         source.refuse(field.place, f"the context of the field {field.name} names {name}, which is no unsigned number of at most 64 bits")
     return name

@@ -1,12 +1,20 @@
--- Numbers in LEB128. The encoding is that of section 7.6 of DWARF 5: each byte has seven bits of the number, the lowest
--- first, and a byte below 128 ends it. A read takes encodings of at most ten bytes, whose numbers fit into 64 bits.
-use Rattle.std.specs.Prelude.{◌≡◌, ℕ, ◌+◌, ◌*◌, ◌%◌, ◌^◌, ◌<◌, ◌≤◌, ◌==◌, nat_lt, ⊤, Bool, List, length, slice_index, ℤ, pos, ◌-ℤ◌, if◌then◌else◌, FitsSigned}
+-- Numbers in LEB128. The encoding is that of section 7.6 of DWARF 5: each byte has seven bits of
+-- the number, the lowest first, and a byte below 128 ends it. A read takes encodings of at most ten
+-- bytes, whose numbers fit into 64 bits.
+-- A reader finds the groups of a number in these bytes; a read of a source that doesn't begin with such an encoding fails.
+use Rattle.std.specs.Prelude.{◌≡◌, ℕ, ◌+◌, ◌*◌, ◌%◌, ◌^◌, ◌<◌, ◌≤◌, ◌==◌, nat_lt, ⊤, Bool, List, length, slice_index, ℤ, pos, ◌-ℤ◌, if◌then◌else◌, FitsSigned, Some, ◌⊎◌, codes}
 use Rattle.std.specs.Int.{w64}
-use Rattle.std.specs.List.{position_or_len}
+use Rattle.std.specs.List.{position_or_len, slice_get}
 use Rattle.std.specs.Ordering.{on, eq_of_both}
 use Rattle.scroll.specs.Bytes.{sum_below}
+use Rattle.scroll.specs.declared.leb128.groups.Groups.{Groups}
+use Rattle.scroll.specs.declared.leb128.groups.Groups.TheVariants.{UpToNine, Ten}
+use Rattle.scroll.specs.declared.error.Error.{Error}
+use Rattle.scroll.specs.declared.error.Error.TheVariants.{TooBig}
+use Rattle.scroll.specs.Errors.{IsBadInput}
 
--- the index of the byte that ends the encoding, the first below 128, or the length of `s` where there is none
+-- the index of the byte that ends the encoding, the first below 128, or the length of `s` where
+-- there is none
 abbrev pub end_of : List ℕ → ℕ
 end_of s = position_or_len (λ b. nat_lt b 128) s
 
@@ -15,8 +23,8 @@ abbrev pub IsComplete : List ℕ → Type 0
 IsComplete s = (end_of s < length s) × (end_of s < 10)
 
 -- `s` is truncated: it has fewer than ten bytes, and none of them is below 128
-abbrev pub IsCut : List ℕ → Type 0
-IsCut s = (length s ≤ end_of s) × (length s < 10)
+abbrev pub IsTruncated : List ℕ → Type 0
+IsTruncated s = (length s ≤ end_of s) × (length s < 10)
 
 -- the length of the encoding in bytes: one more than `end_of s`
 abbrev pub count_of : List ℕ → ℕ
@@ -34,20 +42,21 @@ groups_value s n = sum_below (λ i. group s i * 128 ^ i) n
 abbrev pub unsigned_of : List ℕ → ℕ
 unsigned_of s = groups_value s (count_of s)
 
--- the signed number of the encoding, sign-extended: `unsigned_of s`, less `128^n` where the last of its `n` groups is
--- at least 64
+-- the signed number of the encoding, sign-extended: `unsigned_of s`, less `128^n` where the last of
+-- its `n` groups is at least 64
 abbrev pub signed_of : List ℕ → ℤ
 signed_of s = if nat_lt (group s (end_of s)) 64 then pos (unsigned_of s) else pos (unsigned_of s) -ℤ pos (128 ^ count_of s)
 
--- a number is read from the start of a source: the encoding is complete, its number `value_of source` fits, `x` is that
--- number, and the size `n` is the length of the encoding
+-- a number is read from the start of a source: the encoding is complete, its number
+-- `value_of source` fits, `x` is that number, and the size `n` is the length of the encoding
 pub record ReadsLeb {V : Type 0} (value_of : List ℕ → V) (Fits : V → Type 0) (source : List ℕ) (x : V) (n : ℕ) : Type 0 where
   pub complete : IsComplete source
   pub fits : Fits (value_of source)
   pub value : x ≡ value_of source
   pub size : n ≡ count_of source
 
--- `ReadsLeb` of an unsigned number of 64 bits, of a signed one of 64 bits, and of an unsigned one of any size
+-- `ReadsLeb` of an unsigned number of 64 bits, of a signed one of 64 bits, and of an unsigned one
+-- of any size
 abbrev pub ReadsUleb : List ℕ → ℕ → ℕ → Type 0
 ReadsUleb = ReadsLeb unsigned_of (λ v. v < 2 ^ 64)
 
@@ -57,7 +66,8 @@ ReadsSleb = ReadsLeb signed_of (FitsSigned w64)
 abbrev pub ReadsGroups : List ℕ → ℕ → ℕ → Type 0
 ReadsGroups = ReadsLeb unsigned_of (λ v. ⊤)
 
--- a number, and the length of its encoding in bytes: what a contract sees of a `Uleb128` or a `Sleb128`
+-- a number, and the length of its encoding in bytes: what a contract sees of a `Uleb128` or a
+-- `Sleb128`
 pub record Counted (V : Type 0) : Type 0 where
   pub value : V
   pub count : ℕ
@@ -66,7 +76,8 @@ pub record Counted (V : Type 0) : Type 0 where
 abbrev pub counted_eq : {V : Type 0} → (V → V → Bool) → Counted V → Counted V → Bool
 counted_eq value_eq = eq_of_both (on (λ x. x.value) value_eq) (on (λ x. x.count) ◌==◌)
 
--- `reads` of the number of `x`, whose length is the size `n`; with `ReadsUleb`, and with `ReadsSleb`
+-- `reads` of the number of `x`, whose length is the size `n`; with `ReadsUleb`, and with
+-- `ReadsSleb`
 abbrev pub ReadsCounted : {V : Type 0} → (List ℕ → V → ℕ → Type 0) → List ℕ → Counted V → ℕ → Type 0
 ReadsCounted reads source x n = reads source x.value n × (x.count ≡ n)
 
@@ -75,3 +86,33 @@ ReadsCountedUleb = ReadsCounted ReadsUleb
 
 abbrev pub ReadsCountedSleb : List ℕ → Counted ℤ → ℕ → Type 0
 ReadsCountedSleb = ReadsCounted ReadsSleb
+
+-- `HasGroups source groups`: these are the groups of the encoding at the start of a source: the
+-- number of all groups and how many there are, at most nine; or the number of the first nine, none
+-- of which ends the encoding, and the tenth byte
+abbrev pub HasGroups : List ℕ → Groups → Type 0
+HasGroups source (UpToNine groups count) = ReadsGroups source groups count × (count ≤ 9)
+HasGroups source (Ten groups tenth) = (9 ≤ end_of source) × (slice_get source 9 ≡ Some tenth) × (groups ≡ groups_value source 9)
+
+-- the source is truncated, and the error is `TooBig` with the size 1 and the length 0
+pub record RefusesTruncated (source : List ℕ) (e : Error) : Type 0 where
+  pub cut : IsTruncated source
+  pub error : e ≡ TooBig 1 0
+
+-- the source is not truncated, but the encoding is not complete or its number does not fit. The
+-- error is `BadInput` with the length of the source and the message `failed to parse`.
+pub record RefusesUnfit {V : Type 0} (value_of : List ℕ → V) (Fits : V → Type 0) (source : List ℕ) (e : Error) : Type 0 where
+  pub whole : ¬ IsTruncated source
+  pub unfit : IsComplete source → ¬ Fits (value_of source)
+  pub error : IsBadInput e (length source) (codes "failed to parse")
+
+-- the read of a number fails: the source is truncated, or its number is unfit
+abbrev pub RefusesLeb : {V : Type 0} → (List ℕ → V) → (V → Type 0) → List ℕ → Error → Type 0
+RefusesLeb value_of Fits source e = RefusesTruncated source e ⊎ RefusesUnfit value_of Fits source e
+
+-- `RefusesLeb` of an unsigned number of 64 bits, and of a signed one
+abbrev pub RefusesUleb : List ℕ → Error → Type 0
+RefusesUleb = RefusesLeb unsigned_of (λ v. v < 2 ^ 64)
+
+abbrev pub RefusesSleb : List ℕ → Error → Type 0
+RefusesSleb = RefusesLeb signed_of (FitsSigned w64)

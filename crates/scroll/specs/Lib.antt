@@ -1,17 +1,14 @@
--- The library. Numbers are unbounded integers, lists are finite, and indices and offsets count from 0. A *place* in a
--- name is an offset or an index.
+-- The library. Numbers are unbounded integers, lists are finite, and indices and offsets count from 0.
 --
--- A word that begins with a capital is a statement, which holds of its parameters or does not; any other word is a
+-- A name that begins with a capital is a statement, which holds of its parameters or does not; any other name is a
 -- value. A statement of several parts names them: where `h` proves it, `h.size` proves the part `size`.
 --
--- None of these words retraces the code. The code shifts, copies and overwrites one array; the definitions have sums of
+-- No definition retraces the code. The code shifts, copies and overwrites one array; the definitions have sums of
 -- powers, lists by index, and a history of pieces in which nothing is overwritten.
 pub mod Bytes
 pub mod Numbers
 pub mod Fixed
-pub mod Floats
 pub mod Errors
-pub mod SmallErrors
 pub mod Reads
 pub mod Writes
 pub mod Texts
@@ -19,18 +16,11 @@ pub mod CStrings
 pub mod CStringTexts
 pub mod Zeros
 pub mod Arrays
-pub mod Fits
 pub mod History
-pub mod Leaves
 pub mod Streams
 pub mod Leb128
-pub mod LebGroups
-pub mod LebRefusals
-pub mod Spelling
-pub mod LebWrites
-pub mod LebLaws
-pub mod Loads
-pub mod Spans
+pub mod Encoding
+pub mod Many
 pub mod Runs
 pub mod Laws
 -- Lemmas, and no definitions: the implementations cite them for the laws of their traits, which may cite specs/ alone.

@@ -1,5 +1,5 @@
--- Runs of commands. These words say what each command of a list returns over one buffer, and what the list leaves: they
--- are the contract of `runner::run`.
+-- Runs of commands. These definitions say what each command of a list returns over one buffer, and
+-- what the list leaves: they are the contract of `runner::run`.
 use Rattle.std.specs.Prelude.{◌≡◌, ◌<◌, ℕ, ◌+◌, ◌++◌, Bool, true, false, List, [], ◌∷◌, length, take, map, Ok, Err, ⊤}
 use Rattle.std.specs.String.{string_bytes}
 use Rattle.scroll.specs.Arrays.{ReadsArray, RefusesArray}
@@ -7,11 +7,9 @@ use Rattle.scroll.specs.Bytes.{RefusesShort}
 use Rattle.scroll.specs.CStrings.{ReadsCString, RefusesCString}
 use Rattle.scroll.specs.CStringTexts.{c_str_text}
 use Rattle.scroll.specs.Errors.{IsBadOffset}
-use Rattle.scroll.specs.History.{Piece, seen}
-use Rattle.scroll.specs.Leaves.{pieces, AnswersLeaves}
-use Rattle.scroll.specs.Leb128.{ReadsCountedUleb, ReadsCountedSleb}
-use Rattle.scroll.specs.LebRefusals.{RefusesUleb, RefusesSleb}
-use Rattle.scroll.specs.LebWrites.{uleb_text, sleb_text}
+use Rattle.scroll.specs.History.{Piece, seen, pieces, AnswersLeaves}
+use Rattle.scroll.specs.Leb128.{ReadsCountedUleb, ReadsCountedSleb, RefusesUleb, RefusesSleb}
+use Rattle.scroll.specs.Encoding.{uleb_text, sleb_text}
 use Rattle.scroll.specs.Numbers.{ReadsNumber, ReadsSigned, number_bytes, signed_bytes}
 use Rattle.scroll.specs.Reads.{ReadsAt, RefusesAt}
 use Rattle.scroll.specs.Texts.{ReadsText, RefusesText, ReadsSlice}
@@ -27,7 +25,7 @@ use Rattle.scroll.specs.declared.runner.Kind.TheVariants as kind
 use Rattle.scroll.specs.declared.runner.Number.{Number}
 use Rattle.scroll.specs.declared.runner.Number.TheVariants as number
 use Rattle.scroll.specs.declared.runner.Place.{Place}
-use Rattle.scroll.specs.declared.runner.Place.TheVariants as place
+use Rattle.scroll.specs.declared.runner.Place.TheVariants as offset
 use Rattle.scroll.specs.declared.runner.Put.{Put}
 use Rattle.scroll.specs.declared.runner.Put.TheVariants as put
 use Rattle.scroll.specs.declared.runner.Value.{Value}
@@ -57,14 +55,15 @@ is_signed width.I64 = true
 is_signed width.I128 = true
 is_signed w = false
 
--- `ReadsWide sign w order source x n`: a number of `w` bytes is read, signed where `sign` is true and else unsigned
+-- `ReadsWide sign w order source x n`: a number of `w` bytes is read, signed where `sign` is true
+-- and else unsigned
 abbrev pub ReadsWide : Bool → ℕ → Endian → List ℕ → Value → ℕ → Type 0
 ReadsWide false w order source (value.Unsigned x) n = ReadsNumber w order source x n
 ReadsWide true w order source (value.Signed x) n = ReadsSigned w order source x n
 ReadsWide sign w order source x n = ⊥
 
--- `ReadsKind what source x n`: a value is read as the relation of its type says. Texts, slices and C strings are compared
--- by their bytes.
+-- `ReadsKind what source x n`: a value is read as the relation of its type says. Texts, slices and
+-- C strings are compared by their bytes.
 abbrev pub ReadsKind : Kind → List ℕ → Value → ℕ → Type 0
 ReadsKind (kind.Number w order) source x n = ReadsWide (is_signed w) (bytes_in w) order source x n
 ReadsKind (kind.Text ctx) source (value.Text text) n = ReadsText ctx source (string_bytes text) n
@@ -119,8 +118,8 @@ leaf_of order (number.I64 x) = signed_bytes order 8 x
 leaf_of order (number.U128 x) = number_bytes order 16 x
 leaf_of order (number.I128 x) = signed_bytes order 16 x
 
--- `leaves_of x`: the leaves of what is written: the bytes of a number, of a text, of each slice, of a C string with its
--- zero, and the encoding of a number in LEB128, `uleb_text` or `sleb_text`
+-- `leaves_of x`: the leaves of what is written: the bytes of a number, of a text, of each slice, of
+-- a C string with its zero, and the encoding of a number in LEB128, `uleb_text` or `sleb_text`
 abbrev pub leaves_of : Put → List (List ℕ)
 leaves_of (put.Number x order) = leaf_of order x ∷ []
 leaves_of (put.Text text) = text.now ∷ []
@@ -131,26 +130,27 @@ leaves_of (put.Sleb x) = sleb_text x ∷ []
 leaves_of (put.U16x3 xs order) = map (number_bytes order 2) xs
 leaves_of (put.Bytesx2 first second) = first.now ∷ second.now ∷ []
 
--- `place_of at cursor`: the offset at which a command acts: its own, or the cursor
-abbrev pub place_of : Place → ℕ → ℕ
-place_of (place.At offset) cursor = offset
-place_of place.Cursor cursor = cursor
+-- `offset_of at cursor`: the offset at which a command acts: its own, or the cursor
+abbrev pub offset_of : Place → ℕ → ℕ
+offset_of (offset.At offset) cursor = offset
+offset_of offset.Cursor cursor = cursor
 
--- `moved at cursor size`: the cursor after a command of this size succeeded: advanced by the size where the command
--- acts at the cursor, and else unchanged
+-- `moved at cursor size`: the cursor after a command of this size succeeded: advanced by the size
+-- where the command acts at the cursor, and else unchanged
 abbrev pub moved : Place → ℕ → ℕ → ℕ
-moved (place.At offset) cursor size = cursor
-moved place.Cursor cursor size = cursor + size
+moved (offset.At offset) cursor size = cursor
+moved offset.Cursor cursor size = cursor + size
 
--- a value is read at the offset at which a command acts, `ReadsAt`, and `after` is the cursor after it
+-- a value is read at the offset at which a command acts, `ReadsAt`, and `after` is the cursor after
+-- it
 abbrev pub ReadsHere : {V : Type 0} → (List ℕ → V → ℕ → Type 0) → List ℕ → ℕ → Place → V → ℕ → Type 0
 ReadsHere reads buffer cursor at x after =
-    (n : ℕ) × ReadsAt reads buffer (place_of at cursor) x n × (after ≡ moved at cursor n)
+    (n : ℕ) × ReadsAt reads buffer (offset_of at cursor) x n × (after ≡ moved at cursor n)
 
 -- a read fails at the offset at which a command acts, `RefusesAt`, and the cursor is unchanged
 abbrev pub RefusesHere : {E : Type 0} → (List ℕ → E → Type 0) → (ℕ → E → Type 0) → List ℕ → ℕ → Place → E → ℕ → Type 0
 RefusesHere refuses past_end buffer cursor at e after =
-    RefusesAt refuses past_end buffer (place_of at cursor) e × (after ≡ cursor)
+    RefusesAt refuses past_end buffer (offset_of at cursor) e × (after ≡ cursor)
 
 -- `UnlessNoMemory fact e`: `fact` holds of the error, unless it is `NoMemory`
 abbrev pub UnlessNoMemory : (Error → Type 0) → Error → Type 0
@@ -163,21 +163,22 @@ ReadStep buffer cursor at what (answer.Read x) after = ReadsHere (ReadsKind what
 ReadStep buffer cursor at what (answer.Refused e) after = RefusesHere (RefusesKind what) IsBadOffset buffer cursor at e after
 ReadStep buffer cursor at what (answer.Wrote n) after = ⊥
 
--- `WriteStep buffer cursor at leaves a after`: the result `a` of one write of these leaves, and the cursor `after` it
+-- `WriteStep buffer cursor at leaves a after`: the result `a` of one write of these leaves, and the
+-- cursor `after` it
 abbrev pub WriteStep : List ℕ → ℕ → Place → List (List ℕ) → Answer → ℕ → Type 0
 WriteStep buffer cursor at leaves (answer.Wrote n) after =
-    AnswersLeaves (length buffer) (place_of at cursor) leaves (Ok n) × (after ≡ moved at cursor n)
+    AnswersLeaves (length buffer) (offset_of at cursor) leaves (Ok n) × (after ≡ moved at cursor n)
 WriteStep buffer cursor at leaves (answer.Refused e) after =
-    AnswersLeaves (length buffer) (place_of at cursor) leaves (Err e) × (after ≡ cursor)
+    AnswersLeaves (length buffer) (offset_of at cursor) leaves (Err e) × (after ≡ cursor)
 WriteStep buffer cursor at leaves (answer.Read x) after = ⊥
 
--- `Step buffer cursor c a written after`: one command over the buffer that is seen: its result `a`, the pieces that it
--- writes, and the cursor `after` it
+-- `Step buffer cursor c a written after`: one command over the buffer that is seen: its result `a`,
+-- the pieces that it writes, and the cursor `after` it
 abbrev pub Step : List ℕ → ℕ → Command → Answer → List Piece → ℕ → Type 0
 Step buffer cursor (command.Read at what) a written after = ReadStep buffer cursor at what a after × (written ≡ [])
 Step buffer cursor (command.Write at x) a written after =
     WriteStep buffer cursor at (leaves_of x) a after
-    × (written ≡ pieces (length buffer) (place_of at cursor) (leaves_of x))
+    × (written ≡ pieces (length buffer) (offset_of at cursor) (leaves_of x))
 
 -- one command over the buffer `old`, which leaves the buffer `new`
 pub record IsStep (old new : List ℕ) (cursor : ℕ) (c : Command) (a : Answer) (after : ℕ) : Type 0 where
@@ -185,9 +186,10 @@ pub record IsStep (old new : List ℕ) (cursor : ℕ) (c : Command) (a : Answer)
   pub step : Step old cursor c a written after
   pub bytes : new ≡ seen old written
 
--- `Run first history cursor commands answers whole after`: the commands run one after another, each over what is seen
--- of `first` after the history so far, and `answers` has the result of each. The pieces of each write are appended to
--- the history, also those of a write that fails; `whole` is the history at the end, and `after` the cursor.
+-- `Run first history cursor commands answers whole after`: the commands run one after another, each
+-- over what is seen of `first` after the history so far, and `answers` has the result of each. The
+-- pieces of each write are appended to the history, also those of a write that fails; `whole` is
+-- the history at the end, and `after` the cursor.
 abbrev pub Run : List ℕ → List Piece → ℕ → List Command → List Answer → List Piece → ℕ → Type 0
 Run first history cursor [] [] whole after = (whole ≡ history) × (after ≡ cursor)
 Run first history cursor (c ∷ cs) (a ∷ rest) whole after =
@@ -196,8 +198,8 @@ Run first history cursor (c ∷ cs) (a ∷ rest) whole after =
 Run first history cursor [] (a ∷ rest) whole after = ⊥
 Run first history cursor (c ∷ cs) [] whole after = ⊥
 
--- a run from the buffer `first` and the cursor `from`: its results are appended to `old` in order, `buffer` is what is
--- seen after its history, and `to` is the cursor after it
+-- a run from the buffer `first` and the cursor `from`: its results are appended to `old` in order,
+-- `buffer` is what is seen after its history, and `to` is the cursor after it
 pub record IsRun (first buffer : List ℕ) (from to : ℕ) (commands : List Command) (old new : List Answer) : Type 0 where
   pub answers : List Answer
   pub history : List Piece
@@ -206,7 +208,7 @@ pub record IsRun (first buffer : List ℕ) (from to : ℕ) (commands : List Comm
   pub bytes : buffer ≡ seen first history
 
 -- a run of the first commands, fewer than all
-pub record IsFrontRun (first buffer : List ℕ) (from to : ℕ) (commands : List Command) (old new : List Answer) : Type 0 where
+pub record IsPrefixRun (first buffer : List ℕ) (from to : ℕ) (commands : List Command) (old new : List Answer) : Type 0 where
   pub count : ℕ
   pub fewer : count < length commands
-  pub front : IsRun first buffer from to (take count commands) old new
+  pub prefix : IsRun first buffer from to (take count commands) old new

@@ -1,25 +1,27 @@
--- Texts and byte slices. A text is UTF-8, by std's word `IsUtf8`: the bytes are the concatenation of the encodings of
--- Unicode scalar values, each of one to four bytes, as in ISO/IEC 10646 and in chapter 3 of the Unicode Standard
--- (definition D92 and table 3-6). So no text has an overlong form, a surrogate, or a value above 0x10FFFF. The context
--- of a text, a `StrCtx`, says where the text ends.
+-- Texts and byte slices. A text is UTF-8, by std's word `IsUtf8`: the bytes are the concatenation
+-- of the encodings of Unicode scalar values, each of one to four bytes, as in ISO/IEC 10646 and in
+-- chapter 3 of the Unicode Standard (definition D92 and table 3-6). So no text has an overlong
+-- form, a surrogate, or a value above 0x10FFFF. The context of a text, a `StrCtx`, says where the
+-- text ends.
 use Rattle.std.specs.Prelude.{◌≡◌, ◌≤◌, ◌<◌, ⊤, ◌==◌, ◌||◌, ◌+◌, ℕ, nat_le, Bool, List, length, take, min, codes, ◌⊎◌, IsUtf8}
 use Rattle.std.specs.List.{position_or_len}
-use Rattle.scroll.specs.Bytes.{ReadsFront, RefusesShort}
+use Rattle.scroll.specs.Bytes.{ReadsPrefix, RefusesShort}
 use Rattle.scroll.specs.Errors.{IsBadInput}
 use Rattle.scroll.specs.declared.ctx.str_ctx.StrCtx.{StrCtx}
 use Rattle.scroll.specs.declared.ctx.str_ctx.StrCtx.TheVariants.{Delimiter, DelimiterUntil, Length, Required}
 use Rattle.scroll.specs.declared.error.Error.{Error}
 
 -- the least index at which `s` has the byte `d`, or the length of `s` where it has none
-abbrev pub first_place : ℕ → List ℕ → ℕ
-first_place d s = position_or_len (λ b. b == d) s
+abbrev pub index_of : ℕ → List ℕ → ℕ
+index_of d s = position_or_len (λ b. b == d) s
 
--- the byte `b` is the delimiter `d`, or is 128 or more, which is not ASCII. The search for a delimiter stops there.
+-- the byte `b` is the delimiter `d`, or is 128 or more, which is not ASCII. The search for a
+-- delimiter stops there.
 abbrev pub is_stop : ℕ → ℕ → Bool
 is_stop d b = (b == d) || nat_le 128 b
 
--- `wanted_len ctx`: how many bytes the context needs of a source: its limit or its length, and 0 for `Delimiter` and
--- `Required`
+-- `wanted_len ctx`: how many bytes the context needs of a source: its limit or its length, and 0
+-- for `Delimiter` and `Required`
 abbrev pub wanted_len : StrCtx → ℕ
 wanted_len (Delimiter d) = 0
 wanted_len (DelimiterUntil d limit) = limit
@@ -28,57 +30,59 @@ wanted_len (Required d) = 0
 
 -- `text_len ctx source`: how many bytes the text has in a source:
 abbrev pub text_len : StrCtx → List ℕ → ℕ
-text_len (Delimiter d) source = first_place d source
-text_len (DelimiterUntil d limit) source = min limit (first_place d source)
+text_len (Delimiter d) source = index_of d source
+text_len (DelimiterUntil d limit) source = min limit (index_of d source)
 text_len (Length n) source = n
-text_len (Required d) source = first_place d source
+text_len (Required d) source = index_of d source
 
--- `delimiter_len ctx`: how many bytes the size counts after the text: 0 for `Length`, and else 1 for the delimiter,
--- also where the source has none
+-- `delimiter_len ctx`: how many bytes the size counts after the text: 0 for `Length`, and else 1
+-- for the delimiter, also where the source has none
 abbrev pub delimiter_len : StrCtx → ℕ
 delimiter_len (Delimiter d) = 1
 delimiter_len (DelimiterUntil d limit) = 1
 delimiter_len (Length n) = 0
 delimiter_len (Required d) = 1
 
--- `HasDelimiter ctx source`: the source has the byte `d`, where the context is `Required d`; the other contexts need no
--- delimiter
+-- `HasDelimiter ctx source`: the source has the byte `d`, where the context is `Required d`; the
+-- other contexts need no delimiter
 abbrev pub HasDelimiter : StrCtx → List ℕ → Type 0
 HasDelimiter (Delimiter d) source = ⊤
 HasDelimiter (DelimiterUntil d limit) source = ⊤
 HasDelimiter (Length n) source = ⊤
-HasDelimiter (Required d) source = first_place d source < length source
+HasDelimiter (Required d) source = index_of d source < length source
 
--- a text is read from the start of a source: the source has as many bytes as the context needs, `text` is its first
--- `text_len ctx source` bytes and is UTF-8, the size `n` counts these bytes and `delimiter_len ctx` more, and
--- `HasDelimiter` holds
+-- a text is read from the start of a source: the source has as many bytes as the context needs,
+-- `text` is its first `text_len ctx source` bytes and is UTF-8, the size `n` counts these bytes and
+-- `delimiter_len ctx` more, and `HasDelimiter` holds
 pub record ReadsText (ctx : StrCtx) (source text : List ℕ) (n : ℕ) : Type 0 where
   pub room : wanted_len ctx ≤ length source
-  pub front : text ≡ take (text_len ctx source) source
+  pub prefix : text ≡ take (text_len ctx source) source
   pub utf8 : IsUtf8 text
   pub size : n ≡ text_len ctx source + delimiter_len ctx
   pub there : HasDelimiter ctx source
 
--- the source has as many bytes as the context needs and `HasDelimiter` holds, but the first `text_len ctx source` bytes
--- are not UTF-8. The error is `BadInput` with the length of the source and the message `invalid utf8`.
+-- the source has as many bytes as the context needs and `HasDelimiter` holds, but the first
+-- `text_len ctx source` bytes are not UTF-8. The error is `BadInput` with the length of the source
+-- and the message `invalid utf8`.
 pub record RefusesInvalid (ctx : StrCtx) (source : List ℕ) (e : Error) : Type 0 where
   pub room : wanted_len ctx ≤ length source
   pub invalid : ¬ IsUtf8 (take (text_len ctx source) source)
   pub error : IsBadInput e (length source) (codes "invalid utf8")
   pub there : HasDelimiter ctx source
 
--- the source has as many bytes as the context needs, but `HasDelimiter` does not hold. The error is `BadInput` with the
--- length of the source and the message `missing delimiter`; whether the bytes are UTF-8 is not tested.
+-- the source has as many bytes as the context needs, but `HasDelimiter` does not hold. The error is
+-- `BadInput` with the length of the source and the message `missing delimiter`; whether the bytes
+-- are UTF-8 is not tested.
 pub record RefusesMissing (ctx : StrCtx) (source : List ℕ) (e : Error) : Type 0 where
   pub room : wanted_len ctx ≤ length source
   pub missing : ¬ HasDelimiter ctx source
   pub error : IsBadInput e (length source) (codes "missing delimiter")
 
--- the read of a text fails: the source is too short, which is tested first, or a required delimiter is missing, or the
--- text is not UTF-8
+-- the read of a text fails: the source is too short, which is tested first, or a required delimiter
+-- is missing, or the text is not UTF-8
 abbrev pub RefusesText : StrCtx → List ℕ → Error → Type 0
 RefusesText ctx source e = RefusesShort (wanted_len ctx) source e ⊎ RefusesInvalid ctx source e ⊎ RefusesMissing ctx source e
 
--- the first `n` bytes of a source are read: `ReadsFront n (take n)`
+-- the first `n` bytes of a source are read: `ReadsPrefix n (take n)`
 abbrev pub ReadsSlice : ℕ → List ℕ → List ℕ → ℕ → Type 0
-ReadsSlice n = ReadsFront n (take n)
+ReadsSlice n = ReadsPrefix n (take n)

@@ -1,10 +1,12 @@
--- Zeros. A `Zeros` stands for bytes that are all zero, such as the padding up to a multiple of a size.
+-- Zeros. A `Zeros` stands for bytes that are all zero, such as the padding up to a multiple of a
+-- size.
 use Rattle.std.specs.Prelude.{◌≡◌, ◌≢◌, ◌≤◌, ◌<◌, ◌-◌, ◌%◌, ℕ, List, length, replicate, codes, slice_index, ◌⊎◌}
 use Rattle.scroll.specs.Bytes.{RefusesShort}
 use Rattle.scroll.specs.Errors.{IsBadInput}
 use Rattle.scroll.specs.declared.error.Error.{Error}
 
--- how many bytes there are from an offset to the next multiple; none at a multiple, and none if `multiple` is 0
+-- how many bytes there are from an offset to the next multiple; none at a multiple, and none if
+-- `multiple` is 0
 abbrev pub padding_len : ℕ → ℕ → ℕ
 padding_len offset multiple = (multiple - offset % multiple) % multiple
 
@@ -18,16 +20,17 @@ pub record ReadsZeros (n : ℕ) (source : List ℕ) (m : ℕ) : Type 0 where
   pub zero : (i : ℕ) → i < n → slice_index source i ≡ 0
   pub size : m ≡ n
 
--- the source has `n` bytes or more, one of the first `n` is not zero, and the error is `BadInput` with the index of the
--- first such byte as its size and the message `padding is not zero`
+-- the source has `n` bytes or more, one of the first `n` is not zero, and the error is `BadInput`
+-- with the index of the first such byte as its size and the message `padding is not zero`
 pub record RefusesNonzero (n : ℕ) (source : List ℕ) (e : Error) : Type 0 where
-  pub place : ℕ
+  pub index : ℕ
   pub room : n ≤ length source
-  pub inside : place < n
-  pub before : (i : ℕ) → i < place → slice_index source i ≡ 0
-  pub nonzero : slice_index source place ≢ 0
-  pub error : IsBadInput e place (codes "padding is not zero")
+  pub inside : index < n
+  pub before : (i : ℕ) → i < index → slice_index source i ≡ 0
+  pub nonzero : slice_index source index ≢ 0
+  pub error : IsBadInput e index (codes "padding is not zero")
 
--- the read of zeros fails: the source is too short, which is tested first, or one of its first `n` bytes is not zero
+-- the read of zeros fails: the source is too short, which is tested first, or one of its first `n`
+-- bytes is not zero
 abbrev pub RefusesZeros : ℕ → List ℕ → Error → Type 0
 RefusesZeros n source e = RefusesShort n source e ⊎ RefusesNonzero n source e

@@ -7,15 +7,22 @@
 //! let text = CStr::from_bytes_until_nul(b"on\0off\0").ok_or("no zero")?;
 //! assert_eq!(rt; text.to_bytes(), b"on".as_slice());
 //! assert_eq!(rt; text.to_bytes_with_nul(), b"on\0".as_slice());
+//!
+//! let source: &[u8] = b"on\0off\0";
+//! let offset = &mut 3;
+//! let text: CStr = source.gread(offset)?;
+//! assert_eq!(rt; text.to_bytes(), b"off".as_slice());
+//! assert_eq!(rt; *offset, 7);
+//! assert!(rt; matches!(source[..2].pread::<CStr>(0), Err(Error::BadInput { size: 0, .. })));
 //! ```
-ghost use Rattle.std.specs.Prelude.{◌≡◌, ◌<◌, ◌↔◌, ◌++◌, [], ◌∷◌, length, take, nat_eq, IsTrue, IfOk, IfErr, OnOk, IfSome, IfNone, OnSome};
+ghost use Rattle.std.specs.Prelude.{◌≡◌, ◌<◌, ◌+◌, ◌↔◌, ◌++◌, [], ◌∷◌, length, take, nat_eq, vec_capacity, vec_len, IsTrue, IsOk, IfOk, IfErr, OnOk, IfSome, IfNone, OnSome};
 ghost use Rattle.std.specs.Cmp.Lexicographic.{pointwise, nat_list_eq_equiv};
 ghost use Rattle.std.specs.Cmp.{partial_equiv_from_equiv, on_per, on_equiv};
 ghost use Rattle.scroll.specs.CStrings.{IsCString, RefusesToHold};
-ghost use Rattle.scroll.specs.Texts.{first_place};
+ghost use Rattle.scroll.specs.Texts.{index_of};
 
 use crate::error::{Error, Result};
-use crate::search::first_place;
+use crate::search::index_of;
 use std::alloc::{AllocError, Global};
 use std::result;
 
@@ -32,35 +39,37 @@ pub struct CStr<'a> {
 impl<'a> CStr<'a> {
     ghost use Rattle.scroll.specs.CStringTexts.{c_str_text};
 
-    /// Returns the C string at the front of `bytes`: the bytes up to and including the first zero. It borrows `bytes`.
+    /// Returns the C string at the start of `bytes`: the bytes up to and including the first zero. It borrows `bytes`.
     /// Returns `None` exactly where `bytes` contains no zero.
     #[inline(always)]
     pub fn from_bytes_until_nul(bytes: &'a [u8]) -> Option<CStr<'a>>
-        ensures found { OnSome result (first_place 0 bytes.now < length bytes.now) }
+        ensures found { OnSome result (index_of 0 bytes.now < length bytes.now) }
         ensures text { IfSome result (λ s.
-            c_str_text s ≡ take (first_place 0 bytes.now) bytes.now) }
-        ensures none { IfNone result (first_place 0 bytes.now ≡ length bytes.now) }
+            c_str_text s ≡ take (index_of 0 bytes.now) bytes.now) }
+        ensures none { IfNone result (index_of 0 bytes.now ≡ length bytes.now) }
     {
-        let place = first_place(0, bytes);
-        if place == bytes.len() {
+        let index = index_of(0, bytes);
+        if index == bytes.len() {
             return None;
         }
         Some(CStr {
-            bytes: &bytes[..place + 1],
+            bytes: &bytes[..index + 1],
         })
     }
 
     /// Returns the text without the zero.
     #[inline]
+    #[tactic(auto, using(crate::proofs::lemmas::TextLemmas::text_without_zero))]
     pub fn to_bytes(self) -> &'a [u8]
         ensures text { result.now ≡ c_str_text self.entry }
-        ensures no_zero { first_place 0 result.now ≡ length result.now }
+        ensures no_zero { index_of 0 result.now ≡ length result.now }
     {
         &self.bytes[..self.bytes.len() - 1]
     }
 
     /// Returns the text with the zero after it.
     #[inline]
+    #[tactic(auto, using(crate::proofs::lemmas::TextLemmas::with_zero_again))]
     pub fn to_bytes_with_nul(self) -> &'a [u8]
         ensures text { result.now ≡ c_str_text self.entry ++ 0 ∷ [] }
         ensures one_zero { IsCString result.now }
@@ -110,13 +119,13 @@ impl CString {
     /// [`Error::NoMemory`].
     pub fn new(alloc: Global, text: &[u8]) -> Result<CString>
         ensures text { IfOk result (λ s. c_string_text s ≡ text.now) }
-        ensures no_zero { OnOk result (first_place 0 text.now ≡ length text.now) }
+        ensures no_zero { OnOk result (index_of 0 text.now ≡ length text.now) }
         ensures refused { IfErr result (RefusesToHold text.now) }
     {
-        let place = first_place(0, text);
-        if place < text.len() {
+        let index = index_of(0, text);
+        if index < text.len() {
             return Err(Error::BadInput {
-                size: place,
+                size: index,
                 msg: "nul byte in text",
             });
         }
@@ -147,7 +156,7 @@ impl CString {
     #[inline]
     pub fn as_bytes(&self) -> &[u8]
         ensures text { result.now ≡ c_string_text self.now }
-        ensures no_zero { first_place 0 result.now ≡ length result.now }
+        ensures no_zero { index_of 0 result.now ≡ length result.now }
     {
         self.as_c_str().to_bytes()
     }
@@ -167,7 +176,16 @@ fn with_zero(alloc: Global, text: &[u8]) -> result::Result<Vec<u8>, AllocError>
     ensures held { IfOk result (λ bytes. bytes.items ≡ text.now ++ 0 ∷ []) }
 {
     let mut bytes = Vec::with_capacity(alloc, text.len() + 1)?;
+    push_with_zero(&mut bytes, text)?;
+    Ok(bytes)
+}
+
+// Appends a text and a zero.
+fn push_with_zero(bytes: &mut Vec<u8>, text: &[u8]) -> result::Result<(), AllocError>
+    ensures held { OnOk result (bytes.new.items ≡ bytes.old.items ++ text.now ++ 0 ∷ []) }
+    ensures succeeds { vec_len bytes.old + length text.now < vec_capacity bytes.old → IsOk result }
+{
     bytes.extend_from_slice(text)?;
     bytes.push(0)?;
-    Ok(bytes)
+    Ok(())
 }

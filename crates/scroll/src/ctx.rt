@@ -46,7 +46,7 @@ mod tuples;
 mod zeros;
 
 pub use arrays::array_fits;
-pub use encode::{Encode, Value};
+pub use encode::{Encode, Gap, Padded, Value, read_fixed};
 pub use fixed::{Fixed, Plain, Record, RoundTrip, Written};
 pub use str_ctx::{NULL, RET, SPACE, StrCtx, TAB};
 pub use zeros::{Zeros, padding};
@@ -57,7 +57,7 @@ pub use zeros::{Zeros, padding};
 /// that is generic over the type knows these two of a read, and that its size is at most one byte more than the source
 /// has.
 ///
-/// From `clients/examples/src/external_error.rt.txt`, with an error of its own:
+/// From `clients/examples/src/errors.rt.txt`, with an error of its own:
 ///
 /// ```rust
 /// impl<'a> TryFromCtx<'a, Endian> for Foo {
@@ -87,7 +87,7 @@ pub trait TryFromCtx<'a, Ctx: Copy>: Sized {
     // Holds of a context, a source, and each error that a read of them may return.
     ghost refuses: { Ctx → List ℕ → Self.Error → Type 0 };
 
-    /// Reads a value at the front of `from` in the context `ctx`, and returns it with its size in bytes.
+    /// Reads a value at the start of `from` in the context `ctx`, and returns it with its size in bytes.
     ///
     /// Returns the type's error where `from` doesn't begin with a value.
     fn try_from_ctx(from: &'a [u8], ctx: Ctx) -> Result<(Self, usize), Self::Error>
@@ -104,10 +104,10 @@ pub trait TryFromCtx<'a, Ctx: Copy>: Sized {
 /// A caller that is generic over the type knows these two of a write, that its size is at most the length of the
 /// target, and that the bytes after the first `size` are unchanged.
 ///
-/// From `clients/examples/src/custom_error.rt.txt`, whose error has a text:
+/// From `clients/examples/src/errors.rt.txt`, whose error has a text:
 ///
 /// ```rust
-/// impl<'g> TryIntoCtx<(Endian, &'g Global)> for Foo {
+/// impl<'g> TryIntoCtx<(Endian, &'g Global)> for Number {
 ///     type Error = Error;
 ///
 ///     ghost writes = { λ ctx x old new n. WritesNumber 2 ctx.0 x.0 old new n };
@@ -118,7 +118,7 @@ pub trait TryFromCtx<'a, Ctx: Copy>: Sized {
 ///
 ///     ghost writes_keeps = { λ ctx x old new n h. drop-written (length-number_bytes ctx.0 2 x.0) h };
 ///
-///     fn try_into_ctx(self, dst: &mut [u8], ctx: (Endian, &'g Global)) -> Result<usize> {
+///     fn try_into_ctx(self, dst: &mut [u8], ctx: (Endian, &'g Global)) -> Result<usize, Error> {
 ///         if dst.len() < 2 {
 ///             return Err(whatever(*ctx.1));
 ///         }
@@ -136,7 +136,7 @@ pub trait TryIntoCtx<Ctx: Copy>: Sized {
     // Holds of a context, a value, a target before and after, and each error that a write may return for them.
     ghost refuses: { Ctx → Self → List ℕ → List ℕ → Self.Error → Type 0 };
 
-    /// Writes the value to the front of `dst` in the context `ctx`, and returns its size in bytes.
+    /// Writes the value to the start of `dst` in the context `ctx`, and returns its size in bytes.
     ///
     /// Returns the type's error where the value can't be written whole; the type says what is then in `dst`.
     fn try_into_ctx(self, dst: &mut [u8], ctx: Ctx) -> Result<usize, Self::Error>
@@ -160,7 +160,7 @@ pub trait FromCtx<Ctx: Copy>: Sized {
     // Holds of a context, a source of at least that many bytes, and each value that may be made of it.
     ghost makes: { Ctx → List ℕ → Self → Type 0 };
 
-    /// Returns the value at the front of `this` in the context `ctx`. `this` has at least as many bytes as the type
+    /// Returns the value at the start of `this` in the context `ctx`. `this` has at least as many bytes as the type
     /// needs.
     fn from_ctx(this: &[u8], ctx: Ctx) -> Self
         requires { need ctx ≤ length this.now }
@@ -173,16 +173,16 @@ pub trait IntoCtx<Ctx: Copy>: Sized {
     ghost need: { Ctx → ℕ };
 
     // Holds of a context, a value, and a target of at least that many bytes before and after.
-    ghost leaves: { Ctx → Self → List ℕ → List ℕ → Type 0 };
+    ghost overwrites: { Ctx → Self → List ℕ → List ℕ → Type 0 };
 
-    /// Writes the value to the front of `dst` in the context `ctx`. `dst` has at least as many bytes as the type needs;
+    /// Writes the value to the start of `dst` in the context `ctx`. `dst` has at least as many bytes as the type needs;
     /// those after them are unchanged.
     fn into_ctx(self, dst: &mut [u8], ctx: Ctx)
         requires { need ctx ≤ length dst.old }
-        ensures { leaves ctx self dst.old dst.new };
+        ensures { overwrites ctx self dst.old dst.new };
 
     // The bytes after those that the type needs are unchanged.
-    ghost leaves_keeps: { (ctx : Ctx) (x : Self) (old new : List ℕ) → leaves ctx x old new
+    ghost overwrites_keeps: { (ctx : Ctx) (x : Self) (old new : List ℕ) → overwrites ctx x old new
         → drop (need ctx) new ≡ drop (need ctx) old };
 }
 

@@ -12,7 +12,7 @@ use crate::source::Source;
 /// the type needs is at most the length of the slice. [`Pread`](crate::Pread) checks this instead, and returns an
 /// error.
 ///
-/// From `clients/examples/src/bar.rt.txt`:
+/// From `clients/examples/src/overview.rt.txt`:
 ///
 /// ```rust
 /// impl FromCtx<Endian> for Bar {
@@ -72,15 +72,15 @@ impl<'a, Ctx: Copy> Cread<Ctx> for &'a [u8] {
 /// the type needs is at most the length of the slice. The bytes before the offset, and those after the bytes that the
 /// type needs, are unchanged. [`Pwrite`](crate::Pwrite) checks the room instead, and returns an error.
 ///
-/// From `clients/examples/src/bar.rt.txt`:
+/// From `clients/examples/src/overview.rt.txt`:
 ///
 /// ```rust
 /// impl IntoCtx<Endian> for Bar {
 ///     ghost need = { λ _. 8 };
 ///
-///     ghost leaves = { λ order x old new. new ≡ (signed_bytes order 4 x.foo ++ number_bytes order 4 x.bar) ++ drop 8 old };
+///     ghost overwrites = { λ order x old new. new ≡ (signed_bytes order 4 x.foo ++ number_bytes order 4 x.bar) ++ drop 8 old };
 ///
-///     ghost leaves_keeps = { λ order x old new h. Prim.search rules };
+///     ghost overwrites_keeps = { λ order x old new h. Prim.search rules };
 ///
 ///     fn into_ctx(self, dst: &mut [u8], ctx: Endian) {
 ///         slice::cwrite_with(dst, self.foo, 0, ctx);
@@ -112,7 +112,7 @@ pub trait Cwrite<Ctx: Copy> {
             → offset + N.need ctx ≤ length (target self.old) }
         ensures before { take offset (target self.new) ≡ take offset (target self.old) }
         ensures after { ByDefault Ctx.is_default (λ ctx.
-            N.leaves ctx n (drop offset (target self.old)) (drop offset (target self.new))) }
+            N.overwrites ctx n (drop offset (target self.old)) (drop offset (target self.new))) }
         ensures len { length (target self.new) ≡ length (target self.old) }
         ensures same { same_target self.old self.new }
     {
@@ -130,7 +130,7 @@ pub trait Cwrite<Ctx: Copy> {
     fn cwrite_with<N: IntoCtx<Ctx>>(&mut self, n: N, offset: usize, ctx: Ctx)
         requires { offset + N.need ctx ≤ length (target self.old) }
         ensures before { take offset (target self.new) ≡ take offset (target self.old) }
-        ensures after { N.leaves ctx n (drop offset (target self.old))
+        ensures after { N.overwrites ctx n (drop offset (target self.old))
             (drop offset (target self.new)) }
         ensures len { length (target self.new) ≡ length (target self.old) }
         ensures same { same_target self.old self.new };

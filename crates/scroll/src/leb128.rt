@@ -1,18 +1,20 @@
 //! Numbers in LEB128, as DWARF and WebAssembly have them: seven bits per byte, the lowest first.
 //!
-//! A byte below 128 ends an encoding, and the low seven bits of each byte are the groups of the number. An encoding has
-//! one to ten bytes. A number has one encoding of each length from its shortest up to ten; the longer ones are padded,
-//! and they are read as well. A number that was read is written with as many bytes as it had; any other number is
-//! written in its shortest encoding.
+//! A byte below 128 ends an encoding, and the low seven bits of each byte are the groups of the
+//! number. An encoding has one to ten bytes. A number has one encoding of each length from its
+//! shortest up to ten; the longer ones are padded, and they are read as well. A number that was
+//! read is written with as many bytes as it had; any other number is written in its shortest
+//! encoding.
 //!
-//! [`Pread`](crate::Pread) reads [`Uleb128`] and [`Sleb128`], and [`Pwrite`](crate::Pwrite) writes them, in the context
-//! `()`. The functions of this module read the same numbers from a slice ([`plain_uleb`], [`plain_sleb`]), from eight
-//! bytes ([`uleb_block`], [`sleb_block`]) and from a source that counts its loads ([`uleb_loads`], [`sleb_loads`]).
+//! [`Pread`](crate::Pread) reads [`Uleb128`] and [`Sleb128`], and [`Pwrite`](crate::Pwrite) writes
+//! them, in the context `()`. The functions of this module read the same numbers from a slice
+//! ([`plain_uleb`], [`plain_sleb`]), from eight bytes ([`uleb_block`], [`sleb_block`]) and from a
+//! source that counts its loads ([`uleb_loads`], [`sleb_loads`]).
 mod block;
 mod by_loads;
+mod bytewise;
 mod counted;
 mod groups;
-mod plain;
 mod signed;
 mod unsigned;
 mod write;
@@ -20,8 +22,8 @@ mod write;
 use crate::error::Error;
 pub use block::{sleb_block, uleb_block};
 pub use by_loads::{sleb_loads, uleb_loads};
+pub use bytewise::{plain_sleb, plain_uleb};
 pub use counted::{Leb128, LebNumber};
-pub use plain::{plain_sleb, plain_uleb};
 pub use signed::Sleb128;
 pub use unsigned::Uleb128;
 

@@ -8,17 +8,18 @@ use crate::ctx::{FromCtx, IntoCtx, SizeWith};
 use std::io;
 use std::io::{ErrorKind, Read, Write};
 
-// The scratch of a type of at most this size, as every number is, is this large; that of any other type has 256 bytes.
+// The scratch of a type of at most this size, as every number is, is this large; that of any other
+// type has 256 bytes.
 const SMALL: usize = 16;
 
 /// Reads values of any type that implements [`FromCtx`] and [`SizeWith`] from a reader.
 ///
-/// Every reader implements it. A read takes exactly as many bytes as the type's size, even if the type needs fewer. The
-/// caller ensures that the type needs at most its size, and that its size is at most 256 bytes; both hold of every
-/// number.
+/// Every reader implements it. A read takes exactly as many bytes as the type's size, even if the
+/// type needs fewer. The caller ensures that the type needs at most its size, and that its size is
+/// at most 256 bytes; both hold of every number.
 ///
-/// An error is the reader's own, or one of kind `UnexpectedEof` where the reader ends too early. An interrupted call is
-/// repeated. After an error, the number of bytes taken is not specified.
+/// An error is the reader's own, or one of kind `UnexpectedEof` where the reader ends too early. An
+/// interrupted call is repeated. After an error, the number of bytes taken is not specified.
 ///
 /// From `clients/examples/src/stream.rt.txt`, of a struct that is a [`Record`](crate::ctx::Record):
 ///
@@ -33,7 +34,8 @@ const SMALL: usize = 16;
 /// }
 /// ```
 pub trait IOread<Ctx: Copy>: Read {
-    /// Reads a value of type `N` in the default context, which for numbers is the machine's byte order.
+    /// Reads a value of type `N` in the default context, which for numbers is the machine's byte
+    /// order.
     ///
     /// ```rust
     /// let mut source = [0xef, 0xbe].as_slice();
@@ -118,12 +120,13 @@ fn fill<R: Read>(reader: &mut R, bytes: &mut [u8]) -> io::Result<()>
 
 /// Writes values of any type that implements [`IntoCtx`] and [`SizeWith`] to a writer.
 ///
-/// Every writer implements it. A write appends exactly as many bytes as the type's size: what the value leaves in that
-/// many zeros. The caller ensures that the type needs at most its size, and that its size is at most 256 bytes; both
-/// hold of every number.
+/// Every writer implements it. A write appends exactly as many bytes as the type's size: what the
+/// value leaves in that many zeros. The caller ensures that the type needs at most its size, and
+/// that its size is at most 256 bytes; both hold of every number.
 ///
-/// An error is the writer's own, or one of kind `WriteZero` where the writer takes no more bytes. An interrupted call
-/// is repeated. After an error, the number of bytes appended is not specified. The writer is not flushed.
+/// An error is the writer's own, or one of kind `WriteZero` where the writer takes no more bytes.
+/// An interrupted call is repeated. After an error, the number of bytes appended is not specified.
+/// The writer is not flushed.
 pub trait IOwrite<Ctx: Copy>: Write {
     /// Appends `n` in the default context, which for numbers is the machine's byte order.
     ///
@@ -140,7 +143,7 @@ pub trait IOwrite<Ctx: Copy>: Write {
         requires size { (ctx : Ctx) → Ctx.is_default ctx → N.size ctx ≤ 256 }
         ensures appended { OnOk result (ByDefault Ctx.is_default (λ ctx.
             AppendsValue (Self.contents self.old) (Self.contents self.new) (N.size ctx)
-            (N.leaves ctx n (replicate (N.size ctx) 0)))) }
+            (N.overwrites ctx n (replicate (N.size ctx) 0)))) }
     {
         self.iowrite_with(n, Ctx::default())
     }
@@ -164,7 +167,7 @@ pub trait IOwrite<Ctx: Copy>: Write {
         requires need { N.need ctx ≤ N.size ctx }
         requires size { N.size ctx ≤ 256 }
         ensures appended { OnOk result (AppendsValue (Self.contents self.old)
-            (Self.contents self.new) (N.size ctx) (N.leaves ctx n (replicate (N.size ctx) 0))) }
+            (Self.contents self.new) (N.size ctx) (N.overwrites ctx n (replicate (N.size ctx) 0))) }
     {
         let size = N::size_with(&ctx);
         if size <= SMALL {
@@ -188,7 +191,7 @@ fn write_value<W: Write, Ctx: Copy, N: IntoCtx<Ctx>>(
 ) -> io::Result<()>
     requires need { N.need ctx ≤ length scratch.old }
     ensures appended { OnOk result (AppendsValue (W.contents writer.old)
-        (W.contents writer.new) (length scratch.old) (N.leaves ctx n scratch.old)) }
+        (W.contents writer.new) (length scratch.old) (N.overwrites ctx n scratch.old)) }
 {
     n.into_ctx(scratch, ctx);
     append(writer, scratch)
@@ -206,7 +209,7 @@ fn append<W: Write>(writer: &mut W, bytes: &[u8]) -> io::Result<()>
     match writer.write(bytes) {
         Ok(count) if count == bytes.len() => Ok(()),
         Ok(0) => {
-            // (the error of a writer without room)
+            // (the error of a writer without room, with its message; its contract doesn't say that it fails)
             [].as_mut_slice().write_all(bytes)?;
             Err(io::Error::from(ErrorKind::WriteZero))
         }

@@ -35,6 +35,7 @@ mod leb128;
 mod lesser;
 mod loads;
 mod located;
+mod many;
 mod pread;
 mod pwrite;
 pub mod runner;
@@ -54,6 +55,7 @@ pub use crate::leb128::{
 pub use crate::lesser::{IOread, IOwrite};
 pub use crate::loads::Loads;
 pub use crate::located::{At, LocateError};
+pub use crate::many::read_many;
 pub use crate::pread::Pread;
 pub use crate::pwrite::Pwrite;
 pub use crate::small_error::SmallError;

@@ -1,13 +1,13 @@
 // A source that counts its loads.
 ghost use Rattle.std.specs.Prelude.{◌≡◌, ◌↔◌, ◌+◌, ◌^◌, ◌<◌, ◌≤◌, length, take, slice_get, IfSome, IfNone, IsTrue};
-ghost use Rattle.scroll.specs.Loads.{Loading};
+ghost use Rattle.scroll.specs.Reads.{Loading};
 
 use std::marker::Model;
 
 /// A source whose bytes are read only by counted loads.
 ///
-/// [`uleb_loads`](crate::uleb_loads) and [`sleb_loads`](crate::sleb_loads) read from it, and their contracts bound the
-/// number of loads.
+/// [`uleb_loads`](crate::uleb_loads) and [`sleb_loads`](crate::sleb_loads) read from it, and their
+/// contracts bound the number of loads.
 ///
 /// ```rust
 /// let bytes: [u8; 3] = [0x82, 0x01, 0xff];
@@ -61,8 +61,8 @@ impl<'a> Loads<'a> {
         self.made
     }
 
-    /// Loads the first eight bytes at once. Returns `None` where there are fewer. Both count as one load. The caller ensures
-    /// that fewer than 2^63 loads were made before.
+    /// Loads the first eight bytes at once. Returns `None` where there are fewer. Both count as one
+    /// load. The caller ensures that fewer than 2^63 loads were made before.
     #[inline]
     pub fn word(&mut self) -> Option<[u8; 8]>
         requires { self.old.made < 2 ^ 63 }
@@ -75,8 +75,8 @@ impl<'a> Loads<'a> {
         self.src.first_chunk::<8>().copied()
     }
 
-    /// Loads the byte at offset `i`. Returns `None` where `i` is out of bounds. Both count as one load. The caller ensures
-    /// that fewer than 2^63 loads were made before.
+    /// Loads the byte at offset `i`. Returns `None` where `i` is out of bounds. Both count as one
+    /// load. The caller ensures that fewer than 2^63 loads were made before.
     #[inline]
     pub fn byte(&mut self, i: usize) -> Option<u8>
         requires { self.old.made < 2 ^ 63 }

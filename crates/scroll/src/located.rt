@@ -32,7 +32,8 @@ pub trait LocateError<T, E>: Sized {
 
     /// Returns the value, or the error together with `offset`.
     ///
-    /// After a failed call with a cursor, the cursor is the offset at which the value that failed should start:
+    /// After a failed call with a cursor, the cursor is the offset at which the value that failed
+    /// should start:
     ///
     /// ```rust
     /// let file: &[u8] = &[1, 2, 3];
@@ -43,7 +44,7 @@ pub trait LocateError<T, E>: Sized {
     fn at(self, offset: usize) -> Result<T, At<E>>
         ensures value { IfOk result (λ x. has_value self x) }
         ensures error { IfErr result (λ located. has_error self located.error) }
-        ensures place { IfErr result (λ located. located.offset ≡ offset) };
+        ensures offset { IfErr result (λ located. located.offset ≡ offset) };
 }
 
 impl<T, E> LocateError<T, E> for Result<T, E> {

@@ -6,17 +6,19 @@ ghost use Rattle.scroll.specs.Errors.{PastEnd};
 use crate::error::Error;
 use crate::source::{ReadFrom, Source};
 
-/// Reads values of any type that implements [`TryFromCtx`](crate::ctx::TryFromCtx) from a byte slice.
+/// Reads values of any type that implements [`TryFromCtx`](crate::ctx::TryFromCtx) from a byte
+/// slice.
 ///
-/// Offsets and sizes are in bytes, and an offset counts from the start of the slice. An offset past the end returns
-/// `E::from(Error::BadOffset(offset))`, which for `E = Error` is that error itself; an offset at the end reads an empty
-/// source. Every other error is the type's own. The elements of a bulk read are `Drop`, since it replaces them. An array or a
-/// vector is read as it is.
+/// Offsets and sizes are in bytes, and an offset counts from the start of the slice. An offset past
+/// the end returns `E::from(Error::BadOffset(offset))`, which for `E = Error` is that error itself;
+/// an offset at the end reads an empty source. Every other error is the type's own. The elements of
+/// a bulk read are `Drop`, since it replaces them. An array or a vector is read as it is.
 pub trait Pread<Ctx: Copy, E>: Source {
     // Holds of an offset past the end and each error that may be returned for it.
     ghost past_end: { ℕ → E → Type 0 };
 
-    /// Reads a value of type `N` at `offset` in the default context, which for numbers is the machine's byte order.
+    /// Reads a value of type `N` at `offset` in the default context, which for numbers is the
+    /// machine's byte order.
     ///
     /// ```rust
     /// let bytes = [0x7fu8; 1];
@@ -41,6 +43,10 @@ pub trait Pread<Ctx: Copy, E>: Source {
     /// let bytes: [u8; 2] = [0xde, 0xad];
     /// let dead: u16 = bytes[..].pread_with(0, BE)?;
     /// assert_eq!(rt; dead, 0xdead);
+    /// let end = bytes[..].pread_with::<u16>(2, BE);
+    /// assert!(rt; matches!(end, Err(Error::TooBig { size: 2, len: 0 })));
+    /// let past = bytes[..].pread_with::<u16>(3, BE);
+    /// assert!(rt; matches!(past, Err(Error::BadOffset(3))));
     /// ```
     #[inline(always)]
     fn pread_with<N: ReadFrom<Self, Ctx, Error = E>>(self, offset: usize, ctx: Ctx) -> Result<N, E>
@@ -52,8 +58,8 @@ pub trait Pread<Ctx: Copy, E>: Source {
         self.gread_with(&mut offset, ctx)
     }
 
-    /// Reads a value of type `N` at the cursor `offset` in the default context, and advances the cursor by the value's
-    /// size. On an error the cursor is unchanged.
+    /// Reads a value of type `N` at the cursor `offset` in the default context, and advances the
+    /// cursor by the value's size. On an error the cursor is unchanged.
     ///
     /// ```rust
     /// let bytes = [0x7fu8; 1];
@@ -75,14 +81,16 @@ pub trait Pread<Ctx: Copy, E>: Source {
         self.gread_with(offset, Ctx::default())
     }
 
-    /// Reads a value of type `N` at the cursor `offset` in the context `ctx`, and advances the cursor by the value's
-    /// size. On an error the cursor is unchanged.
+    /// Reads a value of type `N` at the cursor `offset` in the context `ctx`, and advances the
+    /// cursor by the value's size. On an error the cursor is unchanged.
     ///
     /// ```rust
     /// let bytes: [u8; 2] = [0xde, 0xad];
     /// let offset = &mut 0;
     /// let dead: u16 = bytes[..].gread_with(offset, BE)?;
     /// assert_eq!(rt; dead, 0xdead);
+    /// assert_eq!(rt; *offset, 2);
+    /// assert!(rt; bytes[..].gread_with::<u16>(offset, BE).is_err());
     /// assert_eq!(rt; *offset, 2);
     /// ```
     fn gread_with<N: ReadFrom<Self, Ctx, Error = E>>(
@@ -96,9 +104,9 @@ pub trait Pread<Ctx: Copy, E>: Source {
             (RefusesAt (N.refuses ctx) past_end (Self.bytes self) offset.old) }
         ensures stays { OnErr result (offset.new ≡ offset.old) };
 
-    /// Fills `inout` with values that are read one after another from the cursor `offset` in the default context, and
-    /// advances the cursor past the last one. An error leaves what [`gread_inout_with`](Pread::gread_inout_with)
-    /// leaves.
+    /// Fills `inout` with values that are read one after another from the cursor `offset` in the
+    /// default context, and advances the cursor past the last one. An error leaves what
+    /// [`gread_inout_with`](Pread::gread_inout_with) leaves.
     ///
     /// ```rust
     /// let bytes: [u8; 2] = [0x48, 0x49];
@@ -124,11 +132,12 @@ pub trait Pread<Ctx: Copy, E>: Source {
         self.gread_inout_with(offset, inout, Ctx::default())
     }
 
-    /// Fills `inout` with values that are read one after another from the cursor `offset` in the context `ctx`, and
-    /// advances the cursor past the last one.
+    /// Fills `inout` with values that are read one after another from the cursor `offset` in the
+    /// context `ctx`, and advances the cursor past the last one.
     ///
-    /// Returns the error of the first value that can't be read. The elements before it then have their new values, the others
-    /// are unchanged, and the cursor is where that value starts. An empty `inout` succeeds at any offset.
+    /// Returns the error of the first value that can't be read. The elements before it then have
+    /// their new values, the others are unchanged, and the cursor is where that value starts. An
+    /// empty `inout` succeeds at any offset.
     ///
     /// ```rust
     /// let bytes: [u8; 2] = [0x48, 0x49];
@@ -137,6 +146,14 @@ pub trait Pread<Ctx: Copy, E>: Source {
     /// bytes[..].gread_inout_with(offset, &mut values, LE)?;
     /// assert_eq!(rt; values, bytes);
     /// assert_eq!(rt; *offset, 2);
+    ///
+    /// let bytes: [u8; 7] = [1, 2, 3, 4, 5, 6, 7];
+    /// let mut values = [9u16; 3];
+    /// let offset = &mut 3;
+    /// let short = bytes[..].gread_inout_with(offset, &mut values, LE);
+    /// assert!(rt; matches!(short, Err(Error::TooBig { size: 2, len: 0 })));
+    /// assert_eq!(rt; values, [1284, 1798, 9]);
+    /// assert_eq!(rt; *offset, 7);
     /// ```
     fn gread_inout_with<N: ReadFrom<Self, Ctx, Error = E> + Drop>(
         self,

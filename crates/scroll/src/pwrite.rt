@@ -12,10 +12,11 @@ mod owned;
 
 /// Writes values of any type that implements [`TryIntoCtx`] and `Drop` to a byte slice.
 ///
-/// Offsets and sizes are in bytes, and an offset counts from the start of the slice. An offset past the end returns
-/// `E::from(Error::BadOffset(offset))`, which for `E = Error` is that error itself, and leaves the slice unchanged; an
-/// offset at the end writes to an empty target. Every other error is the type's own, and the type says what it leaves.
-/// The bytes before the offset and the length of the slice are always unchanged. An array or a vector is written as it is.
+/// Offsets and sizes are in bytes, and an offset counts from the start of the slice. An offset past
+/// the end returns `E::from(Error::BadOffset(offset))`, which for `E = Error` is that error itself,
+/// and leaves the slice unchanged; an offset at the end writes to an empty target. Every other
+/// error is the type's own, and the type says what it leaves. The bytes before the offset and the
+/// length of the slice are always unchanged. An array or a vector is written as it is.
 pub trait Pwrite<Ctx: Copy, E> {
     // The bytes of the target.
     ghost target: { Self → List ℕ };
@@ -26,8 +27,8 @@ pub trait Pwrite<Ctx: Copy, E> {
     // Holds of an offset past the end and each error that may be returned for it.
     ghost past_end: { ℕ → E → Type 0 };
 
-    /// Writes `n` at `offset` in the default context, which for numbers is the machine's byte order, and returns its
-    /// size in bytes.
+    /// Writes `n` at `offset` in the default context, which for numbers is the machine's byte
+    /// order, and returns its size in bytes.
     ///
     /// ```rust
     /// let mut bytes = [0u8; 8];
@@ -60,6 +61,12 @@ pub trait Pwrite<Ctx: Copy, E> {
     /// let mut target = &mut bytes[..];
     /// target.pwrite_with(0xbeefbeefu32, 0, LE)?;
     /// assert_eq!(rt; bytes[..].pread_with::<u32>(0, LE)?, 0xbeefbeef);
+    /// let mut target = &mut bytes[..];
+    /// let past = target.pwrite_with(0u16, 9, LE);
+    /// assert!(rt; matches!(past, Err(Error::BadOffset(9))));
+    /// let mut target = &mut bytes[..];
+    /// let short = target.pwrite_with(0u16, 7, LE);
+    /// assert!(rt; matches!(short, Err(Error::TooBig { size: 2, len: 1 })));
     /// ```
     #[inline(always)]
     fn pwrite_with<N: TryIntoCtx<Ctx, Error = E> + Drop>(
@@ -79,8 +86,8 @@ pub trait Pwrite<Ctx: Copy, E> {
         self.gwrite_with(n, &mut offset, ctx)
     }
 
-    /// Writes `n` at the cursor `offset` in the default context, advances the cursor by the size of `n` in bytes, and
-    /// returns that size. On an error the cursor is unchanged.
+    /// Writes `n` at the cursor `offset` in the default context, advances the cursor by the size of
+    /// `n` in bytes, and returns that size. On an error the cursor is unchanged.
     ///
     /// ```rust
     /// let mut bytes = [0u8; 8];
@@ -109,8 +116,8 @@ pub trait Pwrite<Ctx: Copy, E> {
         self.gwrite_with(n, offset, Ctx::default())
     }
 
-    /// Writes `n` at the cursor `offset` in the context `ctx`, advances the cursor by the size of `n` in bytes, and
-    /// returns that size. On an error the cursor is unchanged.
+    /// Writes `n` at the cursor `offset` in the context `ctx`, advances the cursor by the size of
+    /// `n` in bytes, and returns that size. On an error the cursor is unchanged.
     ///
     /// ```rust
     /// let mut bytes = [0u8; 8];

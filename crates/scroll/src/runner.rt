@@ -1,10 +1,10 @@
 //! Lists of commands over one buffer and one cursor.
 //!
-//! [`run`] runs the commands in turn, and appends an [`Answer`] for each to a vector. Its contract states all results and
-//! all that it leaves, over the history of what was written.
+//! [`run`] runs the commands in turn, and appends an [`Answer`] for each to a vector. Its contract
+//! states all results and all that it leaves, over the history of what was written.
 ghost use Rattle.std.specs.Prelude.{◌≡◌, ◌+◌, ◌≤◌, length, vec_len, vec_capacity, OnOk, OnErr, IfOk, IfErr, IsOk};
 ghost use Rattle.std.specs.List.{All};
-ghost use Rattle.scroll.specs.Runs.{IsStep, IsRun, IsFrontRun, CopiesNothing};
+ghost use Rattle.scroll.specs.Runs.{IsStep, IsRun, IsPrefixRun, CopiesNothing};
 ghost use Rattle.scroll.specs.declared.error.Error.TheVariants.{NoMemory};
 
 use crate::cstr::CStr;
@@ -167,16 +167,18 @@ pub enum Answer {
     Refused(Error),
 }
 
-/// Runs the commands in turn, each over the buffer as the ones before it left it, and appends an answer for each to
-/// `answers`.
+/// Runs the commands in turn, each over the buffer as the ones before it left it, and appends an
+/// answer for each to `answers`.
 ///
-/// A command that fails appends its error, and the next one runs. It leaves the cursor unchanged, and the buffer too,
-/// except that the elements of an array before the one that failed remain written. The offset of `Place::At` counts bytes
-/// from the start of the buffer, and a command at such an offset leaves the cursor unchanged.
+/// A command that fails appends its error, and the next one runs. It leaves the cursor unchanged,
+/// and the buffer too, except that the elements of an array before the one that failed remain
+/// written. The offset of `Place::At` counts bytes from the start of the buffer, and a command at
+/// such an offset leaves the cursor unchanged.
 ///
-/// The only error is [`Error::NoMemory`], and there is none if `answers` has room for an answer to each command, and no
-/// command reads a string, a byte slice or a C string, which are copied. The answers of the first commands, fewer than all, are then appended, and the
-/// buffer and the cursor are as these commands left them: memory for an answer is reserved before its command runs, and
+/// The only error is [`Error::NoMemory`], and there is none if `answers` has room for an answer to
+/// each command, and no command reads a string, a byte slice or a C string, which are copied. The
+/// answers of the first commands, fewer than all, are then appended, and the buffer and the cursor
+/// are as these commands left them: memory for an answer is reserved before its command runs, and
 /// what a read copies is copied before the cursor moves.
 pub fn run(
     alloc: Global,
@@ -190,8 +192,8 @@ pub fn run(
     ensures only_memory { IfErr result (λ e. e ≡ NoMemory) }
     ensures succeeds { vec_len answers.old + length commands.now ≤ vec_capacity answers.old
         → All CopiesNothing commands.now → IsOk result }
-    ensures front { OnErr result
-        (IsFrontRun buffer.old buffer.new cursor.old cursor.new commands.now
+    ensures prefix { OnErr result
+        (IsPrefixRun buffer.old buffer.new cursor.old cursor.new commands.now
         answers.old.items answers.new.items) }
 {
     for command in commands {

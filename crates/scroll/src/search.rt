@@ -1,7 +1,7 @@
 // The search for a byte: 32 bytes at a time, then eight at a time, and the last ones one by one.
 ghost use Rattle.std.specs.Prelude.{◌≡◌, ◌≤◌, ◌<◌, ◌*◌, ◌/◌, length, IfSome, IfNone};
 ghost use Rattle.std.specs.List.{position_or_len};
-ghost use Rattle.scroll.specs.Texts.{first_place, is_stop};
+ghost use Rattle.scroll.specs.Texts.{index_of, is_stop};
 
 mod stops;
 
@@ -9,17 +9,17 @@ use crate::search::stops::{At, AtOrNotAscii, StopsIn};
 
 /// Returns the offset of the first delimiter, or the length of the source if there is none.
 #[inline(always)]
-pub(crate) fn first_place(delimiter: u8, source: &[u8]) -> usize
-    ensures { result ≡ first_place delimiter source.now }
+pub(crate) fn index_of(delimiter: u8, source: &[u8]) -> usize
+    ensures { result ≡ index_of delimiter source.now }
 {
     first(At(delimiter), source)
 }
 
-/// Returns the offset of the first byte that is the delimiter or isn't ASCII, or the length of the source if there is
-/// none.
+/// Returns the offset of the first byte that is the delimiter or isn't ASCII, or the length of the
+/// source if there is none.
 #[inline(always)]
 pub(crate) fn first_stop(delimiter: u8, source: &[u8]) -> usize
-    ensures place { result ≡ position_or_len (is_stop delimiter) source.now }
+    ensures index { result ≡ position_or_len (is_stop delimiter) source.now }
     ensures within { result ≤ length source.now }
 {
     first(AtOrNotAscii(delimiter), source)
@@ -27,22 +27,22 @@ pub(crate) fn first_stop(delimiter: u8, source: &[u8]) -> usize
 
 // Returns the offset of the first stop, or the length of the source if there is none.
 #[inline(always)]
-#[tactic(auto, using(crate::proofs::lemmas::search::SearchLemmas::searches))]
+#[tactic(auto, using(crate::proofs::lemmas::SearchLemmas::searches))]
 fn first<S: StopsIn<32> + StopsIn<8> + StopsIn<1>>(at: S, source: &[u8]) -> usize
-    ensures place { result ≡ position_or_len (S.stops at) source.now }
+    ensures index { result ≡ position_or_len (S.stops at) source.now }
     ensures within { result ≤ length source.now }
 {
-    if let Some(place) = first_in_blocks::<32, S>(at, source) {
-        return place;
+    if let Some(index) = first_in_blocks::<32, S>(at, source) {
+        return index;
     }
     let wide = source.len() / 32 * 32;
     let rest = &source[wide..];
-    if let Some(place) = first_in_blocks::<8, S>(at, rest) {
-        return wide + place;
+    if let Some(index) = first_in_blocks::<8, S>(at, rest) {
+        return wide + index;
     }
     let narrow = rest.len() / 8 * 8;
     match first_in_blocks::<1, S>(at, &rest[narrow..]) {
-        Some(place) => wide + narrow + place,
+        Some(index) => wide + narrow + index,
         None => source.len(),
     }
 }
@@ -51,7 +51,7 @@ fn first<S: StopsIn<32> + StopsIn<8> + StopsIn<1>>(at: S, source: &[u8]) -> usiz
 #[inline(always)]
 fn first_in_blocks<const N: usize, S: StopsIn<N>>(at: S, source: &[u8]) -> Option<usize>
     requires width { (0 < N) × (N ≤ 64) }
-    ensures place { IfSome result (λ place. place ≡ position_or_len (S.stops at) source.now) }
+    ensures index { IfSome result (λ index. index ≡ position_or_len (S.stops at) source.now) }
     ensures none { IfNone result (length source.now / N * N
         ≤ position_or_len (S.stops at) source.now) }
 {

@@ -1,8 +1,9 @@
-//! The calls of [`Pwrite`](crate::Pwrite) and [`Cwrite`](crate::Cwrite) as functions on a borrowed slice.
+//! The calls of [`Pwrite`](crate::Pwrite) and [`Cwrite`](crate::Cwrite) as functions on a borrowed
+//! slice.
 //!
-//! The traits are implemented for `&mut [u8]`, so their methods take a reference to that reference. A function whose
-//! contract says what a parameter of type `&mut [u8]` holds afterwards can't call them on that parameter. These
-//! functions take the slice itself:
+//! The traits are implemented for `&mut [u8]`, so their methods take a reference to that reference.
+//! A function whose contract says what a parameter of type `&mut [u8]` holds afterwards can't call
+//! them on that parameter. These functions take the slice itself:
 //!
 //! ```rust
 //! use scroll::{BE, slice};
@@ -14,10 +15,10 @@
 //! assert_eq!(rt; *offset, 6);
 //! ```
 //!
-//! Offsets and sizes are in bytes, and an offset counts from the start of the slice. An offset past the end returns
-//! `E::from(Error::BadOffset(offset))` and leaves the slice unchanged; an offset at the end writes to an empty target.
-//! Every other error is the type's own, and the type says what it leaves. The bytes before the offset are always
-//! unchanged.
+//! Offsets and sizes are in bytes, and an offset counts from the start of the slice. An offset past
+//! the end returns `E::from(Error::BadOffset(offset))` and leaves the slice unchanged; an offset at
+//! the end writes to an empty target. Every other error is the type's own, and the type says what
+//! it leaves. The bytes before the offset are always unchanged.
 ghost use Rattle.std.specs.Prelude.{◌≡◌, ◌+◌, ◌≤◌, length, take, drop, IfOk, IfErr, OnErr};
 ghost use Rattle.scroll.specs.Reads.{ByDefault};
 ghost use Rattle.scroll.specs.Writes.{WritesAt, RefusesWriteAt};
@@ -26,8 +27,8 @@ ghost use Rattle.scroll.specs.Errors.{PastEnd};
 use crate::ctx::{IntoCtx, TryIntoCtx};
 use crate::error::Error;
 
-/// Writes `n` at `offset` in the default context, which for numbers is the machine's byte order, and returns its size
-/// in bytes.
+/// Writes `n` at `offset` in the default context, which for numbers is the machine's byte order,
+/// and returns its size in bytes.
 ///
 /// ```rust
 /// let mut bytes = [0u8; 8];
@@ -70,8 +71,8 @@ pub fn pwrite_with<Ctx: Copy, E: From<Error>, N: TryIntoCtx<Ctx, Error = E> + Dr
     gwrite_with(dst, n, &mut offset, ctx)
 }
 
-/// Writes `n` at the cursor `offset` in the default context, advances the cursor by the size of `n` in bytes, and
-/// returns that size. On an error the cursor is unchanged.
+/// Writes `n` at the cursor `offset` in the default context, advances the cursor by the size of `n`
+/// in bytes, and returns that size. On an error the cursor is unchanged.
 ///
 /// ```rust
 /// let mut bytes = [0u8; 8];
@@ -95,8 +96,8 @@ pub fn gwrite<Ctx: Copy + Default, E: From<Error>, N: TryIntoCtx<Ctx, Error = E>
     gwrite_with(dst, n, offset, Ctx::default())
 }
 
-/// Writes `n` at the cursor `offset` in the context `ctx`, advances the cursor by the size of `n` in bytes, and returns
-/// that size. On an error the cursor is unchanged.
+/// Writes `n` at the cursor `offset` in the context `ctx`, advances the cursor by the size of `n`
+/// in bytes, and returns that size. On an error the cursor is unchanged.
 ///
 /// ```rust
 /// let mut bytes = [0u8; 8];
@@ -127,9 +128,10 @@ pub fn gwrite_with<Ctx: Copy, E: From<Error>, N: TryIntoCtx<Ctx, Error = E> + Dr
     Ok(size)
 }
 
-/// Writes `n` at `offset` in the default context, which for numbers is the machine's byte order. This can't fail: the caller
-/// ensures that `offset` plus the number of bytes that the type needs is at most the length of the slice. The bytes before
-/// the offset, and those after the bytes that the type needs, are unchanged.
+/// Writes `n` at `offset` in the default context, which for numbers is the machine's byte order.
+/// This can't fail: the caller ensures that `offset` plus the number of bytes that the type needs
+/// is at most the length of the slice. The bytes before the offset, and those after the bytes that
+/// the type needs, are unchanged.
 ///
 /// ```rust
 /// let mut bytes = [0u8; 12];
@@ -142,14 +144,14 @@ pub fn cwrite<Ctx: Copy + Default, N: IntoCtx<Ctx>>(dst: &mut [u8], n: N, offset
     requires { (ctx : Ctx) → Ctx.is_default ctx → offset + N.need ctx ≤ length dst.old }
     ensures before { take offset dst.new ≡ take offset dst.old }
     ensures after { ByDefault Ctx.is_default (λ ctx.
-        N.leaves ctx n (drop offset dst.old) (drop offset dst.new)) }
+        N.overwrites ctx n (drop offset dst.old) (drop offset dst.new)) }
 {
     cwrite_with(dst, n, offset, Ctx::default())
 }
 
-/// Writes `n` at `offset` in the context `ctx`. This can't fail: the caller ensures that `offset` plus the number of bytes
-/// that the type needs is at most the length of the slice. The bytes before the offset, and those after the bytes that the
-/// type needs, are unchanged.
+/// Writes `n` at `offset` in the context `ctx`. This can't fail: the caller ensures that `offset`
+/// plus the number of bytes that the type needs is at most the length of the slice. The bytes
+/// before the offset, and those after the bytes that the type needs, are unchanged.
 ///
 /// ```rust
 /// let mut bytes = [0u8; 16];
@@ -160,7 +162,7 @@ pub fn cwrite<Ctx: Copy + Default, N: IntoCtx<Ctx>>(dst: &mut [u8], n: N, offset
 pub fn cwrite_with<Ctx: Copy, N: IntoCtx<Ctx>>(dst: &mut [u8], n: N, offset: usize, ctx: Ctx)
     requires { offset + N.need ctx ≤ length dst.old }
     ensures before { take offset dst.new ≡ take offset dst.old }
-    ensures after { N.leaves ctx n (drop offset dst.old) (drop offset dst.new) }
+    ensures after { N.overwrites ctx n (drop offset dst.old) (drop offset dst.new) }
 {
     n.into_ctx(&mut dst[offset..], ctx)
 }

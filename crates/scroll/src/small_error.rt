@@ -1,31 +1,32 @@
 // The errors of reads and writes of bytes, in few bytes.
 ghost use Rattle.std.specs.Prelude.{◌≡◌};
-ghost use Rattle.scroll.specs.SmallErrors.{small_error, IsErrorOf};
+ghost use Rattle.scroll.specs.Errors.{small_error, IsErrorOf};
 
 use crate::error::Error;
 use crate::located::At;
 use std::{fmt, io};
 
-/// Why a read or a write of bytes failed: [`Error`] without what owns memory or comes from a stream, in at most 32
-/// bytes.
+/// Why a read or a write of bytes failed: [`Error`] without what owns memory or comes from a
+/// stream, in at most 32 bytes.
 ///
-/// A function of your own that returns it, rather than [`Error`], has less to write back: `?` converts the error of
-/// each call. The first three variants have the fields and the printed lines of [`Error`]'s.
+/// A function of your own that returns it, rather than [`Error`], has less to write back: `?`
+/// converts the error of each call. The first three variants have the fields and the printed lines
+/// of [`Error`]'s.
 #[derive(Clone, Copy, Debug, PartialEq, Eq)]
 pub enum SmallError {
     /// [`Error::TooBig`]: a value of `size` bytes doesn't fit the `len` bytes that are left.
     TooBig { size: usize, len: usize },
     /// [`Error::BadOffset`]: this offset, in bytes, is past the end.
     BadOffset(usize),
-    /// [`Error::BadInput`]: the bytes are not a valid value; `msg` says why, and the type that was read what `size`
-    /// counts.
+    /// [`Error::BadInput`]: the bytes are not a valid value; `msg` says why, and the type that was
+    /// read what `size` counts.
     BadInput { size: usize, msg: &'static str },
     /// Any other error: a caller's own message, an error of a stream, or an allocation that failed.
     Other,
 }
 
 impl fmt::Display for SmallError {
-    ghost use Rattle.scroll.specs.SmallErrors.{small_line_of};
+    ghost use Rattle.scroll.specs.Errors.{small_line_of};
 
     ghost output = { small_line_of };
 
@@ -44,7 +45,8 @@ impl std::error::Error for SmallError {}
 impl From<Error> for SmallError {
     ghost from_gives = { λ error small. small ≡ small_error error };
 
-    /// Returns the variant of the same name with the same fields, and [`SmallError::Other`] for the errors that have none.
+    /// Returns the variant of the same name with the same fields, and [`SmallError::Other`] for the
+    /// errors that have none.
     #[inline]
     fn from(error: Error) -> SmallError {
         match &error {
@@ -67,8 +69,8 @@ impl From<Error> for SmallError {
 impl From<SmallError> for Error {
     ghost from_gives = { IsErrorOf };
 
-    /// Returns the variant of the same name with the same fields. [`SmallError::Other`] becomes an [`Error::IO`] of the
-    /// kind `Other`, which prints the same line.
+    /// Returns the variant of the same name with the same fields. [`SmallError::Other`] becomes an
+    /// [`Error::IO`] of the kind `Other`, which prints the same line.
     fn from(small: SmallError) -> Error {
         match small {
             SmallError::TooBig { size, len } => Error::TooBig { size, len },
@@ -81,7 +83,8 @@ impl From<SmallError> for Error {
 
 /// Keeps the offset.
 impl From<At<Error>> for At<SmallError> {
-    ghost from_gives = { λ located small. (small.offset ≡ located.offset) × (small.error ≡ small_error located.error) };
+    ghost from_gives = { λ located small.
+        (small.offset ≡ located.offset) × (small.error ≡ small_error located.error) };
 
     #[inline]
     fn from(located: At<Error>) -> At<SmallError> {

@@ -1,6 +1,6 @@
 -- Lemmas on commands and their words.
 use Rattle.std.proofs.Common.{◌≡◌, ◌<◌, ◌^◌, Bor, ◌+◌, ◌-◌, ◌++◌, ℕ, zero, suc, List, [], ◌∷◌, codes, length, take, drop, get_or, arith, refl, sym, ap, ◌∙◌, subst}
-use Rattle.std.proofs.lemmas.List.{take_more, take_rest}
+use Rattle.std.proofs.lemmas.List.{length-map, take_more, take_rest}
 use Rattle.std.proofs.lemmas.Slice.Zip.{all_zipped_more}
 use Rattle.std.proofs.lemmas.Grind.{common_steps}
 use Rattle.std.proofs.lemmas.Slice.Eq.{HasBytesAt, text_from_reads}
@@ -18,6 +18,10 @@ use Rattle.scroll_run.specs.declared.commands.CommandLine.{CommandLine}
 -- what a word is read as where there is none
 abbrev pub no_word : Bor (List ℕ)
 no_word = record { ref_ptr = (0, 0); now = [] }
+
+-- words are as many as their texts
+pub counted : (words : List (Bor (List ℕ))) (ws : List (List ℕ)) → texts_of words ≡ ws → length words ≡ length ws
+counted words ws e = sym (length-map words (λ (w : Bor (List ℕ)). w.now)) ∙ ap length e
 
 -- n words, from the one at i on
 abbrev pub words_from : List (Bor (List ℕ)) → ℕ → ℕ → List (List ℕ)

@@ -1,22 +1,22 @@
--- Lemmas on fronts of the output.
+-- Lemmas on prefixes of the output.
 use Rattle.std.proofs.Common.{◌≡◌, ℕ, ◌-◌, List, ◌++◌, length, take, drop, sym, ap, ◌∙◌, append_assoc, take-append-drop, Option}
 use Rattle.std.proofs.lemmas.List.{take_rest}
 use Rattle.std.proofs.Math.Seq.{take-append_seam}
 use Rattle.std.proofs.KnownBytes.{Appends-trans}
 use Rattle.std.specs.Io.KnownBytes.{Appends}
-use Rattle.scroll_run.specs.Output.{AppendsFront}
+use Rattle.scroll_run.specs.Output.{AppendsPrefix}
 
--- the first n of the rest join the front
-pub front_moves : (all done rest : List ℕ) (n : ℕ) → all ≡ done ++ rest → all ≡ (done ++ take n rest) ++ take (length rest - n) (drop n rest)
-front_moves all done rest n e =
+-- the first n of the rest join the prefix
+pub prefix_moves : (all done rest : List ℕ) (n : ℕ) → all ≡ done ++ rest → all ≡ (done ++ take n rest) ++ take (length rest - n) (drop n rest)
+prefix_moves all done rest n e =
     e ∙ ap (λ l. done ++ l) (sym (take-append-drop n rest)) ∙ sym (append_assoc done (take n rest) (drop n rest))
     ∙ ap (λ l. (done ++ take n rest) ++ l) (sym (take_rest rest n))
 
-pub appends_front : (old new : Option (List ℕ)) (all done rest : List ℕ) → all ≡ done ++ rest → Appends old new done → AppendsFront old new all
-appends_front old new all done rest e h =
+pub appends_prefix : (old new : Option (List ℕ)) (all done rest : List ℕ) → all ≡ done ++ rest → Appends old new done → AppendsPrefix old new all
+appends_prefix old new all done rest e h =
     let t : take (length done) all ≡ done = ap (take (length done)) e ∙ take-append_seam done rest in
     (length done, rw t h)
 
-pub appends_more : (old mid new : Option (List ℕ)) (all done rest : List ℕ) (n : ℕ) → all ≡ done ++ rest → Appends old mid done → Appends mid new (take n rest) → AppendsFront old new all
+pub appends_more : (old mid new : Option (List ℕ)) (all done rest : List ℕ) (n : ℕ) → all ≡ done ++ rest → Appends old mid done → Appends mid new (take n rest) → AppendsPrefix old new all
 appends_more old mid new all done rest n e h i =
-    appends_front old new all _ _ (front_moves all done rest n e) (Appends-trans _ _ _ _ _ h i)
+    appends_prefix old new all _ _ (prefix_moves all done rest n e) (Appends-trans _ _ _ _ _ h i)

@@ -1,5 +1,5 @@
 -- Lemmas on the words of what is read, by the first of them.
-use Rattle.std.proofs.Common.{◌≡◌, ◌≤◌, ◌^◌, ℕ, List, [], ◌∷◌, codes, length, arith, ap, subst}
+use Rattle.std.proofs.Common.{◌≡◌, ◌≢◌, ◌≤◌, ◌^◌, Bor, ℕ, List, [], ◌∷◌, codes, length, arith, ap, subst}
 use Rattle.scroll.specs.declared.ctx.str_ctx.StrCtx.{StrCtx}
 use Rattle.scroll.specs.declared.ctx.str_ctx.StrCtx.TheVariants as context
 use Rattle.scroll.specs.declared.runner.Kind.{Kind}
@@ -7,8 +7,8 @@ use Rattle.scroll.specs.declared.runner.Kind.TheVariants as kind
 use Rattle.scroll.specs.declared.runner.Width.{Width}
 use Rattle.scroll.specs.declared.runner.Width.TheVariants as width
 use Rattle.scroll_run.specs.Kinds.{SpellsEnd, SpellsKind}
-use Rattle.scroll_run.specs.Words.{SpellsByte, SpellsNumber, width_word}
-use Rattle.scroll_run.proofs.CommandLemmas.{first_letter}
+use Rattle.scroll_run.specs.Words.{SpellsByte, SpellsNumber, texts_of, width_word}
+use Rattle.scroll_run.proofs.CommandLemmas.{counted, first_letter}
 
 -- lists with the same words
 same_second : (a b c : List ℕ) → a ∷ b ∷ [] ≡ a ∷ c ∷ [] → c ≡ b
@@ -19,6 +19,12 @@ by_delim b (context.Delimiter d) s = (d, subst (λ w. SpellsByte w d) (same_seco
 by_delim b (context.DelimiterUntil d limit) s = let e = s.2 in absurd cc
 by_delim b (context.Length n) s = let e = s.1 in absurd cc
 by_delim b (context.Required d) s = let e = s.1 in absurd cc
+
+pub by_len : (b : List ℕ) (ctx : StrCtx) → SpellsEnd (codes "len" ∷ b ∷ []) ctx → (n : ℕ) × SpellsNumber (2 ^ 64) b n
+by_len b (context.Delimiter d) s = let e = s.1 in absurd cc
+by_len b (context.DelimiterUntil d limit) s = let e = s.2 in absurd cc
+by_len b (context.Length n) s = (n, subst (λ w. SpellsNumber (2 ^ 64) w n) (same_second _ b s.0 s.1) s.2)
+by_len b (context.Required d) s = let e = s.1 in absurd cc
 
 pub by_required : (b : List ℕ) (ctx : StrCtx) → SpellsEnd (codes "required" ∷ b ∷ []) ctx → (d : ℕ) × SpellsByte b d
 by_required b (context.Delimiter d) s = let e = s.1 in absurd cc
@@ -35,6 +41,13 @@ by_until b c (context.DelimiterUntil d limit) s =
     (d, limit, subst (λ w. SpellsByte w d) first s.3, subst (λ w. SpellsNumber (2 ^ 64) w limit) second s.4)
 by_until b c (context.Length n) s = let e = s.1 in absurd cc
 by_until b c (context.Required d) s = let e = s.1 in absurd cc
+
+-- words that are neither two nor three spell no end
+pub no_end : (words : List (Bor (List ℕ))) → length words ≢ 2 → length words ≢ 3 → (ctx : StrCtx) → ¬ (SpellsEnd (texts_of words) ctx)
+no_end words two three (context.Delimiter d) = λ s. two (counted words _ s.1)
+no_end words two three (context.DelimiterUntil d limit) = λ s. three (counted words _ s.2)
+no_end words two three (context.Length n) = λ s. two (counted words _ s.1)
+no_end words two three (context.Required d) = λ s. two (counted words _ s.1)
 
 -- the word of a number type has at most four bytes
 pub short_width : (w : Width) (a : List ℕ) → a ≡ width_word w → length a ≤ 4

@@ -4,7 +4,7 @@ use Rattle.std.proofs.lemmas.Grind.{common_steps}
 use Rattle.std.proofs.lemmas.List.{take_more, get_or-take, length-take-le, get_or-map, length-map}
 use Rattle.std.proofs.lemmas.Slice.Zip.{all_zipped_more, AllZip-long}
 use Rattle.std.specs.Option.{MatchOption}
-use Rattle.std.specs.Result.{IfOk}
+use Rattle.std.specs.Result.{MatchResult}
 use Rattle.scroll.specs.declared.cstr.CStr.{CStr}
 use Rattle.scroll.specs.declared.runner.Command.{Command}
 use Rattle.scroll_run.specs.Commands.{AreCommandsOf, IsCommandOf, SpellsCommand}
@@ -19,12 +19,12 @@ use Rattle.scroll_run.specs.declared.lines.Stop.{Stop}
 use Rattle.scroll_run.specs.declared.lines.Stop.TheVariants.{BadLine, NoMemory}
 
 -- a buffer line by its second word
-pub buffer_by_word : {V E : Type 0} (items : V → List ℕ) (line word : List ℕ) (r : Result (Option V) E) → line ≡ codes "buffer " ++ word
-    → IfOk r (λ found. MatchOption found ((bytes : List ℕ) → ¬ (SpellsBytes word bytes)) (λ v. SpellsBytes word (items v)))
-    → IfOk r (λ found. MatchOption found ((bytes : List ℕ) → ¬ (SpellsBuffer line bytes)) (λ v. SpellsBuffer line (items v)))
-buffer_by_word items line word (Ok (Some v)) e h = (word, e, h)
-buffer_by_word items line word (Ok None) e h = λ bytes s. let f = h bytes in grind (arith, common_steps)
-buffer_by_word items line word (Err x) e h = tt
+pub buffer_by_word : {V E : Type 0} (refused : Type 0) (items : V → List ℕ) (line word : List ℕ) (r : Result (Option V) E) → line ≡ codes "buffer " ++ word
+    → MatchResult r (λ found. MatchOption found ((bytes : List ℕ) → ¬ (SpellsBytes word bytes)) (λ v. SpellsBytes word (items v))) (λ _. refused)
+    → MatchResult r (λ found. MatchOption found ((bytes : List ℕ) → ¬ (SpellsBuffer line bytes)) (λ v. SpellsBuffer line (items v))) (λ _. refused)
+buffer_by_word refused items line word (Ok (Some v)) e h = (word, e, h)
+buffer_by_word refused items line word (Ok None) e h = λ bytes s. let f = h bytes in grind (arith, common_steps)
+buffer_by_word refused items line word (Err x) e h = h
 
 -- a command that borrows from a line
 lent : (x : CommandLine) → (c : Command) × IsCommandOf x c
@@ -70,11 +70,11 @@ held_next lines d xs i x h lt s =
     rw more (rw line (all_zipped_more SpellsHeld (take i texts) xs (get_or lines i d).now x h s))
 
 -- the line at i is the first that spells no command
-pub stops_here : (lines : List (Bor (List ℕ))) (d : Bor (List ℕ)) (xs : List CommandLine) (i k : ℕ) → SpellsAllHeld (take i (map (λ l. l.now) lines)) xs → i < length lines → k ≡ length xs + 3 → ((c : Command) → ¬ (SpellsCommand (words_of (get_or lines i d).now) c)) → StopsCommands (map (λ l. l.now) lines) (BadLine k)
-stops_here lines d xs i k h lt e bad =
+pub stops_here : (refused : Type 0) (lines : List (Bor (List ℕ))) (d : Bor (List ℕ)) (xs : List CommandLine) (i k : ℕ) → SpellsAllHeld (take i (map (λ l. l.now) lines)) xs → i < length lines → k ≡ length xs + 3 → ((c : Command) → ¬ (SpellsCommand (words_of (get_or lines i d).now) c)) → StopsCommands refused (map (λ l. l.now) lines) (BadLine k)
+stops_here refused lines d xs i k h lt e bad =
     let texts = map (λ (l : Bor (List ℕ)). l.now) lines in
     let count = length-map lines (λ (l : Bor (List ℕ)). l.now) in
-    let front = length-take-le i texts (omega arith) in
+    let prefix = length-take-le i texts (omega arith) in
     let spelled = AllZip-long SpellsHeld (take i texts) xs h in
     let line = get_or-map (λ (l : Bor (List ℕ)). l.now) lines i d [] lt in (
       i,
@@ -105,9 +105,9 @@ second_bad lines first second rest bytes e b h = record {
     good (suc i) lt = absurd (omega arith)
 
 -- where the commands stop, the lines stop
-pub stops_lines : (lines : List (List ℕ)) (first second : List ℕ) (rest : List (List ℕ)) (bytes : List ℕ) (n : ℕ) (stop : Stop) → lines ≡ first ∷ second ∷ rest → SpellsBuffer first bytes → SpellsCursor second n → StopsCommands rest stop → Stops lines stop
-stops_lines lines first second rest bytes n NoMemory e b c h = tt
-stops_lines lines first second rest bytes n (BadLine k) e b c h = record {
+pub stops_lines : (refused : Type 0) (lines : List (List ℕ)) (first second : List ℕ) (rest : List (List ℕ)) (bytes : List ℕ) (n : ℕ) (stop : Stop) → lines ≡ first ∷ second ∷ rest → SpellsBuffer first bytes → SpellsCursor second n → StopsCommands refused rest stop → Stops refused lines stop
+stops_lines refused lines first second rest bytes n NoMemory e b c h = h
+stops_lines refused lines first second rest bytes n (BadLine k) e b c h = record {
   counted = let q = h.1 in omega arith;
   needed = rw e (let q = h.1 in let short = h.2 in omega arith);
   good = λ i lt. rw e (good i (let q = h.1 in omega arith));

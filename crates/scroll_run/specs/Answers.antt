@@ -14,7 +14,7 @@ use Rattle.scroll.specs.declared.runner.Value.{Value}
 use Rattle.scroll.specs.declared.runner.Value.TheVariants as value
 use Rattle.scroll_run.specs.Commands.{AreCommandsOf}
 use Rattle.scroll_run.specs.Lines.{lines_of, SpellsScript, IsFirstBadLine}
-use Rattle.scroll_run.specs.Output.{AppendsFront}
+use Rattle.scroll_run.specs.Output.{AppendsPrefix}
 use Rattle.scroll_run.specs.declared.lines.Script.{Script}
 
 -- how bytes are printed: `-` for none, and else two lower-case hexadecimal digits for each
@@ -54,9 +54,9 @@ AreAnswerLines (a ∷ more) text = (line rest : List ℕ) × (text ≡ line ++ r
 
 -- the text is the lines of the results, and then those of the buffer and of the cursor
 pub record Prints (answers : List Answer) (buffer : List ℕ) (cursor : ℕ) (text : List ℕ) : Type 0 where
-  pub front : List ℕ
-  pub lines : AreAnswerLines answers front
-  pub whole : text ≡ front ++ codes "buffer " ++ hex_text buffer ++ codes "\n" ++ codes "cursor " ++ decimal cursor ++ codes "\n"
+  pub prefix : List ℕ
+  pub lines : AreAnswerLines answers prefix
+  pub whole : text ≡ prefix ++ codes "buffer " ++ hex_text buffer ++ codes "\n" ++ codes "cursor " ++ decimal cursor ++ codes "\n"
 
 -- the commands are run over the buffer `first` from the cursor `from`, and `text` is what is printed for them
 pub record RunsCommands (first : List ℕ) (from : ℕ) (commands : List Command) (text : List ℕ) : Type 0 where
@@ -66,7 +66,7 @@ pub record RunsCommands (first : List ℕ) (from : ℕ) (commands : List Command
   pub ran : IsRun first buffer from cursor commands [] answers
   pub prints : Prints answers buffer cursor text
 
--- the same of the commands, the buffer and the cursor of a script
+-- the commands of a script are run over its buffer from its cursor, and `text` is what is printed for them
 pub record RunsScript (script : Script) (text : List ℕ) : Type 0 where
   pub commands : List Command
   pub held : AreCommandsOf script.commands.items commands
@@ -97,7 +97,7 @@ pub record IsAnswered (input text : List ℕ) (status : ℕ) : Type 0 where
   pub runs : RunsCommands buffer cursor commands text
   pub status_is : status ≡ 0
 
--- what is printed for an input while no allocation fails, and the status: one of these three
+-- what is printed for an input where no memory is refused, and the status: one of these three
 abbrev pub AnswersInput : List ℕ → List ℕ → ℕ → Type 0
 AnswersInput input text status = IsTooLong input text status ⊎ (HasBadLine input text status ⊎ IsAnswered input text status)
 
@@ -108,13 +108,14 @@ pub record IsInput (old new : Option (List ℕ)) (input : List ℕ) : Type 0 whe
   pub whole : length input < 65537 → IsAtEnd new
 
 -- what is printed by a session whose reader had `old` before and has `new` after it, and the status: one of these three
--- for what the reader gave, or `out of memory` and 3
-abbrev pub AnswersSession : Option (List ℕ) → Option (List ℕ) → List ℕ → ℕ → Type 0
-AnswersSession old new text status =
-    ((text ≡ codes "out of memory\n") × (status ≡ 3)) ⊎ ((input : List ℕ) × IsInput old new input × AnswersInput input text status)
+-- for what the reader gave, or `out of memory` and 3, and then memory was `refused`
+abbrev pub AnswersSession : Type 0 → Option (List ℕ) → Option (List ℕ) → List ℕ → ℕ → Type 0
+AnswersSession refused old new text status =
+    (refused × (text ≡ codes "out of memory\n") × (status ≡ 3)) ⊎ ((input : List ℕ) × IsInput old new input × AnswersInput input text status)
 
 -- a session ends with a stream's error: its output is unchanged from `before` to `after`, or has grown by a prefix of
 -- the text of such a session
-abbrev pub BreaksOff : Option (List ℕ) → Option (List ℕ) → Option (List ℕ) → Option (List ℕ) → Type 0
-BreaksOff old new before after =
-    Keeps before after ⊎ ((text : List ℕ) × (status : ℕ) × AnswersSession old new text status × AppendsFront before after text)
+abbrev pub BreaksOff : Type 0 → Option (List ℕ) → Option (List ℕ) → Option (List ℕ) → Option (List ℕ) → Type 0
+BreaksOff refused old new before after =
+    Keeps before after
+    ⊎ ((text : List ℕ) × (status : ℕ) × AnswersSession refused old new text status × AppendsPrefix before after text)

@@ -1,4 +1,5 @@
--- Commands. Each is one line: a verb, an offset where the verb takes one, and what is read or written.
+-- Commands. Each is one line: a verb, an offset where the verb takes one, and what is read or
+-- written.
 use Rattle.std.specs.Prelude.{◌≡◌, ◌^◌, ℕ, List, ◌∷◌, codes}
 use Rattle.std.specs.List.{AllZip}
 use Rattle.scroll.specs.declared.runner.Command.{Command}
@@ -11,8 +12,8 @@ use Rattle.scroll_run.specs.Words.{SpellsNumber}
 use Rattle.scroll_run.specs.declared.commands.CommandLine.{CommandLine}
 use Rattle.scroll_run.specs.declared.commands.CommandLine.TheVariants as line
 
--- `SpellsCommand words c`: the words spell a command: its verb, the offset of one that doesn't act at the cursor, and
--- what is read or written:
+-- `SpellsCommand words c`: the words spell a command: its verb, the offset of one that doesn't act
+-- at the cursor, and what is read or written:
 abbrev pub SpellsCommand : List (List ℕ) → Command → Type 0
 SpellsCommand words (command.Read (place.At offset) what) =
     (word : List ℕ) × (rest : List (List ℕ)) × (words ≡ codes "pread" ∷ word ∷ rest) × SpellsNumber (2 ^ 64) word offset

@@ -6,8 +6,8 @@ use Rattle.scroll.specs.declared.runner.Kind.{Kind}
 use Rattle.scroll.specs.declared.runner.Kind.TheVariants as kind
 use Rattle.scroll_run.specs.Words.{SpellsByte, SpellsNumber, order_word, width_word}
 
--- `SpellsEnd words ctx`: the words spell where a text ends: by a delimiter, by a delimiter and a limit, by a length, or
--- by a delimiter that must be there:
+-- `SpellsEnd words ctx`: the words spell where a text ends: by a delimiter, by a delimiter and a
+-- limit, by a length, or by a delimiter that must be there:
 abbrev pub SpellsEnd : List (List ℕ) → StrCtx → Type 0
 SpellsEnd words (context.Delimiter d) = (word : List ℕ) × (words ≡ codes "delim" ∷ word ∷ []) × SpellsByte word d
 SpellsEnd words (context.DelimiterUntil d limit) =

@@ -1,5 +1,5 @@
--- The program. A session of `scroll_run` reads lines, runs the commands that they spell, and prints their results. A
--- line and a word are lists of bytes.
+-- The program. A session of `scroll_run` reads lines, runs the commands that they spell, and prints
+-- their results. A line and a word are lists of bytes.
 pub mod Words
 pub mod Kinds
 pub mod Puts

@@ -1,5 +1,5 @@
 -- Lines. The first line of an input spells the buffer, the second the cursor, and each further line a command.
-use Rattle.std.specs.Prelude.{◌≡◌, ◌<◌, ◌≤◌, ◌+◌, ◌-◌, ◌^◌, ◌++◌, ◌==◌, ⊤, ℕ, zero, suc, List, [], ◌∷◌, length, max, slice_index, slice_index_or, take, codes, if◌then◌else◌}
+use Rattle.std.specs.Prelude.{◌≡◌, ◌<◌, ◌≤◌, ◌+◌, ◌-◌, ◌^◌, ◌++◌, ◌==◌, ℕ, zero, suc, List, [], ◌∷◌, length, max, slice_index, slice_index_or, take, codes, if◌then◌else◌}
 use Rattle.std.specs.List.{slice_split, AllZip}
 use Rattle.scroll.specs.declared.runner.Command.{Command}
 use Rattle.scroll_run.specs.Commands.{AreCommandsOf, IsCommandOf, SpellsCommand}
@@ -75,14 +75,15 @@ pub record IsFirstBadLine (lines : List (List ℕ)) (k : ℕ) : Type 0 where
   pub good : (i : ℕ) → i + 1 < k → HasGoodLine lines i
   pub bad : ¬ (HasGoodLine lines (k - 1))
 
--- `Stops lines stop`: why the lines are not run: the first bad line, or out of memory
-abbrev pub Stops : List (List ℕ) → Stop → Type 0
-Stops lines (BadLine k) = IsFirstBadLine lines k
-Stops lines NoMemory = ⊤
+-- `Stops refused lines stop`: why the lines are not run: the first bad line, or out of memory, and then some was `refused`
+abbrev pub Stops : Type 0 → List (List ℕ) → Stop → Type 0
+Stops refused lines (BadLine k) = IsFirstBadLine lines k
+Stops refused lines NoMemory = refused
 
--- `StopsCommands lines stop`: the same of the lines of the commands, which begin at line 3
-abbrev pub StopsCommands : List (List ℕ) → Stop → Type 0
-StopsCommands lines (BadLine k) =
+-- `StopsCommands refused lines stop`: why the lines of the commands, which begin at line 3, are not run: the first of
+-- them that is no command, or out of memory, and then some was `refused`
+abbrev pub StopsCommands : Type 0 → List (List ℕ) → Stop → Type 0
+StopsCommands refused lines (BadLine k) =
     (i : ℕ) × (k ≡ i + 3) × (i < length lines)
     × ((j : ℕ) → j < i → IsCommand (slice_index_or lines j [])) × (¬ (IsCommand (slice_index_or lines i [])))
-StopsCommands lines NoMemory = ⊤
+StopsCommands refused lines NoMemory = refused

@@ -1,12 +1,12 @@
--- What is written. The words of a command name it, after the offset where there is one, and spell its value.
+-- What is written. The words of a command name it, after the offset where there is one, and spell
+-- its value.
 use Rattle.std.specs.Prelude.{◌≡◌, ◌^◌, ℕ, ℤ, List, [], ◌∷◌, length, codes, string_bytes, IsUtf8}
 use Rattle.std.specs.Borrow.{Bor}
 use Rattle.std.specs.List.{AllZip}
 use Rattle.scroll.specs.CStringTexts.{c_str_text, c_string_text}
 use Rattle.scroll.specs.Leb128.{Counted}
-use Rattle.scroll.specs.LebWrites.{IsLeast}
-use Rattle.scroll.specs.Spelling.{HasSpelling, HasSignedSpelling}
-use Rattle.scroll.specs.Texts.{first_place}
+use Rattle.scroll.specs.Encoding.{IsLeast, HasEncoding, HasSignedEncoding}
+use Rattle.scroll.specs.Texts.{index_of}
 use Rattle.scroll.specs.declared.cstr.CStr.{CStr}
 use Rattle.scroll.specs.declared.runner.Number.{Number}
 use Rattle.scroll.specs.declared.runner.Number.TheVariants as number
@@ -37,14 +37,15 @@ SpellsText word text = SpellsBytes word text × IsUtf8 text
 
 -- the word spells the bytes of a text without a zero; the zero after it is not spelled
 abbrev pub SpellsCString : List ℕ → List ℕ → Type 0
-SpellsCString word text = SpellsBytes word text × (first_place 0 text ≡ length text)
+SpellsCString word text = SpellsBytes word text × (index_of 0 text ≡ length text)
 
--- the word spells the number of `x`, unsigned or signed, and `x.count` is the length of the shortest encoding
+-- the word spells the number of `x`, unsigned or signed, and `x.count` is the length of the
+-- shortest encoding
 abbrev pub SpellsUleb : List ℕ → Counted ℕ → Type 0
-SpellsUleb word x = SpellsNumber (2 ^ 64) word x.value × IsLeast (HasSpelling x.value) x.count
+SpellsUleb word x = SpellsNumber (2 ^ 64) word x.value × IsLeast (HasEncoding x.value) x.count
 
 abbrev pub SpellsSleb : List ℕ → Counted ℤ → Type 0
-SpellsSleb word x = SpellsSigned (2 ^ 63) word x.value × IsLeast (HasSignedSpelling x.value) x.count
+SpellsSleb word x = SpellsSigned (2 ^ 63) word x.value × IsLeast (HasSignedEncoding x.value) x.count
 
 -- `SpellsPut words p`: the words spell what is written:
 abbrev pub SpellsPut : List (List ℕ) → Put → Type 0

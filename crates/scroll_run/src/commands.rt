@@ -1,13 +1,14 @@
 //! The lines that hold commands.
-ghost use Rattle.std.specs.Prelude.{IfOk, codes, ◌∷◌};
+ghost use Rattle.std.specs.Prelude.{MatchResult, codes, ◌∷◌};
 ghost use Rattle.scroll_run.specs.Commands.{AreCommandsOf, IsCommandOf, SpellsCommand};
 ghost use Rattle.scroll_run.specs.Words.{Finds, texts_of, words_of};
 
 use crate::kinds::parse_kind;
+use crate::memory::Memory;
 use crate::puts::{OwnedPut, parse_put};
 use crate::words::{parse_usize, split};
 use scroll::runner::{Command, Kind, Place};
-use std::alloc::{AllocError, Global};
+use std::alloc::AllocError;
 
 /// A command, with the bytes that its line holds.
 #[derive(Drop)]
@@ -31,28 +32,33 @@ impl CommandLine {
 }
 
 /// Returns the command of each line.
-pub fn borrow_commands(alloc: Global, lines: &[CommandLine]) -> Result<Vec<Command<'_>>, AllocError>
-    ensures { IfOk result (λ commands. AreCommandsOf lines.now commands.items) }
+pub fn borrow_commands<M: Memory>(
+    memory: M,
+    lines: &[CommandLine],
+) -> Result<Vec<Command<'_>>, AllocError>
+    ensures { MatchResult result (λ commands. AreCommandsOf lines.now commands.items)
+        (λ _. M.refuses memory) }
 {
-    let mut commands = Vec::with_capacity(alloc, lines.len())?;
+    let mut commands = Vec::new(memory.alloc());
     for line in lines {
-        // (the prover doesn't take a command as an argument of `push`, which can fail)
-        commands.reserve(1)?;
+        memory.reserve(&mut commands, 1)?;
         commands.push_reserved(line.command());
     }
     Ok(commands)
 }
 
 /// Returns the command that a line spells, or `None` for a bad line. The only error is an allocation failure.
-pub fn parse_command(alloc: Global, line: &[u8]) -> Result<Option<CommandLine>, AllocError>
-    ensures { IfOk result (Finds IsCommandOf (SpellsCommand (words_of line.now))) }
+pub fn parse_command<M: Memory>(memory: M, line: &[u8]) -> Result<Option<CommandLine>, AllocError>
+    ensures { MatchResult result (Finds IsCommandOf (SpellsCommand (words_of line.now)))
+        (λ _. M.refuses memory) }
 {
-    let words = split(alloc, line, b' ')?;
-    parse_words(alloc, &words)
+    let words = split(memory, line, b' ')?;
+    parse_words(memory, &words)
 }
 
-fn parse_words(alloc: Global, words: &[&[u8]]) -> Result<Option<CommandLine>, AllocError>
-    ensures { IfOk result (Finds IsCommandOf (SpellsCommand (texts_of words.now))) }
+fn parse_words<M: Memory>(memory: M, words: &[&[u8]]) -> Result<Option<CommandLine>, AllocError>
+    ensures { MatchResult result (Finds IsCommandOf (SpellsCommand (texts_of words.now)))
+        (λ _. M.refuses memory) }
 {
     let Some((verb, rest)) = words.split_first() else {
         return Ok(None);
@@ -60,8 +66,8 @@ fn parse_words(alloc: Global, words: &[&[u8]]) -> Result<Option<CommandLine>, Al
     match *verb {
         b"pread" => Ok(parse_pread(rest)),
         b"gread" => Ok(parse_gread(rest)),
-        b"pwrite" => parse_pwrite(alloc, rest),
-        b"gwrite" => parse_gwrite(alloc, rest),
+        b"pwrite" => parse_pwrite(memory, rest),
+        b"gwrite" => parse_gwrite(memory, rest),
         _ => Ok(None),
     }
 }
@@ -83,9 +89,10 @@ fn parse_gread(words: &[&[u8]]) -> Option<CommandLine>
     Some(CommandLine::Read(Place::Cursor, parse_kind(words)?))
 }
 
-fn parse_pwrite(alloc: Global, words: &[&[u8]]) -> Result<Option<CommandLine>, AllocError>
-    ensures { IfOk result
-        (Finds IsCommandOf (SpellsCommand (codes "pwrite" ∷ texts_of words.now))) }
+fn parse_pwrite<M: Memory>(memory: M, words: &[&[u8]]) -> Result<Option<CommandLine>, AllocError>
+    ensures { MatchResult result
+        (Finds IsCommandOf (SpellsCommand (codes "pwrite" ∷ texts_of words.now)))
+        (λ _. M.refuses memory) }
 {
     let Some((word, rest)) = words.split_first() else {
         return Ok(None);
@@ -93,17 +100,18 @@ fn parse_pwrite(alloc: Global, words: &[&[u8]]) -> Result<Option<CommandLine>, A
     let Some(offset) = parse_usize(word) else {
         return Ok(None);
     };
-    match parse_put(alloc, rest)? {
+    match parse_put(memory, rest)? {
         Some(put) => Ok(Some(CommandLine::Write(Place::At(offset), put))),
         None => Ok(None),
     }
 }
 
-fn parse_gwrite(alloc: Global, words: &[&[u8]]) -> Result<Option<CommandLine>, AllocError>
-    ensures { IfOk result
-        (Finds IsCommandOf (SpellsCommand (codes "gwrite" ∷ texts_of words.now))) }
+fn parse_gwrite<M: Memory>(memory: M, words: &[&[u8]]) -> Result<Option<CommandLine>, AllocError>
+    ensures { MatchResult result
+        (Finds IsCommandOf (SpellsCommand (codes "gwrite" ∷ texts_of words.now)))
+        (λ _. M.refuses memory) }
 {
-    match parse_put(alloc, words)? {
+    match parse_put(memory, words)? {
         Some(put) => Ok(Some(CommandLine::Write(Place::Cursor, put))),
         None => Ok(None),
     }

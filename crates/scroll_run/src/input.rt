@@ -1,10 +1,11 @@
 //! The bytes of the input.
 ghost use Rattle.std.specs.Prelude.{◌≡◌, ◌≤◌, ◌<◌, IfOk, IfErr, vec_len};
 ghost use Rattle.std.specs.Io.KnownBytes.{Consumes, IsAtEnd};
-ghost use Rattle.scroll_run.specs.Input.{IsNotInterrupted};
+ghost use Rattle.scroll_run.specs.Input.{EndsReading};
 ghost use Rattle.scroll_run.specs.declared.input.ReadError.TheVariants.{NoMemory};
 
-use std::alloc::{AllocError, Global};
+use crate::memory::Memory;
+use std::alloc::AllocError;
 use std::io;
 use std::io::{ErrorKind, Read};
 
@@ -37,20 +38,21 @@ impl From<AllocError> for ReadError {
 /// Reads the input up to its end, but at most its first [`MAX_READ`] bytes.
 ///
 /// An interrupted call of the reader is repeated. After too many calls, it returns an error of kind `Other`.
-pub fn read_input<R: Read>(alloc: Global, input: &mut R) -> Result<Vec<u8>, ReadError>
+pub fn read_input<M: Memory, R: Read>(memory: M, input: &mut R) -> Result<Vec<u8>, ReadError>
     ensures bound { IfOk result (λ bytes. vec_len bytes ≤ 65537) }
     ensures taken { IfOk result (λ bytes.
         Consumes (R.remaining input.old) (R.remaining input.new) bytes.items) }
     ensures whole { IfOk result (λ bytes. vec_len bytes < 65537 → IsAtEnd (R.remaining input.new)) }
-    ensures not_interrupted { IfErr result IsNotInterrupted }
+    ensures refused { IfErr result (EndsReading (M.refuses memory)) }
 {
-    let mut bytes = Vec::new(alloc);
+    let mut bytes = Vec::new(memory.alloc());
     let mut chunk = [0u8; CHUNK];
     for _ in 0..MAX_CALLS {
         let room = (MAX_READ - bytes.len()).min(CHUNK);
         match input.read(&mut chunk[..room]) {
             Ok(0) => return Ok(bytes),
             Ok(count) => {
+                memory.reserve(&mut bytes, count)?;
                 bytes.extend_from_slice(&chunk[..count])?;
                 if bytes.len() == MAX_READ {
                     return Ok(bytes);

@@ -46,17 +46,32 @@ fn parse_kind_of_two(name: &[u8], word: &[u8]) -> Option<Kind>
     }
 }
 
-// Returns where a string ends.
 fn parse_end(words: &[&[u8]]) -> Option<StrCtx>
     ensures { Parses (SpellsEnd (texts_of words.now)) result }
 {
     match words {
-        [b"delim", byte] => Some(StrCtx::Delimiter(parse_byte(byte)?)),
-        [b"until", byte, limit] => {
-            Some(StrCtx::DelimiterUntil(parse_byte(byte)?, parse_usize(limit)?))
-        }
-        [b"len", len] => Some(StrCtx::Length(parse_usize(len)?)),
-        [b"required", byte] => Some(StrCtx::Required(parse_byte(byte)?)),
+        [name, word] => parse_end_of_two(name, word),
+        [name, byte, limit] => parse_end_of_three(name, byte, limit),
+        _ => None,
+    }
+}
+
+fn parse_end_of_two(name: &[u8], word: &[u8]) -> Option<StrCtx>
+    ensures { Parses (SpellsEnd (name.now ∷ word.now ∷ [])) result }
+{
+    match name {
+        b"delim" => Some(StrCtx::Delimiter(parse_byte(word)?)),
+        b"len" => Some(StrCtx::Length(parse_usize(word)?)),
+        b"required" => Some(StrCtx::Required(parse_byte(word)?)),
+        _ => None,
+    }
+}
+
+fn parse_end_of_three(name: &[u8], byte: &[u8], limit: &[u8]) -> Option<StrCtx>
+    ensures { Parses (SpellsEnd (name.now ∷ byte.now ∷ limit.now ∷ [])) result }
+{
+    match name {
+        b"until" => Some(StrCtx::DelimiterUntil(parse_byte(byte)?, parse_usize(limit)?)),
         _ => None,
     }
 }

@@ -1,12 +1,13 @@
 //! The lines of an input.
-ghost use Rattle.std.specs.Prelude.{◌≡◌, IfOk, MatchResult};
+ghost use Rattle.std.specs.Prelude.{◌≡◌, MatchResult};
 ghost use Rattle.scroll_run.specs.Lines.{lines_of, without_feed, HoldsScript, SpellsAllHeld, SpellsBuffer, SpellsCursor, Stops, StopsCommands};
 ghost use Rattle.scroll_run.specs.Words.{Parses, ParsesAs, texts_of};
 ghost use Rattle.scroll_run.specs.declared.lines.Stop.TheVariants.{NoMemory};
 
 use crate::commands::{CommandLine, parse_command};
+use crate::memory::Memory;
 use crate::words::{parse_bytes, parse_usize, split};
-use std::alloc::{AllocError, AllocFailed, Global};
+use std::alloc::AllocError;
 
 /// Why an input isn't run.
 #[derive(Clone, Copy, Debug)]
@@ -25,14 +26,6 @@ impl From<AllocError> for Stop {
     }
 }
 
-impl<T: Drop> From<AllocFailed<T>> for Stop {
-    ghost from_gives = { λ _ stop. stop ≡ NoMemory };
-
-    fn from(_error: AllocFailed<T>) -> Stop {
-        Stop::NoMemory
-    }
-}
-
 /// What the lines of an input spell.
 #[derive(Drop)]
 pub struct Script {
@@ -45,11 +38,12 @@ pub struct Script {
 }
 
 /// Returns what the lines of an input spell. A line feed ends each line; the last line may lack it.
-pub fn parse_script(alloc: Global, input: &[u8]) -> Result<Script, Stop>
-    ensures { MatchResult result (HoldsScript (lines_of input.now)) (Stops (lines_of input.now)) }
+pub fn parse_script<M: Memory>(memory: M, input: &[u8]) -> Result<Script, Stop>
+    ensures { MatchResult result (HoldsScript (lines_of input.now))
+        (Stops (M.refuses memory) (lines_of input.now)) }
 {
-    let lines = split(alloc, without_last_feed(input), b'\n')?;
-    parse_lines(alloc, &lines)
+    let lines = split(memory, without_last_feed(input), b'\n')?;
+    parse_lines(memory, &lines)
 }
 
 fn without_last_feed(input: &[u8]) -> &[u8]
@@ -61,13 +55,14 @@ fn without_last_feed(input: &[u8]) -> &[u8]
     }
 }
 
-fn parse_lines(alloc: Global, lines: &[&[u8]]) -> Result<Script, Stop>
-    ensures { MatchResult result (HoldsScript (texts_of lines.now)) (Stops (texts_of lines.now)) }
+fn parse_lines<M: Memory>(memory: M, lines: &[&[u8]]) -> Result<Script, Stop>
+    ensures { MatchResult result (HoldsScript (texts_of lines.now))
+        (Stops (M.refuses memory) (texts_of lines.now)) }
 {
     let Some((first, rest)) = lines.split_first() else {
         return Err(Stop::BadLine(1));
     };
-    let Some(buffer) = parse_buffer(alloc, first)? else {
+    let Some(buffer) = parse_buffer(memory, first)? else {
         return Err(Stop::BadLine(1));
     };
     let Some((second, rest)) = rest.split_first() else {
@@ -76,7 +71,7 @@ fn parse_lines(alloc: Global, lines: &[&[u8]]) -> Result<Script, Stop>
     let Some(cursor) = parse_cursor(second) else {
         return Err(Stop::BadLine(2));
     };
-    let commands = parse_commands(alloc, rest)?;
+    let commands = parse_commands(memory, rest)?;
     Ok(Script {
         buffer,
         cursor,
@@ -84,17 +79,16 @@ fn parse_lines(alloc: Global, lines: &[&[u8]]) -> Result<Script, Stop>
     })
 }
 
-// Returns the bytes of a `buffer` line, or `None` for a bad line.
-fn parse_buffer(alloc: Global, line: &[u8]) -> Result<Option<Vec<u8>>, AllocError>
-    ensures { IfOk result (ParsesAs (λ bytes. bytes.items) (SpellsBuffer line.now)) }
+fn parse_buffer<M: Memory>(memory: M, line: &[u8]) -> Result<Option<Vec<u8>>, AllocError>
+    ensures { MatchResult result (ParsesAs (λ bytes. bytes.items) (SpellsBuffer line.now))
+        (λ _. M.refuses memory) }
 {
     match line.strip_prefix(b"buffer ") {
-        Some(word) => parse_bytes(alloc, word),
+        Some(word) => parse_bytes(memory, word),
         None => Ok(None),
     }
 }
 
-// Returns the number of a `cursor` line, or `None` for a bad line.
 fn parse_cursor(line: &[u8]) -> Option<usize>
     ensures { Parses (SpellsCursor line.now) result }
 {
@@ -102,14 +96,17 @@ fn parse_cursor(line: &[u8]) -> Option<usize>
 }
 
 // Returns the commands of the lines from the third on.
-fn parse_commands(alloc: Global, lines: &[&[u8]]) -> Result<Vec<CommandLine>, Stop>
+fn parse_commands<M: Memory>(memory: M, lines: &[&[u8]]) -> Result<Vec<CommandLine>, Stop>
     ensures { MatchResult result (λ held. SpellsAllHeld (texts_of lines.now) held.items)
-        (StopsCommands (texts_of lines.now)) }
+        (StopsCommands (M.refuses memory) (texts_of lines.now)) }
 {
-    let mut commands = Vec::new(alloc);
+    let mut commands = Vec::new(memory.alloc());
     for line in lines {
-        match parse_command(alloc, line)? {
-            Some(command) => commands.push(command)?,
+        match parse_command(memory, line)? {
+            Some(command) => {
+                memory.reserve(&mut commands, 1)?;
+                commands.push_reserved(command);
+            }
             None => return Err(Stop::BadLine(commands.len() + 3)),
         }
     }

@@ -9,6 +9,7 @@ mod commands;
 mod input;
 mod kinds;
 mod lines;
+mod memory;
 mod output;
 mod puts;
 pub mod session;

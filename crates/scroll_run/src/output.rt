@@ -2,7 +2,7 @@
 ghost use Rattle.std.specs.Prelude.{◌≡◌, ◌≢◌, OnOk, OnErr, IfErr};
 ghost use Rattle.std.specs.Io.KnownBytes.{Appends, Keeps};
 ghost use Rattle.std.specs.IoError.{error_kind};
-ghost use Rattle.scroll_run.specs.Output.{AppendsFront};
+ghost use Rattle.scroll_run.specs.Output.{AppendsPrefix};
 
 use std::io;
 use std::io::{ErrorKind, Write};
@@ -12,22 +12,22 @@ const MORE_CALLS: usize = 131_072;
 
 /// Writes all bytes, and flushes the writer.
 ///
-/// An interrupted call of the writer is repeated. After too many calls, it returns an error of kind `Other`.
+/// An interrupted call of the writer is repeated. After too many calls, it returns an error of kind
+/// `Other`.
 pub fn write_output<W: Write>(output: &mut W, bytes: &[u8]) -> io::Result<()>
     ensures written { OnOk result (Appends (W.contents output.old)
         (W.contents output.new) bytes.now) }
-    ensures front { AppendsFront (W.contents output.old) (W.contents output.new) bytes.now }
+    ensures prefix { AppendsPrefix (W.contents output.old) (W.contents output.new) bytes.now }
     ensures not_interrupted { IfErr result (λ e. error_kind e ≢ ErrorKind.Interrupted) }
 {
     write_all(output, bytes)?;
     flush(output)
 }
 
-// Writes all bytes.
 fn write_all<W: Write>(output: &mut W, bytes: &[u8]) -> io::Result<()>
     ensures written { OnOk result (Appends (W.contents output.old)
         (W.contents output.new) bytes.now) }
-    ensures front { AppendsFront (W.contents output.old) (W.contents output.new) bytes.now }
+    ensures prefix { AppendsPrefix (W.contents output.old) (W.contents output.new) bytes.now }
     ensures not_interrupted { IfErr result (λ e. error_kind e ≢ ErrorKind.Interrupted) }
 {
     let mut rest = bytes;

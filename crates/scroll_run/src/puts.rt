@@ -1,14 +1,15 @@
 //! The values that are written, as the words of a line spell them.
-ghost use Rattle.std.specs.Prelude.{◌≡◌, ◌^◌, [], ◌∷◌, codes, IfOk};
+ghost use Rattle.std.specs.Prelude.{◌≡◌, ◌^◌, [], ◌∷◌, codes, MatchResult};
 ghost use Rattle.scroll.specs.declared.runner.Put.TheVariants as put;
 ghost use Rattle.scroll_run.specs.Puts.{IsPutOf, SpellsPut, SpellsValue};
 ghost use Rattle.scroll_run.specs.Words.{Finds, Parses, SpellsNumber, SpellsSigned, texts_of};
 
+use crate::memory::Memory;
 use crate::words::{parse_bytes, parse_number, parse_order, parse_signed, parse_width};
 use scroll::cstr::CString;
 use scroll::runner::{Number, Put, Width};
 use scroll::{Endian, Error, Sleb128, Uleb128};
-use std::alloc::{AllocError, Global};
+use std::alloc::AllocError;
 
 /// The value that a line writes, with the bytes that it holds.
 #[derive(Drop)]
@@ -58,12 +59,13 @@ fn copied(put: &Put<'static>) -> Put<'static>
 }
 
 /// Returns the value that the words spell, or `None` where they spell none. The only error is an allocation failure.
-pub fn parse_put(alloc: Global, words: &[&[u8]]) -> Result<Option<OwnedPut>, AllocError>
-    ensures { IfOk result (Finds IsPutOf (SpellsPut (texts_of words.now))) }
+pub fn parse_put<M: Memory>(memory: M, words: &[&[u8]]) -> Result<Option<OwnedPut>, AllocError>
+    ensures { MatchResult result (Finds IsPutOf (SpellsPut (texts_of words.now)))
+        (λ _. M.refuses memory) }
 {
     match words {
-        [name, word] => parse_put_of_two(alloc, name, word),
-        [name, first, second] => parse_put_of_three(alloc, name, first, second),
+        [name, word] => parse_put_of_two(memory, name, word),
+        [name, first, second] => parse_put_of_three(memory, name, first, second),
         [name, order, first, second, third] => {
             Ok(parse_put_of_five(name, order, first, second, third))
         }
@@ -71,33 +73,39 @@ pub fn parse_put(alloc: Global, words: &[&[u8]]) -> Result<Option<OwnedPut>, All
     }
 }
 
-fn parse_put_of_two(alloc: Global, name: &[u8], word: &[u8]) -> Result<Option<OwnedPut>, AllocError>
-    ensures { IfOk result (Finds IsPutOf (SpellsPut (name.now ∷ word.now ∷ []))) }
+fn parse_put_of_two<M: Memory>(
+    memory: M,
+    name: &[u8],
+    word: &[u8],
+) -> Result<Option<OwnedPut>, AllocError>
+    ensures { MatchResult result (Finds IsPutOf (SpellsPut (name.now ∷ word.now ∷ [])))
+        (λ _. M.refuses memory) }
 {
     match name {
-        b"str" => parse_text(alloc, word),
-        b"bytes" => parse_slice(alloc, word),
-        b"cstr" => parse_c_string(alloc, word),
+        b"str" => parse_text(memory, word),
+        b"bytes" => parse_slice(memory, word),
+        b"cstr" => parse_c_string(memory, word),
         b"uleb" => Ok(parse_uleb(word)),
         b"sleb" => Ok(parse_sleb(word)),
         _ => Ok(None),
     }
 }
 
-fn parse_put_of_three(
-    alloc: Global,
+fn parse_put_of_three<M: Memory>(
+    memory: M,
     name: &[u8],
     first: &[u8],
     second: &[u8],
 ) -> Result<Option<OwnedPut>, AllocError>
-    ensures { IfOk result
-        (Finds IsPutOf (SpellsPut (name.now ∷ first.now ∷ second.now ∷ []))) }
+    ensures { MatchResult result
+        (Finds IsPutOf (SpellsPut (name.now ∷ first.now ∷ second.now ∷ [])))
+        (λ _. M.refuses memory) }
 {
     if let Some((number, order)) = parse_number_put(name, first, second) {
         return Ok(Some(OwnedPut::Plain(Put::Number(number, order))));
     }
     match name {
-        b"bytesx2" => parse_two(alloc, first, second),
+        b"bytesx2" => parse_two(memory, first, second),
         _ => Ok(None),
     }
 }
@@ -162,10 +170,11 @@ fn parse_i64(word: &[u8]) -> Option<i64>
     i64::try_from(parse_signed(word)?).ok()
 }
 
-fn parse_text(alloc: Global, word: &[u8]) -> Result<Option<OwnedPut>, AllocError>
-    ensures { IfOk result (Finds IsPutOf (SpellsPut (codes "str" ∷ word.now ∷ []))) }
+fn parse_text<M: Memory>(memory: M, word: &[u8]) -> Result<Option<OwnedPut>, AllocError>
+    ensures { MatchResult result (Finds IsPutOf (SpellsPut (codes "str" ∷ word.now ∷ [])))
+        (λ _. M.refuses memory) }
 {
-    let Some(bytes) = parse_bytes(alloc, word)? else {
+    let Some(bytes) = parse_bytes(memory, word)? else {
         return Ok(None);
     };
     match String::from_utf8(bytes) {
@@ -174,22 +183,24 @@ fn parse_text(alloc: Global, word: &[u8]) -> Result<Option<OwnedPut>, AllocError
     }
 }
 
-fn parse_slice(alloc: Global, word: &[u8]) -> Result<Option<OwnedPut>, AllocError>
-    ensures { IfOk result (Finds IsPutOf (SpellsPut (codes "bytes" ∷ word.now ∷ []))) }
+fn parse_slice<M: Memory>(memory: M, word: &[u8]) -> Result<Option<OwnedPut>, AllocError>
+    ensures { MatchResult result (Finds IsPutOf (SpellsPut (codes "bytes" ∷ word.now ∷ [])))
+        (λ _. M.refuses memory) }
 {
-    match parse_bytes(alloc, word)? {
+    match parse_bytes(memory, word)? {
         Some(bytes) => Ok(Some(OwnedPut::Bytes(bytes))),
         None => Ok(None),
     }
 }
 
-fn parse_c_string(alloc: Global, word: &[u8]) -> Result<Option<OwnedPut>, AllocError>
-    ensures { IfOk result (Finds IsPutOf (SpellsPut (codes "cstr" ∷ word.now ∷ []))) }
+fn parse_c_string<M: Memory>(memory: M, word: &[u8]) -> Result<Option<OwnedPut>, AllocError>
+    ensures { MatchResult result (Finds IsPutOf (SpellsPut (codes "cstr" ∷ word.now ∷ [])))
+        (λ _. M.refuses memory) }
 {
-    let Some(text) = parse_bytes(alloc, word)? else {
+    let Some(text) = parse_bytes(memory, word)? else {
         return Ok(None);
     };
-    match CString::new(alloc, &text) {
+    match memory.c_string(&text) {
         Ok(text) => Ok(Some(OwnedPut::CStr(text))),
         Err(Error::BadInput { .. }) => Ok(None),
         Err(_) => Err(AllocError),
@@ -223,14 +234,19 @@ fn parse_three(order: &[u8], first: &[u8], second: &[u8], third: &[u8]) -> Optio
     Some(OwnedPut::Plain(Put::U16x3([first, second, third], order)))
 }
 
-fn parse_two(alloc: Global, first: &[u8], second: &[u8]) -> Result<Option<OwnedPut>, AllocError>
-    ensures { IfOk result
-        (Finds IsPutOf (SpellsPut (codes "bytesx2" ∷ first.now ∷ second.now ∷ []))) }
+fn parse_two<M: Memory>(
+    memory: M,
+    first: &[u8],
+    second: &[u8],
+) -> Result<Option<OwnedPut>, AllocError>
+    ensures { MatchResult result
+        (Finds IsPutOf (SpellsPut (codes "bytesx2" ∷ first.now ∷ second.now ∷ [])))
+        (λ _. M.refuses memory) }
 {
-    let Some(first) = parse_bytes(alloc, first)? else {
+    let Some(first) = parse_bytes(memory, first)? else {
         return Ok(None);
     };
-    match parse_bytes(alloc, second)? {
+    match parse_bytes(memory, second)? {
         Some(second) => Ok(Some(OwnedPut::Bytesx2(first, second))),
         None => Ok(None),
     }

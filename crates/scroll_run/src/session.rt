@@ -1,5 +1,5 @@
 //! A whole session.
-ghost use Rattle.std.specs.Prelude.{◌≢◌, ℕ, List, IfOk, IfErr, OnErr, string_bytes};
+ghost use Rattle.std.specs.Prelude.{◌≢◌, ℕ, List, IfOk, IfErr, OnErr, MatchResult, string_bytes};
 ghost use Rattle.std.specs.IoError.{error_kind};
 ghost use Rattle.std.specs.Io.KnownBytes.{Appends};
 ghost use Rattle.scroll_run.specs.Answers.{AnswersInput, AnswersSession, BreaksOff, RunsScript};
@@ -8,9 +8,9 @@ use crate::answers::print_answers;
 use crate::commands::borrow_commands;
 use crate::input::{MAX_READ, ReadError, read_input};
 use crate::lines::{Script, Stop, parse_script};
+use crate::memory::Memory;
 use crate::output::write_output;
-use scroll::runner::run;
-use std::alloc::{AllocError, Global};
+use std::alloc::AllocError;
 use std::io;
 use std::io::{ErrorKind, Read, Write};
 
@@ -31,16 +31,21 @@ struct Outcome {
 /// Runs the session that the reader gives, writes its output, and returns its status.
 ///
 /// An error is one of the reader or of the writer. None, some or all of the output was then written.
-pub fn session<R: Read, W: Write>(alloc: Global, input: &mut R, output: &mut W) -> io::Result<u8>
+pub fn session<M: Memory, R: Read, W: Write>(
+    memory: M,
+    input: &mut R,
+    output: &mut W,
+) -> io::Result<u8>
     ensures answered { IfOk result (λ status. (text : List ℕ)
         × Appends (W.contents output.old) (W.contents output.new) text
-        × AnswersSession (R.remaining input.old) (R.remaining input.new) text status) }
-    ensures broken_off { OnErr result (BreaksOff (R.remaining input.old) (R.remaining input.new)
-        (W.contents output.old) (W.contents output.new)) }
+        × AnswersSession (M.refuses memory) (R.remaining input.old) (R.remaining input.new)
+        text status) }
+    ensures broken_off { OnErr result (BreaksOff (M.refuses memory) (R.remaining input.old)
+        (R.remaining input.new) (W.contents output.old) (W.contents output.new)) }
     ensures not_interrupted { IfErr result (λ e. error_kind e ≢ ErrorKind.Interrupted) }
 {
-    let outcome = match read_input(alloc, input) {
-        Ok(bytes) => answer_input(alloc, &bytes),
+    let outcome = match read_input(memory, input) {
+        Ok(bytes) => answer_input(memory, &bytes),
         Err(ReadError::NoMemory) => Err(AllocError),
         Err(ReadError::Io(error)) => return Err(error),
     };
@@ -57,23 +62,23 @@ pub fn session<R: Read, W: Write>(alloc: Global, input: &mut R, output: &mut W) 
 }
 
 // Returns the output and the status for an input.
-fn answer_input(alloc: Global, input: &[u8]) -> Result<Outcome, AllocError>
-    ensures { IfOk result (λ outcome.
-        AnswersInput input.now (string_bytes outcome.text) outcome.status) }
+fn answer_input<M: Memory>(memory: M, input: &[u8]) -> Result<Outcome, AllocError>
+    ensures { MatchResult result (λ outcome.
+        AnswersInput input.now (string_bytes outcome.text) outcome.status) (λ _. M.refuses memory) }
 {
     if input.len() >= MAX_READ {
         return Ok(Outcome {
-            text: String::from_str(alloc, "input too long\n")?,
+            text: memory.format("input too long\n")?,
             status: BAD_INPUT,
         });
     }
-    match parse_script(alloc, input) {
+    match parse_script(memory, input) {
         Ok(script) => Ok(Outcome {
-            text: run_script(alloc, script)?,
+            text: run_script(memory, script)?,
             status: ANSWERED,
         }),
         Err(Stop::BadLine(number)) => Ok(Outcome {
-            text: format!(in alloc; "bad line {number}\n")?,
+            text: memory.format(format_args_nl!("bad line {number}"))?,
             status: BAD_INPUT,
         }),
         Err(Stop::NoMemory) => Err(AllocError),
@@ -81,24 +86,17 @@ fn answer_input(alloc: Global, input: &[u8]) -> Result<Outcome, AllocError>
 }
 
 // Runs the commands of a script, and prints what they return and leave.
-fn run_script(alloc: Global, script: Script) -> Result<String, AllocError>
-    ensures { IfOk result (λ text. RunsScript script (string_bytes text)) }
+fn run_script<M: Memory>(memory: M, script: Script) -> Result<String, AllocError>
+    ensures { MatchResult result (λ text. RunsScript script (string_bytes text))
+        (λ _. M.refuses memory) }
 {
     let Script {
         mut buffer,
         mut cursor,
         commands: lines,
     } = script;
-    let commands = borrow_commands(alloc, &lines)?;
-    let mut answers = Vec::new(alloc);
-    match run(
-        alloc,
-        buffer.as_mut_slice(),
-        &mut cursor,
-        &commands,
-        &mut answers,
-    ) {
-        Ok(()) => print_answers(alloc, &answers, &buffer, cursor),
-        Err(_) => Err(AllocError),
-    }
+    let commands = borrow_commands(memory, &lines)?;
+    let mut answers = Vec::new(memory.alloc());
+    memory.run(buffer.as_mut_slice(), &mut cursor, &commands, &mut answers)?;
+    print_answers(memory, &answers, &buffer, cursor)
 }

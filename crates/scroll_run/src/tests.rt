@@ -1,6 +1,4 @@
 // Whole sessions.
-mod cursor;
-mod kinds;
-mod numbers;
+mod commands;
 mod sessions;
 mod streams;

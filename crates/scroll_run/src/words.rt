@@ -1,25 +1,48 @@
 //! Lines and words, and what a word spells.
-ghost use Rattle.std.specs.Prelude.{◌≡◌, ◌<◌, ◌^◌, IfOk, SomeIff, ◌==◌};
+ghost use Rattle.std.specs.Prelude.{◌≡◌, ◌<◌, ◌^◌, ◌+◌, ◌++◌, MatchResult, OnErr, OnOk, SomeIff, ◌==◌, count_by, length, vec_capacity, vec_len};
 ghost use Rattle.std.specs.List.{slice_split};
 ghost use Rattle.std.specs.Str.Parse.{IsNumeral, digits_value};
 ghost use Rattle.scroll_run.specs.Words.{Parses, ParsesAs, SpellsByte, SpellsBytes, SpellsSigned, order_word, texts_of, width_word};
 
+use crate::memory::Memory;
 use hex::{FromHex, FromHexError};
 use scroll::Endian;
 use scroll::runner::Width;
-use std::alloc::{AllocError, Global};
+use std::alloc::AllocError;
 use std::str;
 
 /// Returns the parts of a text before, between and after its separators.
-pub fn split(alloc: Global, text: &[u8], separator: u8) -> Result<Vec<&[u8]>, AllocError>
-    ensures { IfOk result (λ parts.
-        texts_of parts.items ≡ slice_split (λ b. b == separator) text.now) }
+pub fn split<M: Memory>(memory: M, text: &[u8], separator: u8) -> Result<Vec<&[u8]>, AllocError>
+    ensures { MatchResult result (λ parts.
+        texts_of parts.items ≡ slice_split (λ b. b == separator) text.now) (λ _. M.refuses memory) }
 {
-    let mut parts = Vec::new(alloc);
+    let mut parts = Vec::new(memory.alloc());
+    memory.reserve(&mut parts, count_parts(text, separator))?;
+    push_parts(text, separator, &mut parts)?;
+    Ok(parts)
+}
+
+fn count_parts(text: &[u8], separator: u8) -> usize
+    ensures { result ≡ count_by (λ b. b == separator) text.now + 1 }
+{
+    text.iter().filter(|byte| **byte == separator).count() + 1
+}
+
+// Appends the parts.
+fn push_parts<'a>(
+    text: &'a [u8],
+    separator: u8,
+    parts: &mut Vec<&'a [u8]>,
+) -> Result<(), AllocError>
+    ensures parts { OnOk result (texts_of parts.new.items
+        ≡ texts_of parts.old.items ++ slice_split (λ b. b == separator) text.now) }
+    ensures full { OnErr result (vec_capacity parts.old
+        < vec_len parts.old + length (slice_split (λ b. b == separator) text.now)) }
+{
     for part in text.split(|byte| *byte == separator) {
         parts.push(part)?;
     }
-    Ok(parts)
+    Ok(())
 }
 
 /// Returns the number that a word of digits spells, if it is below 2^128.
@@ -57,16 +80,17 @@ pub fn parse_usize(word: &[u8]) -> Option<usize>
 
 /// Returns the bytes that a word spells: `-` for none, or two hexadecimal digits of either case for each byte. Returns
 /// `None` for any other word. The only error is an allocation failure.
-pub fn parse_bytes(alloc: Global, word: &[u8]) -> Result<Option<Vec<u8>>, AllocError>
-    ensures { IfOk result (ParsesAs (λ bytes. bytes.items) (SpellsBytes word.now)) }
+pub fn parse_bytes<M: Memory>(memory: M, word: &[u8]) -> Result<Option<Vec<u8>>, AllocError>
+    ensures { MatchResult result (ParsesAs (λ bytes. bytes.items) (SpellsBytes word.now))
+        (λ _. M.refuses memory) }
 {
     if word == b"-".as_slice() {
-        return Ok(Some(Vec::new(alloc)));
+        return Ok(Some(Vec::new(memory.alloc())));
     }
     if word.is_empty() {
         return Ok(None);
     }
-    match hex::decode(alloc, word) {
+    match memory.decode(word) {
         Ok(bytes) => Ok(Some(bytes)),
         Err(FromHexError::OutOfMemory) => Err(AllocError),
         Err(_) => Ok(None),

@@ -1,4 +1,5 @@
-// Conversions between the C strings of the crate and those of std. They neither copy bytes nor allocate memory.
+// Conversions between the C strings of the crate and those of std. They neither copy bytes nor
+// allocate memory.
 ghost use Rattle.std.specs.Prelude.{◌≡◌};
 ghost use Rattle.std.specs.CStr.{c_str_bytes, c_string_bytes};
 ghost use Rattle.scroll.specs.CStringTexts.{c_str_text, c_string_text};

@@ -1,11 +1,9 @@
 // Arrays of values that can be read or written, in the context of the elements.
 ghost use Rattle.std.specs.Prelude.{◌≡◌, ℕ, ◌+◌, ◌*◌, ◌<◌, ◌≤◌, List, length, drop, map, max, Some, None, IfOk, IfErr, IsTrue, slice_index_or, slice_set};
 ghost use Rattle.std.specs.Mem.{FitsInMemory};
-ghost use Rattle.scroll.specs.Fits.{OptionFits, SlotsFit, ItemsFit, HoldersFit};
-ghost use Rattle.scroll.specs.Arrays.{ReadsArray, RefusesArray, WritesArray, LeavesArray, MakesArray, LeavesValue, FillsArray};
-ghost use Rattle.scroll.specs.lemmas.Sizes.{ReadsArray-bounded, WritesArray-bounded};
-ghost use Rattle.scroll.specs.lemmas.Frames.{WritesArray-keeps, FillsArray-keeps};
-ghost use Rattle.scroll.specs.Writes.{WritesAt, LeavesAt};
+ghost use Rattle.scroll.specs.Arrays.{OptionFits, SlotsFit, ItemsFit, HoldersFit, ReadsArray, RefusesArray, WritesArray, FailsArray, MakesArray, OverwritesValue, FillsArray};
+ghost use Rattle.scroll.specs.lemmas.Frames.{ReadsArray-bounded, WritesArray-bounded, WritesArray-keeps, FillsArray-keeps};
+ghost use Rattle.scroll.specs.Writes.{WritesAt, FailsAt};
 ghost use Rattle.scroll.specs.Errors.{PastEnd};
 
 use crate::ctx::{FromCtx, IntoCtx, SizeWith, TryFromCtx, TryIntoCtx};
@@ -27,11 +25,13 @@ fn fits<X>() -> bool
     }
 }
 
-/// Returns whether an array of `N` values of type `T` fits in memory, together with the storage for its elements while
-/// it is read and while it is written. It does wherever such an array exists, and the compiler knows the result.
+/// Returns whether an array of `N` values of type `T` fits in memory, together with the storage for
+/// its elements while it is read and while it is written. It does wherever such an array exists,
+/// and the compiler knows the result.
 ///
-/// A caller that is generic over `T` or `N` may test this, or require it of its own caller: the contracts of arrays
-/// state their errors under this condition. For a concrete type the prover knows that it holds.
+/// A caller that is generic over `T` or `N` may test this, or require it of its own caller: the
+/// contracts of arrays state their errors under this condition. For a concrete type the prover
+/// knows that it holds.
 pub fn array_fits<T, const N: usize>() -> bool
     ensures read { IsTrue result → SlotsFit T.row N.row }
     ensures written { IsTrue result → ItemsFit T.row N.row }
@@ -76,17 +76,25 @@ fn write_next<Ctx: Copy, T: TryIntoCtx<Ctx, Error = Error> + Drop>(
     requires { offset ≤ length dst.old }
     ensures wrote { IfOk result (WritesAt (T.writes ctx value) dst.old offset dst.new) }
     ensures inside { IfOk result (λ n. offset + n ≤ length dst.new) }
-    ensures refused { IfErr result (LeavesAt (T.refuses ctx value) dst.old offset dst.new) }
+    ensures refused { IfErr result (FailsAt (T.refuses ctx value) dst.old offset dst.new) }
 {
     value.try_into_ctx(&mut dst[offset..], ctx)
 }
 
-/// Reads the elements one after another from the start of the source. An element that would start past the end returns
-/// `E::from(Error::BadOffset(offset))`, where the offset counts from the start of the array; every other error is that
-/// of the first element that fails. The contract states the errors of arrays that fit in memory: see [`array_fits`].
+/// Reads the elements one after another from the start of the source. An element that would start
+/// past the end returns `E::from(Error::BadOffset(offset))`, where the offset counts from the start
+/// of the array; every other error is that of the first element that fails. The contract states the
+/// errors of arrays that fit in memory: see [`array_fits`].
 ///
-/// To take an array of borrowed values out of a result, pass a function to `map`: the prover can't yet follow `?` or
-/// `match` on such a result.
+/// ```rust
+/// let source: &[u8] = &[1, 0, 2, 0, 3, 0];
+/// assert_eq!(rt; source.pread_with::<[u16; 3]>(0, LE)?, [1, 2, 3]);
+/// let short = source.pread_with::<[[u16; 2]; 2]>(0, LE);
+/// assert!(rt; matches!(short, Err(Error::TooBig { size: 2, len: 0 })));
+/// ```
+///
+/// To take an array of borrowed values out of a result, pass a function to `map`: the prover can't
+/// yet follow `?` or `match` on such a result.
 ///
 /// ```rust
 /// fn take_apart<'a>(names: [&'a str; 2]) -> (&'a str, &'a str) {
@@ -106,7 +114,8 @@ impl<
 
     ghost reads = { λ ctx. ReadsArray (T.reads ctx) N };
 
-    ghost refuses = { λ ctx source e. SlotsFit T.row N.row → RefusesArray (T.reads ctx) (T.refuses ctx) (PastEnd E.from_gives) N source e };
+    ghost refuses = { λ ctx source e. SlotsFit T.row N.row
+        → RefusesArray (T.reads ctx) (T.refuses ctx) (PastEnd E.from_gives) N source e };
 
     ghost reads_bounded = { λ ctx. ReadsArray-bounded (T.reads ctx) (T.reads_bounded ctx) N };
 
@@ -126,15 +135,27 @@ impl<
     }
 }
 
-/// Writes the elements one after another from the start of the target. The error is that of the first element that
-/// fails; the elements before it are then written.
+/// Writes the elements one after another from the start of the target. The error is that of the
+/// first element that fails; the elements before it are then written.
+///
+/// ```rust
+/// let mut bytes = [0xffu8; 7];
+/// let mut target = &mut bytes[..];
+/// assert_eq!(rt; target.pwrite_with([1u16, 2], 0, BE)?, 4);
+/// assert_eq!(rt; bytes, [0, 1, 0, 2, 0xff, 0xff, 0xff]);
+/// let mut target = &mut bytes[..];
+/// let short = target.pwrite_with([[1u16, 2], [3, 4]], 0, BE);
+/// assert!(rt; matches!(short, Err(Error::TooBig { size: 2, len: 1 })));
+/// assert_eq!(rt; bytes, [0, 1, 0, 2, 0, 3, 0xff]);
+/// ```
 impl<Ctx: Copy, T: TryIntoCtx<Ctx, Error = Error> + Drop, const N: usize> TryIntoCtx<Ctx>
     for [T; N] {
     type Error = Error;
 
     ghost writes = { λ ctx. WritesArray (T.writes ctx) };
 
-    ghost refuses = { λ ctx xs old new e. ItemsFit T.row N.row → LeavesArray (T.writes ctx) (T.refuses ctx) xs old new e };
+    ghost refuses = { λ ctx xs old new e. ItemsFit T.row N.row
+        → FailsArray (T.writes ctx) (T.refuses ctx) xs old new e };
 
     ghost writes_bounded = { λ ctx. WritesArray-bounded (T.writes ctx) (T.writes_bounded ctx) };
 
@@ -156,8 +177,9 @@ impl<Ctx: Copy, T: TryIntoCtx<Ctx, Error = Error> + Drop, const N: usize> TryInt
     }
 }
 
-/// Reads the elements, each of which starts an element's size ([`SizeWith`]) after the one before it. `this` must have `N`
-/// times as many bytes as an element needs or has as its size, whichever is more; for numbers that is the size of the array.
+/// Reads the elements, each of which starts an element's size ([`SizeWith`]) after the one before
+/// it. `this` must have `N` times as many bytes as an element needs or has as its size, whichever
+/// is more; for numbers that is the size of the array.
 impl<Ctx: Copy, T: FromCtx<Ctx> + SizeWith<Ctx>, const N: usize> FromCtx<Ctx> for [T; N] {
     ghost need = { λ ctx. max (T.size ctx) (T.need ctx) * N };
 
@@ -183,14 +205,16 @@ fn element<Ctx: Copy, T: FromCtx<Ctx> + SizeWith<Ctx>>(this: &[u8], index: usize
     T::from_ctx(&this[T::size_with(&ctx) * index..], ctx)
 }
 
-/// Writes the elements, each of which starts an element's size ([`SizeWith`]) after the one before it. `dst` must have `N`
-/// times as many bytes as an element needs or has as its size, whichever is more; those after them are unchanged.
+/// Writes the elements, each of which starts an element's size ([`SizeWith`]) after the one before
+/// it. `dst` must have `N` times as many bytes as an element needs or has as its size, whichever is
+/// more; those after them are unchanged.
 impl<Ctx: Copy, T: IntoCtx<Ctx> + SizeWith<Ctx> + Copy, const N: usize> IntoCtx<Ctx> for [T; N] {
     ghost need = { λ ctx. max (T.size ctx) (T.need ctx) * N };
 
-    ghost leaves = { λ ctx. FillsArray (T.size ctx) (T.leaves ctx) N };
+    ghost overwrites = { λ ctx. FillsArray (T.size ctx) (T.overwrites ctx) N };
 
-    ghost leaves_keeps = { λ ctx. FillsArray-keeps (T.size ctx) (T.need ctx) (T.leaves ctx) (T.leaves_keeps ctx) N };
+    ghost overwrites_keeps = { λ ctx.
+        FillsArray-keeps (T.size ctx) (T.need ctx) (T.overwrites ctx) (T.overwrites_keeps ctx) N };
 
     fn into_ctx(self, dst: &mut [u8], ctx: Ctx) {
         for i in 0..N {
@@ -208,7 +232,7 @@ fn put_element<Ctx: Copy, T: IntoCtx<Ctx> + SizeWith<Ctx>>(
     ctx: Ctx,
 )
     requires { max (T.size ctx) (T.need ctx) * (index + 1) ≤ length dst.old }
-    ensures { LeavesValue (T.leaves ctx value) dst.old (T.size ctx * index) dst.new }
+    ensures { OverwritesValue (T.overwrites ctx value) dst.old (T.size ctx * index) dst.new }
 {
     value.into_ctx(&mut dst[T::size_with(&ctx) * index..], ctx)
 }

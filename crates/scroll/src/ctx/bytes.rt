@@ -1,17 +1,24 @@
 // Byte slices.
 ghost use Rattle.std.specs.Prelude.{◌≡◌, ◌++◌, length, take, drop};
 ghost use Rattle.std.proofs.Common.{rules};
-ghost use Rattle.scroll.specs.Bytes.{WritesFront, LeavesShort, RefusesShort};
+ghost use Rattle.scroll.specs.Bytes.{WritesPrefix, FailsShort, RefusesShort};
 ghost use Rattle.scroll.specs.Texts.{ReadsSlice};
-ghost use Rattle.scroll.specs.lemmas.Frames.{WritesFront-keeps, slice-keeps};
+ghost use Rattle.scroll.specs.lemmas.Frames.{WritesPrefix-keeps, slice-keeps};
 
 use crate::ctx::{IntoCtx, TryFromCtx, TryIntoCtx};
 use crate::error::{Error, Result, check_room};
 
 /// Reads as many bytes as the context says. This is zero-copy: the slice borrows the source.
 ///
-/// The default context is 0, which reads the empty slice. A shorter source returns [`Error::TooBig`] with the length in
-/// the context and that of the source.
+/// The default context is 0, which reads the empty slice. A shorter source returns
+/// [`Error::TooBig`] with the length in the context and that of the source.
+///
+/// ```rust
+/// let source: &[u8] = &[10, 11, 12];
+/// assert_eq!(rt; source.pread_with::<&[u8]>(1, 2)?, [11u8, 12].as_slice());
+/// let short = source.pread_with::<&[u8]>(1, 3);
+/// assert!(rt; matches!(short, Err(Error::TooBig { size: 3, len: 2 })));
+/// ```
 impl<'a> TryFromCtx<'a, usize> for &'a [u8] {
     type Error = Error;
 
@@ -27,18 +34,18 @@ impl<'a> TryFromCtx<'a, usize> for &'a [u8] {
     }
 }
 
-/// Writes the bytes of the slice, without a length. A shorter target returns [`Error::TooBig`] with the lengths of the
-/// slice and of the target, and is unchanged.
+/// Writes the bytes of the slice, without a length. A shorter target returns [`Error::TooBig`] with
+/// the lengths of the slice and of the target, and is unchanged.
 impl<'s> TryIntoCtx<()> for &'s [u8] {
     type Error = Error;
 
-    ghost writes = { λ _ slice. WritesFront (length slice.now) slice.now };
+    ghost writes = { λ _ slice. WritesPrefix (length slice.now) slice.now };
 
-    ghost refuses = { λ _ slice. LeavesShort (length slice.now) };
+    ghost refuses = { λ _ slice. FailsShort (length slice.now) };
 
     ghost writes_bounded = { λ _ slice old new n h. Prim.search rules };
 
-    ghost writes_keeps = { λ _ slice. WritesFront-keeps slice.now };
+    ghost writes_keeps = { λ _ slice. WritesPrefix-keeps slice.now };
 
     fn try_into_ctx(self, dst: &mut [u8], _ctx: ()) -> Result<usize> {
         check_room(self.len(), dst.len())?;
@@ -47,15 +54,24 @@ impl<'s> TryIntoCtx<()> for &'s [u8] {
     }
 }
 
-/// Writes the first bytes of the slice, as many as the context says, or all of them if it has fewer. `dst` needs as
-/// many bytes as the context says, so in the context of its own length a slice is written whole. The bytes after those
-/// that are written are unchanged.
+/// Writes the first bytes of the slice, as many as the context says, or all of them if it has
+/// fewer. `dst` needs as many bytes as the context says, so in the context of its own length a
+/// slice is written whole. The bytes after those that are written are unchanged.
+///
+/// ```rust
+/// let mut bytes = [0xffu8; 4];
+/// let three: &[u8] = &[1, 2, 3];
+/// let mut target = &mut bytes[..];
+/// target.cwrite_with(three, 1, 2);
+/// assert_eq!(rt; bytes, [0xff, 1, 2, 0xff]);
+/// ```
 impl<'s> IntoCtx<usize> for &'s [u8] {
     ghost need = { λ n. n };
 
-    ghost leaves = { λ n slice old new. new ≡ take n slice.now ++ drop (length (take n slice.now)) old };
+    ghost overwrites = { λ n slice old new.
+        new ≡ take n slice.now ++ drop (length (take n slice.now)) old };
 
-    ghost leaves_keeps = { λ n slice. slice-keeps n slice.now };
+    ghost overwrites_keeps = { λ n slice. slice-keeps n slice.now };
 
     fn into_ctx(self, dst: &mut [u8], ctx: usize) {
         let len = self.len().min(ctx);

@@ -1,10 +1,9 @@
 // C strings, borrowed and owned, read and written.
-ghost use Rattle.std.specs.Prelude.{◌≡◌, ◌++◌, [], ◌∷◌, length, OnOk, IfErr};
+ghost use Rattle.std.specs.Prelude.{◌≡◌, ◌++◌, ℕ, List, [], ◌∷◌, length};
 ghost use Rattle.std.proofs.Common.{rules};
-ghost use Rattle.scroll.specs.Bytes.{WritesFront, LeavesShort};
+ghost use Rattle.scroll.specs.Bytes.{WritesPrefix, FailsShort};
 ghost use Rattle.scroll.specs.CStrings.{ReadsCString, RefusesCString, RefusesCopy};
-ghost use Rattle.scroll.specs.lemmas.Sizes.{ReadsCString-bounded};
-ghost use Rattle.scroll.specs.lemmas.Frames.{WritesFront-keeps};
+ghost use Rattle.scroll.specs.lemmas.Frames.{ReadsCString-bounded, WritesPrefix-keeps};
 ghost use Rattle.scroll.specs.CStringTexts.{c_str_text, c_string_text};
 
 use crate::cstr::{CStr, CString};
@@ -21,8 +20,9 @@ impl<'a> TryFromCtx<'a, ()> for CStr<'a> {
 
     ghost reads_bounded = { λ _ source s. ReadsCString-bounded source (c_str_text s) };
 
-    /// Reads up to the first zero of `from`, zero-copy; the size in bytes counts the zero. A source without a zero
-    /// returns [`Error::BadInput`] with the size 0 and the message `The input doesn't contain a null byte`.
+    /// Reads up to the first zero of `from`, zero-copy; the size in bytes counts the zero. A source
+    /// without a zero returns [`Error::BadInput`] with the size 0 and the message
+    /// `The input doesn't contain a null byte`.
     #[inline(always)]
     fn try_from_ctx(from: &'a [u8], _ctx: ()) -> Result<(CStr<'a>, usize)> {
         match CStr::from_bytes_until_nul(from) {
@@ -44,9 +44,10 @@ impl<'a, 'm> TryFromCtx<'a, &'m Global> for CString {
 
     ghost reads_bounded = { λ _ source s. ReadsCString-bounded source (c_string_text s) };
 
-    /// Copies the text before the first zero of `from`; the size in bytes counts the zero. A source without a zero
-    /// returns [`Error::BadInput`] with the size 0 and the message `The input doesn't contain a null byte`, before memory
-    /// is allocated. An allocation failure returns [`Error::NoMemory`].
+    /// Copies the text before the first zero of `from`; the size in bytes counts the zero. A source
+    /// without a zero returns [`Error::BadInput`] with the size 0 and the message
+    /// `The input doesn't contain a null byte`, before memory is allocated. An allocation failure
+    /// returns [`Error::NoMemory`].
     #[inline(always)]
     fn try_from_ctx(from: &'a [u8], ctx: &'m Global) -> Result<(CString, usize)> {
         let (text, size) = CStr::try_from_ctx(from, ())?;
@@ -57,38 +58,48 @@ impl<'a, 'm> TryFromCtx<'a, &'m Global> for CString {
     }
 }
 
-impl<'s> TryIntoCtx<()> for CStr<'s> {
+/// A C string, borrowed or owned, of the crate or of std.
+pub trait WithNul {
+    // The text, without the zero.
+    ghost text: { Self → List ℕ };
+
+    /// Returns the text with the zero after it.
+    fn with_nul(&self) -> &[u8]
+        ensures { result.now ≡ text self.now ++ 0 ∷ [] };
+}
+
+/// Writes the text and its zero. A shorter target returns [`Error::TooBig`] with the length of the
+/// text and its zero and that of the target, and is unchanged.
+impl<S: WithNul + Drop> TryIntoCtx<()> for S {
     type Error = Error;
 
-    ghost writes = { λ _ s. WritesFront (length (c_str_text s ++ 0 ∷ [])) (c_str_text s ++ 0 ∷ []) };
+    ghost writes = { λ _ s. WritesPrefix (length (S.text s ++ 0 ∷ [])) (S.text s ++ 0 ∷ []) };
 
-    ghost refuses = { λ _ s. LeavesShort (length (c_str_text s ++ 0 ∷ [])) };
+    ghost refuses = { λ _ s. FailsShort (length (S.text s ++ 0 ∷ [])) };
 
     ghost writes_bounded = { λ _ s old new n h. Prim.search rules };
 
-    ghost writes_keeps = { λ _ s. WritesFront-keeps (c_str_text s ++ 0 ∷ []) };
+    ghost writes_keeps = { λ _ s. WritesPrefix-keeps (S.text s ++ 0 ∷ []) };
 
-    /// Writes the text and its zero. A shorter target returns [`Error::TooBig`] with the length of the text and its zero and
-    /// that of the target, and is unchanged.
     fn try_into_ctx(self, dst: &mut [u8], _ctx: ()) -> Result<usize> {
-        self.to_bytes_with_nul().try_into_ctx(dst, ())
+        self.with_nul().try_into_ctx(dst, ())
     }
 }
 
-impl TryIntoCtx<()> for CString {
-    type Error = Error;
+impl<'s> WithNul for CStr<'s> {
+    ghost text = { c_str_text };
 
-    ghost writes = { λ _ s. WritesFront (length (c_string_text s ++ 0 ∷ [])) (c_string_text s ++ 0 ∷ []) };
+    #[inline]
+    fn with_nul(&self) -> &[u8] {
+        self.to_bytes_with_nul()
+    }
+}
 
-    ghost refuses = { λ _ s. LeavesShort (length (c_string_text s ++ 0 ∷ [])) };
+impl WithNul for CString {
+    ghost text = { c_string_text };
 
-    ghost writes_bounded = { λ _ s old new n h. Prim.search rules };
-
-    ghost writes_keeps = { λ _ s. WritesFront-keeps (c_string_text s ++ 0 ∷ []) };
-
-    /// Writes the text and its zero. A shorter target returns [`Error::TooBig`] with the length of the text and its zero and
-    /// that of the target, and is unchanged.
-    fn try_into_ctx(self, dst: &mut [u8], _ctx: ()) -> Result<usize> {
-        self.as_c_str().try_into_ctx(dst, ())
+    #[inline]
+    fn with_nul(&self) -> &[u8] {
+        self.as_bytes_with_nul()
     }
 }

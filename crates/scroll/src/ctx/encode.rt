@@ -1,19 +1,28 @@
 // Values that are written one after another, each with a number of bytes of its own.
-ghost use Rattle.std.specs.Prelude.{◌≡◌, ◌≤◌, ◌+◌, ◌-◌, ◌^◌, ◌++◌, [], ◌∷◌, ℕ, List, length, take, drop, min};
+ghost use Rattle.std.specs.Prelude.{◌≡◌, ◌≤◌, ◌<◌, ◌+◌, ◌-◌, ◌*◌, ◌^◌, ◌++◌, [], ◌∷◌, ℕ, List, length, take, drop, min, IfOk, IfErr, OnOk};
 ghost use Rattle.std.specs.CStr.{c_str_bytes};
-ghost use Rattle.scroll.specs.LebWrites.{leb_text};
+ghost use Rattle.std.specs.List.{flat_map};
+ghost use Rattle.scroll.specs.Bytes.{ReadsFixed, RefusesShort};
+ghost use Rattle.scroll.specs.Errors.{IsBadOffset};
+ghost use Rattle.scroll.specs.Fixed.{exactly};
+ghost use Rattle.scroll.specs.Encoding.{leb_text};
+ghost use Rattle.scroll.specs.Reads.{ReadsAt, RefusesAt};
+ghost use Rattle.scroll.specs.Zeros.{padding_len, zeros};
 ghost use Rattle.scroll.specs.declared.endian.Endian.{Endian};
 
 use crate::ctx::TryIntoCtx;
-use crate::ctx::fixed::Plain;
+use crate::ctx::fixed::{Fixed, Plain};
+use crate::ctx::zeros::padding;
 use crate::endian::Endian;
+use crate::error::{Error, Result, check_room};
 use crate::leb128::{Leb128, LebNumber};
 use std::ffi::CStr;
 
 /// A value that is written as bytes, however many it has.
 ///
-/// A pair is its first part and then its second, so a struct is written as the pairs of its fields, such as
-/// `(a, (b, c))`. Slices and texts are parts by themselves, and a value of a fixed size is one as [`Value`].
+/// A tuple of two to four is its parts in order, so a struct is written as tuples of its fields, such as
+/// `(a, b, c, (d, e))`. Slices, texts and arrays are parts by themselves, a value of a fixed size is one as [`Value`], and
+/// zeros as [`Gap`].
 pub trait Encode: Copy {
     // The bytes of a value.
     ghost bytes: { Endian → Self → List ℕ };
@@ -22,7 +31,7 @@ pub trait Encode: Copy {
     fn size(self, order: Endian) -> usize
         ensures { result ≡ min (length (bytes order self)) (2 ^ 64 - 1) };
 
-    /// Writes the bytes to the front of `dst`, which has room for them. The bytes after them are unchanged.
+    /// Writes the bytes to the start of `dst`, which has room for them. The bytes after them are unchanged.
     fn put(self, dst: &mut [u8], order: Endian)
         requires { length (bytes order self) ≤ length dst.old }
         ensures { dst.new ≡ bytes order self ++ drop (length (bytes order self)) dst.old };
@@ -41,7 +50,57 @@ impl<P: Plain> Encode for Value<P> {
 
     #[inline(always)]
     fn put(self, dst: &mut [u8], order: Endian) {
-        self.0.write_front(dst, order)
+        self.0.write_prefix(dst, order)
+    }
+}
+
+impl<P: Plain, const N: usize> Encode for [P; N] {
+    ghost bytes = { λ order xs. exactly (P.width * N) (flat_map (P.bytes order) xs) };
+
+    fn size(self, _order: Endian) -> usize {
+        P::width().saturating_mul(N)
+    }
+
+    #[inline(always)]
+    fn put(self, dst: &mut [u8], order: Endian) {
+        self.write_prefix(dst, order)
+    }
+}
+
+/// As many zero bytes as it says, such as padding.
+#[derive(Clone, Copy, Debug, PartialEq, Eq)]
+pub struct Gap(pub usize);
+
+impl Encode for Gap {
+    ghost bytes = { λ _ gap. zeros gap.0 };
+
+    fn size(self, _order: Endian) -> usize {
+        self.0
+    }
+
+    #[inline(always)]
+    fn put(self, dst: &mut [u8], _order: Endian) {
+        dst[..self.0].fill(0);
+    }
+}
+
+/// Parts, and the zero bytes after them up to a multiple of a size, counted from the first of the parts.
+#[derive(Clone, Copy, Debug, PartialEq, Eq)]
+pub struct Padded<A>(pub A, pub usize);
+
+impl<A: Encode> Encode for Padded<A> {
+    ghost bytes = { λ order x.
+        A.bytes order x.0 ++ zeros (padding_len (length (A.bytes order x.0)) x.1) };
+
+    fn size(self, order: Endian) -> usize {
+        let size = self.0.size(order);
+        size.saturating_add(padding(size, self.1))
+    }
+
+    #[inline(always)]
+    fn put(self, dst: &mut [u8], order: Endian) {
+        let gap = Gap(padding(self.0.size(order), self.1));
+        (self.0, gap).put(dst, order)
     }
 }
 
@@ -124,4 +183,54 @@ fn put_behind<B: Encode>(second: B, dst: &mut [u8], offset: usize, order: Endian
         ≡ B.bytes order second ++ drop (length (B.bytes order second)) (drop offset dst.old) }
 {
     second.put(&mut dst[offset..], order)
+}
+
+impl<A: Encode, B: Encode, C: Encode> Encode for (A, B, C) {
+    ghost bytes = { λ order x. A.bytes order x.0 ++ (B.bytes order x.1 ++ C.bytes order x.2) };
+
+    fn size(self, order: Endian) -> usize {
+        (self.0, (self.1, self.2)).size(order)
+    }
+
+    #[inline(always)]
+    fn put(self, dst: &mut [u8], order: Endian) {
+        (self.0, (self.1, self.2)).put(dst, order)
+    }
+}
+
+impl<A: Encode, B: Encode, C: Encode, D: Encode> Encode for (A, B, C, D) {
+    ghost bytes = { λ order x.
+        A.bytes order x.0 ++ (B.bytes order x.1 ++ (C.bytes order x.2 ++ D.bytes order x.3)) };
+
+    fn size(self, order: Endian) -> usize {
+        (self.0, (self.1, (self.2, self.3))).size(order)
+    }
+
+    #[inline(always)]
+    fn put(self, dst: &mut [u8], order: Endian) {
+        (self.0, (self.1, (self.2, self.3))).put(dst, order)
+    }
+}
+
+/// Reads a value of a fixed size at the cursor `offset`, also an array, and advances the cursor past it.
+///
+/// Returns [`Error::BadOffset`] for an offset past the end, and [`Error::TooBig`] with the width of the value and the number of
+/// bytes there if they are fewer.
+#[inline(always)]
+pub fn read_fixed<P: Fixed>(from: &[u8], offset: &mut usize, order: Endian) -> Result<P>
+    requires { P.width < 2 ^ 64 }
+    ensures read { IfOk result (λ x.
+        ReadsAt (ReadsFixed P.width (λ s v. P.makes order s 0 v)) from.now offset.old x P.width) }
+    ensures moves { OnOk result (offset.new ≡ offset.old + P.width) }
+    ensures refused { IfErr result
+        (RefusesAt (RefusesShort P.width) IsBadOffset from.now offset.old) }
+{
+    if *offset > from.len() {
+        return Err(Error::BadOffset(*offset));
+    }
+    let rest = &from[*offset..];
+    check_room(P::width(), rest.len())?;
+    let value = P::read_at(rest, 0, order);
+    *offset += P::width();
+    Ok(value)
 }

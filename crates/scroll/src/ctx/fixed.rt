@@ -1,12 +1,13 @@
-// Types of a fixed size. A type describes itself once, by [`Fixed`] or by [`Record`], and the traits of contexts follow.
+// Types of a fixed size. A type describes itself once, by [`Fixed`] or by [`Record`], and the
+// traits of contexts follow.
 ghost use Rattle.std.specs.Prelude.{◌≡◌, ◌≤◌, ◌<◌, ◌+◌, ◌^◌, ◌++◌, ℕ, List, length, take, drop, refl};
 ghost use Rattle.std.proofs.Common.{rules, arith, length-drop};
 ghost use Rattle.std.proofs.lemmas.List.Elements.{All-drop};
 ghost use Rattle.std.specs.List.{All};
-ghost use Rattle.scroll.specs.Bytes.{ReadsMade, RefusesShort, WritesFront, LeavesShort};
+ghost use Rattle.scroll.specs.Bytes.{ReadsFixed, RefusesShort, WritesPrefix, FailsShort};
 ghost use Rattle.scroll.specs.Fixed.{One, SameAt};
 ghost use Rattle.scroll.specs.lemmas.FixedLemmas.{record-one};
-ghost use Rattle.scroll.specs.lemmas.Frames.{drop-front, drop-written};
+ghost use Rattle.scroll.specs.lemmas.Frames.{drop-prefix, drop-written};
 ghost use Rattle.scroll.specs.declared.endian.Endian.{Endian};
 
 mod arrays;
@@ -15,11 +16,12 @@ use crate::ctx::{FromCtx, IntoCtx, SizeWith, TryFromCtx, TryIntoCtx};
 use crate::endian::Endian;
 use crate::error::{Error, Result, check_room};
 
-/// A type whose values all have the same number of bytes: a number, a tuple or an array of such types, or a struct of
-/// them.
+/// A type whose values all have the same number of bytes: a number, a tuple or an array of such
+/// types, or a struct of them.
 ///
-/// For a struct implement [`Record`], which says its fields. An implementation of this trait says the bytes of a value
-/// and the value of bytes, in a byte order, and proves that these go together: what was written reads back.
+/// For a struct implement [`Record`], which says its fields. An implementation of this trait says
+/// the bytes of a value and the value of bytes, in a byte order, and proves that these go together:
+/// what was written reads back.
 pub trait Fixed: Copy {
     // How many bytes a value has.
     ghost width: { ℕ };
@@ -30,7 +32,7 @@ pub trait Fixed: Copy {
     // Holds of a source, an offset in it, and the value that the bytes there make.
     ghost makes: { Endian → List ℕ → ℕ → Self → Type 0 };
 
-    // Holds of each value of the type. (In a law a number may be any number.)
+    // Holds of each value of the type, since a law may be applied to any number.
     ghost fits: { Self → Type 0 };
 
     /// Returns how many bytes a value has.
@@ -43,8 +45,9 @@ pub trait Fixed: Copy {
         requires { offset + width ≤ length from.now }
         ensures { makes order from.now offset result };
 
-    /// Writes the bytes to the front of `dst`, which has room for them. The bytes after them are unchanged.
-    fn write_front(self, dst: &mut [u8], order: Endian)
+    /// Writes the bytes to the start of `dst`, which has room for them. The bytes after them are
+    /// unchanged.
+    fn write_prefix(self, dst: &mut [u8], order: Endian)
         requires { width ≤ length dst.old }
         ensures { dst.new ≡ bytes order self ++ drop width dst.old };
 
@@ -52,8 +55,12 @@ pub trait Fixed: Copy {
     ghost bytes_len: { (order : Endian) (x : Self) → length (bytes order x) ≡ width };
 
     // What was written reads back, whatever stands before and after it.
-    ghost back: { (order : Endian) (x : Self) (front rest : List ℕ) → fits x
-        → makes order (front ++ (bytes order x ++ rest)) (length front) x };
+    ghost back: { (order : Endian) (x : Self) (prefix rest : List ℕ) → fits x
+        → makes order (prefix ++ (bytes order x ++ rest)) (length prefix) x };
+
+    // Each value that bytes make fits.
+    ghost made_fits: { (order : Endian) (s : List ℕ) (at : ℕ) (x : Self) → All (λ b. b < 256) s
+        → makes order s at x → fits x };
 
     // A source makes one value at each offset.
     ghost one: { (order : Endian) (s : List ℕ) (at : ℕ) → One (makes order s at) };
@@ -63,7 +70,8 @@ pub trait Fixed: Copy {
         → SameAt width s at t to → makes order s at x → makes order t to x };
 }
 
-/// A type of a fixed size that is written back byte for byte as it was read: each but floats, and structs with floats.
+/// A type of a fixed size that is written back byte for byte as it was read: each but floats, and
+/// structs with floats.
 pub trait RoundTrip: Fixed {
     // The bytes of a value are those of which it was made.
     ghost kept: { (order : Endian) (s : List ℕ) (at : ℕ) (x : Self) → All (λ b. b < 256) s
@@ -71,9 +79,11 @@ pub trait RoundTrip: Fixed {
         → Self.Fixed.bytes order x ≡ take Self.Fixed.width (drop at s) };
 }
 
-/// A struct that is its fields, one after another in the order of its parts, with nothing between them.
+/// A struct that is its fields, one after another in the order of its parts, with nothing between
+/// them.
 ///
-/// It then is [`Fixed`], and so it implements the traits of contexts. `tools/derive` prints the implementation:
+/// It then is [`Fixed`], and so it implements the traits of contexts. `tools/derive` prints the
+/// implementation:
 ///
 /// ```rust
 /// impl Record for Format {
@@ -109,7 +119,7 @@ pub trait Record: Copy {
 
     ghost of_parts: { Self.Parts → Self };
 
-    // Holds of a source and the struct that its front makes, said field by field.
+    // Holds of a source and the struct that its prefix makes, said field by field.
     ghost fields_in: { Endian → List ℕ → Self → Type 0 };
 
     /// Returns the fields.
@@ -148,11 +158,16 @@ impl<R: Record> Fixed for R {
 
     ghost bytes_len = { λ order x. R.Parts.bytes_len order (R.parts_of x) };
 
-    ghost back = { λ order x front rest h.
+    ghost back = { λ order x prefix rest h.
         let parts = R.parts_of x in
-        let all = front ++ (R.Parts.bytes order parts ++ rest) in
-        R.fields_of_parts order (drop (length front) all) x
-        (R.Parts.local order all (length front) (drop (length front) all) 0 parts refl (R.Parts.back order parts front rest h)) };
+        let all = prefix ++ (R.Parts.bytes order parts ++ rest) in
+        R.fields_of_parts order (drop (length prefix) all) x
+        (R.Parts.local order all (length prefix) (drop (length prefix) all) 0 parts refl
+        (R.Parts.back order parts prefix rest h)) };
+
+    ghost made_fits = { λ order s at x all h.
+        R.Parts.made_fits order (drop at s) 0 (R.parts_of x) (All-drop (λ b. b < 256) at s all)
+        (R.parts_of_fields order (drop at s) x h) };
 
     ghost one = { λ order s at.
         record-one R.parts_of R.of_parts R.again R.there (R.Parts.one order (drop at s) 0)
@@ -160,7 +175,8 @@ impl<R: Record> Fixed for R {
 
     ghost local = { λ order s at t to x same h.
         R.fields_of_parts order (drop to t) x
-        (R.Parts.local order (drop at s) 0 (drop to t) 0 (R.parts_of x) same (R.parts_of_fields order (drop at s) x h)) };
+        (R.Parts.local order (drop at s) 0 (drop to t) 0 (R.parts_of x) same
+        (R.parts_of_fields order (drop at s) x h)) };
 
     fn width() -> usize {
         R::Parts::width()
@@ -172,8 +188,8 @@ impl<R: Record> Fixed for R {
     }
 
     #[inline(always)]
-    fn write_front(self, dst: &mut [u8], order: Endian) {
-        self.parts().write_front(dst, order)
+    fn write_prefix(self, dst: &mut [u8], order: Endian) {
+        self.parts().write_prefix(dst, order)
     }
 }
 
@@ -182,7 +198,8 @@ where
     R::Parts: RoundTrip,
 {
     ghost kept = { λ order s at x all room h.
-        R.Parts.kept order (drop at s) 0 (R.parts_of x) (All-drop (λ b. b < 256) at s all) (omega (arith, room, length-drop at s)) (R.parts_of_fields order (drop at s) x h) };
+        R.Parts.kept order (drop at s) 0 (R.parts_of x) (All-drop (λ b. b < 256) at s all)
+        (omega (arith, room, length-drop at s)) (R.parts_of_fields order (drop at s) x h) };
 }
 
 // Returns the struct at an offset, by its parts.
@@ -194,8 +211,8 @@ fn read_parts<R: Record>(from: &[u8], offset: usize, order: Endian) -> R
     R::of_parts(R::Parts::read_at(from, offset, order))
 }
 
-/// Marks the types that implement the traits of contexts by [`Fixed`]: numbers and structs. Arrays have
-/// implementations of their own, for elements of any size.
+/// Marks the types that implement the traits of contexts by [`Fixed`]: numbers and structs. Arrays
+/// have implementations of their own, for elements of any size.
 pub trait Plain: Fixed {
     // The number of bytes fits into a `usize`.
     ghost small: { Self.width < 2 ^ 64 };
@@ -239,12 +256,31 @@ impl<P: Plain> FromCtx<Endian> for P {
     }
 }
 
-/// Reads a value in a byte order. If the source is shorter than the value, returns [`Error::TooBig`] with the value's
-/// width and the length of the source. The bits of any NaN are read as a NaN.
+/// Reads a value in a byte order. If the source is shorter than the value, returns
+/// [`Error::TooBig`] with the value's width and the length of the source. The bits of any NaN are
+/// read as a NaN.
+///
+/// ```rust
+/// let bytes: &[u8] = &[0, 1, 2, 3, 0x80, 0, 0xfe];
+/// assert_eq!(rt; bytes.pread_with::<u32>(0, LE)?, 50462976);
+/// assert_eq!(rt; bytes.pread_with::<u32>(0, BE)?, 66051);
+/// assert_eq!(rt; bytes.pread_with::<i16>(4, BE)?, -32768);
+/// assert_eq!(rt; bytes.pread_with::<i16>(4, LE)?, 128);
+/// assert_eq!(rt; bytes.pread_with::<i8>(6, LE)?, -2);
+/// let short = bytes[4..].pread_with::<u32>(0, LE);
+/// assert!(rt; matches!(short, Err(Error::TooBig { size: 4, len: 3 })));
+/// let ones = [0xffu8; 16];
+/// assert_eq!(rt; ones[..].pread_with::<u128>(0, BE)?, 340282366920938463463374607431768211455);
+/// assert_eq!(rt; ones[..].pread_with::<i128>(0, BE)?, -1);
+///
+/// let floats: &[u8] = &[0x3f, 0xc0, 0, 0, 0x3f, 0xb9, 0x99, 0x99, 0x99, 0x99, 0x99, 0x9a];
+/// assert!(rt; floats.pread_with::<f32>(0, BE)? == 1.5);
+/// assert!(rt; floats.pread_with::<f64>(4, BE)? == 0.1);
+/// ```
 impl<'a, P: Plain> TryFromCtx<'a, Endian> for P {
     type Error = Error;
 
-    ghost reads = { λ order. ReadsMade P.width (λ source. P.makes order source 0) };
+    ghost reads = { λ order. ReadsFixed P.width (λ source. P.makes order source 0) };
 
     ghost refuses = { λ _. RefusesShort P.width };
 
@@ -259,29 +295,58 @@ impl<'a, P: Plain> TryFromCtx<'a, Endian> for P {
 impl<W: Written> IntoCtx<Endian> for W {
     ghost need = { λ _. W.Value.width };
 
-    ghost leaves = { λ order x old new. new ≡ W.Value.bytes order (W.value_of x) ++ drop W.Value.width old };
+    ghost overwrites = { λ order x old new.
+        new ≡ W.Value.bytes order (W.value_of x) ++ drop W.Value.width old };
 
-    ghost leaves_keeps = { λ order x old new h.
-        drop-front W.Value.width _ old new (W.Value.bytes_len order (W.value_of x)) h };
+    ghost overwrites_keeps = { λ order x old new h.
+        drop-prefix W.Value.width _ old new (W.Value.bytes_len order (W.value_of x)) h };
 
     fn into_ctx(self, dst: &mut [u8], ctx: Endian) {
-        self.value().write_front(dst, ctx)
+        self.value().write_prefix(dst, ctx)
     }
 }
 
-/// Writes a value in a byte order. If the target is shorter than the value, returns [`Error::TooBig`] with the value's
-/// width and the length of the target, and leaves the target unchanged. A NaN is written as the quiet NaN with no sign and no
-/// payload.
+/// Writes a value in a byte order. If the target is shorter than the value, returns
+/// [`Error::TooBig`] with the value's width and the length of the target, and leaves the target
+/// unchanged. A NaN is written as the quiet NaN with no sign and no payload.
+///
+/// ```rust
+/// let mut bytes = [0xffu8; 3];
+/// let mut target = &mut bytes[..];
+/// assert_eq!(rt; target.pwrite_with(12345u16, 0, LE)?, 2);
+/// assert_eq!(rt; bytes, [0x39, 0x30, 0xff]);
+/// let mut target = &mut bytes[..];
+/// assert_eq!(rt; target.pwrite_with(-2i16, 0, BE)?, 2);
+/// assert_eq!(rt; bytes, [0xff, 0xfe, 0xff]);
+/// let mut target = &mut bytes[..];
+/// let short = target.pwrite_with(0u32, 0, LE);
+/// assert!(rt; matches!(short, Err(Error::TooBig { size: 4, len: 3 })));
+/// assert_eq!(rt; bytes, [0xff, 0xfe, 0xff]);
+///
+/// let mut bytes = [0u8; 4];
+/// let mut target = &mut bytes[..];
+/// assert_eq!(rt; target.pwrite_with(&258u16, 0, BE)?, 2);
+/// assert_eq!(rt; bytes, [1, 2, 0, 0]);
+/// let mut target = &mut bytes[..];
+/// target.pwrite_with(1.5f32, 0, LE)?;
+/// assert_eq!(rt; bytes, [0, 0, 0xc0, 0x3f]);
+/// let nan = [0xffu8, 0xa0, 0, 1];
+/// let nan = nan[..].pread_with::<f32>(0, BE)?;
+/// let mut target = &mut bytes[..];
+/// target.pwrite_with(nan, 0, BE)?;
+/// assert_eq!(rt; bytes, [0x7f, 0xc0, 0, 0]);
+/// ```
 impl<W: Written> TryIntoCtx<Endian> for W {
     type Error = Error;
 
-    ghost writes = { λ order x. WritesFront W.Value.width (W.Value.bytes order (W.value_of x)) };
+    ghost writes = { λ order x. WritesPrefix W.Value.width (W.Value.bytes order (W.value_of x)) };
 
-    ghost refuses = { λ _ _. LeavesShort W.Value.width };
+    ghost refuses = { λ _ _. FailsShort W.Value.width };
 
     ghost writes_bounded = { λ order x old new n h. Prim.search rules };
 
-    ghost writes_keeps = { λ order x old new n h. drop-written (W.Value.bytes_len order (W.value_of x)) h };
+    ghost writes_keeps = { λ order x old new n h.
+        drop-written (W.Value.bytes_len order (W.value_of x)) h };
 
     fn try_into_ctx(self, dst: &mut [u8], ctx: Endian) -> Result<usize> {
         check_room(W::Value::width(), dst.len())?;

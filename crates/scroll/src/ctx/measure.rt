@@ -1,5 +1,5 @@
-// The sizes of byte slices, byte arrays and vectors, and of strings, which are those of their UTF-8 bytes. The context
-// plays no part.
+// The sizes of byte slices, byte arrays and vectors, and of strings, which are those of their UTF-8
+// bytes. The context plays no part.
 ghost use Rattle.std.specs.Prelude.{length};
 ghost use Rattle.std.specs.String.{string_bytes};
 

@@ -18,17 +18,17 @@ fn bytes_at<const N: usize>(from: &[u8], offset: usize) -> [u8; N]
     *from[offset..].first_chunk().unwrap()
 }
 
-// Writes the bytes of a number to the front of a target.
+// Writes the bytes of a number to the start of a target.
 #[inline]
-fn put_front<const WIDTH: usize>(dst: &mut [u8], bytes: [u8; WIDTH])
+fn put_prefix<const WIDTH: usize>(dst: &mut [u8], bytes: [u8; WIDTH])
     requires { WIDTH ≤ length dst.old }
     ensures { dst.new ≡ bytes.entry ++ drop WIDTH dst.old }
 {
     dst[..WIDTH].copy_from_slice(&bytes);
 }
 
-// Writes the bytes of a number of sixteen bytes to the front of a target, in two halves. Writing all sixteen at once
-// would gather them byte by byte, which takes ten times as long.
+// Writes the bytes of a number of sixteen bytes to the start of a target, in two halves. Writing
+// all sixteen at once would gather them byte by byte, which takes ten times as long.
 #[inline]
 fn put_sixteen(dst: &mut [u8], number: u128, order: Endian)
     requires { 16 ≤ length dst.old }
@@ -42,13 +42,13 @@ fn put_sixteen(dst: &mut [u8], number: u128, order: Endian)
     }
 }
 
-// Writes the bytes of two numbers to the front of a target, each little-endian.
+// Writes the bytes of two numbers to the start of a target, each little-endian.
 #[inline]
 fn put_halves(dst: &mut [u8], first: u64, second: u64)
     requires { 16 ≤ length dst.old }
     ensures { dst.new ≡ (to_le_bytes w64 first ++ to_le_bytes w64 second) ++ drop 16 dst.old }
 {
-    let (front, rest) = dst.split_at_mut(8);
-    put_front(front, first.to_le_bytes());
-    put_front(rest, second.to_le_bytes());
+    let (prefix, rest) = dst.split_at_mut(8);
+    put_prefix(prefix, first.to_le_bytes());
+    put_prefix(rest, second.to_le_bytes());
 }

@@ -1,14 +1,11 @@
 // The C strings of std, read and written like those of the crate.
-ghost use Rattle.std.specs.Prelude.{◌++◌, [], ◌∷◌, length};
 ghost use Rattle.std.specs.CStr.{c_str_bytes, c_string_bytes};
-ghost use Rattle.std.proofs.Common.{rules};
-ghost use Rattle.scroll.specs.Bytes.{WritesFront, LeavesShort};
 ghost use Rattle.scroll.specs.CStrings.{ReadsCString, RefusesCString, RefusesCopy};
-ghost use Rattle.scroll.specs.lemmas.Sizes.{ReadsCString-bounded};
-ghost use Rattle.scroll.specs.lemmas.Frames.{WritesFront-keeps};
+ghost use Rattle.scroll.specs.lemmas.Frames.{ReadsCString-bounded};
 
 use crate::cstr;
-use crate::ctx::{TryFromCtx, TryIntoCtx};
+use crate::ctx::TryFromCtx;
+use crate::ctx::c_strings::WithNul;
 use crate::error::{Error, Result};
 use std::alloc::Global;
 use std::ffi::{CStr, CString};
@@ -47,36 +44,20 @@ impl<'a, 'm> TryFromCtx<'a, &'m Global> for CString {
     }
 }
 
-impl<'s> TryIntoCtx<()> for CStr<'s> {
-    type Error = Error;
+impl<'s> WithNul for CStr<'s> {
+    ghost text = { c_str_bytes };
 
-    ghost writes = { λ _ s. WritesFront (length (c_str_bytes s ++ 0 ∷ [])) (c_str_bytes s ++ 0 ∷ []) };
-
-    ghost refuses = { λ _ s. LeavesShort (length (c_str_bytes s ++ 0 ∷ [])) };
-
-    ghost writes_bounded = { λ _ s old new n h. Prim.search rules };
-
-    ghost writes_keeps = { λ _ s. WritesFront-keeps (c_str_bytes s ++ 0 ∷ []) };
-
-    /// Writes like [`cstr::CStr`].
-    fn try_into_ctx(self, dst: &mut [u8], _ctx: ()) -> Result<usize> {
-        cstr::CStr::from(self).try_into_ctx(dst, ())
+    #[inline]
+    fn with_nul(&self) -> &[u8] {
+        self.to_bytes_with_nul()
     }
 }
 
-impl TryIntoCtx<()> for CString {
-    type Error = Error;
+impl WithNul for CString {
+    ghost text = { c_string_bytes };
 
-    ghost writes = { λ _ s. WritesFront (length (c_string_bytes s ++ 0 ∷ [])) (c_string_bytes s ++ 0 ∷ []) };
-
-    ghost refuses = { λ _ s. LeavesShort (length (c_string_bytes s ++ 0 ∷ [])) };
-
-    ghost writes_bounded = { λ _ s old new n h. Prim.search rules };
-
-    ghost writes_keeps = { λ _ s. WritesFront-keeps (c_string_bytes s ++ 0 ∷ []) };
-
-    /// Writes like [`cstr::CString`].
-    fn try_into_ctx(self, dst: &mut [u8], _ctx: ()) -> Result<usize> {
-        self.as_c_str().try_into_ctx(dst, ())
+    #[inline]
+    fn with_nul(&self) -> &[u8] {
+        self.as_bytes_with_nul()
     }
 }

@@ -39,7 +39,8 @@ impl Default for StrCtx {
 }
 
 impl StrCtx {
-    /// Returns how many bytes the size of a string counts after the text: 1 for a delimiter, and 0 for `Length`.
+    /// Returns how many bytes the size of a string counts after the text: 1 for a delimiter, and 0
+    /// for `Length`.
     pub fn len(&self) -> usize
         ensures { result ≡ delimiter_len self.now }
     {
@@ -49,7 +50,8 @@ impl StrCtx {
         }
     }
 
-    /// Returns whether the size of a string counts no byte after the text, which holds of `Length` alone.
+    /// Returns whether the size of a string counts no byte after the text, which holds of `Length`
+    /// alone.
     pub fn is_empty(&self) -> bool
         ensures { IsTrue result ↔ (delimiter_len self.now ≡ 0) }
     {

@@ -3,24 +3,48 @@ ghost use Rattle.std.specs.Str.{IsAscii};
 ghost use Rattle.std.specs.Prelude.{◌≡◌, ℕ, ◌+◌, ◌≤◌, List, length, take, codes, ◌<◌, ◌⊎◌, IfOk, IfErr, OnOk, OnErr, IfSome, IfNone, IsUtf8};
 ghost use Rattle.scroll.specs.Errors.{IsBadInput};
 ghost use Rattle.std.proofs.Common.{rules};
-ghost use Rattle.scroll.specs.Bytes.{RefusesShort, WritesFront, LeavesShort};
-ghost use Rattle.scroll.specs.Texts.{first_place, text_len, wanted_len, HasDelimiter, ReadsText, RefusesMissing, RefusesText};
-ghost use Rattle.scroll.specs.lemmas.Sizes.{ReadsText-bounded};
-ghost use Rattle.scroll.specs.lemmas.Frames.{WritesFront-keeps};
+ghost use Rattle.scroll.specs.Bytes.{RefusesShort, WritesPrefix, FailsShort};
+ghost use Rattle.scroll.specs.Texts.{index_of, text_len, wanted_len, HasDelimiter, ReadsText, RefusesMissing, RefusesText};
+ghost use Rattle.scroll.specs.lemmas.Frames.{ReadsText-bounded, WritesPrefix-keeps};
 
 use crate::ctx::{StrCtx, TryFromCtx, TryIntoCtx};
 use crate::error::{Error, Result, check_room};
-use crate::search::{first_place, first_stop};
+use crate::search::{first_stop, index_of};
 
-/// Reads a string up to where the context ends it. This is zero-copy: the string borrows the source.
-///
-/// The string is what comes before the delimiter, the limit or the length. In a context with a delimiter the size is
-/// one byte more than the string has, even if no delimiter follows, and even past the end of the source.
-///
-/// A limit or a length beyond the source returns [`Error::TooBig`], even if a delimiter comes earlier. A source without
-/// the delimiter of `Required` returns [`Error::BadInput`] with the message `missing delimiter`, and bytes that aren't
-/// UTF-8 return [`Error::BadInput`] with the message `invalid utf8`; the `size` of both is the length of the whole
+/// Reads a string up to where the context ends it. This is zero-copy: the string borrows the
 /// source.
+///
+/// The string is what comes before the delimiter, the limit or the length. In a context with a
+/// delimiter the size is one byte more than the string has, even if no delimiter follows, and even
+/// past the end of the source.
+///
+/// A limit or a length beyond the source returns [`Error::TooBig`], even if a delimiter comes
+/// earlier. A source without the delimiter of `Required` returns [`Error::BadInput`] with the
+/// message `missing delimiter`, and bytes that aren't UTF-8 return [`Error::BadInput`] with the
+/// message `invalid utf8`; the `size` of both is the length of the whole source.
+///
+/// ```rust
+/// let source: &[u8] = b"ab";
+/// let offset = &mut 0;
+/// assert_eq!(rt; source.gread_with::<&str>(offset, StrCtx::Delimiter(NULL))?, "ab");
+/// assert_eq!(rt; *offset, 3);
+/// let source: &[u8] = b"abcd";
+/// let offset = &mut 0;
+/// assert_eq!(rt; source.gread_with::<&str>(offset, StrCtx::DelimiterUntil(NULL, 2))?, "ab");
+/// assert_eq!(rt; *offset, 3);
+/// let source: &[u8] = &[0xc3, 0xa9];
+/// assert_eq!(rt; source.pread_with::<&str>(0, StrCtx::Length(2))?, "é");
+///
+/// let source: &[u8] = b"a\0c";
+/// let limit = source.pread_with::<&str>(0, StrCtx::DelimiterUntil(NULL, 4));
+/// assert!(rt; matches!(limit, Err(Error::TooBig { size: 4, len: 3 })));
+/// let source: &[u8] = &[0xff, b'a', 0];
+/// let bytes = source.pread_with::<&str>(0, StrCtx::Delimiter(NULL));
+/// assert!(rt; matches!(bytes, Err(Error::BadInput { size: 3, msg: "invalid utf8" })));
+/// let source: &[u8] = &[0xff, b'a'];
+/// let missing = source.pread_with::<&str>(0, StrCtx::Required(NULL));
+/// assert!(rt; matches!(missing, Err(Error::BadInput { size: 2, msg: "missing delimiter" })));
+/// ```
 impl<'a> TryFromCtx<'a, StrCtx> for &'a str {
     type Error = Error;
 
@@ -31,7 +55,7 @@ impl<'a> TryFromCtx<'a, StrCtx> for &'a str {
     ghost reads_bounded = { λ ctx source text. ReadsText-bounded ctx source text.now };
 
     #[inline(always)]
-    #[tactic(auto, using(crate::proofs::lemmas::texts::TextLemmas::text_lens))]
+    #[tactic(auto, using(crate::proofs::lemmas::TextLemmas::text_lens))]
     fn try_from_ctx(from: &'a [u8], ctx: StrCtx) -> Result<(&'a str, usize)> {
         match text_in(from, ctx)? {
             Some(text) => Ok((text, text.len() + ctx.len())),
@@ -43,10 +67,10 @@ impl<'a> TryFromCtx<'a, StrCtx> for &'a str {
     }
 }
 
-// Returns the string, or `None` where the bytes aren't UTF-8. A limit and a length are checked before the search, and a
-// missing delimiter is found before UTF-8 is checked.
+// Returns the string, or `None` where the bytes aren't UTF-8. A limit and a length are checked
+// before the search, and a missing delimiter is found before UTF-8 is checked.
 #[inline(always)]
-#[tactic(auto, using(crate::proofs::lemmas::texts::TextLemmas::first_places))]
+#[tactic(auto, using(crate::proofs::lemmas::TextLemmas::index_ofs))]
 fn text_in(from: &[u8], ctx: StrCtx) -> Result<Option<&str>>
     ensures room { IfOk result (λ _. wanted_len ctx ≤ length from.now) }
     ensures text { IfOk result (λ found. IfSome found
@@ -68,10 +92,10 @@ fn text_in(from: &[u8], ctx: StrCtx) -> Result<Option<&str>>
             Ok(str::from_utf8(&from[..len]).ok())
         }
         StrCtx::Required(delimiter) => {
-            let (place, text) = text_before(delimiter, from);
-            if place == from.len() {
+            let (index, text) = text_before(delimiter, from);
+            if index == from.len() {
                 return Err(Error::BadInput {
-                    size: place,
+                    size: index,
                     msg: "missing delimiter",
                 });
             }
@@ -80,12 +104,13 @@ fn text_in(from: &[u8], ctx: StrCtx) -> Result<Option<&str>>
     }
 }
 
-// Returns the offset of the first delimiter, or the length of the source if there is none, and the string before it, or
-// `None` where the bytes aren't UTF-8. The bytes are examined once if they are ASCII.
+// Returns the offset of the first delimiter, or the length of the source if there is none, and the
+// string before it, or `None` where the bytes aren't UTF-8. The bytes are examined once if they are
+// ASCII.
 #[inline(always)]
-#[tactic(auto, using(crate::proofs::lemmas::texts::TextLemmas::first_places))]
+#[tactic(auto, using(crate::proofs::lemmas::TextLemmas::index_ofs))]
 fn text_before(delimiter: u8, source: &[u8]) -> (usize, Option<&str>)
-    ensures place { result.0 ≡ first_place delimiter source.now }
+    ensures index { result.0 ≡ index_of delimiter source.now }
     ensures text { IfSome result.1 (λ text. text.now ≡ take result.0 source.now) }
     ensures none { IfNone result.1 (¬ (IsUtf8 (take result.0 source.now))) }
 {
@@ -93,8 +118,8 @@ fn text_before(delimiter: u8, source: &[u8]) -> (usize, Option<&str>)
     if stop == source.len() || source[stop] == delimiter {
         return (stop, Some(text_of_ascii(&source[..stop])));
     }
-    let place = stop + first_place(delimiter, &source[stop..]);
-    (place, str::from_utf8(&source[..place]).ok())
+    let index = stop + index_of(delimiter, &source[stop..]);
+    (index, str::from_utf8(&source[..index]).ok())
 }
 
 // Returns ASCII bytes as a string.
@@ -107,18 +132,18 @@ fn text_of_ascii(bytes: &[u8]) -> &str
     unsafe { str::from_utf8_unchecked(bytes) }
 }
 
-/// Writes the bytes of the string, without a delimiter or a length. A shorter target returns [`Error::TooBig`] with the
-/// lengths of the string and of the target, and is unchanged.
+/// Writes the bytes of the string, without a delimiter or a length. A shorter target returns
+/// [`Error::TooBig`] with the lengths of the string and of the target, and is unchanged.
 impl<'t> TryIntoCtx<()> for &'t str {
     type Error = Error;
 
-    ghost writes = { λ _ text. WritesFront (length text.now) text.now };
+    ghost writes = { λ _ text. WritesPrefix (length text.now) text.now };
 
-    ghost refuses = { λ _ text. LeavesShort (length text.now) };
+    ghost refuses = { λ _ text. FailsShort (length text.now) };
 
     ghost writes_bounded = { λ _ text old new n h. Prim.search rules };
 
-    ghost writes_keeps = { λ _ text. WritesFront-keeps text.now };
+    ghost writes_keeps = { λ _ text. WritesPrefix-keeps text.now };
 
     fn try_into_ctx(self, dst: &mut [u8], _ctx: ()) -> Result<usize> {
         self.as_bytes().try_into_ctx(dst, ())

@@ -1,9 +1,8 @@
-// Two to four types of a fixed size, one after another. They are the parts of a struct: `(u16, u16, u32)` for three
-// fields, and `((u16, u16, u32), (u8, u8))` for five.
+// Two to four types of a fixed size, one after another. They are the parts of a struct:
+// `(u16, u16, u32)` for three fields, and `((u16, u16, u32), (u8, u8))` for five.
 ghost use Rattle.std.specs.Prelude.{◌≡◌, ◌≤◌, ◌+◌, ◌++◌, length, take, drop, refl};
 ghost use Rattle.std.proofs.Common.{arith};
-ghost use Rattle.scroll.specs.lemmas.FixedLemmas.{both-len, both-back, both-one, same-first, same-second, record-one};
-ghost use Rattle.scroll.specs.lemmas.NumberBack.{both-kept};
+ghost use Rattle.scroll.specs.lemmas.FixedLemmas.{both-len, both-back, both-one, same-first, same-second, record-one, both-kept};
 
 use crate::ctx::fixed::{Fixed, RoundTrip};
 use crate::endian::Endian;
@@ -18,12 +17,16 @@ impl<A: Fixed, B: Fixed> Fixed for (A, B) {
     ghost fits = { λ x. A.fits x.0 × B.fits x.1 };
 
     ghost bytes_len = { λ order x.
-        both-len (A.bytes order x.0) (B.bytes order x.1) (A.bytes_len order x.0) (B.bytes_len order x.1) };
+        both-len (A.bytes order x.0) (B.bytes order x.1)
+        (A.bytes_len order x.0) (B.bytes_len order x.1) };
 
-    ghost back = { λ order x front rest h.
-        both-back A.width (A.bytes order x.0) (B.bytes order x.1) front rest (A.bytes_len order x.0)
+    ghost back = { λ order x prefix rest h.
+        both-back A.width (A.bytes order x.0) (B.bytes order x.1) prefix rest (A.bytes_len order x.0)
         (λ s at. A.makes order s at x.0) (λ s at. B.makes order s at x.1)
         (λ f t. A.back order x.0 f t h.0) (λ f t. B.back order x.1 f t h.1) };
+
+    ghost made_fits = { λ order s at x all h.
+        (A.made_fits order s at x.0 all h.0, B.made_fits order s (at + A.width) x.1 all h.1) };
 
     ghost one = { λ order s at. both-one (A.one order s at) (B.one order s (at + A.width)) };
 
@@ -45,8 +48,8 @@ impl<A: Fixed, B: Fixed> Fixed for (A, B) {
     }
 
     #[inline(always)]
-    fn write_front(self, dst: &mut [u8], order: Endian) {
-        self.0.write_front(dst, order);
+    fn write_prefix(self, dst: &mut [u8], order: Endian) {
+        self.0.write_prefix(dst, order);
         write_behind(self.1, dst, A::width(), order)
     }
 }
@@ -59,7 +62,7 @@ pub(super) fn write_behind<B: Fixed>(value: B, dst: &mut [u8], offset: usize, or
     ensures after { drop offset dst.new
         ≡ B.bytes order value ++ drop B.width (drop offset dst.old) }
 {
-    value.write_front(&mut dst[offset..], order)
+    value.write_prefix(&mut dst[offset..], order)
 }
 
 impl<A: Fixed, B: Fixed, C: Fixed> Fixed for (A, B, C) {
@@ -75,16 +78,25 @@ impl<A: Fixed, B: Fixed, C: Fixed> Fixed for (A, B, C) {
 
     ghost bytes_len = { λ order x.
         both-len (A.bytes order x.0) (B.bytes order x.1 ++ C.bytes order x.2) (A.bytes_len order x.0)
-        (both-len (B.bytes order x.1) (C.bytes order x.2) (B.bytes_len order x.1) (C.bytes_len order x.2)) };
+        (both-len (B.bytes order x.1) (C.bytes order x.2)
+        (B.bytes_len order x.1) (C.bytes_len order x.2)) };
 
-    ghost back = { λ order x front rest h.
-        both-back A.width (A.bytes order x.0) (B.bytes order x.1 ++ C.bytes order x.2) front rest
+    ghost back = { λ order x prefix rest h.
+        both-back A.width (A.bytes order x.0) (B.bytes order x.1 ++ C.bytes order x.2) prefix rest
         (A.bytes_len order x.0) (λ s at. A.makes order s at x.0)
         (λ s at. B.makes order s at x.1 × C.makes order s (at + B.width) x.2)
         (λ f t. A.back order x.0 f t h.0)
         (λ f t. both-back B.width (B.bytes order x.1) (C.bytes order x.2) f t
         (B.bytes_len order x.1) (λ s at. B.makes order s at x.1) (λ s at. C.makes order s at x.2)
         (λ f t. B.back order x.1 f t h.1.0) (λ f t. C.back order x.2 f t h.1.1)) };
+
+    ghost made_fits = { λ order s at x all h. (
+      A.made_fits order s at x.0 all h.0,
+      (
+        B.made_fits order s (at + A.width) x.1 all h.1.0,
+        C.made_fits order s (at + A.width + B.width) x.2 all h.1.1,
+      ),
+    ) };
 
     ghost one = { λ order s at.
         record-one (λ x. (x.0, (x.1, x.2))) (λ p. (p.0, p.1.0, p.1.1)) (λ x. refl) (λ p. refl)
@@ -118,8 +130,8 @@ impl<A: Fixed, B: Fixed, C: Fixed> Fixed for (A, B, C) {
     }
 
     #[inline(always)]
-    fn write_front(self, dst: &mut [u8], order: Endian) {
-        (self.0, (self.1, self.2)).write_front(dst, order)
+    fn write_prefix(self, dst: &mut [u8], order: Endian) {
+        (self.0, (self.1, self.2)).write_prefix(dst, order)
     }
 }
 
@@ -141,11 +153,12 @@ impl<A: Fixed, B: Fixed, C: Fixed, D: Fixed> Fixed for (A, B, C, D) {
         both-len (A.bytes order x.0) (B.bytes order x.1 ++ (C.bytes order x.2 ++ D.bytes order x.3))
         (A.bytes_len order x.0)
         (both-len (B.bytes order x.1) (C.bytes order x.2 ++ D.bytes order x.3) (B.bytes_len order x.1)
-        (both-len (C.bytes order x.2) (D.bytes order x.3) (C.bytes_len order x.2) (D.bytes_len order x.3))) };
+        (both-len (C.bytes order x.2) (D.bytes order x.3)
+        (C.bytes_len order x.2) (D.bytes_len order x.3))) };
 
-    ghost back = { λ order x front rest h.
+    ghost back = { λ order x prefix rest h.
         both-back A.width (A.bytes order x.0) (B.bytes order x.1 ++ (C.bytes order x.2 ++ D.bytes order x.3))
-        front rest (A.bytes_len order x.0) (λ s at. A.makes order s at x.0)
+        prefix rest (A.bytes_len order x.0) (λ s at. A.makes order s at x.0)
         (λ s at. B.makes order s at x.1
         × (C.makes order s (at + B.width) x.2 × D.makes order s (at + B.width + C.width) x.3))
         (λ f t. A.back order x.0 f t h.0)
@@ -156,6 +169,17 @@ impl<A: Fixed, B: Fixed, C: Fixed, D: Fixed> Fixed for (A, B, C, D) {
         (λ f t. both-back C.width (C.bytes order x.2) (D.bytes order x.3) f t
         (C.bytes_len order x.2) (λ s at. C.makes order s at x.2) (λ s at. D.makes order s at x.3)
         (λ f t. C.back order x.2 f t h.1.1.0) (λ f t. D.back order x.3 f t h.1.1.1))) };
+
+    ghost made_fits = { λ order s at x all h. (
+      A.made_fits order s at x.0 all h.0,
+      (
+        B.made_fits order s (at + A.width) x.1 all h.1.0,
+        (
+          C.made_fits order s (at + A.width + B.width) x.2 all h.1.1.0,
+          D.made_fits order s (at + A.width + B.width + C.width) x.3 all h.1.1.1,
+        ),
+      ),
+    ) };
 
     ghost one = { λ order s at.
         record-one (λ x. (x.0, (x.1, (x.2, x.3)))) (λ p. (p.0, p.1.0, p.1.1.0, p.1.1.1)) (λ x. refl) (λ p. refl)
@@ -198,8 +222,8 @@ impl<A: Fixed, B: Fixed, C: Fixed, D: Fixed> Fixed for (A, B, C, D) {
     }
 
     #[inline(always)]
-    fn write_front(self, dst: &mut [u8], order: Endian) {
-        (self.0, (self.1, (self.2, self.3))).write_front(dst, order)
+    fn write_prefix(self, dst: &mut [u8], order: Endian) {
+        (self.0, (self.1, (self.2, self.3))).write_prefix(dst, order)
     }
 }
 

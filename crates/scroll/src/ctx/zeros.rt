@@ -1,20 +1,22 @@
 // Zero bytes, such as padding.
 ghost use Rattle.std.specs.Prelude.{◌≡◌, ◌≢◌, ℕ, ◌≤◌, ◌<◌, ◌+◌, ◌%◌, ◌++◌, length, drop, slice_index, IfSome, IfNone};
 ghost use Rattle.std.proofs.Common.{rules};
-ghost use Rattle.scroll.specs.Bytes.{WritesFront, LeavesShort};
+ghost use Rattle.scroll.specs.Bytes.{WritesPrefix, FailsShort};
 ghost use Rattle.scroll.specs.Zeros.{padding_len, zeros, ReadsZeros, RefusesZeros};
 ghost use Rattle.std.proofs.lemmas.List.{length-replicate};
-ghost use Rattle.scroll.specs.lemmas.Frames.{drop-front, drop-written};
+ghost use Rattle.scroll.specs.lemmas.Frames.{drop-prefix, drop-written};
 
 use crate::ctx::{IntoCtx, TryFromCtx, TryIntoCtx};
 use crate::error::{Error, Result, check_room};
 
-/// Bytes that are all zero, as many as the context says: padding, or what a format reserves. The default context is 0.
+/// Bytes that are all zero, as many as the context says: padding, or what a format reserves. The
+/// default context is 0.
 ///
-/// A read returns [`Error::TooBig`] where the source is shorter. Otherwise it returns [`Error::BadInput`] with the
-/// message `padding is not zero` where a byte isn't zero; its `size` is the offset of the first such byte from the
-/// start of the zeros. A write writes zeros, or returns [`Error::TooBig`] where the target is shorter, and leaves it
-/// unchanged. [`padding`] says how many bytes there are before the next multiple of a size.
+/// A read returns [`Error::TooBig`] where the source is shorter. Otherwise it returns
+/// [`Error::BadInput`] with the message `padding is not zero` where a byte isn't zero; its `size`
+/// is the offset of the first such byte from the start of the zeros. A write writes zeros, or
+/// returns [`Error::TooBig`] where the target is shorter, and leaves it unchanged. [`padding`] says
+/// how many bytes there are before the next multiple of a size.
 ///
 /// ```rust
 /// let file: &[u8] = &[7, 0, 0, 0, 0, 0, 0, 0, 9];
@@ -26,8 +28,8 @@ use crate::error::{Error, Result, check_room};
 #[derive(Clone, Copy, Debug, PartialEq, Eq)]
 pub struct Zeros;
 
-/// Returns how many bytes there are between an offset and the next multiple of `multiple`: 0 if the offset is a
-/// multiple, and 0 if `multiple` is 0.
+/// Returns how many bytes there are between an offset and the next multiple of `multiple`: 0 if the
+/// offset is a multiple, and 0 if `multiple` is 0.
 ///
 /// ```rust
 /// assert_eq!(rt; padding(62, 8), 2);
@@ -48,8 +50,9 @@ pub fn padding(offset: usize, multiple: usize) -> usize
 
 // Returns the offset of the first byte that isn't zero.
 fn first_nonzero(bytes: &[u8]) -> Option<usize>
-    ensures found { IfSome result (λ place. (place < length bytes.now)
-        × (slice_index bytes.now place ≢ 0) × ((i : ℕ) → i < place → slice_index bytes.now i ≡ 0)) }
+    ensures found { IfSome result (λ offset. (offset < length bytes.now)
+        × (slice_index bytes.now offset ≢ 0)
+        × ((i : ℕ) → i < offset → slice_index bytes.now i ≡ 0)) }
     ensures none { IfNone result ((i : ℕ) → i < length bytes.now → slice_index bytes.now i ≡ 0) }
 {
     bytes.iter().position(|byte| *byte != 0)
@@ -79,9 +82,10 @@ impl<'a> TryFromCtx<'a, usize> for Zeros {
 impl IntoCtx<usize> for Zeros {
     ghost need = { λ n. n };
 
-    ghost leaves = { λ n _ old new. new ≡ zeros n ++ drop n old };
+    ghost overwrites = { λ n _ old new. new ≡ zeros n ++ drop n old };
 
-    ghost leaves_keeps = { λ n _ old new h. drop-front n (zeros n) old new (length-replicate n 0) h };
+    ghost overwrites_keeps = { λ n _ old new h.
+        drop-prefix n (zeros n) old new (length-replicate n 0) h };
 
     fn into_ctx(self, dst: &mut [u8], ctx: usize) {
         dst[..ctx].fill(0);
@@ -91,9 +95,9 @@ impl IntoCtx<usize> for Zeros {
 impl TryIntoCtx<usize> for Zeros {
     type Error = Error;
 
-    ghost writes = { λ n _. WritesFront n (zeros n) };
+    ghost writes = { λ n _. WritesPrefix n (zeros n) };
 
-    ghost refuses = { λ n _. LeavesShort n };
+    ghost refuses = { λ n _. FailsShort n };
 
     ghost writes_bounded = { λ n x old new size h. Prim.search rules };
 

@@ -1,19 +1,18 @@
 // Laws of LEB128 encodings.
 ghost use Rattle.std.specs.Prelude.{◌≤◌, ℕ, ℤ, List, length};
 ghost use Rattle.scroll.specs.Leb128.{ReadsUleb, ReadsSleb};
-ghost use Rattle.scroll.specs.LebLaws.{ReadsSpellings, KeepsTexts};
-ghost use Rattle.scroll.specs.Spelling.{HasSpelling, HasSignedSpelling, unsigned_form};
+ghost use Rattle.scroll.specs.Encoding.{ReadsEncodings, KeepsTexts, HasEncoding, HasSignedEncoding, unsigned_form};
 
-/// A read of an unsigned number returns a value and a size exactly where the source begins with the encoding of that
-/// value in that many bytes. A value has one encoding of each length from its shortest to ten, and no encoding is a
-/// prefix of another.
-pub fn unsigned_reads_are_spellings()
-    ensures { ReadsSpellings ReadsUleb HasSpelling (λ v n. v) }
+/// A read of an unsigned number returns a value and a size exactly where the source begins with the
+/// encoding of that value in that many bytes. A value has one encoding of each length from its
+/// shortest to ten, and no encoding is a prefix of another.
+pub fn unsigned_reads_are_encodings()
+    ensures { ReadsEncodings ReadsUleb HasEncoding (λ v n. v) }
 {}
 
-/// What [`unsigned_reads_are_spellings`] says, of signed numbers.
-pub fn signed_reads_are_spellings()
-    ensures { ReadsSpellings ReadsSleb HasSignedSpelling unsigned_form }
+/// What [`unsigned_reads_are_encodings`] says, of signed numbers.
+pub fn signed_reads_are_encodings()
+    ensures { ReadsEncodings ReadsSleb HasSignedEncoding unsigned_form }
 {}
 
 /// A number in LEB128 that was read has a size of one to ten bytes, all of them in the source.
@@ -24,14 +23,14 @@ pub fn leb128_reads_have_one_to_ten_bytes()
         → (1 ≤ n) × (n ≤ 10) × (n ≤ length source) }
 {}
 
-/// Round trips: an unsigned number in LEB128 that was read is written back byte for byte. One that was written reads
-/// back with the same value and size, whatever bytes follow, and every source that reads as it begins with the bytes
-/// that were written.
+/// Round trips: an unsigned number in LEB128 that was read is written back byte for byte. One that
+/// was written reads back with the same value and size, whatever bytes follow, and every source
+/// that reads as it begins with the bytes that were written.
 pub fn unsigned_texts_are_kept()
-    ensures { KeepsTexts ReadsUleb HasSpelling (λ v n. v) }
+    ensures { KeepsTexts ReadsUleb HasEncoding (λ v n. v) }
 {}
 
 /// What [`unsigned_texts_are_kept`] says, of signed numbers.
 pub fn signed_texts_are_kept()
-    ensures { KeepsTexts ReadsSleb HasSignedSpelling unsigned_form }
+    ensures { KeepsTexts ReadsSleb HasSignedEncoding unsigned_form }
 {}

@@ -5,8 +5,7 @@ ghost use Rattle.scroll.specs.Bytes.{RefusesShort};
 ghost use Rattle.scroll.specs.CStrings.{ReadsCString, RefusesCString};
 ghost use Rattle.scroll.specs.Errors.{IsBadOffset};
 ghost use Rattle.scroll.specs.Laws.{IsLocal, IsWithin, IsReader, IsReaderWithin};
-ghost use Rattle.scroll.specs.Leb128.{ReadsUleb, ReadsSleb, ReadsCountedUleb, ReadsCountedSleb};
-ghost use Rattle.scroll.specs.LebRefusals.{RefusesUleb, RefusesSleb};
+ghost use Rattle.scroll.specs.Leb128.{ReadsUleb, ReadsSleb, ReadsCountedUleb, ReadsCountedSleb, RefusesUleb, RefusesSleb};
 ghost use Rattle.scroll.specs.Reads.{IsBounded};
 ghost use Rattle.scroll.specs.Texts.{ReadsText, RefusesText, ReadsSlice};
 ghost use Rattle.scroll.specs.Zeros.{ReadsZeros, RefusesZeros};
@@ -17,13 +16,15 @@ ghost use Rattle.scroll.specs.declared.ctx.zeros.Zeros.{Zeros};
 use crate::ctx::TryFromCtx;
 use crate::error::Error;
 
-/// A read that ends within its source returns the same value and size for every source that is at least as long and
-/// begins with the bytes that were read. Its size is at most the length of its source, or one more for a string whose
-/// delimiter is missing. A read at an offset has exactly one result, a value with its size or an error, so a read at
-/// an offset and a read with a cursor there return the same.
+/// A read that ends within its source returns the same value and size for every source that is at
+/// least as long and begins with the bytes that were read. Its size is at most the length of its
+/// source, or one more for a string whose delimiter is missing. A read at an offset has exactly one
+/// result, a value with its size or an error, so a read at an offset and a read with a cursor there
+/// return the same.
 ///
 /// [`fixed_size_is_kept`](super::fixed_size_is_kept) says this of numbers, floats and structs, and
-/// [`arrays_keep_their_laws`] of arrays; those of values that borrow are here, which are compared by their bytes.
+/// [`arrays_keep_their_laws`] of arrays; those of values that borrow are here, which are compared
+/// by their bytes.
 pub fn reads_keep_their_laws()
     ensures slice { (n : ℕ) → IsReaderWithin (ReadsSlice n) (RefusesShort n) }
     ensures text { (ctx : StrCtx) → IsReader (ReadsText ctx) (RefusesText ctx) }
@@ -43,8 +44,8 @@ pub fn reads_keep_their_laws()
         (RefusesNested ReadsCString RefusesCString IsBadOffset counts) }
 {}
 
-/// Arrays of any type whose error is [`Error`] keep the laws that the type keeps, nested to any depth: `counts` has the
-/// lengths, from the outermost.
+/// Arrays of any type whose error is [`Error`] keep the laws that the type keeps, nested to any
+/// depth: `counts` has the lengths, from the outermost.
 pub fn arrays_keep_their_laws<'a, Ctx: Copy, T: TryFromCtx<'a, Ctx, Error = Error>>()
     ensures { (ctx : Ctx) (counts : List ℕ) → IsReader (T.reads ctx) (T.refuses ctx)
         → IsReader (ReadsNested (T.reads ctx) counts)

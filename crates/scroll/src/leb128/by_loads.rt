@@ -1,17 +1,15 @@
 // LEB128 by counted loads, the first of which takes eight bytes at once.
-ghost use Rattle.std.specs.Prelude.{◌≡◌, ◌-◌, ◌<◌, ◌≤◌, ◌^◌, length, take, IfOk, IfErr};
-ghost use Rattle.scroll.specs.Leb128.{end_of, ReadsUleb, ReadsSleb};
-ghost use Rattle.scroll.specs.LebGroups.{HasGroups};
-ghost use Rattle.scroll.specs.LebRefusals.{RefusesUleb, RefusesSleb, RefusesCut};
-ghost use Rattle.scroll.specs.Loads.{Loaded, most_loads};
+ghost use Rattle.std.specs.Prelude.{◌≡◌, ◌-◌, ◌<◌, ◌≤◌, ◌^◌, length, take, IfOk, IfErr, IfSome, IfNone};
+ghost use Rattle.scroll.specs.Leb128.{end_of, IsTruncated, ReadsUleb, ReadsSleb, HasGroups, RefusesUleb, RefusesSleb};
+ghost use Rattle.scroll.specs.Reads.{Loaded, max_loads};
 
 use super::TRUNCATED;
 use super::block::{block_groups, sleb_block, uleb_block};
-use super::groups::{Groups, signed, unsigned};
+use super::groups::{Groups, signed, unfit, unsigned};
 use crate::error::Result;
 use crate::loads::Loads;
 
-/// Reads the unsigned number at the front of a source, and returns its value and its size in bytes. It makes at most
+/// Reads the unsigned number at the start of a source, and returns its value and its size in bytes. It makes at most
 /// three loads or, if the source has fewer than eight bytes, at most one for each byte. The caller ensures that fewer than
 /// 2^62 loads were made before.
 ///
@@ -21,11 +19,16 @@ pub fn uleb_loads(src: &mut Loads<'_>) -> Result<(u64, usize)>
     requires { src.old.made < 2 ^ 62 }
     ensures read { IfOk result (λ read. ReadsUleb src.old.bytes read.0 read.1) }
     ensures refused { IfErr result (RefusesUleb src.old.bytes) }
-    ensures loads { Loaded src.old src.new (most_loads src.old.bytes) }
+    ensures loads { Loaded src.old src.new (max_loads src.old.bytes) }
 {
     if src.len() < 8 {
-        let groups = short_groups(src)?;
-        return unsigned(groups, src.len());
+        let Some(groups) = short_groups(src) else {
+            return Err(TRUNCATED);
+        };
+        let Some(read) = unsigned(groups) else {
+            return Err(unfit(src.len()));
+        };
+        return Ok(read);
     }
     let Some(block) = src.word() else {
         unreachable!()
@@ -33,11 +36,16 @@ pub fn uleb_loads(src: &mut Loads<'_>) -> Result<(u64, usize)>
     if let Some(read) = uleb_block(block) {
         return Ok(read);
     }
-    let groups = long_groups(src, block)?;
-    unsigned(groups, src.len())
+    let Some(groups) = long_groups(src, block) else {
+        return Err(TRUNCATED);
+    };
+    let Some(read) = unsigned(groups) else {
+        return Err(unfit(src.len()));
+    };
+    Ok(read)
 }
 
-/// Reads the signed number at the front of a source, and returns its value and its size in bytes. It makes at most
+/// Reads the signed number at the start of a source, and returns its value and its size in bytes. It makes at most
 /// three loads or, if the source has fewer than eight bytes, at most one for each byte. The caller ensures that fewer than
 /// 2^62 loads were made before.
 ///
@@ -47,11 +55,16 @@ pub fn sleb_loads(src: &mut Loads<'_>) -> Result<(i64, usize)>
     requires { src.old.made < 2 ^ 62 }
     ensures read { IfOk result (λ read. ReadsSleb src.old.bytes read.0 read.1) }
     ensures refused { IfErr result (RefusesSleb src.old.bytes) }
-    ensures loads { Loaded src.old src.new (most_loads src.old.bytes) }
+    ensures loads { Loaded src.old src.new (max_loads src.old.bytes) }
 {
     if src.len() < 8 {
-        let groups = short_groups(src)?;
-        return signed(groups, src.len());
+        let Some(groups) = short_groups(src) else {
+            return Err(TRUNCATED);
+        };
+        let Some(read) = signed(groups) else {
+            return Err(unfit(src.len()));
+        };
+        return Ok(read);
     }
     let Some(block) = src.word() else {
         unreachable!()
@@ -59,56 +72,61 @@ pub fn sleb_loads(src: &mut Loads<'_>) -> Result<(i64, usize)>
     if let Some(read) = sleb_block(block) {
         return Ok(read);
     }
-    let groups = long_groups(src, block)?;
-    signed(groups, src.len())
+    let Some(groups) = long_groups(src, block) else {
+        return Err(TRUNCATED);
+    };
+    let Some(read) = signed(groups) else {
+        return Err(unfit(src.len()));
+    };
+    Ok(read)
 }
 
 // Reads the groups of a source whose first eight bytes, `block`, don't end the encoding.
 #[inline(always)]
-fn long_groups(src: &mut Loads<'_>, block: [u8; 8]) -> Result<Groups>
+fn long_groups(src: &mut Loads<'_>, block: [u8; 8]) -> Option<Groups>
     requires few { src.old.made < 2 ^ 63 - 2 }
     requires first { (8 ≤ length src.old.bytes) × (block ≡ take 8 src.old.bytes) }
     requires open { 8 ≤ end_of block }
-    ensures read { IfOk result (HasGroups src.old.bytes) }
-    ensures refused { IfErr result (RefusesCut src.old.bytes) }
+    ensures read { IfSome result (HasGroups src.old.bytes) }
+    ensures truncated { IfNone result (IsTruncated src.old.bytes) }
     ensures loads { Loaded src.old src.new 2 }
 {
     let low = block_groups(block);
     let Some(ninth) = src.byte(8) else {
-        return Err(TRUNCATED);
+        return None;
     };
     let groups = low | u64::from(ninth & 0x7f) << 56;
     if ninth < 0x80 {
-        return Ok(Groups::UpToNine(groups, 9));
+        return Some(Groups::UpToNine(groups, 9));
     }
     match src.byte(9) {
-        Some(tenth) => Ok(Groups::Ten(groups, tenth)),
-        None => Err(TRUNCATED),
+        Some(tenth) => Some(Groups::Ten(groups, tenth)),
+        None => None,
     }
 }
 
 // Reads the groups of a source of fewer than eight bytes, byte by byte.
 #[inline(always)]
-fn short_groups(src: &mut Loads<'_>) -> Result<Groups>
+fn short_groups(src: &mut Loads<'_>) -> Option<Groups>
     requires few { src.old.made < 2 ^ 62 }
     requires short { length src.old.bytes < 8 }
-    ensures read { IfOk result (HasGroups src.old.bytes) }
-    ensures refused { IfErr result (RefusesCut src.old.bytes) }
+    ensures read { IfSome result (HasGroups src.old.bytes) }
+    ensures truncated { IfNone result (IsTruncated src.old.bytes) }
     ensures loads { Loaded src.old src.new (length src.old.bytes) }
 {
     let mut groups: u64 = 0;
     // The number of rounds is constant, so the loop can be unrolled: then a caller's source need not be in memory.
     for i in 0..7 {
         if i == src.len() {
-            return Err(TRUNCATED);
+            return None;
         }
         let Some(byte) = src.byte(i) else {
             unreachable!()
         };
         groups |= u64::from(byte & 0x7f) << (7 * i);
         if byte < 0x80 {
-            return Ok(Groups::UpToNine(groups, i + 1));
+            return Some(Groups::UpToNine(groups, i + 1));
         }
     }
-    Err(TRUNCATED)
+    None
 }

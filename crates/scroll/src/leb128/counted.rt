@@ -3,12 +3,10 @@ ghost use Rattle.std.specs.Prelude.{◌≡◌, ◌<◌, ◌^◌, ⊤, ℕ, List,
 ghost use Rattle.std.proofs.Common.{rules};
 ghost use Rattle.scroll.specs.Reads.{ReadsBetween, RefusesAt};
 ghost use Rattle.scroll.specs.Errors.{IsBadOffset};
-ghost use Rattle.scroll.specs.Leb128.{Counted, ReadsLeb, ReadsCounted};
-ghost use Rattle.scroll.specs.LebRefusals.{RefusesLeb};
-ghost use Rattle.scroll.specs.Bytes.{LeavesShort, WritesFront};
-ghost use Rattle.scroll.specs.LebWrites.{IsLeast, WritesLeb};
-ghost use Rattle.scroll.specs.Spelling.{spelling};
-ghost use Rattle.scroll.specs.lemmas.Frames.{drop-written, length-spelling};
+ghost use Rattle.scroll.specs.Leb128.{Counted, ReadsLeb, ReadsCounted, RefusesLeb};
+ghost use Rattle.scroll.specs.Bytes.{FailsShort, WritesPrefix};
+ghost use Rattle.scroll.specs.Encoding.{IsLeast, WritesLeb, encoding};
+ghost use Rattle.scroll.specs.lemmas.Frames.{drop-written, length-encoding};
 
 use crate::ctx::{TryFromCtx, TryIntoCtx};
 use crate::error::{Error, Result};
@@ -34,7 +32,7 @@ pub trait LebNumber: Copy {
     /// Returns the name of the type of such numbers.
     fn name() -> &'static str;
 
-    /// Reads the number at the front of a source, and returns its value and its size in bytes.
+    /// Reads the number at the start of a source, and returns its value and its size in bytes.
     fn read(src: &mut Loads<'_>) -> Result<(Self, usize)>
         requires { src.old.made < 2 ^ 62 }
         ensures read { IfOk result (λ read. ReadsLeb value_of fits src.old.bytes read.0 read.1) }
@@ -45,13 +43,13 @@ pub trait LebNumber: Copy {
     fn shortest(self) -> usize
         ensures { IsLeast (has self) result };
 
-    /// Writes the encoding of `count` bytes to the front of a target, and returns `count`. A shorter target returns
+    /// Writes the encoding of `count` bytes to the start of a target, and returns `count`. A shorter target returns
     /// `TooBig`, and is unchanged.
     fn put(self, dst: &mut [u8], count: usize) -> Result<usize>
         requires spelled { has self count }
         ensures wrote { IfOk result
-            (WritesFront count (spelling (form self count) count) dst.old dst.new) }
-        ensures refused { IfErr result (LeavesShort count dst.old dst.new) }
+            (WritesPrefix count (encoding (form self count) count) dst.old dst.new) }
+        ensures refused { IfErr result (FailsShort count dst.old dst.new) }
         ensures reads { OnOk result (ReadsLeb value_of fits dst.new self count) }
         ensures begins { OnOk result ((source : List ℕ) → All (λ b. b < 256) source
             → ReadsLeb value_of fits source self count → take count source ≡ take count dst.new) };
@@ -145,7 +143,7 @@ impl<V: LebNumber> Leb128<V> {
             (RefusesAt (RefusesLeb V.value_of V.fits) IsBadOffset bytes.now offset.old) }
         ensures stays { OnErr result (offset.new ≡ offset.old) }
     {
-        let number: Leb128<V> = bytes.gread(offset)?;
+        let number: Leb128<V> = bytes.gread_with(offset, ())?;
         Ok(number.value)
     }
 }
@@ -181,11 +179,11 @@ impl<V: LebNumber> TryIntoCtx<()> for Leb128<V> {
 
     ghost writes = { λ _. WritesLeb V.form };
 
-    ghost refuses = { λ _ x. LeavesShort x.count };
+    ghost refuses = { λ _ x. FailsShort x.count };
 
     ghost writes_bounded = { λ _ x old new n h. Prim.search rules };
 
-    ghost writes_keeps = { λ _ x old new n h. drop-written (length-spelling _ x.count) h };
+    ghost writes_keeps = { λ _ x old new n h. drop-written (length-encoding _ x.count) h };
 
     /// Writes the encoding of the number that has [`size`](Leb128::size) bytes, and returns that size.
     ///
@@ -195,7 +193,7 @@ impl<V: LebNumber> TryIntoCtx<()> for Leb128<V> {
     #[inline(always)]
     fn try_into_ctx(self, dst: &mut [u8], _ctx: ()) -> Result<usize>
         ensures wrote { IfOk result (WritesLeb V.form self dst.old dst.new) }
-        ensures refused { IfErr result (LeavesShort self.count dst.old dst.new) }
+        ensures refused { IfErr result (FailsShort self.count dst.old dst.new) }
         ensures reads { OnOk result (ReadsLeb V.value_of V.fits dst.new self.value self.count) }
         ensures begins { OnOk result ((source : List ℕ) → All (λ b. b < 256) source
             → ReadsLeb V.value_of V.fits source self.value self.count

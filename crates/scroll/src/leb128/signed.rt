@@ -5,24 +5,27 @@ ghost use Rattle.std.specs.Int.{w64};
 ghost use Rattle.std.specs.Ordering.{int_eq};
 ghost use Rattle.std.specs.Cmp.Rules.{comparing};
 ghost use Rattle.scroll.specs.Leb128.{counted_eq, signed_of};
-ghost use Rattle.scroll.specs.Spelling.{HasSignedSpelling, unsigned_form};
+ghost use Rattle.scroll.specs.Encoding.{HasSignedEncoding, unsigned_form};
 
 use super::counted::{Leb128, LebNumber};
 use super::sleb_loads;
-use super::write::{put_groups, shortest_count, turned};
+use super::write::{put_groups, shortest_count, to_magnitude};
 use crate::error::Result;
 use crate::loads::Loads;
 
-/// A signed number in LEB128, with the length of its encoding in bytes. [`Leb128`] says how it is read and written.
+/// A signed number in LEB128, with the length of its encoding in bytes. [`Leb128`] says how it is
+/// read and written.
 ///
-/// The groups of the encoding are in two's complement: the value is negative if the second highest bit of the last byte
-/// is set.
+/// The groups of the encoding are in two's complement: the value is negative if the second highest
+/// bit of the last byte is set.
 ///
 /// ```rust
 /// let bytes: [u8; 3] = [0xff, 0x7e, 0x00];
 /// let number: Sleb128 = bytes[..].pread(0)?;
 /// assert_eq!(rt; i64::from(number), -129);
 /// assert_eq!(rt; number.size(), 2);
+/// let bytes: [u8; 3] = [0x80, 0x80, 0x40];
+/// assert_eq!(rt; i64::from(bytes[..].pread::<Sleb128>(0)?), -1048576);
 /// ```
 pub type Sleb128 = Leb128<i64>;
 
@@ -31,7 +34,7 @@ impl LebNumber for i64 {
 
     ghost fits = { FitsSigned w64 };
 
-    ghost has = { HasSignedSpelling };
+    ghost has = { HasSignedEncoding };
 
     ghost form = { unsigned_form };
 
@@ -47,7 +50,7 @@ impl LebNumber for i64 {
 
     #[inline(always)]
     fn shortest(self) -> usize {
-        shortest_count(turned(self) << 1)
+        shortest_count(to_magnitude(self) << 1)
     }
 
     #[inline(always)]

@@ -3,7 +3,7 @@ ghost use Rattle.std.specs.Prelude.{◌≡◌, ◌↔◌, ◌==◌, ◌<◌, ◌
 ghost use Rattle.std.proofs.Common.{rules};
 ghost use Rattle.std.specs.Cmp.Rules.{comparing};
 ghost use Rattle.scroll.specs.Leb128.{counted_eq, unsigned_of};
-ghost use Rattle.scroll.specs.Spelling.{HasSpelling};
+ghost use Rattle.scroll.specs.Encoding.{HasEncoding};
 
 use super::counted::{Leb128, LebNumber};
 use super::uleb_loads;
@@ -11,13 +11,23 @@ use super::write::{put_groups, shortest_count};
 use crate::error::Result;
 use crate::loads::Loads;
 
-/// An unsigned number in LEB128, with the length of its encoding in bytes. [`Leb128`] says how it is read and written.
+/// An unsigned number in LEB128, with the length of its encoding in bytes. [`Leb128`] says how it
+/// is read and written.
 ///
 /// ```rust
 /// let bytes: [u8; 3] = [0x82, 0x01, 0xff];
 /// let number: Uleb128 = bytes[..].pread(0)?;
 /// assert_eq!(rt; u64::from(number), 130);
 /// assert_eq!(rt; number.size(), 2);
+///
+/// let zero: &[u8] = &[0x80, 0x00];
+/// let padded: Uleb128 = zero.pread(0)?;
+/// assert!(rt; padded != Uleb128::shortest(0));
+/// let truncated: &[u8] = &[0xff, 0x82];
+/// assert!(rt; matches!(truncated.pread::<Uleb128>(0), Err(Error::TooBig { size: 1, len: 0 })));
+/// let long = [0x80u8; 11];
+/// let failed = long[..].pread::<Uleb128>(0);
+/// assert!(rt; matches!(failed, Err(Error::BadInput { size: 11, msg: "failed to parse" })));
 /// ```
 pub type Uleb128 = Leb128<u64>;
 
@@ -26,7 +36,7 @@ impl LebNumber for u64 {
 
     ghost fits = { λ v. v < 2 ^ 64 };
 
-    ghost has = { HasSpelling };
+    ghost has = { HasEncoding };
 
     ghost form = { λ v n. v };
 

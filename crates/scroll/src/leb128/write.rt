@@ -1,8 +1,7 @@
 // Writes of LEB128 encodings.
 ghost use Rattle.std.specs.Prelude.{◌≡◌, ℕ, ◌+◌, ◌-◌, ◌*◌, ◌/◌, ◌%◌, ◌^◌, ◌<◌, ◌≤◌, ◌++◌, length, drop, slice_index, IfOk, IfErr};
-ghost use Rattle.scroll.specs.Bytes.{sum_below, WritesFront, LeavesShort};
-ghost use Rattle.scroll.specs.Spelling.{spelling, spelled_byte, HoldsGroups};
-ghost use Rattle.scroll.specs.LebWrites.{ten_groups, turned_round, IsLeast};
+ghost use Rattle.scroll.specs.Bytes.{sum_below, WritesPrefix, FailsShort};
+ghost use Rattle.scroll.specs.Encoding.{encoding, encoded_byte, HoldsGroups, ten_groups, magnitude_bits, IsLeast};
 
 use crate::error::{Result, check_room};
 
@@ -15,24 +14,24 @@ pub(crate) fn shortest_count(value: u64) -> usize
     if value < 0x80 {
         1
     } else {
-        count_by_place(value)
+        count_by_top_bit(value)
     }
 }
 
-// The same, from the position of the highest digit.
+// Returns the shortest count of a value of 128 or more, from the position of its highest digit.
 #[inline(always)]
-fn count_by_place(value: u64) -> usize
+fn count_by_top_bit(value: u64) -> usize
     ensures { IsLeast (HoldsGroups value) result }
 {
-    // The position of the highest set bit. Seven positions make a group: for positions up to 63 this is place / 7 + 1.
-    let place = 63 - (value | 1).leading_zeros() as usize;
-    (place * 9 + 73) / 64
+    // The position of the highest set bit. Seven positions make a group: for positions up to 63 this is index / 7 + 1.
+    let index = 63 - (value | 1).leading_zeros() as usize;
+    (index * 9 + 73) / 64
 }
 
 // Returns the bits of a number, inverted if it is negative. A signed number takes as many groups as twice the result.
 #[inline(always)]
-pub(crate) fn turned(value: i64) -> u64
-    ensures { result ≡ turned_round value }
+pub(crate) fn to_magnitude(value: i64) -> u64
+    ensures { result ≡ magnitude_bits value }
 {
     if value < 0 {
         (!value).cast_unsigned()
@@ -41,16 +40,16 @@ pub(crate) fn turned(value: i64) -> u64
     }
 }
 
-// Writes an encoding of `count` groups to the front of a target, and returns `count`. The first nine groups are those
+// Writes an encoding of `count` groups to the start of a target, and returns `count`. The first nine groups are those
 // of `low`, and the tenth is `tenth`. A shorter target returns `TooBig`, and is unchanged.
 #[inline(always)]
 pub(crate) fn put_groups(dst: &mut [u8], low: u64, tenth: u8, count: usize) -> Result<usize>
     requires group { tenth < 128 }
     requires some { 1 ≤ count }
     requires few { count ≤ 10 }
-    ensures wrote { IfOk result (WritesFront count
-        (spelling (ten_groups low tenth % 128 ^ count) count) dst.old dst.new) }
-    ensures refused { IfErr result (LeavesShort count dst.old dst.new) }
+    ensures wrote { IfOk result (WritesPrefix count
+        (encoding (ten_groups low tenth % 128 ^ count) count) dst.old dst.new) }
+    ensures refused { IfErr result (FailsShort count dst.old dst.new) }
 {
     // This comes before the check for room, so that the jump that found a count of one leads here.
     if count == 1 {
@@ -74,7 +73,7 @@ pub(crate) fn put_groups(dst: &mut [u8], low: u64, tenth: u8, count: usize) -> R
 fn put_one(dst: &mut [u8], low: u64, tenth: u8)
     requires group { tenth < 128 }
     requires room { 1 ≤ length dst.old }
-    ensures { dst.new ≡ spelling (ten_groups low tenth % 128 ^ 1) 1 ++ drop 1 dst.old }
+    ensures { dst.new ≡ encoding (ten_groups low tenth % 128 ^ 1) 1 ++ drop 1 dst.old }
 {
     dst[0] = byte_of(low, tenth, 1, 0);
 }
@@ -87,7 +86,7 @@ fn put_short(dst: &mut [u8], low: u64, tenth: u8, count: usize)
     requires some { 2 ≤ count }
     requires few { count ≤ 3 }
     requires room { count ≤ length dst.old }
-    ensures { dst.new ≡ spelling (ten_groups low tenth % 128 ^ count) count ++ drop count dst.old }
+    ensures { dst.new ≡ encoding (ten_groups low tenth % 128 ^ count) count ++ drop count dst.old }
 {
     let last = last_of_short(low, tenth, count);
     dst[0] = byte_of(low, tenth, 3, 0);
@@ -101,7 +100,7 @@ fn last_of_short(low: u64, tenth: u8, count: usize) -> u8
     requires group { tenth < 128 }
     requires some { 2 ≤ count }
     requires few { count ≤ 3 }
-    ensures { result ≡ spelled_byte (ten_groups low tenth % 128 ^ count) count (count - 1) }
+    ensures { result ≡ encoded_byte (ten_groups low tenth % 128 ^ count) count (count - 1) }
 {
     if count == 2 {
         byte_of(low, tenth, 2, 1)
@@ -116,7 +115,7 @@ fn put_words(dst: &mut [u8], low: u64, tenth: u8, count: usize)
     requires some { 4 ≤ count }
     requires few { count ≤ 8 }
     requires room { count ≤ length dst.old }
-    ensures { dst.new ≡ spelling (ten_groups low tenth % 128 ^ count) count ++ drop count dst.old }
+    ensures { dst.new ≡ encoding (ten_groups low tenth % 128 ^ count) count ++ drop count dst.old }
 {
     let last = count - 4;
     put_four(dst, 0, open_groups(low));
@@ -130,7 +129,7 @@ fn put_long(dst: &mut [u8], low: u64, tenth: u8, count: usize)
     requires some { 9 ≤ count }
     requires few { count ≤ 10 }
     requires room { count ≤ length dst.old }
-    ensures { dst.new ≡ spelling (ten_groups low tenth % 128 ^ count) count ++ drop count dst.old }
+    ensures { dst.new ≡ encoding (ten_groups low tenth % 128 ^ count) count ++ drop count dst.old }
 {
     put_four(dst, 0, open_groups(low));
     put_four(dst, 4, open_groups(low >> 28));
@@ -162,6 +161,7 @@ fn fill_four(dst: &mut [u8], bytes: [u8; 4])
 
 // Returns the lowest four groups, each with the bit that says that more groups follow.
 #[inline(always)]
+#[tactic(auto, using(crate::proofs::lemmas::LebWriteLemmas::open_bytes))]
 fn open_groups(low: u64) -> [u8; 4]
     ensures { (k : ℕ) → k < 4 → slice_index result k ≡ 128 + low / 128 ^ k % 128 }
 {
@@ -170,6 +170,7 @@ fn open_groups(low: u64) -> [u8; 4]
 
 // Returns the lowest four groups, the last of which ends the encoding.
 #[inline(always)]
+#[tactic(auto, using(crate::proofs::lemmas::LebWriteLemmas::last_bytes))]
 fn last_groups(low: u64) -> [u8; 4]
     ensures open { (k : ℕ) → k < 3 → slice_index result k ≡ 128 + low / 128 ^ k % 128 }
     ensures last { slice_index result 3 ≡ low / 128 ^ 3 % 128 }
@@ -179,6 +180,7 @@ fn last_groups(low: u64) -> [u8; 4]
 
 // Returns the lowest four groups, one per byte.
 #[inline(always)]
+#[tactic(auto, using(crate::proofs::lemmas::LebWriteLemmas::spread_word))]
 fn spread(low: u64) -> u32
     ensures { result ≡ sum_below (λ i. low / 128 ^ i % 128 * 256 ^ i) 4 }
 {
@@ -193,7 +195,7 @@ fn byte_of(low: u64, tenth: u8, count: usize, i: usize) -> u8
     requires group { tenth < 128 }
     requires within { i < count }
     requires few { count ≤ 10 }
-    ensures { result ≡ spelled_byte (ten_groups low tenth % 128 ^ count) count i }
+    ensures { result ≡ encoded_byte (ten_groups low tenth % 128 ^ count) count i }
 {
     let group = if i < 9 {
         (low >> (7 * i) & 0x7f) as u8

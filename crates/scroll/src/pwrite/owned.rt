@@ -1,5 +1,5 @@
 // Writes to arrays and vectors, which are those to their slices.
-ghost use Rattle.std.specs.Prelude.{⊤};
+ghost use Rattle.std.specs.Prelude.{◌≡◌, ⊤, vec_capacity};
 ghost use Rattle.scroll.specs.Errors.{PastEnd};
 
 use super::Pwrite;
@@ -11,7 +11,8 @@ use std::result::Result;
 impl<Ctx: Copy, E: From<Error>> Pwrite<Ctx, E> for Vec<u8> {
     ghost target = { λ t. t.items };
 
-    ghost same_target = { λ _ _. ⊤ };
+    // The capacity is unchanged.
+    ghost same_target = { λ old new. vec_capacity new ≡ vec_capacity old };
 
     ghost past_end = { PastEnd E.from_gives };
 

@@ -18,7 +18,8 @@ use crate::source::ReadFrom;
 use std::alloc::Global;
 use std::result;
 
-// Runs a read. A read at the cursor advances it by the size of the value, once the answer has been made.
+// Runs a read. A read at the cursor advances it by the size of the value, once the answer has been
+// made.
 pub(crate) fn read(
     alloc: Global,
     buffer: &[u8],
@@ -43,8 +44,8 @@ pub(crate) fn read(
     }
 }
 
-// Reads a value of a kind, and copies what would borrow the buffer. Returns `NoMemory` on an allocation failure, and
-// only then.
+// Reads a value of a kind, and copies what would borrow the buffer. Returns `NoMemory` on an
+// allocation failure, and only then.
 fn read_value(
     alloc: Global,
     buffer: &[u8],
@@ -111,7 +112,8 @@ fn read_number(
     }
 }
 
-// Reads an array of two strings, and takes it apart, since a `match` can't bind an array of references.
+// Reads an array of two strings, and takes it apart, since a `match` can't bind an array of
+// references.
 fn read_texts<'b>(
     buffer: &'b [u8],
     cursor: &mut usize,

@@ -1,8 +1,7 @@
 // The writes of a run.
 ghost use Rattle.std.specs.Prelude.{◌≡◌, [], ◌∷◌, ℕ, ◌+◌, length, IfOk, OnOk, OnErr, MatchResult};
-ghost use Rattle.scroll.specs.History.{seen};
-ghost use Rattle.scroll.specs.Leaves.{pieces, WritesLeaves};
-ghost use Rattle.scroll.specs.Runs.{WriteStep, leaf_of, leaves_of, place_of, moved};
+ghost use Rattle.scroll.specs.History.{seen, pieces, WritesLeaves};
+ghost use Rattle.scroll.specs.Runs.{WriteStep, leaf_of, leaves_of, offset_of, moved};
 ghost use Rattle.scroll.specs.Writes.{AnswersWrite};
 ghost use Rattle.scroll.specs.declared.error.Error.TheVariants.{BadOffset};
 
@@ -16,7 +15,7 @@ use crate::slice;
 pub(crate) fn write(buffer: &mut [u8], cursor: &mut usize, place: Place, put: &Put<'_>) -> Answer
     ensures answer { WriteStep buffer.old cursor.old place (leaves_of put.now) result cursor.new }
     ensures after { buffer.new ≡ seen buffer.old
-        (pieces (length buffer.old) (place_of place cursor.old) (leaves_of put.now)) }
+        (pieces (length buffer.old) (offset_of place cursor.old) (leaves_of put.now)) }
 {
     match write_value(buffer, cursor, place, put) {
         Ok(size) => Answer::Wrote(size),
@@ -25,7 +24,7 @@ pub(crate) fn write(buffer: &mut [u8], cursor: &mut usize, place: Place, put: &P
 }
 
 fn write_value(buffer: &mut [u8], cursor: &mut usize, place: Place, put: &Put<'_>) -> Result<usize>
-    ensures wrote { WritesLeaves buffer.old (place_of place cursor.old)
+    ensures wrote { WritesLeaves buffer.old (offset_of place cursor.old)
         (leaves_of put.now) buffer.new result }
     ensures moves { IfOk result (λ n. cursor.new ≡ moved place cursor.old n) }
     ensures stays { OnErr result (cursor.new ≡ cursor.old) }
@@ -49,7 +48,7 @@ fn write_number(
     number: Number,
     order: Endian,
 ) -> Result<usize>
-    ensures wrote { WritesLeaves buffer.old (place_of place cursor.old)
+    ensures wrote { WritesLeaves buffer.old (offset_of place cursor.old)
         (leaf_of order number ∷ []) buffer.new result }
     ensures moves { IfOk result (λ n. cursor.new ≡ moved place cursor.old n) }
     ensures stays { OnErr result (cursor.new ≡ cursor.old) }
@@ -77,7 +76,7 @@ fn write_at<Ctx: Copy, N: TryIntoCtx<Ctx, Error = Error> + Drop>(
     ctx: Ctx,
 ) -> Result<usize>
     ensures wrote { AnswersWrite (N.writes ctx n) (N.refuses ctx n) (λ o e.
-        e ≡ BadOffset o) buffer.old (place_of place cursor.old) buffer.new result }
+        e ≡ BadOffset o) buffer.old (offset_of place cursor.old) buffer.new result }
     ensures moves { IfOk result (λ size. cursor.new ≡ moved place cursor.old size) }
     ensures stays { OnErr result (cursor.new ≡ cursor.old) }
 {

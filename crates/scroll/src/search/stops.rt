@@ -13,7 +13,8 @@ pub(crate) trait Stops: Copy {
 
 /// The stops in a block of N bytes, which are compared at once.
 pub(crate) trait StopsIn<const N: usize>: Stops {
-    /// Returns which bytes of a block are stops: bit `i` is set where the byte at offset `i` is one.
+    /// Returns which bytes of a block are stops: bit `i` is set where the byte at offset `i` is
+    /// one.
     fn marks(self, block: &[u8; N]) -> u64
         requires { N ≤ 64 }
         ensures { result ≡ mask_l (map (Self.stops self) block.now) };

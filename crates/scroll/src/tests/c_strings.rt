@@ -1,6 +1,6 @@
-// C strings. Each test also passes where an allocation fails (`rt try --test --fail-alloc N`): the call that allocates
-// then returns `NoMemory`, and nothing else changes. So what allocates is called twice: whichever allocation fails, one
-// of the two calls must succeed.
+// C strings, and those of std, read and written, and converted from those of the crate. Each test also passes where an
+// allocation fails (`rt try --test --fail-alloc N`): the call that allocates then returns `NoMemory`, and nothing else
+// changes. So what allocates is called twice: whichever allocation fails, one of the two calls must succeed.
 use crate::cstr::{CStr, CString};
 use crate::ctx::{TryFromCtx, TryIntoCtx};
 use crate::tests::reads::check_read;
@@ -59,7 +59,7 @@ pub fn read_copy<'a, T: TryFromCtx<'a, &'a Global, Error = Error> + Drop>(
     first.or(second).expect(rt, "no memory twice")
 }
 
-// Returns the C string at the front of these bytes.
+// Returns the C string at the start of these bytes.
 pub fn borrow<'a>(rt: &impl Abort, bytes: &'a [u8]) -> CStr<'a> {
     CStr::from_bytes_until_nul(bytes).expect(rt, "no zero")
 }
@@ -127,8 +127,8 @@ const HELD: [(&[u8], &[u8]); 4] = [
 fn texts_that_are_held(rt: HostRuntime) {
     let rt = &rt;
     let alloc = rt.alloc();
-    for &(text, place) in &REFUSED {
-        check_bad_input(rt, CString::new(alloc, text), place, "nul byte in text");
+    for &(text, offset) in &REFUSED {
+        check_bad_input(rt, CString::new(alloc, text), offset, "nul byte in text");
     }
     for &(text, wanted) in &HELD {
         check_held(rt, alloc, text, wanted);
@@ -151,7 +151,7 @@ fn texts_of_each_length(rt: HostRuntime) {
     }
 }
 
-// Checks whether the C strings at the front of these bytes are equal.
+// Checks whether the C strings at the start of these bytes are equal.
 fn check_same(rt: &impl Abort, bytes: &[u8], other: &[u8], wanted: bool) {
     let same = borrow(rt, bytes) == borrow(rt, other);
     check_eq(rt, (bytes, same), (bytes, wanted));
@@ -212,4 +212,39 @@ fn writes(rt: HostRuntime) {
     check_value(rt, target.pwrite(make(rt, alloc, b"ab"), 1), 3);
     check_too_big(rt, target.pwrite(make(rt, alloc, b"a"), 3), 2, 1);
     check_eq(rt, bytes, *b"aab\0");
+}
+
+const BYTES: &[u8] = b"on\0off\0";
+
+const CUT: &[u8] = b"on";
+
+#[test]
+fn borrowed(rt: HostRuntime) {
+    let rt = &rt;
+    let text = ffi::CStr::from(borrow(rt, b"off\0"));
+    check_eq(rt, text.to_bytes(), b"off");
+    check_eq(rt, CStr::from(text).to_bytes_with_nul(), b"off\0");
+    check_read(rt, BYTES, 3, (), text, 7);
+    check_bad_input(rt, CUT.pread::<ffi::CStr>(0), 0, NO_ZERO);
+    let mut target = [7u8; 5];
+    let mut slice: &mut [u8] = &mut target;
+    check_value(rt, slice.pwrite_with(text, 1, ()), 4);
+    check_eq(rt, target, *b"\x07off\0");
+    check_too_big(rt, text.try_into_ctx(&mut target[..3], ()), 4, 3);
+}
+
+#[test]
+fn owned(rt: HostRuntime) {
+    let rt = &rt;
+    let alloc = &rt.alloc();
+    let cut = CUT.pread_with::<ffi::CString>(0, alloc);
+    check_bad_input(rt, cut, 0, NO_ZERO);
+    let read: ffi::CString = read_copy(rt, alloc, BYTES, 0, 3);
+    check_eq(rt, read.as_bytes(), b"on");
+    let string = CString::from(read);
+    check_eq(rt, string.as_bytes_with_nul(), b"on\0");
+    let mut target = [7u8; 5];
+    let back = ffi::CString::from(string);
+    check_value(rt, back.try_into_ctx(&mut target, ()), 3);
+    check_eq(rt, target, *b"on\0\x07\x07");
 }

@@ -1,8 +1,8 @@
-// Values are dropped where a call fails: those of an array, those to be written, and those that a bulk read replaces.
-// No clause speaks of dropped values.
+// Values are dropped where a call fails: those of an array, those to be written, and those that a
+// bulk read replaces. No clause speaks of dropped values.
 ghost use Rattle.std.specs.Prelude.{◌≡◌, ◌≤◌, length};
 ghost use Rattle.std.proofs.Common.{rules};
-ghost use Rattle.scroll.specs.Bytes.{RefusesShort, LeavesShort};
+ghost use Rattle.scroll.specs.Bytes.{RefusesShort, FailsShort};
 ghost use Rattle.scroll.specs.lemmas.Frames.{drop-written, length-number_bytes};
 ghost use Rattle.scroll.specs.Numbers.{WritesNumber};
 ghost use Rattle.scroll.specs.declared.endian.Endian.TheVariants.{Little};
@@ -45,7 +45,7 @@ impl<'c> TryIntoCtx<()> for Counted<'c> {
 
     ghost writes = { λ _ x. WritesNumber 1 Little x.byte };
 
-    ghost refuses = { λ _ _. LeavesShort 1 };
+    ghost refuses = { λ _ _. FailsShort 1 };
 
     ghost writes_bounded = { λ _ x old new n h. Prim.search rules };
 

@@ -1,5 +1,5 @@
-// Floats: the values of the Rust crate's tests, and the bytes that it reads and writes for zeros, subnormals, infinities
-// and NaNs.
+// Floats: the values of the Rust crate's tests, and the bytes that it reads and writes for zeros,
+// subnormals, infinities and NaNs.
 ghost use Rattle.std.specs.Prelude.{◌≤◌};
 
 use crate::ctx::{FromCtx, IntoCtx, SizeWith, TryFromCtx, TryIntoCtx};
@@ -54,8 +54,9 @@ fn gread_gwrite_f32_3(rt: HostRuntime) {
     check_gread_gwrite(&rt, &mut [0; 16], 0.0f32, 4);
 }
 
-// Floats and their bytes, as the Rust crate writes them in big-endian order: zeros of both signs, the least and the
-// greatest subnormal, the least normal float, the greatest, infinities, and others.
+// Floats and their bytes, as the Rust crate writes them in big-endian order: zeros of both signs,
+// the least and the greatest subnormal, the least normal float, the greatest, infinities, and
+// others.
 const SINGLES: [(f32, [u8; 4]); 11] = [
     (0.0, [0, 0, 0, 0]),
     (-0.0, [0x80, 0, 0, 0]),
@@ -132,8 +133,8 @@ fn floats_and_their_bytes(rt: HostRuntime) {
     }
 }
 
-// Quiet and signalling NaNs of both signs, with payloads. The Rust crate reads each as a NaN, and writes its own bits;
-// here each is written as the quiet NaN with no sign and no payload.
+// Quiet and signalling NaNs of both signs, with payloads. The Rust crate reads each as a NaN, and
+// writes its own bits; here each is written as the quiet NaN with no sign and no payload.
 const SINGLE_NANS: [[u8; 4]; 5] = [
     [0x7f, 0xc0, 0, 0],
     [0xff, 0xc0, 0, 0],

@@ -1,4 +1,5 @@
-// All ten integer types, by value and by reference, and the calls whose caller ensures that there is room.
+// All ten integer types, by value and by reference, and the calls whose caller ensures that there
+// is room.
 ghost use Rattle.std.specs.Prelude.{◌≡◌, ◌+◌, ◌≤◌, length, drop};
 ghost use Rattle.scroll.specs.Numbers.{number};
 ghost use Rattle.scroll.specs.declared.endian.Endian.TheVariants.{Big};
@@ -163,16 +164,29 @@ fn with_room_made_sure_of(rt: HostRuntime) {
     let bytes: [u8; 12] = [1, 0, 0, 0, 0, 0, 0, 0, 0xef, 0xbe, 0, 0];
     let read: (i64, u32) = (bytes.cread(0), bytes.cread(8));
     check_eq(&rt, read, (1, 48879));
+}
+
+#[test]
+fn with_room_made_sure_of_by_order(rt: HostRuntime) {
     let bytes: [u8; 12] = [
         0x7f, 255, 255, 255, 255, 255, 255, 255, 0xef, 0xbe, 0xad, 0xde,
     ];
     let read: (i64, u32) = (bytes.cread_with(0, BE), bytes.cread_with(8, LE));
     check_eq(&rt, read, (9223372036854775807, 3735928559));
+}
+
+#[test]
+fn writes_with_room_made_sure_of_by_order(rt: HostRuntime) {
     let mut out = [0u8; 16];
     let mut target = &mut out[..];
     target.cwrite_with(0xdeadbeefu32, 8, BE);
     check_eq(&rt, out.cread_with::<u32>(8, LE), 4022250974);
-    let mut target = &mut out[..12];
+}
+
+#[test]
+fn writes_with_room_made_sure_of(rt: HostRuntime) {
+    let mut out = [0u8; 12];
+    let mut target = &mut out[..];
     target.cwrite(42i64, 0);
     target.cwrite(&0xdeadbeefu32, 8);
     let read: (i64, u32) = (out.cread(0), out.cread(8));
@@ -187,7 +201,7 @@ fn second_of<N: FromCtx<Endian> + SizeWith<Endian>>(source: &[u8]) -> N
     source.cread_with(N::size_with(&BE), BE)
 }
 
-// Writes a value to the front of a target that has room for it.
+// Writes a value to the start of a target that has room for it.
 fn put<N: IntoCtx<Endian>>(mut target: &mut [u8], n: N)
     requires { N.need BE ≤ length target.old }
 {

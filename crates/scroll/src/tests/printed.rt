@@ -8,7 +8,8 @@ use std::io::ErrorKind;
 use std::process::Abort;
 use std::{io, mem};
 
-// Checks the line that an error prints. What doesn't fit is cut off, and then differs from what is expected.
+// Checks the line that an error prints. What doesn't fit is cut off, and then differs from what is
+// expected.
 fn check_line<E: Display + Drop>(rt: &impl Abort, error: E, wanted: &str) {
     let mut line: ArrayString<40> = ArrayString::new();
     let _ = write!(line, "{error}");
@@ -34,7 +35,8 @@ fn lines_of_errors(rt: HostRuntime) -> Result<(), AllocError> {
     Ok(())
 }
 
-// Each small error prints the line of the error that it becomes, and is what that error becomes again.
+// Each small error prints the line of the error that it becomes, and is what that error becomes
+// again.
 #[test]
 fn lines_of_small_errors(rt: HostRuntime) {
     let rt = &rt;

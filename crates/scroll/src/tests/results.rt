@@ -1,5 +1,6 @@
-// What a test expects of a call's result. A `match` in each test would have a step in the proof for each part of the result
-// and each drop; a call of these is one step, and is proved in a quarter of the time.
+// What a test expects of a call's result. A `match` in each test would have a step in the proof for
+// each part of the result and each drop; a call of these is one step, and is proved in a quarter of
+// the time.
 use crate::{Error, Result};
 use std::fmt::Debug;
 use std::process::Abort;

@@ -1,5 +1,5 @@
-// Runs of commands that read and write strings, byte slices, C strings, LEB128 and arrays. Each also passes where an
-// allocation fails: see `check_run`.
+// Runs of commands that read and write strings, byte slices, C strings, LEB128 and arrays. Each
+// also passes where an allocation fails: see `check_run`.
 use super::runs::{check_run, run_all};
 use crate::cstr::CStr;
 use crate::ctx::{NULL, StrCtx};

@@ -1,5 +1,6 @@
-// Runs of commands. Each run also passes where an allocation fails (`rt try --test --fail-alloc N`): the answers are
-// then those of the first commands, and the buffer and the cursor are as these left them.
+// Runs of commands. Each run also passes where an allocation fails
+// (`rt try --test --fail-alloc N`): the answers are then those of the first commands, and the
+// buffer and the cursor are as these left them.
 use crate::ctx::StrCtx;
 use crate::runner::{Answer, Command, Kind, Number, Place, Put, Width, run};
 use crate::tests::results::check_eq;
@@ -13,7 +14,8 @@ const WHOLE: Place = Place::At(0);
 
 const HERE: Place = Place::Cursor;
 
-// Runs the commands, and returns whether all of them ran. Expects that only a lack of memory ends the run before.
+// Runs the commands, and returns whether all of them ran. Expects that only a lack of memory ends
+// the run before.
 pub fn run_all(
     rt: &impl Abort,
     alloc: Global,
@@ -29,8 +31,8 @@ pub fn run_all(
     }
 }
 
-// Checks that an answer is printed like this. Nothing is allocated, and so no allocation can fail here. What doesn't fit
-// is cut off, and then differs from what is expected.
+// Checks that an answer is printed like this. Nothing is allocated, and so no allocation can fail
+// here. What doesn't fit is cut off, and then differs from what is expected.
 fn check_answer(rt: &impl Abort, answer: &Answer, wanted: &str) {
     let mut printed: ArrayString<80> = ArrayString::new();
     let _ = write!(printed, "{answer:?}");
@@ -62,9 +64,9 @@ fn leaves<const N: usize>(
         && at == last_cursor
 }
 
-// Runs the commands with these answers before theirs, and expects answers that are all printed like `wanted`. After an
-// allocation failure it expects what the first commands alone return and leave, and that a second run of all commands
-// succeeds, since at most one allocation fails.
+// Runs the commands with these answers before theirs, and expects answers that are all printed like
+// `wanted`. After an allocation failure it expects what the first commands alone return and leave,
+// and that a second run of all commands succeeds, since at most one allocation fails.
 fn check_run_behind<const N: usize>(
     rt: &impl Abort,
     alloc: Global,
@@ -226,7 +228,8 @@ const COMMANDS: [Command<'static>; 3] = [
     Command::Read(WHOLE, Kind::Text(StrCtx::Length(1))),
 ];
 
-// The buffer 61 00 00 and the cursor 0, after none of these commands, after the first, after two and after all three.
+// The buffer 61 00 00 and the cursor 0, after none of these commands, after the first, after two
+// and after all three.
 const LEFT: [([u8; 3], usize); 4] = [
     ([0x61, 0, 0], 0),
     ([0x62, 0, 0], 1),
@@ -261,8 +264,8 @@ fn check_from(
     Ok(())
 }
 
-// None of the commands, the first, two and all three run with four to no other answers before theirs, so that the list
-// of answers grows at each command in turn.
+// None of the commands, the first, two and all three run with four to no other answers before
+// theirs, so that the list of answers grows at each command in turn.
 #[test]
 fn answers_stand_up_to_a_refusal(rt: HostRuntime) -> Result<(), AllocError> {
     for start in 0..5 {

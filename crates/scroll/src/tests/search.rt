@@ -1,33 +1,35 @@
-// The search for a byte compared with a plain one, at every length that a vector, a word and a tail can leave.
+// The search for a byte compared with a plain one, at every length that a vector, a word and a tail
+// can leave.
 use crate::Pread;
 use crate::ctx::StrCtx;
-use crate::search::{first_place, first_stop};
+use crate::search::{first_stop, index_of};
 use crate::tests::results::check_eq;
 use std::process::Abort;
 
 const DELIMITERS: [u8; 5] = [0x00, 0x01, 0x7f, 0x80, 0xff];
 
-// How the bytes before and after the delimiter differ from it: in the highest bit, in the lowest, in the lowest
-// directly after an equal byte, where a subtraction borrows, and not at all after it, so that there is a second
-// delimiter.
+// How the bytes before and after the delimiter differ from it: in the highest bit, in the lowest,
+// in the lowest directly after an equal byte, where a subtraction borrows, and not at all after it,
+// so that there is a second delimiter.
 const DIFFERENCES: [(u8, u8); 4] = [(0x80, 0x80), (0x01, 0x01), (0x80, 0x01), (0x01, 0x00)];
 
-// Returns the offset of the first byte that is the delimiter or above `most`, or the length if there is none.
+// Returns the offset of the first byte that is the delimiter or above `most`, or the length if
+// there is none.
 fn plain_place(delimiter: u8, most: u8, source: &[u8]) -> usize {
-    for (place, byte) in source.iter().enumerate() {
+    for (index, byte) in source.iter().enumerate() {
         if *byte == delimiter || *byte > most {
-            return place;
+            return index;
         }
     }
     source.len()
 }
 
-// Writes the delimiter at `place`, and bytes that differ from it everywhere else.
-fn fill(bytes: &mut [u8; 70], delimiter: u8, place: usize, before: u8, behind: u8) {
+// Writes the delimiter at `index`, and bytes that differ from it everywhere else.
+fn fill(bytes: &mut [u8; 70], delimiter: u8, index: usize, before: u8, behind: u8) {
     for (i, byte) in bytes.iter_mut().enumerate() {
-        *byte = if i < place {
+        *byte = if i < index {
             delimiter ^ before
-        } else if i == place {
+        } else if i == index {
             delimiter
         } else {
             delimiter ^ behind
@@ -41,12 +43,12 @@ fn text_before(delimiter: u8, source: &[u8]) -> Option<&str> {
 }
 
 // Expects that each search stops where a plain one does.
-fn check_searches(rt: &impl Abort, delimiter: u8, place: usize, source: &[u8]) {
-    let wanted = place.min(source.len());
+fn check_searches(rt: &impl Abort, delimiter: u8, index: usize, source: &[u8]) {
+    let wanted = index.min(source.len());
     check_eq(rt, plain_place(delimiter, u8::MAX, source), wanted);
     check_eq(
         rt,
-        (delimiter, source, first_place(delimiter, source)),
+        (delimiter, source, index_of(delimiter, source)),
         (delimiter, source, wanted),
     );
     let plain_stop = plain_place(delimiter, 0x7f, source);
@@ -60,10 +62,10 @@ fn every_length_and_place(rt: HostRuntime) {
     let mut bytes = [0u8; 70];
     for &delimiter in &DELIMITERS {
         for &(before, behind) in &DIFFERENCES {
-            for place in 0..71 {
-                fill(&mut bytes, delimiter, place, before, behind);
+            for index in 0..71 {
+                fill(&mut bytes, delimiter, index, before, behind);
                 for len in 0..71 {
-                    check_searches(&rt, delimiter, place, &bytes[..len]);
+                    check_searches(&rt, delimiter, index, &bytes[..len]);
                 }
             }
         }
@@ -72,17 +74,17 @@ fn every_length_and_place(rt: HostRuntime) {
 
 #[test]
 fn texts_that_are_not_ascii(rt: HostRuntime) {
-    // One character of two bytes, at each offset of a vector and after it; then the same, truncated after its first
-    // byte.
+    // One character of two bytes, at each offset of a vector and after it; then the same, truncated
+    // after its first byte.
     let rt = &rt;
-    for place in 0..40 {
+    for index in 0..40 {
         let mut bytes = [b'a'; 50];
-        bytes[place] = 0xc3;
-        bytes[place + 1] = 0xa4;
-        bytes[place + 5] = 0;
+        bytes[index] = 0xc3;
+        bytes[index + 1] = 0xa4;
+        bytes[index + 5] = 0;
         let text = text_before(0, &bytes).unwrap_or_default();
-        check_eq(rt, text.as_bytes(), &bytes[..place + 5]);
+        check_eq(rt, text.as_bytes(), &bytes[..index + 5]);
         check_eq(rt, text_before(0xa4, &bytes), None);
-        check_eq(rt, first_stop(0, &bytes), place);
+        check_eq(rt, first_stop(0, &bytes), index);
     }
 }

@@ -1,7 +1,7 @@
 // Types of each size that a stream call takes, and one whose size is more than it needs.
 ghost use Rattle.std.specs.Prelude.{◌≡◌, ◌≤◌, ◌++◌, length, take, drop};
 ghost use Rattle.scroll.specs.Numbers.{number, number_bytes};
-ghost use Rattle.scroll.specs.lemmas.Frames.{drop-front, length-number_bytes};
+ghost use Rattle.scroll.specs.lemmas.Frames.{drop-prefix, length-number_bytes};
 
 use crate::ctx::{FromCtx, IntoCtx, SizeWith};
 use crate::tests::results::{check_eq, check_value, expect_value};
@@ -30,9 +30,9 @@ impl<const N: usize> FromCtx<()> for Block<N> {
 impl<const N: usize> IntoCtx<()> for Block<N> {
     ghost need = { λ _. N };
 
-    ghost leaves = { λ _ x old new. (length x.0 ≡ N) × (new ≡ x.0 ++ drop N old) };
+    ghost overwrites = { λ _ x old new. (length x.0 ≡ N) × (new ≡ x.0 ++ drop N old) };
 
-    ghost leaves_keeps = { λ _ x old new h. drop-front N x.0 old new h.0 h.1 };
+    ghost overwrites_keeps = { λ _ x old new h. drop-prefix N x.0 old new h.0 h.1 };
 
     fn into_ctx(self, dst: &mut [u8], _ctx: ()) {
         dst[..N].copy_from_slice(&self.0);
@@ -126,9 +126,9 @@ impl FromCtx<Endian> for Wide {
 impl IntoCtx<Endian> for Wide {
     ghost need = { λ _. 2 };
 
-    ghost leaves = { λ order x old new. new ≡ number_bytes order 2 x.number ++ drop 2 old };
+    ghost overwrites = { λ order x old new. new ≡ number_bytes order 2 x.number ++ drop 2 old };
 
-    ghost leaves_keeps = { λ order x old new h. drop-front 2 _ old new (length-number_bytes order 2 x.number) h };
+    ghost overwrites_keeps = { λ order x old new h. drop-prefix 2 _ old new (length-number_bytes order 2 x.number) h };
 
     fn into_ctx(self, dst: &mut [u8], ctx: Endian) {
         self.number.into_ctx(dst, ctx)

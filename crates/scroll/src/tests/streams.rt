@@ -71,7 +71,8 @@ impl<'a> Read for Source<'a> {
     }
 }
 
-// A writer that takes one byte per call, ends early, and fails when it is flushed, which counts as a call.
+// A writer that takes one byte per call, ends early, and fails when it is flushed, which counts as
+// a call.
 #[derive(Drop)]
 struct Sink<'a> {
     rest: &'a mut [u8],
@@ -105,7 +106,8 @@ const KINDS: [ErrorKind; 4] = [
     ErrorKind::Other,
 ];
 
-// Faults that no call returns: there is none, each is an interruption, or it comes after the last byte.
+// Faults that no call returns: there is none, each is an interruption, or it comes after the last
+// byte.
 const HARMLESS: [Fault; 4] = [
     Fault::Never,
     Fault::Interrupted((None, ErrorKind::Interrupted)),
@@ -113,15 +115,16 @@ const HARMLESS: [Fault; 4] = [
     Fault::At(5, (None, ErrorKind::Other)),
 ];
 
-// Orders, where none is the default one, with the number that `BYTES` hold in each, and the bytes that a writer holds
-// which was given 0xdeadbeef.
+// Orders, where none is the default one, with the number that `BYTES` hold in each, and the bytes
+// that a writer holds which was given 0xdeadbeef.
 const ORDERS: [(Option<Endian>, u32, [u8; 5]); 3] = [
     (Some(BE), 3735928559, [0xde, 0xad, 0xbe, 0xef, 0x11]),
     (Some(LE), 4022250974, [0xef, 0xbe, 0xad, 0xde, 0x11]),
     (None, 4022250974, [0xef, 0xbe, 0xad, 0xde, 0x11]),
 ];
 
-// Reads a number a byte at a time. Returns it, or the cause of the error, and how often the reader was called.
+// Reads a number a byte at a time. Returns it, or the cause of the error, and how often the reader
+// was called.
 fn read_slowly(rest: &[u8], fault: Fault, order: Option<Endian>) -> (Outcome<u32>, usize) {
     let mut source = Source {
         rest,
@@ -145,8 +148,8 @@ fn write_number(target: &mut impl Write, order: Option<Endian>) -> io::Result<()
     }
 }
 
-// Writes 0xdeadbeef a byte at a time. Returns what the writer holds, or the cause of the error, and how often the writer
-// was called.
+// Writes 0xdeadbeef a byte at a time. Returns what the writer holds, or the cause of the error, and
+// how often the writer was called.
 fn write_slowly(room: usize, fault: Fault, order: Option<Endian>) -> (Outcome<[u8; 5]>, usize)
     requires { room ≤ 5 }
 {
@@ -182,7 +185,8 @@ fn streams_of_one_byte_a_call(rt: HostRuntime) {
     }
 }
 
-// Each stream call returns the error of the reader or the writer, and doesn't repeat the call that failed.
+// Each stream call returns the error of the reader or the writer, and doesn't repeat the call that
+// failed.
 fn check_cause(rt: &impl Abort, cause: Cause) {
     for (order, _, _) in &ORDERS {
         for at in 1..5 {

@@ -1,4 +1,5 @@
-// Strings, byte slices and measures: the calls for them, and which bytes are strings.
+// Strings, byte slices and measures: the calls for them, which bytes are strings, and strings whose delimiter the source
+// must contain.
 use crate::ctx::{MeasureWith, NULL, RET, SPACE, StrCtx, TAB};
 use crate::tests::reads::check_read;
 use crate::tests::results::{
@@ -164,7 +165,8 @@ fn short_targets(rt: HostRuntime) {
     check_eq(rt, bytes, [0xff; 3]);
 }
 
-// Checks that reading these bytes whole as a string returns these, or is refused where these are none.
+// Checks that reading these bytes whole as a string returns these, or is refused where these are
+// none.
 fn check_text(rt: &impl Abort, bytes: &[u8], wanted: &[u8]) {
     let text: Result<&str> = bytes.pread_with(0, StrCtx::Length(bytes.len()));
     check_eq(rt, text.unwrap_or_default().as_bytes(), wanted);
@@ -228,7 +230,8 @@ fn edges_of_utf8(rt: HostRuntime) {
     }
 }
 
-// The forms of a character, as in table 3-7 of the Unicode Standard: the range of each of its bytes.
+// The forms of a character, as in table 3-7 of the Unicode Standard: the range of each of its
+// bytes.
 const FORMS: [&[(u8, u8)]; 9] = [
     &[(0x00, 0x7f)],
     &[(0xc2, 0xdf), (0x80, 0xbf)],
@@ -289,4 +292,37 @@ fn characters_of_utf8(rt: HostRuntime) {
             }
         }
     }
+}
+
+const REQUIRED: StrCtx = StrCtx::Required(0);
+
+const MISSING: &str = "missing delimiter";
+
+#[test]
+fn texts(rt: HostRuntime) {
+    let rt = &rt;
+    check_eq(rt, (REQUIRED.len(), REQUIRED.is_empty()), (1, false));
+    let source: &[u8] = b"ab\0";
+    let offset = &mut 0;
+    check_value(rt, source.gread_with(offset, REQUIRED), "ab");
+    check_bad_input(rt, source.gread_with::<&str>(offset, REQUIRED), 0, MISSING);
+    check_eq(rt, *offset, 3);
+    let source: &[u8] = b"ab";
+    check_bad_input(rt, source.pread_with::<&str>(0, REQUIRED), 2, MISSING);
+    check_value(rt, source.pread_with(0, StrCtx::Delimiter(0)), "ab");
+    let source: &[u8] = b"\xffa";
+    check_bad_input(rt, source.pread_with::<&str>(0, REQUIRED), 2, MISSING);
+    let source: &[u8] = b"\xff\0";
+    let text = source.pread_with::<&str>(0, REQUIRED);
+    check_bad_input(rt, text, 2, "invalid utf8");
+}
+
+#[test]
+fn arrays_of_texts(rt: HostRuntime) {
+    let rt = &rt;
+    let source: &[u8] = b"a\0b\0";
+    check_value(rt, source.pread_with(0, REQUIRED), ["a", "b"]);
+    let source: &[u8] = b"a\0";
+    check_bad_input(rt, source.pread_with::<[&str; 2]>(0, REQUIRED), 0, MISSING);
+    check_value(rt, source.pread_with(0, StrCtx::Delimiter(0)), ["a", ""]);
 }

@@ -44,10 +44,10 @@ fn zeros_for_which_there_is_no_room(rt: HostRuntime) {
 }
 
 // Checks that a read stops at this place, and that the bytes before it are zeros.
-fn check_stop(rt: &impl Abort, bytes: &[u8], place: usize) {
+fn check_stop(rt: &impl Abort, bytes: &[u8], offset: usize) {
     let read = bytes.pread_with::<Zeros>(0, 4);
-    check_bad_input(rt, read, place, "padding is not zero");
-    check_value(rt, bytes.pread_with(0, place), Zeros);
+    check_bad_input(rt, read, offset, "padding is not zero");
+    check_value(rt, bytes.pread_with(0, offset), Zeros);
 }
 
 #[test]

@@ -34,8 +34,8 @@ const KINDS: [ErrorKind; 4] = [
     ErrorKind::Other,
 ];
 
-// Which calls of a reader or a writer fail, counted from 1: one of them; or the odd ones, the ones up to a number, or
-// the ones from a number on are interrupted.
+// Which calls of a reader or a writer fail, counted from 1: one of them; or the odd ones, the ones
+// up to a number, or the ones from a number on are interrupted.
 #[derive(Clone, Copy)]
 enum Fault {
     Never,
@@ -110,12 +110,13 @@ impl Write for Sink {
     }
 }
 
-// How a session ended: its status, or the cause of its error; how often the reader and the writer were called; how many
-// bytes of the output were written, or `None` if others were; and whether they were flushed.
+// How a session ended: its status, or the cause of its error; how often the reader and the writer
+// were called; how many bytes of the output were written, or `None` if others were; and whether
+// they were flushed.
 type Run = (result::Result<u8, Cause>, [usize; 2], Option<usize>, bool);
 
-// The calls that read the whole input a byte at a time, the last of which finds its end, and those that write the whole
-// output so, and flush it.
+// The calls that read the whole input a byte at a time, the last of which finds its end, and those
+// that write the whole output so, and flush it.
 const READS: usize = INPUT.len() + 1;
 
 const WRITES: usize = OUTPUT.len() + 1;
@@ -173,8 +174,8 @@ fn in_pieces(rt: HostRuntime) {
     }
 }
 
-// Runs the session with a reader that fails at a call. If that call is made, its error is the session's, and it isn't
-// repeated.
+// Runs the session with a reader that fails at a call. If that call is made, its error is the
+// session's, and it isn't repeated.
 fn check_reader(rt: &impl Abort, alloc: Global, at: usize, cause: Cause) {
     let run = run(alloc, (1, Fault::At(at, cause)), (1, Fault::Never));
     if at <= READS {
@@ -184,7 +185,8 @@ fn check_reader(rt: &impl Abort, alloc: Global, at: usize, cause: Cause) {
     }
 }
 
-// The same for the writer, whose last call is the flush.
+// Runs the session with a writer that fails at a call, of which the last is the flush. If that call
+// is made, its error is the session's, and it isn't repeated.
 fn check_writer(rt: &impl Abort, alloc: Global, at: usize, cause: Cause) {
     let run = run(alloc, (1, Fault::Never), (1, Fault::At(at, cause)));
     if at <= WRITES {

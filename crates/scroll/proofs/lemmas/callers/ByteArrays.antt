@@ -4,11 +4,11 @@ use Rattle.std.proofs.Math.Nat.{mul-suc}
 use Rattle.std.proofs.lemmas.Grind.{same_number_lists}
 use Rattle.std.proofs.lemmas.List.{append-nil, length-take-le, get_or-take}
 use Rattle.std.specs.List.{flat_map}
-use Rattle.scroll.specs.Arrays.{ReadsArray, MakesArray, LeavesAll, FillsArray}
+use Rattle.scroll.specs.Arrays.{ReadsArray, MakesArray, OverwritesAll, FillsArray}
 use Rattle.scroll.specs.CStrings.{ReadsCString}
 use Rattle.scroll.specs.Numbers.{number, number_bytes, ReadsNumber}
 use Rattle.scroll.specs.Reads.{ReadsAll}
-use Rattle.scroll.specs.Texts.{first_place}
+use Rattle.scroll.specs.Texts.{index_of}
 use Rattle.scroll.specs.declared.endian.Endian.{Endian}
 use Rattle.scroll.specs.declared.endian.Endian.TheVariants.{Little, Big}
 use Rattle.scroll.proofs.lemmas.callers.Cursors.{Begins, begin, grow, byte-at, length-number_bytes}
@@ -41,20 +41,20 @@ bytes_made order {n} {s} {xs} h room =
     let len : length (take n s) ≡ n = length-take-le n s room in
     same_number_lists xs (take n s) (h.len ∙ sym len) (λ i l.
     let inside : i < n = omega (arith, l, h.len) in
-    let place : 1 * i ≡ i = omega arith in
-    h.each i 0 inside ∙ ap (λ k. number order 1 (drop k s)) place ∙ byte-at order s i ∙ sym (get_or-take n s i 0 inside))
+    let offset : 1 * i ≡ i = omega arith in
+    h.each i 0 inside ∙ ap (λ k. number order 1 (drop k s)) offset ∙ byte-at order s i ∙ sym (get_or-take n s i 0 inside))
 
 -- the bytes of values that are written one after another
-LeavesAll-grow : {V : Type 0} (bytes : V → List ℕ) (w : ℕ) → ((v : V) → length (bytes v) ≡ w) → (vs : List V) (place : ℕ) (front first a b : List ℕ) → Begins place front first a → LeavesAll w (λ v old new. new ≡ bytes v ++ drop w old) a place vs b → Begins (place + w * length vs) (front ++ flat_map bytes vs) first b
-LeavesAll-grow bytes w size [] place front first a b h put =
-    let here : place + w * 0 ≡ place = omega arith in
-    rw (here, put) (subst (λ l. Begins place l first a) (sym (append-nil front)) h)
-LeavesAll-grow bytes w size (v ∷ vs) place front first a b h put =
-    let next : place + w + w * length vs ≡ place + w * length (v ∷ vs) = omega (arith, mul-suc w (length vs)) in
+OverwritesAll-grow : {V : Type 0} (bytes : V → List ℕ) (w : ℕ) → ((v : V) → length (bytes v) ≡ w) → (vs : List V) (offset : ℕ) (prefix first a b : List ℕ) → Begins offset prefix first a → OverwritesAll w (λ v old new. new ≡ bytes v ++ drop w old) a offset vs b → Begins (offset + w * length vs) (prefix ++ flat_map bytes vs) first b
+OverwritesAll-grow bytes w size [] offset prefix first a b h put =
+    let here : offset + w * 0 ≡ offset = omega arith in
+    rw (here, put) (subst (λ l. Begins offset l first a) (sym (append-nil prefix)) h)
+OverwritesAll-grow bytes w size (v ∷ vs) offset prefix first a b h put =
+    let next : offset + w + w * length vs ≡ offset + w * length (v ∷ vs) = omega (arith, mul-suc w (length vs)) in
     let more = grow (bytes v) h (size v) put.1.before put.1.after in
-    let rest = LeavesAll-grow bytes w size vs (place + w) (front ++ bytes v) first put.0 b more put.2 in
-    subst (λ l. Begins (place + w * length (v ∷ vs)) l first b) (append_assoc front (bytes v) (flat_map bytes vs))
-    (subst (λ n. Begins n (front ++ bytes v ++ flat_map bytes vs) first b) next rest)
+    let rest = OverwritesAll-grow bytes w size vs (offset + w) (prefix ++ bytes v) first put.0 b more put.2 in
+    subst (λ l. Begins (offset + w * length (v ∷ vs)) l first b) (append_assoc prefix (bytes v) (flat_map bytes vs))
+    (subst (λ n. Begins n (prefix ++ bytes v ++ flat_map bytes vs) first b) next rest)
 
 zero-add : (n : ℕ) → 0 + n ≡ n
 zero-add n = omega arith
@@ -63,7 +63,7 @@ zero-add n = omega arith
 pub array_filled : {V : Type 0} (bytes : V → List ℕ) {w n : ℕ} {vs : List V} {old new : List ℕ} → ((v : V) → length (bytes v) ≡ w) → FillsArray w (λ v old new. new ≡ bytes v ++ drop w old) n vs old new → new ≡ flat_map bytes vs ++ drop (w * n) old
 array_filled bytes {w} {n} {vs} {old} {new} size h =
     let whole : 0 + w * length vs ≡ w * n = zero-add (w * length vs) ∙ ap (λ k. w * k) h.len in
-    (LeavesAll-grow bytes w size vs 0 [] old old new (begin old) h.each).is ∙ ap (λ k. flat_map bytes vs ++ drop k old) whole
+    (OverwritesAll-grow bytes w size vs 0 [] old old new (begin old) h.each).is ∙ ap (λ k. flat_map bytes vs ++ drop k old) whole
 
 byte-of : (x : ℕ) → x < 256 → x / 1 % 256 ≡ x
 byte-of x h = omega (arith, h)
@@ -85,8 +85,8 @@ bytes_filled order {n} {xs} {old} {new} fits h =
     ∙ ap (λ l. l ++ drop (1 * n) old) (bytes-of order xs (λ i. omega (arith, (fits i).fits))) ∙ ap (λ k. xs ++ drop k old) width
 
 -- a C string has the bytes before the first zero, and its size counts the zero
-pub c_string_len : {source text : List ℕ} {n : ℕ} → ReadsCString source text n → length text ≡ first_place 0 source
-c_string_len {source} {text} {n} h = ap length h.value ∙ length-take-le (first_place 0 source) source (omega (arith, h.found))
+pub c_string_len : {source text : List ℕ} {n : ℕ} → ReadsCString source text n → length text ≡ index_of 0 source
+c_string_len {source} {text} {n} h = ap length h.value ∙ length-take-le (index_of 0 source) source (omega (arith, h.found))
 
 pub c_string_size : {source text : List ℕ} {n : ℕ} → ReadsCString source text n → n ≡ length text + 1
 c_string_size h = h.size ∙ ap (λ k. k + 1) (sym (c_string_len h))

@@ -2,10 +2,11 @@
 use Rattle.std.proofs.Common.{◌≡◌, ℕ, zero, suc, ◌+◌, ◌≤◌, ◌<◌, List, [], ◌∷◌, length, drop, arith, refl, sym, ◌∙◌, ap, subst, inl, inr, ◌⊎◌, Result, Ok, Err}
 use Rattle.std.proofs.lemmas.Bool.{cases_lt}
 use Rattle.scroll.specs.Arrays.{ReadsArray, RefusesArray, ReadsNested, RefusesNested}
-use Rattle.scroll.specs.Bytes.{ReadsMade, ReadsFront, RefusesShort}
+use Rattle.scroll.specs.Bytes.{ReadsFixed, ReadsPrefix, RefusesShort}
 use Rattle.scroll.specs.Fixed.{One}
 use Rattle.scroll.specs.Leb128.{Counted}
-use Rattle.scroll.proofs.lemmas.numbers.LocalLemmas.{local-array, bounded-array, within-array}
+use Rattle.scroll.proofs.lemmas.NumberLemmas.{local-array, within-array}
+use Rattle.scroll.specs.lemmas.Frames.{ReadsArray-bounded}
 use Rattle.scroll.specs.Laws.{IsLocal, IsWithin, SameError, SameAnswer, Allows, AllowsOne, AllowsOneAtEach, IsReader, IsReaderWithin}
 use Rattle.scroll.specs.Reads.{IsBounded, ReadsAt, RefusesAt, ReadsAll}
 use Rattle.scroll.specs.Errors.{IsBadOffset}
@@ -75,16 +76,16 @@ one-at reads refuses one b o = elim (cases_lt (length b) o) as (λ _. AllowsOne 
 ]
 
 -- a value that takes the first w bytes, which make one value
-pub one-made : {X : Type 0} (w : ℕ) (makes : List ℕ → X → Type 0) (s : List ℕ) → One (makes s) → AllowsOne (ReadsMade w makes s) (RefusesShort w s)
-one-made w makes s one = elim (cases_lt (length s) w) as (λ _. AllowsOne (ReadsMade w makes s) (RefusesShort w s)) [
-  | inl short ↦ one-Err (ReadsMade w makes s) (RefusesShort w s) (TooBig w (length s)) (record { short = short; error = refl })
+pub one-made : {X : Type 0} (w : ℕ) (makes : List ℕ → X → Type 0) (s : List ℕ) → One (makes s) → AllowsOne (ReadsFixed w makes s) (RefusesShort w s)
+one-made w makes s one = elim (cases_lt (length s) w) as (λ _. AllowsOne (ReadsFixed w makes s) (RefusesShort w s)) [
+  | inl short ↦ one-Err (ReadsFixed w makes s) (RefusesShort w s) (TooBig w (length s)) (record { short = short; error = refl })
       (λ v m r. absurd (omega (arith, short, r.room))) (λ d r. same-too_big d w (length s) r.error)
-  | inr long ↦ one-Ok (ReadsMade w makes s) (RefusesShort w s) one.value w (record { room = long; value = one.is; size = refl })
+  | inr long ↦ one-Ok (ReadsFixed w makes s) (RefusesShort w s) one.value w (record { room = long; value = one.is; size = refl })
       (λ v m r. (one.only v r.value, r.size)) (λ e r. absurd (omega (arith, long, r.short)))
 ]
 
-pub one-front : {X : Type 0} (w : ℕ) (value_of : List ℕ → X) (s : List ℕ) → AllowsOne (ReadsFront w value_of s) (RefusesShort w s)
-one-front w value_of s = one-made w (λ t x. x ≡ value_of t) s (record { value = value_of s; is = refl; only = λ x h. h })
+pub one-prefix : {X : Type 0} (w : ℕ) (value_of : List ℕ → X) (s : List ℕ) → AllowsOne (ReadsPrefix w value_of s) (RefusesShort w s)
+one-prefix w value_of s = one-made w (λ t x. x ≡ value_of t) s (record { value = value_of s; is = refl; only = λ x h. h })
 
 module _ {V : Type 0} (reads : List ℕ → V → ℕ → Type 0) (refuses : List ℕ → Error → Type 0) (s : List ℕ) where
   -- count values from an offset, or fewer and then an error
@@ -173,9 +174,9 @@ one-array reads refuses one count =
     one-at (ReadsArray reads count) (RefusesArray reads refuses IsBadOffset count) (λ s.
     one-as (Values reads refuses s count 0) (ReadsArray reads count s) (Stops reads refuses s count 0) (RefusesArray reads refuses IsBadOffset count s)
     (λ vs n a. record { len = a.0; each = a.1 })
-    (λ e a. record { front = a.0; stop = a.1; fewer = a.2; each = a.3; error = a.4 })
+    (λ e a. record { prefix = a.0; stop = a.1; fewer = a.2; each = a.3; error = a.4 })
     (λ vs n a. (a.len, a.each))
-    (λ e a. (a.front, a.stop, a.fewer, a.each, a.error))
+    (λ e a. (a.prefix, a.stop, a.fewer, a.each, a.error))
     (one-all reads refuses s (one s) count 0))
 
 -- arrays of arrays
@@ -229,7 +230,7 @@ local-nested reads local (count ∷ counts) = local-array (ReadsNested reads cou
 
 pub bounded-nested : {V : Type 0} (reads : List ℕ → V → ℕ → Type 0) → IsBounded reads → (counts : List ℕ) → IsBounded (ReadsNested reads counts)
 bounded-nested reads bounded [] = bounded
-bounded-nested reads bounded (count ∷ counts) = bounded-array (ReadsNested reads counts) count (bounded-nested reads bounded counts)
+bounded-nested reads bounded (count ∷ counts) = ReadsArray-bounded (ReadsNested reads counts) (bounded-nested reads bounded counts) count
 
 pub within-nested : {V : Type 0} (reads : List ℕ → V → ℕ → Type 0) → IsWithin reads → (counts : List ℕ) → IsWithin (ReadsNested reads counts)
 within-nested reads within [] = within

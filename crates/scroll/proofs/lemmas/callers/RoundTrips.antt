@@ -11,34 +11,34 @@ use Rattle.scroll.proofs.lemmas.callers.Cursors.{Begins, grow}
 use Rattle.scroll.specs.lemmas.Frames.{length-number_bytes}
 use Rattle.scroll.specs.Numbers.{number, number_bytes, signed_number, signed_bytes}
 use Rattle.scroll.specs.Reads.{ReadsAt, ReadsAll}
-use Rattle.scroll.specs.Texts.{first_place, ReadsText}
+use Rattle.scroll.specs.Texts.{index_of, ReadsText}
 use Rattle.scroll.specs.declared.ctx.str_ctx.StrCtx.TheVariants.{Required}
 use Rattle.scroll.specs.declared.endian.Endian.{Endian}
 -- a list that begins with the bytes of a number begins with that number
-pub use Rattle.scroll.specs.lemmas.NumberBytes.{number-begins, signed-begins}
+pub use Rattle.scroll.specs.lemmas.NumberLemmas.{number-begins, signed-begins}
 -- the bytes of the number at an offset are the bytes there
-pub use Rattle.scroll.specs.lemmas.NumberBack.{number-back, signed-back}
+pub use Rattle.scroll.specs.lemmas.FixedLemmas.{number-back, signed-back}
 
 -- bytes that are written back one after another: some more
-pub back-next : (place n : ℕ) (s : List ℕ) {front bytes : List ℕ} → front ≡ take place s → bytes ≡ take n (drop place s) → front ++ bytes ≡ take (place + n) s
-back-next place n s {front} {bytes} before next = ap (λ l. l ++ bytes) before ∙ ap (λ l. take place s ++ l) next ∙ sym (take-add place n s)
+pub back-next : (offset n : ℕ) (s : List ℕ) {prefix bytes : List ℕ} → prefix ≡ take offset s → bytes ≡ take n (drop offset s) → prefix ++ bytes ≡ take (offset + n) s
+back-next offset n s {prefix} {bytes} before next = ap (λ l. l ++ bytes) before ∙ ap (λ l. take offset s ++ l) next ∙ sym (take-add offset n s)
 
 -- and those of one more number
-pub back-grow : (order : Endian) (w place : ℕ) (s front : List ℕ) → ((i : ℕ) → Fits w8 (slice_index s i)) → place + w ≤ length s → front ≡ take place s → front ++ number_bytes order w (number order w (drop place s)) ≡ take (place + w) s
-back-grow order w place s front h room is = back-next place w s is (number-back order w place s h room)
+pub back-grow : (order : Endian) (w offset : ℕ) (s prefix : List ℕ) → ((i : ℕ) → Fits w8 (slice_index s i)) → offset + w ≤ length s → prefix ≡ take offset s → prefix ++ number_bytes order w (number order w (drop offset s)) ≡ take (offset + w) s
+back-grow order w offset s prefix h room is = back-next offset w s is (number-back order w offset s h room)
 
 is-byte : (b d : ℕ) → (b == d) ≡ true → b ≡ d
 is-byte b d e = grind (arith, e)
 
 -- a string that a delimiter ends: its size, and that the bytes of this size are the string and the delimiter
 pub required-size : (d : ℕ) (s text : List ℕ) (n : ℕ) → ReadsText (Required d) s text n → n ≡ length text + 1
-required-size d s text n r = let len = ap length r.front in let part = length-take (first_place d s) s in omega (arith, r.size, len, part, r.there)
+required-size d s text n r = let len = ap length r.prefix in let part = length-take (index_of d s) s in omega (arith, r.size, len, part, r.there)
 
 pub required-back : (d : ℕ) (s text : List ℕ) (n : ℕ) → ReadsText (Required d) s text n → take n s ≡ text ++ d ∷ []
 required-back d s text n r =
-    let byte : get_or s (first_place d s) 0 ≡ d = is-byte (get_or s (first_place d s) 0) d (passes_at_first (λ b. b == d) s 0 r.there) in
-    ap (λ m. take m s) r.size ∙ take_more s (first_place d s) 0 r.there
-    ∙ ap (λ b. take (first_place d s) s ++ b ∷ []) byte ∙ ap (λ t. t ++ d ∷ []) (sym r.front)
+    let byte : get_or s (index_of d s) 0 ≡ d = is-byte (get_or s (index_of d s) 0) d (passes_at_first (λ b. b == d) s 0 r.there) in
+    ap (λ m. take m s) r.size ∙ take_more s (index_of d s) 0 r.there
+    ∙ ap (λ b. take (index_of d s) s ++ b ∷ []) byte ∙ ap (λ t. t ++ d ∷ []) (sym r.prefix)
 
 -- the text, the delimiter and what follows are the source
 pub required-whole : {d n : ℕ} {s text : List ℕ} → ReadsText (Required d) s text n → text ++ d ∷ drop n s ≡ s
@@ -50,27 +50,27 @@ pub required-rest : (d : ℕ) (text rest : List ℕ) → drop (length text + 1) 
 required-rest d text rest = ap (drop (length text + 1)) (sym (append_assoc text (d ∷ []) rest)) ∙ drop_at (text ++ d ∷ []) rest (length text + 1) (length-append text (d ∷ []))
 
 -- where the first delimiter is, after bytes that are not the delimiter
-pub place-behind : (d : ℕ) (t rest : List ℕ) → All (λ b. b ≢ d) t → first_place d (t ++ d ∷ rest) ≡ length t
-place-behind d [] rest h = grind arith
-place-behind d (b ∷ bs) rest h =
+pub offset-behind : (d : ℕ) (t rest : List ℕ) → All (λ b. b ≢ d) t → index_of d (t ++ d ∷ rest) ≡ length t
+offset-behind d [] rest h = grind arith
+offset-behind d (b ∷ bs) rest h =
     let hb = All-head (λ x. x ≢ d) b bs h in
-    let ih = place-behind d bs rest (All-tail (λ x. x ≢ d) b bs h) in
+    let ih = offset-behind d bs rest (All-tail (λ x. x ≢ d) b bs h) in
     grind (arith, ih, hb)
 
 -- a string without the delimiter, followed by the delimiter, reads back
 pub required-again : (d : ℕ) (text rest : List ℕ) → All (λ b. b ≢ d) text → IsUtf8 text → ReadsText (Required d) (text ++ d ∷ rest) text (length text + 1)
 required-again d text rest h utf8 =
-    let at = place-behind d text rest h in
+    let at = offset-behind d text rest h in
     record {
       room = omega arith;
-      front = sym (ap (λ n. take n (text ++ d ∷ rest)) at ∙ take_at text (d ∷ rest) (length text) refl);
+      prefix = sym (ap (λ n. take n (text ++ d ∷ rest)) at ∙ take_at text (d ∷ rest) (length text) refl);
       utf8 = utf8;
       size = ap (λ n. n + 1) (sym at);
       there = omega (arith, at, length-append text (d ∷ rest));
     }
 
 -- values that were read one after another are written back, if each is
-pub ReadsAll-back : {V : Type 0} (reads : List ℕ → V → ℕ → Type 0) (bytes : V → List ℕ) (buffer : List ℕ) → ((place : ℕ) (v : V) (n : ℕ) → ReadsAt reads buffer place v n → bytes v ≡ take n (drop place buffer)) → (from : ℕ) (vs : List V) (to : ℕ) → ReadsAll reads buffer from vs to → take from buffer ++ flat_map bytes vs ≡ take to buffer
+pub ReadsAll-back : {V : Type 0} (reads : List ℕ → V → ℕ → Type 0) (bytes : V → List ℕ) (buffer : List ℕ) → ((offset : ℕ) (v : V) (n : ℕ) → ReadsAt reads buffer offset v n → bytes v ≡ take n (drop offset buffer)) → (from : ℕ) (vs : List V) (to : ℕ) → ReadsAll reads buffer from vs to → take from buffer ++ flat_map bytes vs ≡ take to buffer
 ReadsAll-back reads bytes buffer back from [] to h = append-nil (take from buffer) ∙ ap (λ n. take n buffer) (sym h)
 ReadsAll-back reads bytes buffer back from (v ∷ vs) to h =
     sym (append_assoc (take from buffer) (bytes v) (flat_map bytes vs))
@@ -78,34 +78,34 @@ ReadsAll-back reads bytes buffer back from (v ∷ vs) to h =
     ∙ ReadsAll-back reads bytes buffer back (from + h.0) vs to h.2
 
 -- values that were written one after another read back, if each does
-pub ReadsAll-again : {V : Type 0} (reads : List ℕ → V → ℕ → Type 0) (bytes : V → List ℕ) (vs : List V) → All (λ v. (rest : List ℕ) → reads (bytes v ++ rest) v (length (bytes v))) vs → (front rest : List ℕ) → ReadsAll reads (front ++ flat_map bytes vs ++ rest) (length front) vs (length (front ++ flat_map bytes vs))
-ReadsAll-again reads bytes [] again front rest = ap length (append-nil front)
-ReadsAll-again {V} reads bytes (v ∷ vs) again front rest =
+pub ReadsAll-again : {V : Type 0} (reads : List ℕ → V → ℕ → Type 0) (bytes : V → List ℕ) (vs : List V) → All (λ v. (rest : List ℕ) → reads (bytes v ++ rest) v (length (bytes v))) vs → (prefix rest : List ℕ) → ReadsAll reads (prefix ++ flat_map bytes vs ++ rest) (length prefix) vs (length (prefix ++ flat_map bytes vs))
+ReadsAll-again reads bytes [] again prefix rest = ap length (append-nil prefix)
+ReadsAll-again {V} reads bytes (v ∷ vs) again prefix rest =
     let P : V → Type 0 = λ x. (rest : List ℕ) → reads (bytes x ++ rest) x (length (bytes x)) in
     let first = All-head P v vs again in
     let others = flat_map bytes vs in
-    let behind : drop (length front) (front ++ (bytes v ++ others) ++ rest) ≡ bytes v ++ (others ++ rest) =
-    ap (drop (length front)) (append_assoc front (bytes v ++ others) rest) ∙ drop_at front (bytes v ++ others ++ rest) (length front) refl ∙ append_assoc (bytes v) others rest in
-    let later = ReadsAll-again reads bytes vs (All-tail P v vs again) (front ++ bytes v) rest in
-    let whole = subst (λ l. ReadsAll reads (l ++ rest) (length (front ++ bytes v)) vs (length l)) (append_assoc front (bytes v) others) later in (
+    let behind : drop (length prefix) (prefix ++ (bytes v ++ others) ++ rest) ≡ bytes v ++ (others ++ rest) =
+    ap (drop (length prefix)) (append_assoc prefix (bytes v ++ others) rest) ∙ drop_at prefix (bytes v ++ others ++ rest) (length prefix) refl ∙ append_assoc (bytes v) others rest in
+    let later = ReadsAll-again reads bytes vs (All-tail P v vs again) (prefix ++ bytes v) rest in
+    let whole = subst (λ l. ReadsAll reads (l ++ rest) (length (prefix ++ bytes v)) vs (length l)) (append_assoc prefix (bytes v) others) later in (
       length (bytes v),
       record {
-        inside = let a = length-append (front ++ (bytes v ++ others)) rest in let b = length-append front (bytes v ++ others) in omega (arith, a, b);
+        inside = let a = length-append (prefix ++ (bytes v ++ others)) rest in let b = length-append prefix (bytes v ++ others) in omega (arith, a, b);
         value = rw behind (first (others ++ rest));
       },
-      subst (λ n. ReadsAll reads (front ++ (bytes v ++ others) ++ rest) n vs (length (front ++ (bytes v ++ others)))) (length-append front (bytes v)) whole,
+      subst (λ n. ReadsAll reads (prefix ++ (bytes v ++ others) ++ rest) n vs (length (prefix ++ (bytes v ++ others)))) (length-append prefix (bytes v)) whole,
     )
 
 -- values that are written one after another: one more
-pub grow-next : {V : Type 0} (bytes : V → List ℕ) (vs : List V) (i : ℕ) (d : V) {place w : ℕ} {first a b : List ℕ} → Begins place (flat_map bytes (take i vs)) first a → i < length vs → length (bytes (get_or vs i d)) ≡ w → take place b ≡ take place a → drop place b ≡ bytes (get_or vs i d) ++ drop w (drop place a) → Begins (place + w) (flat_map bytes (take (i + 1) vs)) first b
-grow-next bytes vs i d {place} {w} {first} {a} {b} h inside size before after =
+pub grow-next : {V : Type 0} (bytes : V → List ℕ) (vs : List V) (i : ℕ) (d : V) {offset w : ℕ} {first a b : List ℕ} → Begins offset (flat_map bytes (take i vs)) first a → i < length vs → length (bytes (get_or vs i d)) ≡ w → take offset b ≡ take offset a → drop offset b ≡ bytes (get_or vs i d) ++ drop w (drop offset a) → Begins (offset + w) (flat_map bytes (take (i + 1) vs)) first b
+grow-next bytes vs i d {offset} {w} {first} {a} {b} h inside size before after =
     let more : flat_map bytes (take (i + 1) vs) ≡ flat_map bytes (take i vs) ++ bytes (get_or vs i d) =
     ap (flat_map bytes) (take_more vs i d inside) ∙ flat_map-append bytes (take i vs) (get_or vs i d ∷ [])
     ∙ ap (λ l. flat_map bytes (take i vs) ++ l) (append-nil (bytes (get_or vs i d))) in
-    subst (λ l. Begins (place + w) l first b) (sym more) (grow (bytes (get_or vs i d)) h size before after)
+    subst (λ l. Begins (offset + w) l first b) (sym more) (grow (bytes (get_or vs i d)) h size before after)
 
 -- values that were read from a whole buffer are written back
-pub all-back : {V : Type 0} (reads : List ℕ → V → ℕ → Type 0) (bytes : V → List ℕ) (buffer : List ℕ) (vs : List V) {to : ℕ} → ((place : ℕ) (v : V) (n : ℕ) → ReadsAt reads buffer place v n → bytes v ≡ take n (drop place buffer)) → ReadsAll reads buffer 0 vs to → to ≡ length buffer → flat_map bytes vs ≡ buffer
+pub all-back : {V : Type 0} (reads : List ℕ → V → ℕ → Type 0) (bytes : V → List ℕ) (buffer : List ℕ) (vs : List V) {to : ℕ} → ((offset : ℕ) (v : V) (n : ℕ) → ReadsAt reads buffer offset v n → bytes v ≡ take n (drop offset buffer)) → ReadsAll reads buffer 0 vs to → to ≡ length buffer → flat_map bytes vs ≡ buffer
 all-back reads bytes buffer vs {to} back h end = ReadsAll-back reads bytes buffer back 0 vs to h ∙ take_all to buffer (omega (arith, end))
 
 -- values that a loop has written to their end read back, if each value of which P holds does
@@ -119,27 +119,27 @@ all-again {V} reads bytes P again vs i {s} end each is =
     (ReadsAll-again reads bytes vs (All-weaker P (λ v. (rest : List ℕ) → reads (bytes v ++ rest) v (length (bytes v))) again vs all) [] []))
 
 -- bytes that were written from an offset on: those before it are unchanged, and these are there
-pub grown-at : {to place : ℕ} (n : ℕ) (bytes : List ℕ) {first now : List ℕ} → Begins to (take place first ++ bytes) first now → place ≤ length first → to ≡ place + n → (take place now ≡ take place first) × (drop place now ≡ bytes ++ drop n (drop place first))
-grown-at {to} {place} n bytes {first} {now} h room is =
-    let len : length (take place first) ≡ place = length-take-le place first room in
-    let rest : drop to first ≡ drop n (drop place first) = ap (λ m. drop m first) is ∙ sym (drop-drop n place first) in
-    let whole : now ≡ take place first ++ (bytes ++ drop n (drop place first)) =
-    h.is ∙ ap (λ l. take place first ++ bytes ++ l) rest ∙ append_assoc (take place first) bytes (drop n (drop place first)) in (
-      ap (take place) whole ∙ take_at (take place first) (bytes ++ drop n (drop place first)) place len,
-      ap (drop place) whole ∙ drop_at (take place first) (bytes ++ drop n (drop place first)) place len,
+pub grown-at : {to offset : ℕ} (n : ℕ) (bytes : List ℕ) {first now : List ℕ} → Begins to (take offset first ++ bytes) first now → offset ≤ length first → to ≡ offset + n → (take offset now ≡ take offset first) × (drop offset now ≡ bytes ++ drop n (drop offset first))
+grown-at {to} {offset} n bytes {first} {now} h room is =
+    let len : length (take offset first) ≡ offset = length-take-le offset first room in
+    let rest : drop to first ≡ drop n (drop offset first) = ap (λ m. drop m first) is ∙ sym (drop-drop n offset first) in
+    let whole : now ≡ take offset first ++ (bytes ++ drop n (drop offset first)) =
+    h.is ∙ ap (λ l. take offset first ++ bytes ++ l) rest ∙ append_assoc (take offset first) bytes (drop n (drop offset first)) in (
+      ap (take offset) whole ∙ take_at (take offset first) (bytes ++ drop n (drop offset first)) offset len,
+      ap (drop offset) whole ∙ drop_at (take offset first) (bytes ++ drop n (drop offset first)) offset len,
     )
 
 -- and those of one more, after bytes that are written back
-pub signed-grow : (order : Endian) (w place : ℕ) (s front : List ℕ) → ((i : ℕ) → Fits w8 (slice_index s i)) → place + w ≤ length s → front ≡ take place s → front ++ signed_bytes order w (signed_number order w (drop place s)) ≡ take (place + w) s
-signed-grow order w place s front h room is = back-next place w s is (signed-back order w place s h room)
+pub signed-grow : (order : Endian) (w offset : ℕ) (s prefix : List ℕ) → ((i : ℕ) → Fits w8 (slice_index s i)) → offset + w ≤ length s → prefix ≡ take offset s → prefix ++ signed_bytes order w (signed_number order w (drop offset s)) ≡ take (offset + w) s
+signed-grow order w offset s prefix h room is = back-next offset w s is (signed-back order w offset s h room)
 
 -- bytes after a number of w bytes that counts them: what was read is written back
-pub counted-back : (order : Endian) (w place : ℕ) (s text : List ℕ) (n : ℕ) → ((i : ℕ) → Fits w8 (slice_index s i)) → place ≤ length s → w + number order w (drop place s) ≤ length (drop place s) → text ≡ take (number order w (drop place s)) (drop w (drop place s)) → n ≡ length text → number_bytes order w n ++ text ≡ take (w + number order w (drop place s)) (drop place s)
-counted-back order w place s text n fits inside room is size =
-    let t = drop place s in
+pub counted-back : (order : Endian) (w offset : ℕ) (s text : List ℕ) (n : ℕ) → ((i : ℕ) → Fits w8 (slice_index s i)) → offset ≤ length s → w + number order w (drop offset s) ≤ length (drop offset s) → text ≡ take (number order w (drop offset s)) (drop w (drop offset s)) → n ≡ length text → number_bytes order w n ++ text ≡ take (w + number order w (drop offset s)) (drop offset s)
+counted-back order w offset s text n fits inside room is size =
+    let t = drop offset s in
     let len : length text ≡ number order w t = ap length is ∙ length-take-le (number order w t) (drop w t) (omega (arith, room, length-drop w t)) in
     ap (λ m. number_bytes order w m ++ text) (size ∙ len)
-    ∙ back-next w (number order w t) t (number-back order w place s fits (omega (arith, inside, room, length-drop place s))) is
+    ∙ back-next w (number order w t) t (number-back order w offset s fits (omega (arith, inside, room, length-drop offset s))) is
 
 -- and what was written reads back
 pub counted-again : (order : Endian) (w : ℕ) (text rest : List ℕ) (n : ℕ) → n < 256 ^ w → n ≡ length text → (number order w ((number_bytes order w n ++ text) ++ rest) ≡ n) × (take n (drop w ((number_bytes order w n ++ text) ++ rest)) ≡ text)

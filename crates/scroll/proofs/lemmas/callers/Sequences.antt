@@ -1,15 +1,21 @@
 -- Lemmas for callers: parts that were written one after another read back, each at its offset.
-use Rattle.std.proofs.Common.{◌≡◌, ℕ, ℤ, ◌+◌, ◌≤◌, ◌++◌, List, [], length, drop, IsUtf8, refl, sym, ap, append_assoc, length-append, length-drop, arith, ◌∙◌}
+use Rattle.std.proofs.Common.{◌≡◌, ◌≢◌, ℕ, ℤ, ◌+◌, ◌*◌, ◌≤◌, ◌++◌, List, [], ◌∷◌, length, take, drop, IsUtf8, refl, sym, ap, append_assoc, length-append, length-drop, arith, ◌∙◌}
 use Rattle.std.proofs.lemmas.Grind.{common_steps}
-use Rattle.std.proofs.lemmas.List.{append-nil, drop-drop, drop_at}
-use Rattle.scroll.specs.Bytes.{ReadsFront, WritesFront}
+use Rattle.std.proofs.lemmas.List.{append-nil, drop-drop, drop_at, take_at, get_or_append_left, get_or-replicate, length-replicate}
+use Rattle.std.specs.List.{All, flat_map}
+use Rattle.scroll.specs.Arrays.{MakesArray}
+use Rattle.scroll.specs.Bytes.{ReadsFixed, ReadsPrefix, WritesPrefix}
+use Rattle.scroll.specs.CStrings.{ReadsCString}
+use Rattle.scroll.specs.Fixed.{exactly}
 use Rattle.scroll.specs.Leb128.{Counted, ReadsCountedUleb, ReadsCountedSleb}
-use Rattle.scroll.specs.LebWrites.{uleb_text, sleb_text}
-use Rattle.scroll.specs.Spelling.{HasSpelling, HasSignedSpelling}
+use Rattle.scroll.specs.Encoding.{uleb_text, sleb_text, HasEncoding, HasSignedEncoding}
 use Rattle.scroll.specs.Reads.{ReadsAt}
-use Rattle.scroll.specs.Texts.{ReadsSlice, ReadsText}
+use Rattle.scroll.specs.Texts.{index_of, ReadsSlice, ReadsText}
+use Rattle.scroll.specs.Zeros.{zeros, ReadsZeros}
+use Rattle.scroll.specs.lemmas.FixedLemmas.{array-back}
+use Rattle.scroll.proofs.lemmas.callers.RoundTrips.{offset-behind}
 use Rattle.scroll.specs.declared.ctx.str_ctx.StrCtx.TheVariants.{Length}
-use Rattle.scroll.proofs.lemmas.leb128.SpellingLemmas.{written_reads, unsigned-form, signed-form}
+use Rattle.scroll.proofs.lemmas.EncodingLemmas.{written_reads, unsigned-form, signed-form}
 
 -- from the offset `at` on, the bytes of `s` are `rest`
 pub record Rest (at : ℕ) (rest s : List ℕ) : Type 0 where
@@ -29,6 +35,10 @@ rest-next {at} w b t rest {s} len h =
       is = sym (drop-drop w at s) ∙ ap (drop w) here ∙ drop_at b (t ++ rest) w len;
     }
 
+-- where the next is several, so is the first of these
+pub rest-open : {at : ℕ} (b t u rest : List ℕ) {s : List ℕ} → Rest at (((b ++ t) ++ u) ++ rest) s → Rest at ((b ++ (t ++ u)) ++ rest) s
+rest-open b t u rest h = record { inside = h.inside; is = h.is ∙ ap (λ l. l ++ rest) (append_assoc b t u) }
+
 -- the last part
 pub rest-last : {at : ℕ} (b rest : List ℕ) {s : List ℕ} → Rest at (b ++ rest) s → Rest at ((b ++ []) ++ rest) s
 rest-last b rest h = record { inside = h.inside; is = h.is ∙ ap (λ l. l ++ rest) (sym (append-nil b)) }
@@ -45,11 +55,20 @@ rest-reads reads v n {at} b t rest {s} back h = record {
 }
 
 -- bytes that were written over the start of a rest read back there
-pub written-reads : {V : Type 0} (reads : List ℕ → V → ℕ → Type 0) (v : V) (bytes : List ℕ) (place n : ℕ) (old new : List ℕ) → ((rest : List ℕ) → reads (bytes ++ rest) v (length bytes)) → place ≤ length old → length new ≡ length old → WritesFront (length bytes) bytes (drop place old) (drop place new) n → ReadsAt reads new place v n
-written-reads reads v bytes place n old new back inside len h = record {
+pub written-reads : {V : Type 0} (reads : List ℕ → V → ℕ → Type 0) (v : V) (bytes : List ℕ) (offset n : ℕ) (old new : List ℕ) → ((rest : List ℕ) → reads (bytes ++ rest) v (length bytes)) → offset ≤ length old → length new ≡ length old → WritesPrefix (length bytes) bytes (drop offset old) (drop offset new) n → ReadsAt reads new offset v n
+written-reads reads v bytes offset n old new back inside len h = record {
   inside = omega (arith, inside, len);
-  value = rw (h.after, h.size) (back (drop (length bytes) (drop place old)));
+  value = rw (h.after, h.size) (back (drop (length bytes) (drop offset old)));
 }
+
+-- where the parts after some begin, these end
+pub rest-before : {at : ℕ} (b u rest : List ℕ) {s : List ℕ} → Rest 0 ((b ++ u) ++ rest) s → Rest at (u ++ rest) s → length b ≡ at
+rest-before {at} b u rest {s} whole h =
+    omega (arith, h.inside, ap length h.is, length-drop at s, ap length (whole.is ∙ append_assoc b u rest), length-append b (u ++ rest))
+
+-- what holds of whatever begins with some bytes holds where they are
+pub rest-makes : (P : List ℕ → Type 0) {at : ℕ} (b t rest : List ℕ) {s : List ℕ} → ((rest : List ℕ) → P (b ++ rest)) → Rest at ((b ++ t) ++ rest) s → P (drop at s)
+rest-makes P b t rest begins h = rw (h.is ∙ append_assoc b t rest) (begins (t ++ rest))
 
 -- a slice reads back
 pub slice-begins : (bytes : List ℕ) (n : ℕ) → length bytes ≡ n → (rest : List ℕ) → ReadsSlice n (bytes ++ rest) bytes n
@@ -58,16 +77,48 @@ slice-begins bytes n size rest = record { room = omega (arith, size, length-appe
 -- so does a text
 pub text-begins : (bytes : List ℕ) (n : ℕ) → length bytes ≡ n → IsUtf8 bytes → (rest : List ℕ) → ReadsText (Length n) (bytes ++ rest) bytes n
 text-begins bytes n size utf8 rest =
-    let front = slice-begins bytes n size rest in
-    record { room = front.room; front = front.value; utf8 = utf8; size = omega arith; there = _ }
+    let prefix = slice-begins bytes n size rest in
+    record { room = prefix.room; prefix = prefix.value; utf8 = utf8; size = omega arith; there = _ }
 
 -- and a value of a fixed size that begins its bytes
-pub value-begins : {X : Type 0} (value_of : List ℕ → X) (x : X) (w : ℕ) (bytes : List ℕ) → length bytes ≡ w → ((rest : List ℕ) → value_of (bytes ++ rest) ≡ x) → (rest : List ℕ) → ReadsFront w value_of (bytes ++ rest) x w
+pub value-begins : {X : Type 0} (value_of : List ℕ → X) (x : X) (w : ℕ) (bytes : List ℕ) → length bytes ≡ w → ((rest : List ℕ) → value_of (bytes ++ rest) ≡ x) → (rest : List ℕ) → ReadsPrefix w value_of (bytes ++ rest) x w
 value-begins value_of x w bytes size begins rest = record { room = omega (arith, size, length-append bytes rest); value = sym (begins rest); size = refl }
 
 -- a number in LEB128
-pub uleb-begins : (x : Counted ℕ) → HasSpelling x.value x.count → (rest : List ℕ) → ReadsCountedUleb (uleb_text x ++ rest) x x.count
+pub uleb-begins : (x : Counted ℕ) → HasEncoding x.value x.count → (rest : List ℕ) → ReadsCountedUleb (uleb_text x ++ rest) x x.count
 uleb-begins x has rest = (written_reads unsigned-form x.value x.count (uleb_text x ++ rest) rest has refl, refl)
 
-pub sleb-begins : (x : Counted ℤ) → HasSignedSpelling x.value x.count → (rest : List ℕ) → ReadsCountedSleb (sleb_text x ++ rest) x x.count
+pub sleb-begins : (x : Counted ℤ) → HasSignedEncoding x.value x.count → (rest : List ℕ) → ReadsCountedSleb (sleb_text x ++ rest) x x.count
 sleb-begins x has rest = (written_reads signed-form x.value x.count (sleb_text x ++ rest) rest has refl, refl)
+
+-- a value of a fixed size that is made of whatever begins with its bytes
+pub fixed-begins : {X : Type 0} (makes : List ℕ → X → Type 0) (x : X) (w : ℕ) (bytes : List ℕ) → length bytes ≡ w → ((rest : List ℕ) → makes (bytes ++ rest) x) → (rest : List ℕ) → ReadsFixed w makes (bytes ++ rest) x w
+fixed-begins makes x w bytes size begins rest = record { room = omega (arith, size, length-append bytes rest); value = begins rest; size = refl }
+
+-- an array of such values
+pub array-begins : {V : Type 0} (w n : ℕ) (bytes : V → List ℕ) (makes : List ℕ → V → Type 0) (fits : V → Type 0) → ((x : V) → length (bytes x) ≡ w) → ((x : V) (rest : List ℕ) → fits x → makes (bytes x ++ rest) x) → (xs : List V) → length xs ≡ n → All fits xs → (rest : List ℕ) → MakesArray w makes n (exactly (w * n) (flat_map bytes xs) ++ rest) xs
+array-begins w n bytes makes fits len begins xs size all rest =
+    array-back w n bytes (λ s at x. makes (drop at s) x) fits len
+    (λ x prefix rest h. rw (drop_at prefix (bytes x ++ rest) (length prefix) refl) (begins x rest h)) xs [] rest size all
+
+-- a C string
+pub c_string-begins : (text rest : List ℕ) → All (λ b. b ≢ 0) text → ReadsCString ((text ++ 0 ∷ []) ++ rest) text (length text + 1)
+c_string-begins text rest none =
+    let split : (text ++ 0 ∷ []) ++ rest ≡ text ++ 0 ∷ rest = append_assoc text (0 ∷ []) rest in
+    let index : index_of 0 ((text ++ 0 ∷ []) ++ rest) ≡ length text = ap (index_of 0) split ∙ offset-behind 0 text rest none in
+    record {
+      found = omega (arith, index, ap length split, length-append text (0 ∷ rest));
+      value = sym (ap (λ n. take n ((text ++ 0 ∷ []) ++ rest)) index ∙ ap (take (length text)) split ∙ take_at text (0 ∷ rest) (length text) refl);
+      size = omega (arith, index);
+    }
+
+zeros-begin-all : (n : ℕ) (rest : List ℕ) → ReadsZeros n (zeros n ++ rest) n
+zeros-begin-all n rest = record {
+  room = omega (arith, length-append (zeros n) rest, length-replicate {A = ℕ} n 0);
+  zero = λ i l. get_or_append_left (zeros n) rest 0 i (omega (arith, l, length-replicate {A = ℕ} n 0)) ∙ get_or-replicate n i 0 0 l;
+  size = refl;
+}
+
+-- zeros
+pub zeros-begin : (n m : ℕ) → n ≡ m → (rest : List ℕ) → ReadsZeros m (zeros n ++ rest) m
+zeros-begin n m is rest = rw (← is) (zeros-begin-all n rest)

@@ -3,15 +3,13 @@ use Rattle.std.proofs.Common.{◌≡◌, ℕ, ◌+◌, ◌-◌, ◌<◌, ◌≤�
 use Rattle.std.proofs.lemmas.List.{append-nil, flat_map_more, take-append-drop, length-take-le, take_at, take_more, drop_at, drop-drop, get_or-drop}
 use Rattle.std.proofs.lemmas.List.Elements.{All-from_get_or}
 use Rattle.std.specs.List.{All, flat_map, slice_range}
-use Rattle.scroll.specs.lemmas.Frames.{length-spelling}
-use Rattle.scroll.specs.Bytes.{WritesFront, LeavesShort}
+use Rattle.scroll.specs.lemmas.Frames.{length-encoding}
+use Rattle.scroll.specs.Bytes.{WritesPrefix, FailsShort}
 use Rattle.scroll.specs.Errors.{IsBadOffset}
 use Rattle.scroll.specs.Leb128.{Counted, ReadsUleb, ReadsSleb, ReadsCountedUleb, ReadsCountedSleb}
-use Rattle.scroll.specs.LebWrites.{uleb_text, sleb_text, WritesUleb, WritesSleb}
+use Rattle.scroll.specs.Encoding.{uleb_text, sleb_text, WritesUleb, WritesSleb, BeginsWith, BeginsWithSigned, encoding, unsigned_form}
 use Rattle.scroll.specs.Numbers.{WritesNumber}
-use Rattle.scroll.specs.Reads.{ReadsBetween}
-use Rattle.scroll.specs.Spans.{Stands, Puts, PutsFront}
-use Rattle.scroll.specs.Spelling.{BeginsWith, BeginsWithSigned, spelling, unsigned_form}
+use Rattle.scroll.specs.Reads.{ReadsBetween, Stands, Puts, PutsPrefix}
 use Rattle.scroll.specs.Writes.{WritesAt, RefusesWriteAt}
 use Rattle.scroll.specs.declared.endian.Endian.{Endian}
 use Rattle.scroll.specs.declared.error.Error.{Error}
@@ -34,8 +32,8 @@ pub stands-range : {t buffer : List ℕ} {a b : ℕ} → Stands t buffer a b →
 stands-range {t} {buffer} {a} {b} h = ap (take (b - a)) h.is ∙ take_at t (drop b buffer) (b - a) (omega (arith, h.size))
 
 -- the first n bytes at an offset
-pub front-stands : {t buffer : List ℕ} {a b : ℕ} (n : ℕ) → a ≤ length buffer → n ≤ length (drop a buffer) → take n (drop a buffer) ≡ t → b ≡ a + n → Stands t buffer a b
-front-stands {t} {buffer} {a} {b} n inside room is to =
+pub prefix-stands : {t buffer : List ℕ} {a b : ℕ} (n : ℕ) → a ≤ length buffer → n ≤ length (drop a buffer) → take n (drop a buffer) ≡ t → b ≡ a + n → Stands t buffer a b
+prefix-stands {t} {buffer} {a} {b} n inside room is to =
     let len : length t ≡ n = sym (ap length is) ∙ length-take-le n (drop a buffer) room in
     let rest : drop n (drop a buffer) ≡ drop b buffer = drop-drop n a buffer ∙ ap (λ k. drop k buffer) (sym to) in
     record {
@@ -44,23 +42,23 @@ front-stands {t} {buffer} {a} {b} n inside room is to =
       is = sym (take-append-drop n (drop a buffer)) ∙ rw (is, rest) refl;
     }
 
-pub bytes-below : (place : ℕ) (s : List ℕ) → ((i : ℕ) → Fits w8 (slice_index s i)) → All (λ b. b < 256) (drop place s)
-bytes-below place s h = All-from_get_or (λ b. b < 256) (drop place s) 0 (λ i l. rw (get_or-drop place s i 0) (omega (arith, (h (place + i)).fits)))
+pub bytes-below : (offset : ℕ) (s : List ℕ) → ((i : ℕ) → Fits w8 (slice_index s i)) → All (λ b. b < 256) (drop offset s)
+bytes-below offset s h = All-from_get_or (λ b. b < 256) (drop offset s) 0 (λ i l. rw (get_or-drop offset s i 0) (omega (arith, (h (offset + i)).fits)))
 
--- a number in LEB128 that was read is there as its encoding; `law` is what `unsigned_reads_are_spellings` says
+-- a number in LEB128 that was read is there as its encoding; `law` is what `unsigned_reads_are_encodings` says
 pub uleb-stands : {buffer : List ℕ} {a b : ℕ} {x : Counted ℕ} → ((s : List ℕ) (v n : ℕ) → All (λ b. b < 256) s → ReadsUleb s v n ↔ BeginsWith s v n)
     → ((i : ℕ) → Fits w8 (slice_index buffer i)) → ReadsBetween ReadsCountedUleb buffer a b x → Stands (uleb_text x) buffer a b
 uleb-stands {buffer} {a} {b} {x} law bytes r =
     let read = r.2.value in
-    let front = ((law (drop a buffer) x.value r.0 (bytes-below a buffer bytes)).0 read.0).front in
-    front-stands r.0 r.2.inside (omega (arith, read.0.size, read.0.complete.0)) (front ∙ ap (spelling x.value) (sym read.1)) r.1
+    let prefix = ((law (drop a buffer) x.value r.0 (bytes-below a buffer bytes)).0 read.0).prefix in
+    prefix-stands r.0 r.2.inside (omega (arith, read.0.size, read.0.complete.0)) (prefix ∙ ap (encoding x.value) (sym read.1)) r.1
 
 pub sleb-stands : {buffer : List ℕ} {a b : ℕ} {x : Counted ℤ} → ((s : List ℕ) (v : ℤ) (n : ℕ) → All (λ b. b < 256) s → ReadsSleb s v n ↔ BeginsWithSigned s v n)
     → ((i : ℕ) → Fits w8 (slice_index buffer i)) → ReadsBetween ReadsCountedSleb buffer a b x → Stands (sleb_text x) buffer a b
 sleb-stands {buffer} {a} {b} {x} law bytes r =
     let read = r.2.value in
-    let front = ((law (drop a buffer) x.value r.0 (bytes-below a buffer bytes)).0 read.0).front in
-    front-stands r.0 r.2.inside (omega (arith, read.0.size, read.0.complete.0)) (front ∙ ap (λ k. spelling (unsigned_form x.value k) k) (sym read.1)) r.1
+    let prefix = ((law (drop a buffer) x.value r.0 (bytes-below a buffer bytes)).0 read.0).prefix in
+    prefix-stands r.0 r.2.inside (omega (arith, read.0.size, read.0.complete.0)) (prefix ∙ ap (λ k. encoding (unsigned_form x.value k) k) (sym read.1)) r.1
 
 -- nothing is written yet
 pub puts-none : {old : List ℕ} {from : ℕ} → from ≤ length old → Puts [] old old from from
@@ -70,11 +68,11 @@ puts-none {old} {from} h = record { inside = h; size = omega arith; is = sym (ta
 puts-parts : {t a b : List ℕ} {p q : ℕ} → Puts t a b p q → (take q b ≡ take p a ++ t) × (drop q b ≡ drop q a) × (length b ≡ length a)
 puts-parts {t} {a} {b} {p} {q} h =
     let first : length (take p a) ≡ p = length-take-le p a (omega (arith, h.inside, h.size)) in
-    let front : length (take p a ++ t) ≡ q = omega (arith, first, h.size, length-append (take p a) t) in
+    let prefix : length (take p a ++ t) ≡ q = omega (arith, first, h.size, length-append (take p a) t) in
     let split : b ≡ (take p a ++ t) ++ drop q a = h.is ∙ sym (append_assoc (take p a) t (drop q a)) in (
-      ap (take q) split ∙ take_at (take p a ++ t) (drop q a) q front,
-      ap (drop q) split ∙ drop_at (take p a ++ t) (drop q a) q front,
-      omega (arith, ap length split, length-append (take p a ++ t) (drop q a), front, length-drop q a, h.inside),
+      ap (take q) split ∙ take_at (take p a ++ t) (drop q a) q prefix,
+      ap (drop q) split ∙ drop_at (take p a ++ t) (drop q a) q prefix,
+      omega (arith, ap length split, length-append (take p a ++ t) (drop q a), prefix, length-drop q a, h.inside),
     )
 
 -- bytes that are written after others
@@ -104,7 +102,7 @@ pub puts-back : {t old new source : List ℕ} {a b p q : ℕ} → Puts t old new
 puts-back w s = stands-range (puts-stands w) ∙ sym (stands-range s)
 
 -- a write of one value
-pub puts-write : {t old new : List ℕ} {w n p q : ℕ} → length t ≡ w → WritesAt (WritesFront w t) old p new n → q ≡ p + n → Puts t old new p q
+pub puts-write : {t old new : List ℕ} {w n p q : ℕ} → length t ≡ w → WritesAt (WritesPrefix w t) old p new n → q ≡ p + n → Puts t old new p q
 puts-write {t} {old} {new} {w} {n} {p} {q} len h to =
     let next : p + w ≡ q = omega (arith, to, h.after.size) in
     let rest : drop w (drop p old) ≡ drop q old = drop-drop w p old ∙ ap (λ k. drop k old) next in
@@ -123,16 +121,16 @@ puts-at t {old} {new} {w} {p} len room before after = record {
 }
 
 -- the bytes that were written from the start of a buffer
-pub puts-front : {t old new : List ℕ} {q : ℕ} → Puts t old new 0 q → take q new ≡ t
-puts-front h = (puts-parts h).0
+pub puts-prefix : {t old new : List ℕ} {q : ℕ} → Puts t old new 0 q → take q new ≡ t
+puts-prefix h = (puts-parts h).0
 
 -- a write of one value that fails
-pub front-write : {t old new : List ℕ} {w p : ℕ} {e : Error} → length t ≡ w → p ≤ length old → RefusesWriteAt (LeavesShort w) IsBadOffset old p new e → PutsFront t old new p e
-front-write len inside (inl past) = absurd (omega (arith, past.past, inside))
-front-write {t} {old} {new} {w} {p} {e} len inside (inr h) =
+pub prefix-write : {t old new : List ℕ} {w p : ℕ} {e : Error} → length t ≡ w → p ≤ length old → RefusesWriteAt (FailsShort w) IsBadOffset old p new e → PutsPrefix t old new p e
+prefix-write len inside (inl past) = absurd (omega (arith, past.past, inside))
+prefix-write {t} {old} {new} {w} {p} {e} len inside (inr h) =
     let same : new ≡ old = sym (take-append-drop p new) ∙ rw (h.before, h.after.same) (take-append-drop p old) in
     record {
-      front = [];
+      prefix = [];
       part = t;
       rest = [];
       parts = sym (append-nil t);
@@ -144,51 +142,51 @@ front-write {t} {old} {new} {w} {p} {e} len inside (inr h) =
 
 -- a number in LEB128 that was written, and one whose write failed
 length-uleb_text : (x : Counted ℕ) → length (uleb_text x) ≡ x.count
-length-uleb_text x = length-spelling x.value x.count
+length-uleb_text x = length-encoding x.value x.count
 
 pub uleb-puts : (x : Counted ℕ) {old new : List ℕ} {n p q : ℕ} → WritesAt (WritesUleb x) old p new n → q ≡ p + n → Puts (uleb_text x) old new p q
 uleb-puts x = puts-write (length-uleb_text x)
 
-pub uleb-front : (x : Counted ℕ) {old new : List ℕ} {p : ℕ} {e : Error} → p ≤ length old → RefusesWriteAt (LeavesShort x.count) IsBadOffset old p new e → PutsFront (uleb_text x) old new p e
-uleb-front x = front-write (length-uleb_text x)
+pub uleb-prefix : (x : Counted ℕ) {old new : List ℕ} {p : ℕ} {e : Error} → p ≤ length old → RefusesWriteAt (FailsShort x.count) IsBadOffset old p new e → PutsPrefix (uleb_text x) old new p e
+uleb-prefix x = prefix-write (length-uleb_text x)
 
 length-sleb_text : (x : Counted ℤ) → length (sleb_text x) ≡ x.count
-length-sleb_text x = length-spelling (unsigned_form x.value x.count) x.count
+length-sleb_text x = length-encoding (unsigned_form x.value x.count) x.count
 
 pub sleb-puts : (x : Counted ℤ) {old new : List ℕ} {n p q : ℕ} → WritesAt (WritesSleb x) old p new n → q ≡ p + n → Puts (sleb_text x) old new p q
 sleb-puts x = puts-write (length-sleb_text x)
 
-pub sleb-front : (x : Counted ℤ) {old new : List ℕ} {p : ℕ} {e : Error} → p ≤ length old → RefusesWriteAt (LeavesShort x.count) IsBadOffset old p new e → PutsFront (sleb_text x) old new p e
-sleb-front x = front-write (length-sleb_text x)
+pub sleb-prefix : (x : Counted ℤ) {old new : List ℕ} {p : ℕ} {e : Error} → p ≤ length old → RefusesWriteAt (FailsShort x.count) IsBadOffset old p new e → PutsPrefix (sleb_text x) old new p e
+sleb-prefix x = prefix-write (length-sleb_text x)
 
 -- a byte that was written, and one whose write failed
 pub byte-puts : (order : Endian) {x : ℕ} {old new : List ℕ} {n p q : ℕ} → x < 256 → WritesAt (WritesNumber 1 order x) old p new n → q ≡ p + n → Puts (x ∷ []) old new p q
 byte-puts order {x} small h to = puts-write refl (rw (one-byte order x small) at h) to
 
-pub byte-front : {x : ℕ} {old new : List ℕ} {p : ℕ} {e : Error} → p ≤ length old → RefusesWriteAt (LeavesShort 1) IsBadOffset old p new e → PutsFront (x ∷ []) old new p e
-byte-front = front-write refl
+pub byte-prefix : {x : ℕ} {old new : List ℕ} {p : ℕ} {e : Error} → p ≤ length old → RefusesWriteAt (FailsShort 1) IsBadOffset old p new e → PutsPrefix (x ∷ []) old new p e
+byte-prefix = prefix-write refl
 
 -- a write that fails before further bytes, and one that fails after bytes that were written
-pub front-first : {t old new : List ℕ} {p : ℕ} {e : Error} (u : List ℕ) → PutsFront t old new p e → PutsFront (t ++ u) old new p e
-front-first {t} u h = record {
-  front = h.front;
+pub prefix-first : {t old new : List ℕ} {p : ℕ} {e : Error} (u : List ℕ) → PutsPrefix t old new p e → PutsPrefix (t ++ u) old new p e
+prefix-first {t} u h = record {
+  prefix = h.prefix;
   part = h.part;
   rest = h.rest ++ u;
-  parts = ap (λ s. s ++ u) h.parts ∙ append_assoc h.front (h.part ++ h.rest) u ∙ ap (λ s. h.front ++ s) (append_assoc h.part h.rest u);
+  parts = ap (λ s. s ++ u) h.parts ∙ append_assoc h.prefix (h.part ++ h.rest) u ∙ ap (λ s. h.prefix ++ s) (append_assoc h.part h.rest u);
   to = h.to;
   put = h.put;
   short = h.short;
   error = h.error;
 }
 
-pub front-next : {t u a b c : List ℕ} {p q : ℕ} {e : Error} → Puts t a b p q → PutsFront u b c q e → PutsFront (t ++ u) a c p e
-front-next {t} {u} x h =
+pub prefix-next : {t u a b c : List ℕ} {p q : ℕ} {e : Error} → Puts t a b p q → PutsPrefix u b c q e → PutsPrefix (t ++ u) a c p e
+prefix-next {t} {u} x h =
     let len = (puts-parts x).2 in
     record {
-      front = t ++ h.front;
+      prefix = t ++ h.prefix;
       part = h.part;
       rest = h.rest;
-      parts = ap (λ s. t ++ s) h.parts ∙ sym (append_assoc t h.front (h.part ++ h.rest));
+      parts = ap (λ s. t ++ s) h.parts ∙ sym (append_assoc t h.prefix (h.part ++ h.rest));
       to = h.to;
       put = puts-next x h.put;
       short = omega (arith, h.short, len);
@@ -203,4 +201,4 @@ puts-copy f xs i d {a} {b} {c} {p} {q} {r} h before wrote =
 
 -- for functions that write one part of a text after another: `#[tactic(auto, using(scroll::proofs::lemmas::callers::SpanLemmas::parts))]`
 -- tries these on the error of each part
-pub ruleset parts = (front-first, front-next, uleb-front, sleb-front, byte-front)
+pub ruleset parts = (prefix-first, prefix-next, uleb-prefix, sleb-prefix, byte-prefix)

@@ -6,93 +6,92 @@ use Rattle.std.proofs.lemmas.Grind.{take_at_read, flat_map-append}
 use Rattle.std.proofs.lemmas.List.{append-nil, flat_map_more, take_all, take-append-drop}
 use Rattle.std.proofs.lemmas.List.Elements.{All-push}
 use Rattle.std.specs.List.{All, flat_map, slice_get}
-use Rattle.scroll.specs.Bytes.{ReadsFront, RefusesShort}
+use Rattle.scroll.specs.Bytes.{ReadsPrefix, RefusesShort}
 use Rattle.scroll.specs.Errors.{IsBadOffset}
-use Rattle.scroll.specs.Reads.{ReadsAll, ReadsBetween, RefusesAt}
-use Rattle.scroll.specs.Spans.{Stands, Puts, PutsFront}
+use Rattle.scroll.specs.Reads.{ReadsAll, ReadsBetween, RefusesAt, Stands, Puts, PutsPrefix}
 use Rattle.scroll.specs.declared.error.Error.{Error}
 use Rattle.scroll.proofs.lemmas.callers.Cursors.{ReadsAll-next, ReadsAll-at}
-use Rattle.scroll.proofs.lemmas.callers.SpanLemmas.{stands-next, puts-next, front-first, front-next}
+use Rattle.scroll.proofs.lemmas.callers.SpanLemmas.{stands-next, puts-next, prefix-first, prefix-next}
 
--- the texts of elements, and of one more, after a front
-text-more : {X : Type 0} (text : X → List ℕ) (front : List ℕ) (xs : List X) (x : X) → front ++ flat_map text (xs ++ x ∷ []) ≡ (front ++ flat_map text xs) ++ text x
-text-more text front xs x = ap (λ s. front ++ s) (sym (flat_map_more text [] xs x)) ∙ sym (append_assoc front (flat_map text xs) (text x))
+-- the texts of elements, and of one more, after a prefix
+text-more : {X : Type 0} (text : X → List ℕ) (prefix : List ℕ) (xs : List X) (x : X) → prefix ++ flat_map text (xs ++ x ∷ []) ≡ (prefix ++ flat_map text xs) ++ text x
+text-more text prefix xs x = ap (λ s. prefix ++ s) (sym (flat_map_more text [] xs x)) ∙ sym (append_assoc prefix (flat_map text xs) (text x))
 
-item-more : {X : Type 0} (text : X → List ℕ) (front : List ℕ) (xs : List X) (i : ℕ) (x : X) → i < length xs → x ≡ get_or xs i x
-    → front ++ flat_map text (take (i + 1) xs) ≡ (front ++ flat_map text (take i xs)) ++ text x
-item-more text front xs i x inside is =
-    ap (λ l. front ++ flat_map text l) ((take_at_read xs i x inside).1 ∙ ap (λ y. take i xs ++ y ∷ []) (sym is)) ∙ text-more text front (take i xs) x
+item-more : {X : Type 0} (text : X → List ℕ) (prefix : List ℕ) (xs : List X) (i : ℕ) (x : X) → i < length xs → x ≡ get_or xs i x
+    → prefix ++ flat_map text (take (i + 1) xs) ≡ (prefix ++ flat_map text (take i xs)) ++ text x
+item-more text prefix xs i x inside is =
+    ap (λ l. prefix ++ flat_map text l) ((take_at_read xs i x inside).1 ∙ ap (λ y. take i xs ++ y ∷ []) (sym is)) ∙ text-more text prefix (take i xs) x
 
--- elements that were read: their texts follow a front in the buffer, and each has a property
-pub record StandsEach {X : Type 0} (text : X → List ℕ) (P : X → Type 0) (front buffer : List ℕ) (from to : ℕ) (xs : List X) : Type 0 where
-  pub stands : Stands (front ++ flat_map text xs) buffer from to
+-- elements that were read: their texts follow a prefix in the buffer, and each has a property
+pub record StandsEach {X : Type 0} (text : X → List ℕ) (P : X → Type 0) (prefix buffer : List ℕ) (from to : ℕ) (xs : List X) : Type 0 where
+  pub stands : Stands (prefix ++ flat_map text xs) buffer from to
   pub each : All P xs
 
 -- one more
-pub read-next : {X : Type 0} {text : X → List ℕ} {P : X → Type 0} {front buffer : List ℕ} {from to next : ℕ} {xs : List X} {x : X}
-    → StandsEach text P front buffer from to xs → Stands (text x) buffer to next → P x → StandsEach text P front buffer from next (xs ++ x ∷ [])
-read-next {X} {text} {P} {front} {buffer} {from} {to} {next} {xs} {x} h read is = record {
-  stands = rw (text-more text front xs x) (stands-next h.stands read);
+pub read-next : {X : Type 0} {text : X → List ℕ} {P : X → Type 0} {prefix buffer : List ℕ} {from to next : ℕ} {xs : List X} {x : X}
+    → StandsEach text P prefix buffer from to xs → Stands (text x) buffer to next → P x → StandsEach text P prefix buffer from next (xs ++ x ∷ [])
+read-next {X} {text} {P} {prefix} {buffer} {from} {to} {next} {xs} {x} h read is = record {
+  stands = rw (text-more text prefix xs x) (stands-next h.stands read);
   each = All-push P xs x h.each is;
 }
 
 -- elements of w bytes each that were read, and the offset after them
 pub record ReadsTable {X : Type 0} (f : List ℕ → X) (w : ℕ) (buffer : List ℕ) (from to : ℕ) (xs : List X) : Type 0 where
-  pub entries : ReadsAll (ReadsFront w f) buffer from xs to
-  pub place : to ≡ from + w * length xs
+  pub entries : ReadsAll (ReadsPrefix w f) buffer from xs to
+  pub offset : to ≡ from + w * length xs
 
 -- one more
 pub table-next : {X : Type 0} {f : List ℕ → X} {w : ℕ} {buffer : List ℕ} {from to next : ℕ} {xs : List X} {x : X}
-    → ReadsTable f w buffer from to xs → ReadsBetween (ReadsFront w f) buffer to next x → ReadsTable f w buffer from next (xs ++ x ∷ [])
+    → ReadsTable f w buffer from to xs → ReadsBetween (ReadsPrefix w f) buffer to next x → ReadsTable f w buffer from next (xs ++ x ∷ [])
 table-next {X} {f} {w} {buffer} {from} {to} {next} {xs} {x} h read =
     let more : length (xs ++ x ∷ []) ≡ suc (length xs) = omega (arith, length-append xs (x ∷ [])) in
     record {
-      entries = ReadsAll-next (ReadsFront w f) buffer from xs to next x h.entries read;
-      place = rw more (omega (arith, h.place, read.1, read.2.value.size, mul-suc w (length xs)));
+      entries = ReadsAll-next (ReadsPrefix w f) buffer from xs to next x h.entries read;
+      offset = rw more (omega (arith, h.offset, read.1, read.2.value.size, mul-suc w (length xs)));
     }
 
 -- the read of one fails: the buffer ends before it does
 pub table-cut : {X : Type 0} {f : List ℕ → X} {w : ℕ} {buffer : List ℕ} {from to : ℕ} {xs : List X} {e : Error}
     → ReadsTable f w buffer from to xs → RefusesAt (RefusesShort w) IsBadOffset buffer to e → length buffer < from + w * suc (length xs)
-table-cut {X} {f} {w} {buffer} {from} {to} {xs} h (inl past) = omega (arith, h.place, past.0, mul-suc w (length xs))
-table-cut {X} {f} {w} {buffer} {from} {to} {xs} h (inr cut) = omega (arith, h.place, cut.0, cut.1.short, length-drop to buffer, mul-suc w (length xs))
+table-cut {X} {f} {w} {buffer} {from} {to} {xs} h (inl past) = omega (arith, h.offset, past.0, mul-suc w (length xs))
+table-cut {X} {f} {w} {buffer} {from} {to} {xs} h (inr cut) = omega (arith, h.offset, cut.0, cut.1.short, length-drop to buffer, mul-suc w (length xs))
 
 -- each is at its offset
 pub table-at : {X : Type 0} {f : List ℕ → X} {w : ℕ} {buffer : List ℕ} {from to : ℕ} {xs : List X} → ReadsTable f w buffer from to xs
     → (i : ℕ) → i < length xs → slice_get xs i ≡ Some (f (drop (from + w * i) buffer))
 table-at {X} {f} {w} {buffer} {from} {to} {xs} h = ReadsAll-at f w buffer from xs to h.entries
 
--- elements that are written: the texts of the first i of them are written after a front
-pub record PutsEach {X : Type 0} (text : X → List ℕ) (front : List ℕ) (xs : List X) (i : ℕ) (old now : List ℕ) (from to : ℕ) : Type 0 where
-  pub put : Puts (front ++ flat_map text (take i xs)) old now from to
+-- elements that are written: the texts of the first i of them are written after a prefix
+pub record PutsEach {X : Type 0} (text : X → List ℕ) (prefix : List ℕ) (xs : List X) (i : ℕ) (old now : List ℕ) (from to : ℕ) : Type 0 where
+  pub put : Puts (prefix ++ flat_map text (take i xs)) old now from to
 
 -- Of a loop `for x in &xs` over a vector, `same` is the clause `value` of the call that lends its slice, as
 -- `c.deref-x-items.ensures.value`; over a slice it is `refl`.
-module _ {X : Type 0} {text : X → List ℕ} {front : List ℕ} {xs : List X} {old now : List ℕ} {from to : ℕ} where
+module _ {X : Type 0} {text : X → List ℕ} {prefix : List ℕ} {xs : List X} {old now : List ℕ} {from to : ℕ} where
   -- none yet
-  pub written-none : Puts front old now from to → PutsEach text front xs 0 old now from to
-  written-none h = record { put = rw (append-nil front) h }
+  pub written-none : Puts prefix old now from to → PutsEach text prefix xs 0 old now from to
+  written-none h = record { put = rw (append-nil prefix) h }
 
   -- one more
   pub written-next : {ys : List X} {i : ℕ} {x : X} {new : List ℕ} {next : ℕ} → ys ≡ xs → i < length ys → x ≡ get_or ys i x
-      → PutsEach text front xs i old now from to → Puts (text x) now new to next → PutsEach text front xs (i + 1) old new from next
-  written-next {ys} {i} {x} same inside is h wrote = record { put = rw (item-more text front xs i x (rw same at inside) (rw same at is)) (puts-next h.put wrote) }
+      → PutsEach text prefix xs i old now from to → Puts (text x) now new to next → PutsEach text prefix xs (i + 1) old new from next
+  written-next {ys} {i} {x} same inside is h wrote = record { put = rw (item-more text prefix xs i x (rw same at inside) (rw same at is)) (puts-next h.put wrote) }
 
   -- all
-  pub written-all : {ys : List X} {i : ℕ} → ys ≡ xs → length ys ≤ i → PutsEach text front xs i old now from to → Puts (front ++ flat_map text xs) old now from to
-  written-all {ys} {i} same end h = subst (λ l. Puts (front ++ flat_map text l) old now from to) (take_all i xs (rw same at end)) h.put
+  pub written-all : {ys : List X} {i : ℕ} → ys ≡ xs → length ys ≤ i → PutsEach text prefix xs i old now from to → Puts (prefix ++ flat_map text xs) old now from to
+  written-all {ys} {i} same end h = subst (λ l. Puts (prefix ++ flat_map text l) old now from to) (take_all i xs (rw same at end)) h.put
 
   -- the write of one fails
   pub written-cut : {ys : List X} {i : ℕ} {x : X} {new : List ℕ} {e : Error} → ys ≡ xs → i < length ys → x ≡ get_or ys i x
-      → PutsEach text front xs i old now from to → PutsFront (text x) now new to e → PutsFront (front ++ flat_map text xs) old new from e
+      → PutsEach text prefix xs i old now from to → PutsPrefix (text x) now new to e → PutsPrefix (prefix ++ flat_map text xs) old new from e
   written-cut {ys} {i} {x} {new} {e} same inside is h refused =
       let rest = flat_map text (drop (i + 1) xs) in
-      let whole : front ++ flat_map text xs ≡ ((front ++ flat_map text (take i xs)) ++ text x) ++ rest =
-      ap (λ l. front ++ flat_map text l) (sym (take-append-drop (i + 1) xs)) ∙ ap (λ s. front ++ s) (flat_map-append text (take (i + 1) xs) (drop (i + 1) xs))
-      ∙ sym (append_assoc front (flat_map text (take (i + 1) xs)) rest) ∙ ap (λ s. s ++ rest) (item-more text front xs i x (rw same at inside) (rw same at is)) in
-      subst (λ t. PutsFront t old new from e) (sym whole) (front-first rest (front-next h.put refused))
+      let whole : prefix ++ flat_map text xs ≡ ((prefix ++ flat_map text (take i xs)) ++ text x) ++ rest =
+      ap (λ l. prefix ++ flat_map text l) (sym (take-append-drop (i + 1) xs)) ∙ ap (λ s. prefix ++ s) (flat_map-append text (take (i + 1) xs) (drop (i + 1) xs))
+      ∙ sym (append_assoc prefix (flat_map text (take (i + 1) xs)) rest) ∙ ap (λ s. s ++ rest) (item-more text prefix xs i x (rw same at inside) (rw same at is)) in
+      subst (λ t. PutsPrefix t old new from e) (sym whole) (prefix-first rest (prefix-next h.put refused))
 
   -- the write of what follows them fails
   pub written-after : {ys : List X} {i : ℕ} {rest new : List ℕ} {e : Error} → ys ≡ xs → length ys ≤ i
-      → PutsEach text front xs i old now from to → PutsFront rest now new to e → PutsFront ((front ++ flat_map text xs) ++ rest) old new from e
-  written-after same end h refused = front-next (written-all same end h) refused
+      → PutsEach text prefix xs i old now from to → PutsPrefix rest now new to e → PutsPrefix ((prefix ++ flat_map text xs) ++ rest) old new from e
+  written-after same end h refused = prefix-next (written-all same end h) refused

@@ -1,5 +1,5 @@
 use Rattle.std.proofs.Common.{◌≡◌, arith, ◌++◌, ◌∷◌, [], ap, ◌∙◌, sym, subst, get_or, rules}
-use Rattle.scroll.proofs.lemmas.history.RunLemmas.{IsRun-none, IsRun-next}
+use Rattle.scroll.proofs.lemmas.HistoryLemmas.{IsRun-none, IsRun-next}
 use Rattle.scroll.specs.Runs.{IsStep}
 use Rattle.scroll.proofs.runner.run.Goals as goal
 

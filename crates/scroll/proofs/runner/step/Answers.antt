@@ -1,4 +1,4 @@
-use Rattle.scroll.proofs.lemmas.history.RunLemmas.{IsStep-read}
+use Rattle.scroll.proofs.lemmas.HistoryLemmas.{IsStep-read}
 use Rattle.scroll.proofs.runner.step.Goals as goal
 
 pub returns-in-Read-clause-answered : goal.returns-in-Read-clause-answered

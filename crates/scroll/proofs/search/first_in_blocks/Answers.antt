@@ -1,11 +1,10 @@
 use Rattle.std.proofs.Common.{◌/◌, ◌<◌, length, arith}
 use Rattle.std.proofs.Math.Nat.{add-mul}
-use Rattle.scroll.proofs.lemmas.search.SearchLemmas.{position_or_len-block}
-use Rattle.scroll.proofs.lemmas.search.VectorLemmas.{none_marked, first_marked}
+use Rattle.scroll.proofs.lemmas.SearchLemmas.{position_or_len-block, none_marked, first_marked}
 use Rattle.scroll.proofs.search.first_in_blocks.Goals as goal
 
-pub returns-then-marks-ne0-clause-place : goal.returns-then-marks-ne0-clause-place
-returns-then-marks-ne0-clause-place g c =
+pub returns-then-marks-ne0-clause-index : goal.returns-then-marks-ne0-clause-index
+returns-then-marks-ne0-clause-index g c =
     let s = c.args.source.now in
     let p = g.S.Stops.stops c.args.at in
     let block = c.index-blocks-k.result in

@@ -1,10 +1,10 @@
-// Arrays of a type of a fixed size, as parts of a struct. (By themselves they have the implementations of every array.)
+// Arrays of a type of a fixed size, as parts of a struct. (By themselves they have the
+// implementations of every array.)
 ghost use Rattle.std.specs.Prelude.{◌≡◌, ◌≤◌, ◌+◌, ◌*◌, List, length, drop};
 ghost use Rattle.std.specs.List.{All, flat_map};
 ghost use Rattle.scroll.specs.Arrays.{MakesArray};
 ghost use Rattle.scroll.specs.Fixed.{exactly};
-ghost use Rattle.scroll.specs.lemmas.FixedArrays.{length-exactly, array-back, array-one, array-local};
-ghost use Rattle.scroll.specs.lemmas.NumberBack.{array-kept-at};
+ghost use Rattle.scroll.specs.lemmas.FixedLemmas.{length-exactly, array-back, array-fits, array-one, array-local, array-kept-at};
 
 use crate::ctx::fixed::{Fixed, RoundTrip};
 use crate::ctx::tuples::write_behind;
@@ -16,19 +16,26 @@ impl<T: Fixed, const N: usize> Fixed for [T; N] {
 
     ghost bytes = { λ order xs. exactly (T.width * N) (flat_map (T.bytes order) xs) };
 
-    ghost makes = { λ order s at xs. MakesArray T.width (λ s x. T.makes order s 0 x) N (drop at s) xs };
+    ghost makes = { λ order s at xs.
+        MakesArray T.width (λ s x. T.makes order s 0 x) N (drop at s) xs };
 
     ghost fits = { λ xs. (length xs ≡ N) × All T.fits xs };
 
     ghost bytes_len = { λ order xs. length-exactly (T.width * N) (flat_map (T.bytes order) xs) };
 
-    ghost back = { λ order xs front rest h.
-        array-back T.width N (T.bytes order) (T.makes order) T.fits (T.bytes_len order) (T.back order) xs front rest h.0 h.1 };
+    ghost back = { λ order xs prefix rest h.
+        array-back T.width N (T.bytes order) (T.makes order) T.fits (T.bytes_len order) (T.back order)
+        xs prefix rest h.0 h.1 };
+
+    ghost made_fits = { λ order s at xs all h.
+        array-fits T.width N (T.makes order) T.fits (T.made_fits order) s at xs all h };
 
     ghost one = { λ order s at.
-        array-one T.width N (λ s x. T.makes order s 0 x) (drop at s) (λ i. T.one order (drop (T.width * i) (drop at s)) 0) };
+        array-one T.width N (λ s x. T.makes order s 0 x) (drop at s)
+        (λ i. T.one order (drop (T.width * i) (drop at s)) 0) };
 
-    ghost local = { λ order s at t to xs same h. array-local T.width N (T.makes order) (T.local order) s at t to xs same h };
+    ghost local = { λ order s at t to xs same h.
+        array-local T.width N (T.makes order) (T.local order) s at t to xs same h };
 
     fn width() -> usize {
         if N == 0 {
@@ -43,7 +50,7 @@ impl<T: Fixed, const N: usize> Fixed for [T; N] {
     }
 
     #[inline(always)]
-    fn write_front(self, dst: &mut [u8], order: Endian) {
+    fn write_prefix(self, dst: &mut [u8], order: Endian) {
         for i in 0..N {
             write_behind(self[i], dst, T::width() * i, order);
         }
@@ -52,10 +59,11 @@ impl<T: Fixed, const N: usize> Fixed for [T; N] {
 
 impl<T: RoundTrip, const N: usize> RoundTrip for [T; N] {
     ghost kept = { λ order s at xs all room h.
-        array-kept-at T.width N (T.bytes order) (T.makes order) (T.bytes_len order) (T.kept order) s at xs all room h };
+        array-kept-at T.width N (T.bytes order) (T.makes order) (T.bytes_len order) (T.kept order)
+        s at xs all room h };
 }
 
-// Returns the elements at the front of `from`.
+// Returns the elements at the start of `from`.
 #[inline(always)]
 fn elements<T: Fixed, const N: usize>(from: &[u8], order: Endian) -> [T; N]
     requires { T.width * N ≤ length from.now }

@@ -1,13 +1,13 @@
 // The floats `f32` and `f64`, by their bits.
 //
-// A float other than a NaN has one bit pattern. A NaN has many, and Rattle doesn't distinguish them: a NaN is written
-// as the quiet NaN without a sign or a payload.
+// A float other than a NaN has one bit pattern. A NaN has many, and Rattle doesn't distinguish
+// them: a NaN is written as the quiet NaN without a sign or a payload.
 ghost use Rattle.std.specs.Prelude.{◌≡◌, drop, to_bits, T};
 ghost use Rattle.std.proofs.Common.{rules};
 ghost use Rattle.std.specs.Float.{binary32, binary64};
 ghost use Rattle.std.specs.Float.Ieee.{fits};
-ghost use Rattle.scroll.specs.Floats.{float, float_bytes};
-ghost use Rattle.scroll.specs.lemmas.FixedLemmas.{one-value, float-back-at, float-local};
+ghost use Rattle.scroll.specs.Numbers.{float, float_bytes};
+ghost use Rattle.scroll.specs.lemmas.FixedLemmas.{one-value, float-back-at, float-fits, float-local};
 ghost use Rattle.scroll.specs.lemmas.Frames.{length-number_bytes};
 
 use crate::ctx::fixed::{Fixed, Plain, Written};
@@ -27,7 +27,9 @@ impl Fixed for f32 {
 
     ghost bytes_len = { λ order x. length-number_bytes order 4 (to_bits binary32 x) };
 
-    ghost back = { λ order x front rest h. float-back-at binary32 order x front rest h };
+    ghost back = { λ order x prefix rest h. float-back-at binary32 order x prefix rest h };
+
+    ghost made_fits = { λ order s at x all h. float-fits binary32 order s at x h };
 
     ghost one = { λ order s at. one-value (float binary32 order (drop at s)) };
 
@@ -41,8 +43,8 @@ impl Fixed for f32 {
         f32_from_bits_with_nan(u32::read_at(from, offset, order))
     }
 
-    fn write_front(self, dst: &mut [u8], order: Endian) {
-        f32_to_bits_with_nan(self).write_front(dst, order)
+    fn write_prefix(self, dst: &mut [u8], order: Endian) {
+        f32_to_bits_with_nan(self).write_prefix(dst, order)
     }
 }
 
@@ -72,7 +74,9 @@ impl Fixed for f64 {
 
     ghost bytes_len = { λ order x. length-number_bytes order 8 (to_bits binary64 x) };
 
-    ghost back = { λ order x front rest h. float-back-at binary64 order x front rest h };
+    ghost back = { λ order x prefix rest h. float-back-at binary64 order x prefix rest h };
+
+    ghost made_fits = { λ order s at x all h. float-fits binary64 order s at x h };
 
     ghost one = { λ order s at. one-value (float binary64 order (drop at s)) };
 
@@ -86,8 +90,8 @@ impl Fixed for f64 {
         f64_from_bits_with_nan(u64::read_at(from, offset, order))
     }
 
-    fn write_front(self, dst: &mut [u8], order: Endian) {
-        f64_to_bits_with_nan(self).write_front(dst, order)
+    fn write_prefix(self, dst: &mut [u8], order: Endian) {
+        f64_to_bits_with_nan(self).write_prefix(dst, order)
     }
 }
 

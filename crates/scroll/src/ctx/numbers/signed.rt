@@ -1,12 +1,11 @@
-// The signed types, in two's complement: `i8`, `i16`, `i32`, `i64` and `i128`.
+// The signed types, in two's complement: `i8`, `i16`, `i32`, `i64` and `i128`, each by the unsigned
+// type of its width.
 ghost use Rattle.std.specs.Prelude.{◌≡◌, ◌^◌, drop, pos, neg_ℤ, ◌≤ℤ◌, ◌<ℤ◌, ◌*ℤ◌};
 ghost use Rattle.std.proofs.Common.{rules};
 ghost use Rattle.scroll.specs.Numbers.{signed_number, signed_bytes};
-ghost use Rattle.scroll.specs.lemmas.FixedLemmas.{one-value, signed-back-at, signed-local};
+ghost use Rattle.scroll.specs.lemmas.FixedLemmas.{one-value, signed-back-at, signed-local, signed-fits, signed-kept};
 ghost use Rattle.scroll.specs.lemmas.Frames.{length-signed_bytes};
-ghost use Rattle.scroll.specs.lemmas.NumberBack.{signed-kept};
 
-use super::{bytes_at, put_front, put_sixteen};
 use crate::ctx::fixed::{Fixed, Plain, RoundTrip, Written};
 use crate::endian::Endian;
 
@@ -21,7 +20,9 @@ impl Fixed for i8 {
 
     ghost bytes_len = { λ order x. length-signed_bytes order 1 x };
 
-    ghost back = { λ order x front rest h. signed-back-at order 1 x front rest h };
+    ghost back = { λ order x prefix rest h. signed-back-at order 1 x prefix rest h };
+
+    ghost made_fits = { λ order s at x all h. signed-fits order 1 s at x all h };
 
     ghost one = { λ order s at. one-value (signed_number order 1 (drop at s)) };
 
@@ -32,17 +33,11 @@ impl Fixed for i8 {
     }
 
     fn read_at(from: &[u8], offset: usize, order: Endian) -> i8 {
-        match order {
-            Endian::Little => i8::from_le_bytes(bytes_at(from, offset)),
-            Endian::Big => i8::from_be_bytes(bytes_at(from, offset)),
-        }
+        u8::read_at(from, offset, order).cast_signed()
     }
 
-    fn write_front(self, dst: &mut [u8], order: Endian) {
-        match order {
-            Endian::Little => put_front(dst, self.to_le_bytes()),
-            Endian::Big => put_front(dst, self.to_be_bytes()),
-        }
+    fn write_prefix(self, dst: &mut [u8], order: Endian) {
+        self.cast_unsigned().write_prefix(dst, order)
     }
 }
 
@@ -76,7 +71,9 @@ impl Fixed for i16 {
 
     ghost bytes_len = { λ order x. length-signed_bytes order 2 x };
 
-    ghost back = { λ order x front rest h. signed-back-at order 2 x front rest h };
+    ghost back = { λ order x prefix rest h. signed-back-at order 2 x prefix rest h };
+
+    ghost made_fits = { λ order s at x all h. signed-fits order 2 s at x all h };
 
     ghost one = { λ order s at. one-value (signed_number order 2 (drop at s)) };
 
@@ -87,17 +84,11 @@ impl Fixed for i16 {
     }
 
     fn read_at(from: &[u8], offset: usize, order: Endian) -> i16 {
-        match order {
-            Endian::Little => i16::from_le_bytes(bytes_at(from, offset)),
-            Endian::Big => i16::from_be_bytes(bytes_at(from, offset)),
-        }
+        u16::read_at(from, offset, order).cast_signed()
     }
 
-    fn write_front(self, dst: &mut [u8], order: Endian) {
-        match order {
-            Endian::Little => put_front(dst, self.to_le_bytes()),
-            Endian::Big => put_front(dst, self.to_be_bytes()),
-        }
+    fn write_prefix(self, dst: &mut [u8], order: Endian) {
+        self.cast_unsigned().write_prefix(dst, order)
     }
 }
 
@@ -131,7 +122,9 @@ impl Fixed for i32 {
 
     ghost bytes_len = { λ order x. length-signed_bytes order 4 x };
 
-    ghost back = { λ order x front rest h. signed-back-at order 4 x front rest h };
+    ghost back = { λ order x prefix rest h. signed-back-at order 4 x prefix rest h };
+
+    ghost made_fits = { λ order s at x all h. signed-fits order 4 s at x all h };
 
     ghost one = { λ order s at. one-value (signed_number order 4 (drop at s)) };
 
@@ -142,17 +135,11 @@ impl Fixed for i32 {
     }
 
     fn read_at(from: &[u8], offset: usize, order: Endian) -> i32 {
-        match order {
-            Endian::Little => i32::from_le_bytes(bytes_at(from, offset)),
-            Endian::Big => i32::from_be_bytes(bytes_at(from, offset)),
-        }
+        u32::read_at(from, offset, order).cast_signed()
     }
 
-    fn write_front(self, dst: &mut [u8], order: Endian) {
-        match order {
-            Endian::Little => put_front(dst, self.to_le_bytes()),
-            Endian::Big => put_front(dst, self.to_be_bytes()),
-        }
+    fn write_prefix(self, dst: &mut [u8], order: Endian) {
+        self.cast_unsigned().write_prefix(dst, order)
     }
 }
 
@@ -186,7 +173,9 @@ impl Fixed for i64 {
 
     ghost bytes_len = { λ order x. length-signed_bytes order 8 x };
 
-    ghost back = { λ order x front rest h. signed-back-at order 8 x front rest h };
+    ghost back = { λ order x prefix rest h. signed-back-at order 8 x prefix rest h };
+
+    ghost made_fits = { λ order s at x all h. signed-fits order 8 s at x all h };
 
     ghost one = { λ order s at. one-value (signed_number order 8 (drop at s)) };
 
@@ -197,17 +186,11 @@ impl Fixed for i64 {
     }
 
     fn read_at(from: &[u8], offset: usize, order: Endian) -> i64 {
-        match order {
-            Endian::Little => i64::from_le_bytes(bytes_at(from, offset)),
-            Endian::Big => i64::from_be_bytes(bytes_at(from, offset)),
-        }
+        u64::read_at(from, offset, order).cast_signed()
     }
 
-    fn write_front(self, dst: &mut [u8], order: Endian) {
-        match order {
-            Endian::Little => put_front(dst, self.to_le_bytes()),
-            Endian::Big => put_front(dst, self.to_be_bytes()),
-        }
+    fn write_prefix(self, dst: &mut [u8], order: Endian) {
+        self.cast_unsigned().write_prefix(dst, order)
     }
 }
 
@@ -241,7 +224,9 @@ impl Fixed for i128 {
 
     ghost bytes_len = { λ order x. length-signed_bytes order 16 x };
 
-    ghost back = { λ order x front rest h. signed-back-at order 16 x front rest h };
+    ghost back = { λ order x prefix rest h. signed-back-at order 16 x prefix rest h };
+
+    ghost made_fits = { λ order s at x all h. signed-fits order 16 s at x all h };
 
     ghost one = { λ order s at. one-value (signed_number order 16 (drop at s)) };
 
@@ -252,14 +237,11 @@ impl Fixed for i128 {
     }
 
     fn read_at(from: &[u8], offset: usize, order: Endian) -> i128 {
-        match order {
-            Endian::Little => i128::from_le_bytes(bytes_at(from, offset)),
-            Endian::Big => i128::from_be_bytes(bytes_at(from, offset)),
-        }
+        u128::read_at(from, offset, order).cast_signed()
     }
 
-    fn write_front(self, dst: &mut [u8], order: Endian) {
-        put_sixteen(dst, self.cast_unsigned(), order)
+    fn write_prefix(self, dst: &mut [u8], order: Endian) {
+        self.cast_unsigned().write_prefix(dst, order)
     }
 }
 

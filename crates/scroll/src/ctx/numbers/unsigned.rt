@@ -2,11 +2,10 @@
 ghost use Rattle.std.specs.Prelude.{◌≡◌, ◌<◌, ◌^◌, drop};
 ghost use Rattle.std.proofs.Common.{rules};
 ghost use Rattle.scroll.specs.Numbers.{number, number_bytes};
-ghost use Rattle.scroll.specs.lemmas.FixedLemmas.{one-value, number-back-at, number-local};
+ghost use Rattle.scroll.specs.lemmas.FixedLemmas.{one-value, number-back-at, number-local, number-fits, number-kept};
 ghost use Rattle.scroll.specs.lemmas.Frames.{length-number_bytes};
-ghost use Rattle.scroll.specs.lemmas.NumberBack.{number-kept};
 
-use super::{bytes_at, put_front, put_sixteen};
+use super::{bytes_at, put_prefix, put_sixteen};
 use crate::ctx::fixed::{Fixed, Plain, RoundTrip, Written};
 use crate::endian::Endian;
 
@@ -21,7 +20,9 @@ impl Fixed for u8 {
 
     ghost bytes_len = { λ order x. length-number_bytes order 1 x };
 
-    ghost back = { λ order x front rest h. number-back-at order 1 x front rest h };
+    ghost back = { λ order x prefix rest h. number-back-at order 1 x prefix rest h };
+
+    ghost made_fits = { λ order s at x all h. number-fits order 1 s at x all h };
 
     ghost one = { λ order s at. one-value (number order 1 (drop at s)) };
 
@@ -38,10 +39,10 @@ impl Fixed for u8 {
         }
     }
 
-    fn write_front(self, dst: &mut [u8], order: Endian) {
+    fn write_prefix(self, dst: &mut [u8], order: Endian) {
         match order {
-            Endian::Little => put_front(dst, self.to_le_bytes()),
-            Endian::Big => put_front(dst, self.to_be_bytes()),
+            Endian::Little => put_prefix(dst, self.to_le_bytes()),
+            Endian::Big => put_prefix(dst, self.to_be_bytes()),
         }
     }
 }
@@ -76,7 +77,9 @@ impl Fixed for u16 {
 
     ghost bytes_len = { λ order x. length-number_bytes order 2 x };
 
-    ghost back = { λ order x front rest h. number-back-at order 2 x front rest h };
+    ghost back = { λ order x prefix rest h. number-back-at order 2 x prefix rest h };
+
+    ghost made_fits = { λ order s at x all h. number-fits order 2 s at x all h };
 
     ghost one = { λ order s at. one-value (number order 2 (drop at s)) };
 
@@ -93,10 +96,10 @@ impl Fixed for u16 {
         }
     }
 
-    fn write_front(self, dst: &mut [u8], order: Endian) {
+    fn write_prefix(self, dst: &mut [u8], order: Endian) {
         match order {
-            Endian::Little => put_front(dst, self.to_le_bytes()),
-            Endian::Big => put_front(dst, self.to_be_bytes()),
+            Endian::Little => put_prefix(dst, self.to_le_bytes()),
+            Endian::Big => put_prefix(dst, self.to_be_bytes()),
         }
     }
 }
@@ -131,7 +134,9 @@ impl Fixed for u32 {
 
     ghost bytes_len = { λ order x. length-number_bytes order 4 x };
 
-    ghost back = { λ order x front rest h. number-back-at order 4 x front rest h };
+    ghost back = { λ order x prefix rest h. number-back-at order 4 x prefix rest h };
+
+    ghost made_fits = { λ order s at x all h. number-fits order 4 s at x all h };
 
     ghost one = { λ order s at. one-value (number order 4 (drop at s)) };
 
@@ -148,10 +153,10 @@ impl Fixed for u32 {
         }
     }
 
-    fn write_front(self, dst: &mut [u8], order: Endian) {
+    fn write_prefix(self, dst: &mut [u8], order: Endian) {
         match order {
-            Endian::Little => put_front(dst, self.to_le_bytes()),
-            Endian::Big => put_front(dst, self.to_be_bytes()),
+            Endian::Little => put_prefix(dst, self.to_le_bytes()),
+            Endian::Big => put_prefix(dst, self.to_be_bytes()),
         }
     }
 }
@@ -186,7 +191,9 @@ impl Fixed for u64 {
 
     ghost bytes_len = { λ order x. length-number_bytes order 8 x };
 
-    ghost back = { λ order x front rest h. number-back-at order 8 x front rest h };
+    ghost back = { λ order x prefix rest h. number-back-at order 8 x prefix rest h };
+
+    ghost made_fits = { λ order s at x all h. number-fits order 8 s at x all h };
 
     ghost one = { λ order s at. one-value (number order 8 (drop at s)) };
 
@@ -203,10 +210,10 @@ impl Fixed for u64 {
         }
     }
 
-    fn write_front(self, dst: &mut [u8], order: Endian) {
+    fn write_prefix(self, dst: &mut [u8], order: Endian) {
         match order {
-            Endian::Little => put_front(dst, self.to_le_bytes()),
-            Endian::Big => put_front(dst, self.to_be_bytes()),
+            Endian::Little => put_prefix(dst, self.to_le_bytes()),
+            Endian::Big => put_prefix(dst, self.to_be_bytes()),
         }
     }
 }
@@ -241,7 +248,9 @@ impl Fixed for u128 {
 
     ghost bytes_len = { λ order x. length-number_bytes order 16 x };
 
-    ghost back = { λ order x front rest h. number-back-at order 16 x front rest h };
+    ghost back = { λ order x prefix rest h. number-back-at order 16 x prefix rest h };
+
+    ghost made_fits = { λ order s at x all h. number-fits order 16 s at x all h };
 
     ghost one = { λ order s at. one-value (number order 16 (drop at s)) };
 
@@ -258,7 +267,7 @@ impl Fixed for u128 {
         }
     }
 
-    fn write_front(self, dst: &mut [u8], order: Endian) {
+    fn write_prefix(self, dst: &mut [u8], order: Endian) {
         put_sixteen(dst, self, order)
     }
 }

@@ -1,6 +1,6 @@
 use Rattle.std.proofs.Common.{◌++◌, take, rules}
 use Rattle.std.proofs.KnownBytes.{Appends-trans, Appends-kept}
-use Rattle.scroll_run.proofs.Fronts.{front_moves, appends_front, appends_more}
+use Rattle.scroll_run.proofs.Fronts.{prefix_moves, appends_prefix, appends_more}
 use Rattle.scroll_run.proofs.output.write_all.Goals as goal
 use Rattle.scroll_run.proofs.output.write_all.Goals.{in-Ok, in-Err}
 
@@ -8,7 +8,7 @@ pub loop-preserved : goal.loop-preserved
 loop-preserved g c = elim c.match-write.branch [
   | in-Ok w ↦ record {
     done = c.loop.invariant.done ++ take w.in-Ok.count c.loop.rest.now;
-    whole = rw w.rest-is (front_moves _ _ _ w.in-Ok.count c.loop.invariant.whole);
+    whole = rw w.rest-is (prefix_moves _ _ _ w.in-Ok.count c.loop.invariant.whole);
     appended = Appends-trans _ _ _ _ _ c.loop.invariant.appended w.in-Ok.ensures.bytes;
   }
   | in-Err w ↦ record {
@@ -18,13 +18,13 @@ loop-preserved g c = elim c.match-write.branch [
   }
 ]
 
-pub returns-clause-front : goal.returns-clause-front
-returns-clause-front g c = appends_front _ _ _ _ _ c.loop.invariant.whole c.loop.invariant.appended
+pub returns-clause-prefix : goal.returns-clause-prefix
+returns-clause-prefix g c = appends_prefix _ _ _ _ _ c.loop.invariant.whole c.loop.invariant.appended
 
-pub returns-in-Ok-eq0-clause-front : goal.returns-in-Ok-eq0-clause-front
-returns-in-Ok-eq0-clause-front g c =
+pub returns-in-Ok-eq0-clause-prefix : goal.returns-in-Ok-eq0-clause-prefix
+returns-in-Ok-eq0-clause-prefix g c =
     appends_more _ _ _ _ _ _ c.in-Ok-eq0.field-0 c.loop.invariant.whole c.loop.invariant.appended (search rules)
 
-pub returns-in-Err-2-clause-front : goal.returns-in-Err-2-clause-front
-returns-in-Err-2-clause-front g c =
-    appends_front _ _ _ _ _ c.loop.invariant.whole (Appends-kept _ _ _ _ c.loop.invariant.appended c.in-Err-2.ensures.bytes)
+pub returns-in-Err-2-clause-prefix : goal.returns-in-Err-2-clause-prefix
+returns-in-Err-2-clause-prefix g c =
+    appends_prefix _ _ _ _ _ c.loop.invariant.whole (Appends-kept _ _ _ _ c.loop.invariant.appended c.in-Err-2.ensures.bytes)

@@ -4,7 +4,7 @@ use Rattle.scroll_run.proofs.PutLemmas.{no_count}
 use Rattle.scroll_run.proofs.puts.parse_put.Goals as goal
 
 pub returns-in-len5 : goal.returns-in-len5
-returns-in-len5 c = rw (by_index c.args.words.now 5 (search rules)) c.parse_put_of_five.ensures
+returns-in-len5 g c = rw (by_index c.args.words.now 5 (search rules)) c.parse_put_of_five.ensures
 
 pub returns-in_default : goal.returns-in_default
-returns-in_default c = no_count c.args.words.now (search rules) (search rules) (search rules)
+returns-in_default g c = no_count c.args.words.now (search rules) (search rules) (search rules)

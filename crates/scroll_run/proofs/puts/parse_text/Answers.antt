@@ -5,12 +5,12 @@ use Rattle.scroll_run.proofs.PutLemmas.{by_str}
 use Rattle.scroll_run.proofs.puts.parse_text.Goals as goal
 
 pub returns-in_default : goal.returns-in_default
-returns-in_default c =
+returns-in_default g c =
     let none = rw c.in_default.is at c.in_ok-bytes.ensures in
     λ p s. let t = by_str _ p s in let bytes = t.1 in none t.0 bytes.0
 
 pub returns-in-Ok : goal.returns-in-Ok
-returns-in-Ok c =
+returns-in-Ok g c =
     let bytes = rw c.in-Some.is at c.in_ok-bytes.ensures in
     let same = ap (λ v. v.items) c.in-Ok.ensures.ok in
     λ p is. rw is.1 (_, refl, subst (SpellsText _) (sym is.2) (rw same bytes, IsUtf8-string_bytes c.in-Ok.text))

@@ -1,4 +1,4 @@
-use Rattle.std.proofs.Common.{List, ◌≡◌, ℕ, [], ◌∷◌, ◌^◌}
+use Rattle.std.proofs.Common.{List, ℕ, [], ◌∷◌, ◌^◌}
 use Rattle.std.specs.List.{AllZip}
 use Rattle.scroll_run.specs.Words.{SpellsNumber}
 use Rattle.scroll_run.proofs.PutLemmas.{by_u16x3}

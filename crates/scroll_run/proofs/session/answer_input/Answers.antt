@@ -2,7 +2,7 @@ use Rattle.std.proofs.Common.{refl, rules, inr}
 use Rattle.scroll_run.proofs.session.answer_input.Goals as goal
 
 pub returns-in_ok-run_script-in-Ok : goal.returns-in_ok-run_script-in-Ok
-returns-in_ok-run_script-in-Ok c =
+returns-in_ok-run_script-in-Ok g c =
     let run = c.in_ok-run_script-in-Ok.ensures in
     inr (inr record {
       short = search rules;

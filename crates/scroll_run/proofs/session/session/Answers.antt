@@ -11,7 +11,7 @@ on_err (Err e) P p = p
 
 pub returns-in_err-write_output-in-Ok-outcome-clause-broken_off : goal.returns-in_err-write_output-in-Ok-outcome-clause-broken_off
 returns-in_err-write_output-in-Ok-outcome-clause-broken_off g c =
-    let answers : AnswersSession (g.R.Read.remaining c.args.input.now) (g.R.Read.remaining c.read_input.new.input) (string_bytes c.in-Ok-outcome.outcome.text) c.in-Ok-outcome.outcome.status =
+    let answers : AnswersSession (g.M.Memory.refuses c.args.memory) (g.R.Read.remaining c.args.input.now) (g.R.Read.remaining c.read_input.new.input) (string_bytes c.in-Ok-outcome.outcome.text) c.in-Ok-outcome.outcome.status =
     elim c.match-read_input.branch [
       | in-Ok w ↦
           inr (
@@ -21,8 +21,13 @@ returns-in_err-write_output-in-Ok-outcome-clause-broken_off g c =
           )
       | in-Err-NoMemory w ↦ grind (arith, common_steps)
     ] in
-    on_err _ _ (inr (string_bytes c.in-Ok-outcome.outcome.text, c.in-Ok-outcome.outcome.status, answers, rw c.as_bytes.ensures.value at c.in_err-write_output-in-Ok-outcome.ensures.front))
+    on_err _ _ (inr (string_bytes c.in-Ok-outcome.outcome.text, c.in-Ok-outcome.outcome.status, answers, rw c.as_bytes.ensures.value at c.in_err-write_output-in-Ok-outcome.ensures.prefix))
 
 pub returns-in_err-write_output-in-Err-clause-broken_off : goal.returns-in_err-write_output-in-Err-clause-broken_off
 returns-in_err-write_output-in-Err-clause-broken_off g c =
-    on_err _ _ (inr (codes "out of memory\n", 3, inl (refl, refl), c.in_err-write_output-in-Err.ensures.front))
+    let refused : g.M.Memory.refuses c.args.memory =
+    elim c.match-read_input.branch [
+      | in-Ok w ↦ rw (sym w.outcome-is ∙ c.in-Err.is) at w.answer_input-outcome.ensures
+      | in-Err-NoMemory w ↦ rw w.in-Err-NoMemory.field-0-is at w.in-Err-NoMemory.ensures.refused
+    ] in
+    on_err _ _ (inr (codes "out of memory\n", 3, inl (refused, refl, refl), c.in_err-write_output-in-Err.ensures.prefix))

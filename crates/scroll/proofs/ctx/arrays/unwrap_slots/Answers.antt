@@ -1,6 +1,6 @@
 use Rattle.std.proofs.Common.{rules, arith, length, Some, ap}
 use Rattle.std.proofs.lemmas.List.{length-map}
-use Rattle.scroll.proofs.lemmas.arrays.SlotLemmas.{IsFull-from_map, callable, filled_from}
+use Rattle.scroll.proofs.lemmas.ArrayLemmas.{IsFull-from_map, callable, filled_from}
 use Rattle.scroll.proofs.ctx.arrays.unwrap_slots.Goals as goal
 
 pub from_fn-requires : goal.from_fn-requires

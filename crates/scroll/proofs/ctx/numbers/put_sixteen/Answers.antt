@@ -1,5 +1,5 @@
 use Rattle.std.proofs.Common.{◌++◌, drop, ap, ◌∙◌}
-use Rattle.scroll.proofs.lemmas.numbers.HalfLemmas.{big_halves}
+use Rattle.scroll.proofs.lemmas.NumberLemmas.{big_halves}
 use Rattle.scroll.proofs.ctx.numbers.put_sixteen.Goals as goal
 
 pub returns-in-Big : goal.returns-in-Big

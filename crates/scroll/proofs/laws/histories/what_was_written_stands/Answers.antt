@@ -1,9 +1,8 @@
 use Rattle.std.proofs.Common.{arith, ◌++◌, [], ◌∷◌}
-use Rattle.scroll.proofs.lemmas.texts.CStringReadLemmas.{begins-c_string}
-use Rattle.scroll.proofs.lemmas.numbers.FrontLemmas.{begins-number, begins-signed}
-use Rattle.scroll.proofs.lemmas.history.SeenLemmas.{length-seen}
-use Rattle.scroll.proofs.lemmas.history.StandLemmas.{stands, pieces-apart}
-use Rattle.scroll.proofs.lemmas.texts.TextReadLemmas.{begins-slice, begins-text}
+use Rattle.scroll.proofs.lemmas.TextLemmas.{begins-c_string, begins-slice, begins-text}
+use Rattle.scroll.proofs.lemmas.NumberLemmas.{begins-number, begins-signed}
+use Rattle.scroll.proofs.lemmas.HistoryLemmas.{length-seen}
+use Rattle.scroll.proofs.lemmas.StandLemmas.{stands, pieces-apart}
 use Rattle.scroll.specs.Numbers.{number_bytes, signed_bytes}
 use Rattle.scroll.proofs.laws.histories.what_was_written_stands.Goals as goal
 

@@ -1,23 +1,20 @@
 use Rattle.std.proofs.Common.{ℕ, arith, take}
-use Rattle.scroll.proofs.lemmas.callers.OneAnswer.{one-at, one-front, reader-within, reader-sized, reader-nested}
-use Rattle.scroll.proofs.lemmas.leb128.LebReadLemmas.{local-uleb, local-sleb, one-uleb, one-sleb}
-use Rattle.scroll.proofs.lemmas.numbers.PaddingLemmas.{local-zeros, within-zeros, one-zeros}
-use Rattle.scroll.proofs.lemmas.texts.CStringReadLemmas.{local-c_string, within-c_string, one-c_string}
-use Rattle.scroll.proofs.lemmas.texts.TextReadLemmas.{local-slice, local-text, within-length, one-text}
+use Rattle.scroll.proofs.lemmas.callers.OneAnswer.{one-at, one-prefix, reader-within, reader-sized, reader-nested}
+use Rattle.scroll.proofs.lemmas.LebReadLemmas.{local-uleb, local-sleb, one-uleb, one-sleb}
+use Rattle.scroll.proofs.lemmas.TextLemmas.{local-zeros, within-zeros, one-zeros, local-c_string, within-c_string, one-c_string, local-slice, local-text, within-length, one-text}
 use Rattle.scroll.specs.Bytes.{RefusesShort}
 use Rattle.scroll.specs.CStrings.{ReadsCString, RefusesCString}
 use Rattle.scroll.specs.Laws.{IsReader, IsReaderWithin}
-use Rattle.scroll.specs.Leb128.{ReadsUleb, ReadsSleb}
-use Rattle.scroll.specs.LebRefusals.{RefusesUleb, RefusesSleb}
+use Rattle.scroll.specs.Leb128.{ReadsUleb, ReadsSleb, RefusesUleb, RefusesSleb}
 use Rattle.scroll.specs.Texts.{ReadsText, RefusesText, ReadsSlice}
 use Rattle.scroll.specs.Zeros.{ReadsZeros, RefusesZeros}
 use Rattle.scroll.specs.declared.ctx.str_ctx.StrCtx.{StrCtx}
 use Rattle.scroll.specs.declared.ctx.zeros.Zeros.{Zeros}
-use Rattle.scroll.specs.lemmas.Sizes.{ReadsText-bounded}
+use Rattle.scroll.specs.lemmas.Frames.{ReadsText-bounded}
 use Rattle.scroll.proofs.laws.reads.reads_keep_their_laws.Goals as goal
 
 slice-reader : (n : ℕ) → IsReaderWithin (ReadsSlice n) (RefusesShort n)
-slice-reader n = reader-within (ReadsSlice n) (RefusesShort n) (local-slice n) (λ s v size r. omega (arith, r.room, r.size)) (one-front n (take n))
+slice-reader n = reader-within (ReadsSlice n) (RefusesShort n) (local-slice n) (λ s v size r. omega (arith, r.room, r.size)) (one-prefix n (take n))
 
 text-reader : (ctx : StrCtx) → IsReader (ReadsText ctx) (RefusesText ctx)
 text-reader ctx = record {

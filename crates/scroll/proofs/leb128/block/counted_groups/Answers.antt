@@ -1,5 +1,5 @@
 use Rattle.std.proofs.Common.{arith}
-use Rattle.scroll.proofs.lemmas.leb128.BlockLemmas.{word_none, word_some, word_carries, word_count, word_groups}
+use Rattle.scroll.proofs.lemmas.BlockLemmas.{word_none, word_some, word_carries, word_count, word_groups}
 use Rattle.scroll.proofs.leb128.block.counted_groups.Goals as goal
 
 pub returns-then-filled : goal.returns-then-filled

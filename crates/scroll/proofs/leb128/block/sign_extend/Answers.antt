@@ -1,7 +1,7 @@
 use Rattle.std.proofs.Common.{FitsSigned, rules, ◌∙◌}
 use Rattle.std.specs.Int.{w64}
 use Rattle.std.proofs.lemmas.Int.{to_z-of_z}
-use Rattle.scroll.proofs.lemmas.leb128.LebLemmas.{signed_groups}
+use Rattle.scroll.proofs.lemmas.LebLemmas.{signed_groups}
 use Rattle.scroll.proofs.leb128.block.sign_extend.Goals as goal
 
 pub returns : goal.returns

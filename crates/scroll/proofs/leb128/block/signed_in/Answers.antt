@@ -1,7 +1,7 @@
 use Rattle.std.proofs.Common.{rules}
 use Rattle.std.specs.Int.{w64, to_le_bytes}
-use Rattle.scroll.proofs.lemmas.leb128.BlockLemmas.{one_byte, two_bytes}
-use Rattle.scroll.proofs.lemmas.leb128.LebReadLemmas.{groups_below, word_read_signed}
+use Rattle.scroll.proofs.lemmas.BlockLemmas.{one_byte, two_bytes}
+use Rattle.scroll.proofs.lemmas.LebReadLemmas.{groups_below, word_read_signed}
 use Rattle.scroll.proofs.leb128.block.signed_in.Goals as goal
 
 pub returns-then-word-eq0 : goal.returns-then-word-eq0

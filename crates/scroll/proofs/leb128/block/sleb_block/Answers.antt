@@ -1,7 +1,7 @@
 use Rattle.std.proofs.Common.{rules, ℕ, List, MatchOption, ◌≤◌, subst}
 use Rattle.std.proofs.lemmas.Nat.{le_bytes_8}
 use Rattle.scroll.specs.Leb128.{end_of, ReadsSleb}
-use Rattle.scroll.proofs.lemmas.leb128.BlockLemmas.{by_clauses}
+use Rattle.scroll.proofs.lemmas.BlockLemmas.{by_clauses}
 use Rattle.scroll.proofs.leb128.block.sleb_block.Goals as goal
 
 pub returns : goal.returns

@@ -1,8 +1,8 @@
 use Rattle.std.proofs.Common.{rules, arith, ℕ, List, MatchOption, ◌≤◌, subst}
 use Rattle.std.proofs.lemmas.Nat.{le_bytes_8}
 use Rattle.scroll.specs.Leb128.{end_of, ReadsGroups, ReadsUleb}
-use Rattle.scroll.proofs.lemmas.leb128.BlockLemmas.{by_clauses}
-use Rattle.scroll.proofs.lemmas.leb128.LebReadLemmas.{groups_read}
+use Rattle.scroll.proofs.lemmas.BlockLemmas.{by_clauses}
+use Rattle.scroll.proofs.lemmas.LebReadLemmas.{groups_read}
 use Rattle.scroll.proofs.leb128.block.uleb_block.Goals as goal
 
 pub returns : goal.returns

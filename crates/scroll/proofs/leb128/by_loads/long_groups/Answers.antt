@@ -1,17 +1,17 @@
-use Rattle.std.proofs.Common.{Some, ◌≡◌, ℕ, ◌<◌, ◌≤◌, length, get_or, sym, ap, ◌∙◌, refl, arith, below_more}
+use Rattle.std.proofs.Common.{Some, ◌≡◌, ℕ, ◌<◌, ◌≤◌, length, get_or, sym, ap, ◌∙◌, arith, below_more}
 use Rattle.std.proofs.lemmas.Option.{get_or_from_slice_get, slice_get_within}
 use Rattle.std.specs.List.{slice_get}
-use Rattle.scroll.specs.Loads.{Loading}
-use Rattle.scroll.proofs.lemmas.leb128.LebLemmas.{gives_at, or_group, late_end, open_before, none_past}
-use Rattle.scroll.proofs.lemmas.leb128.LebReadLemmas.{block_open}
+use Rattle.scroll.specs.Reads.{Loading}
+use Rattle.scroll.proofs.lemmas.LebLemmas.{gives_at, or_group, late_end, open_before, none_past}
+use Rattle.scroll.proofs.lemmas.LebReadLemmas.{block_open}
 use Rattle.scroll.proofs.leb128.by_loads.long_groups.Goals as goal
 
-pub returns-in_default-clause-refused : goal.returns-in_default-clause-refused
-returns-in_default-clause-refused c =
+pub returns-in_default-clause-truncated : goal.returns-in_default-clause-truncated
+returns-in_default-clause-truncated c =
     let s = c.args.src.now.bytes in
     let late = (block_open s c.args.block c.requires.first c.requires.open).0 in
     let past : length s ≤ 8 = none_past s 8 (sym c.in_default.is ∙ c.byte.ensures.value) in
-    record { cut = (omega arith, omega arith); error = refl }
+    (omega arith, omega arith)
 
 pub returns-then-ninth-lt128-clause-read : goal.returns-then-ninth-lt128-clause-read
 returns-then-ninth-lt128-clause-read c =
@@ -34,8 +34,8 @@ returns-in-Some-byte-clause-read c =
     let nine : (k : ℕ) → k < 9 → 128 ≤ get_or s k 0 = below_more (λ k. 128 ≤ get_or s k 0) 8 eight (omega arith) in
     (late_end s 9 (omega (arith, within)) nine, at, or_group s 8 c.block_groups-low.result c.from.result (omega arith) (c.block_groups-low.ensures ∙ block.1) (rw ninth c.from.ensures))
 
-pub returns-in-None-clause-refused : goal.returns-in-None-clause-refused
-returns-in-None-clause-refused c =
+pub returns-in-None-clause-truncated : goal.returns-in-None-clause-truncated
+returns-in-None-clause-truncated c =
     let s = c.args.src.now.bytes in
     let block = block_open s c.args.block c.requires.first c.requires.open in
     let ninth = get_or_from_slice_get s 8 _ 0 (sym c.in-Some.ensures.value) in
@@ -44,4 +44,4 @@ returns-in-None-clause-refused c =
     let eight : (k : ℕ) → k < 8 → 128 ≤ get_or s k 0 = λ k h. open_before s k (omega (arith, h, block.0)) in
     let nine : (k : ℕ) → k < 9 → 128 ≤ get_or s k 0 = below_more (λ k. 128 ≤ get_or s k 0) 8 eight (omega arith) in
     let late = late_end s 9 (omega arith) nine in
-    record { cut = (omega arith, omega arith); error = refl }
+    (omega arith, omega arith)

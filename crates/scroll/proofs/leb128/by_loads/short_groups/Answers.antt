@@ -1,6 +1,6 @@
-use Rattle.std.proofs.Common.{◌≡◌, length, sym, ap, ◌∙◌, refl, arith, below_more}
+use Rattle.std.proofs.Common.{◌≡◌, length, sym, ap, ◌∙◌, arith, below_more}
 use Rattle.std.proofs.lemmas.Option.{get_or_from_slice_get, slice_get_within}
-use Rattle.scroll.proofs.lemmas.leb128.LebLemmas.{gives_at, or_group, no_end, none_past}
+use Rattle.scroll.proofs.lemmas.LebLemmas.{gives_at, or_group, no_end, none_past}
 use Rattle.scroll.proofs.leb128.by_loads.short_groups.Goals as goal
 
 pub unreachable-requires : goal.unreachable-requires
@@ -8,12 +8,12 @@ unreachable-requires c =
     let past = none_past c.loop-i.src.bytes c.loop-i.i (sym c.in_default.is ∙ c.byte.ensures.value) in
     c.if-i-len.false (omega (arith, past, c.loop-i.invariant.within, c.len.ensures))
 
-pub returns-then-i-len-clause-refused : goal.returns-then-i-len-clause-refused
-returns-then-i-len-clause-refused c =
+pub returns-then-i-len-clause-truncated : goal.returns-then-i-len-clause-truncated
+returns-then-i-len-clause-truncated c =
     let i = c.loop-i.invariant in
     let whole : c.loop-i.i ≡ length c.loop-i.src.bytes = c.if-i-len.true ∙ c.len.ensures in
     let e = no_end c.loop-i.src.bytes (rw whole at i.open_so_far) in
-    rw (← i.same) (record { cut = (omega arith, omega (arith, ap length i.same)); error = refl })
+    rw (← i.same) (omega arith, omega (arith, ap length i.same))
 
 pub returns-then-byte-lt128-clause-read : goal.returns-then-byte-lt128-clause-read
 returns-then-byte-lt128-clause-read c =
@@ -37,9 +37,9 @@ loop-i-preserved c =
       value = or_group s c.loop-i.i c.loop-i.groups c.from.result (omega arith) i.value (rw byte c.from.ensures);
     })
 
-pub returns-clause-refused : goal.returns-clause-refused
-returns-clause-refused c =
+pub returns-clause-truncated : goal.returns-clause-truncated
+returns-clause-truncated c =
     let i = c.loop-i.invariant in
     let whole : c.loop-i.i ≡ length c.loop-i.src.bytes = omega (arith, ap length i.same, i.within) in
     let e = no_end c.loop-i.src.bytes (rw whole at i.open_so_far) in
-    rw (← i.same) (record { cut = (omega arith, omega (arith, ap length i.same)); error = refl })
+    rw (← i.same) (omega arith, omega (arith, ap length i.same))

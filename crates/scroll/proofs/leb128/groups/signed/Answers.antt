@@ -1,7 +1,7 @@
-use Rattle.std.proofs.Common.{◌*◌, ◌%◌, ◌^◌, ◌∙◌, bit_or, to_z, ap, inr, rules, FitsSigned}
+use Rattle.std.proofs.Common.{◌*◌, ◌%◌, ◌^◌, ◌∙◌, bit_or, to_z, ap, rules, FitsSigned}
 use Rattle.std.specs.Int.{w64}
 use Rattle.std.proofs.lemmas.Int.{to_z-of_z}
-use Rattle.scroll.proofs.lemmas.leb128.LebReadLemmas.{groups_below, word_read_signed, tenth_reads_signed, tenth_is_cut, tenth_refused_signed}
+use Rattle.scroll.proofs.lemmas.LebReadLemmas.{groups_below, word_read_signed, tenth_reads_signed, tenth_is_truncated, tenth_refused_signed}
 use Rattle.scroll.proofs.leb128.groups.signed.Goals as goal
 
 pub sign_extend-requires-clause-low : goal.sign_extend-requires-clause-low
@@ -22,11 +22,7 @@ returns-in-Ten-clause-read c = λ source found.
     rw (to_z-of_z w64 c.cast_signed.result fits ∙ word)
     (tenth_reads_signed source c.in-Ten.groups c.in-Ten.tenth has.0 has.1 has.2 (search rules) c.if-tenth.true (rw word at fits))
 
-pub returns-in-Ten-2-clause-refused : goal.returns-in-Ten-2-clause-refused
-returns-in-Ten-2-clause-refused c = λ source found len.
+pub returns-in-Ten-2-clause-unfit : goal.returns-in-Ten-2-clause-unfit
+returns-in-Ten-2-clause-unfit c = λ source found.
     let has = rw c.in-Ten.is at found in
-    inr (record {
-      whole = tenth_is_cut source c.in-Ten.tenth has.1;
-      unfit = tenth_refused_signed source c.in-Ten.groups c.in-Ten.tenth has.0 has.1 has.2 c.if-tenth.false;
-      error = rw len c.unfit.ensures;
-    })
+    (tenth_is_truncated source c.in-Ten.tenth has.1, tenth_refused_signed source c.in-Ten.groups c.in-Ten.tenth has.0 has.1 has.2 c.if-tenth.false)

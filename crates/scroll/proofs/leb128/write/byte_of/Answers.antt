@@ -1,6 +1,6 @@
 use Rattle.std.proofs.Common.{◌≡◌, ◌/◌, ◌%◌, ◌^◌, sym, ◌∙◌, arith}
-use Rattle.scroll.specs.LebWrites.{ten_groups}
-use Rattle.scroll.proofs.lemmas.leb128.LebWriteLemmas.{group_digit, tenth_digit, marked_byte, last_byte, mod_room}
+use Rattle.scroll.specs.Encoding.{ten_groups}
+use Rattle.scroll.proofs.lemmas.LebWriteLemmas.{group_digit, tenth_digit, marked_byte, last_byte, mod_room}
 use Rattle.scroll.proofs.leb128.write.byte_of.Goals as goal
 use Rattle.scroll.proofs.leb128.write.byte_of.Goals.{then-i-lt9, else-i-lt9}
 

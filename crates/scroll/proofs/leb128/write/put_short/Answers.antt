@@ -1,6 +1,6 @@
 use Rattle.std.proofs.Common.{◌≡◌, ◌∙◌, ◌%◌, ◌^◌, arith}
-use Rattle.scroll.specs.LebWrites.{ten_groups}
-use Rattle.scroll.proofs.lemmas.leb128.LebWriteLemmas.{open_same, short_written}
+use Rattle.scroll.specs.Encoding.{ten_groups}
+use Rattle.scroll.proofs.lemmas.LebWriteLemmas.{open_same, short_written}
 use Rattle.scroll.proofs.leb128.write.put_short.Goals as goal
 
 pub returns : goal.returns

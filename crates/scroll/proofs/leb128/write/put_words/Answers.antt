@@ -1,5 +1,5 @@
 use Rattle.std.proofs.Common.{arith}
-use Rattle.scroll.proofs.lemmas.leb128.LebWriteLemmas.{words_written}
+use Rattle.scroll.proofs.lemmas.LebWriteLemmas.{words_written}
 use Rattle.scroll.proofs.leb128.write.put_words.Goals as goal
 
 pub returns : goal.returns

@@ -1,7 +1,7 @@
 use Rattle.std.proofs.Common.{◌+◌, ◌<◌, length, arith, ◌∙◌}
 use Rattle.std.proofs.lemmas.List.{take_more_set, drop-set-lt}
 use Rattle.std.proofs.Math.ListN.{length-set}
-use Rattle.scroll.proofs.lemmas.arrays.BulkLemmas.{drop-next}
+use Rattle.scroll.proofs.lemmas.ArrayLemmas.{drop-next}
 use Rattle.scroll.proofs.lemmas.callers.Cursors.{ReadsAll-push}
 use Rattle.scroll.proofs.pread.Pread.gread_inout_with.Goals as goal
 
@@ -11,8 +11,8 @@ loop-i-preserved g c =
     let inside : c.loop-i.i < length c.loop-i.inout = omega (arith, c.loop-i.invariant.len) in
     record {
       len = length-set c.loop-i.inout c.loop-i.i c.in_ok-inout.field-0 ∙ c.loop-i.invariant.len;
-      front = rw (take_more_set c.loop-i.inout c.loop-i.i c.in_ok-inout.field-0 inside)
-          (ReadsAll-push _ _ _ _ _ _ _ _ c.loop-i.invariant.front read.1 read.2);
+      prefix = rw (take_more_set c.loop-i.inout c.loop-i.i c.in_ok-inout.field-0 inside)
+          (ReadsAll-push _ _ _ _ _ _ _ _ c.loop-i.invariant.prefix read.1 read.2);
       others = drop-set-lt (c.loop-i.i + 1) c.loop-i.inout c.loop-i.i c.in_ok-inout.field-0 (omega arith)
           ∙ drop-next c.loop-i.i _ _ c.loop-i.invariant.others;
     }

@@ -1,6 +1,6 @@
 use Rattle.std.proofs.Common.{ℕ, List, IfErr, rules}
 use Rattle.std.specs.Borrow.{Bor}
-use Rattle.scroll.proofs.lemmas.arrays.ArrayViews.{err-map}
+use Rattle.scroll.proofs.lemmas.ArrayLemmas.{err-map}
 use Rattle.scroll.specs.Arrays.{RefusesArray}
 use Rattle.scroll.specs.Errors.{IsBadOffset}
 use Rattle.scroll.specs.Runs.{RefusesHere}

@@ -1,4 +1,4 @@
-use Rattle.scroll.proofs.lemmas.texts.StdCStrings.{IsCString-of_std}
+use Rattle.scroll.proofs.lemmas.TextLemmas.{IsCString-of_std}
 use Rattle.scroll.proofs.cstr.of_std.CStrFromFfiCStr.from.Goals as goal
 
 pub invariant_of-result : goal.invariant_of-result

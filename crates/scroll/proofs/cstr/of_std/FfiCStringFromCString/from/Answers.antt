@@ -1,4 +1,4 @@
-use Rattle.scroll.proofs.lemmas.texts.StdCStrings.{IsCString-to_std}
+use Rattle.scroll.proofs.lemmas.TextLemmas.{IsCString-to_std}
 use Rattle.scroll.proofs.cstr.of_std.FfiCStringFromCString.from.Goals as goal
 
 pub from_vec_with_nul_unchecked-requires : goal.from_vec_with_nul_unchecked-requires

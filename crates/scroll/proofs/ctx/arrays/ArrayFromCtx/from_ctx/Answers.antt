@@ -1,6 +1,6 @@
 use Rattle.std.proofs.Math.Nat.{le_trans, mul-le-mul_left}
 use Rattle.std.proofs.Common.{rules, ◌≡◌, ◌≤◌, ◌+◌, ◌*◌, ℕ, List, length, max, drop, ap, arith}
-use Rattle.scroll.proofs.lemmas.arrays.CallLemmas.{callable-same, each-made}
+use Rattle.scroll.proofs.lemmas.ArrayLemmas.{callable-same, each-made}
 use Rattle.scroll.proofs.ctx.arrays.ArrayFromCtx.from_ctx.Goals as goal
 
 pub from_fn-requires : goal.from_fn-requires

@@ -1,7 +1,7 @@
 use Rattle.std.proofs.Common.{◌≡◌, ◌+◌, ◌++◌, [], ◌∷◌, length, take, get_or, rules, arith}
 use Rattle.std.proofs.lemmas.Grind.{take_at_read}
 use Rattle.std.proofs.lemmas.List.{length-take-le}
-use Rattle.scroll.proofs.lemmas.arrays.CallLemmas.{LeavesAll-next}
+use Rattle.scroll.proofs.lemmas.ArrayLemmas.{OverwritesAll-next}
 use Rattle.scroll.proofs.ctx.arrays.ArrayIntoCtx.into_ctx.Goals as goal
 
 pub loop-i-preserved : goal.loop-i-preserved
@@ -13,6 +13,6 @@ loop-i-preserved g c =
     let more : take (i + 1) xs ≡ take i xs ++ x ∷ [] = (take_at_read xs i c.index-self-i.result (omega arith)).1 in
     let len : length (take i xs) ≡ i = length-take-le i xs (omega arith) in
     record {
-      put = rw more (LeavesAll-next w (g.T.IntoCtx.leaves c.args.ctx) _ (take i xs) _ x _ i len c.loop-i.invariant.put c.put_element.ensures);
+      put = rw more (OverwritesAll-next w (g.T.IntoCtx.overwrites c.args.ctx) _ (take i xs) _ x _ i len c.loop-i.invariant.put c.put_element.ensures);
       len = search rules;
     }

@@ -1,4 +1,4 @@
-use Rattle.scroll.proofs.lemmas.arrays.ArrayLemmas.{IsFilled}
+use Rattle.scroll.proofs.lemmas.ArrayLemmas.{IsFilled}
 use Rattle.scroll.proofs.ctx.arrays.ArrayTryFromCtx.try_from_ctx.Given as goal
 
 abbrev pub invariant-loop-i : goal.invariant-loop-i

@@ -1,7 +1,18 @@
-use Rattle.scroll.proofs.lemmas.arrays.ArrayLemmas.{IsPartWritten-next}
+use Rattle.std.proofs.Common.{◌≡◌, true, rules}
+use Rattle.std.specs.Array.Iter.{array_into_iter_items}
+use Rattle.scroll.proofs.lemmas.ArrayLemmas.{IsPartWritten-none, IsPartWritten-next}
 use Rattle.scroll.proofs.ctx.arrays.ArrayTryIntoCtx.try_into_ctx.Goals as goal
+
+pub loop-i-init : goal.loop-i-init
+loop-i-init g c =
+    IsPartWritten-none (g.T.TryIntoCtx.writes c.args.ctx) c.args.self (array_into_iter_items c.into_iter-values.result) c.args.dst.now (search rules)
 
 pub loop-i-preserved : goal.loop-i-preserved
 loop-i-preserved g c =
     IsPartWritten-next (g.T.TryIntoCtx.writes c.args.ctx) c.args.self _ _ c.args.dst.now _ _ _ _ _ c.in-Some.value
     c.loop-i.invariant c.in-Some.ensures.steps c.in_ok-offset-in-Some.ensures.wrote c.in_ok-offset-in-Some.ensures.inside
+
+pub returns-then-not-fits-clause-refused : goal.returns-then-not-fits-clause-refused
+returns-then-not-fits-clause-refused g c = λ h.
+    let is_true : c.fits.result ≡ true = c.fits.ensures.small h in
+    absurd (cc)

@@ -1,5 +1,5 @@
 use Rattle.std.specs.Array.Iter.{array_into_iter_items}
-use Rattle.scroll.proofs.lemmas.arrays.ArrayLemmas.{IsPartWritten}
+use Rattle.scroll.proofs.lemmas.ArrayLemmas.{IsPartWritten}
 use Rattle.scroll.proofs.ctx.arrays.ArrayTryIntoCtx.try_into_ctx.Given as goal
 
 abbrev pub invariant-loop-i : goal.invariant-loop-i

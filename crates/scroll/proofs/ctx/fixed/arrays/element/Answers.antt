@@ -5,6 +5,6 @@ pub returns : goal.returns
 returns g c =
     let order = c.args.order in
     let from = c.args.from.now in
-    let place = g.T.Fixed.width * c.args.index in
+    let offset = g.T.Fixed.width * c.args.index in
     let read = subst (λ o. g.T.Fixed.makes order from o c.read_at.result) (ap (λ w. w * c.args.index) c.width.ensures) c.read_at.ensures in
-    g.met.T.Fixed.local order from place (drop place from) 0 c.read_at.result refl read
+    g.met.T.Fixed.local order from offset (drop offset from) 0 c.read_at.result refl read

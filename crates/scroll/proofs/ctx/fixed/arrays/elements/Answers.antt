@@ -1,5 +1,5 @@
 use Rattle.std.proofs.Common.{rules, ◌*◌, ℕ, List, drop}
-use Rattle.scroll.proofs.lemmas.arrays.CallLemmas.{each-made}
+use Rattle.scroll.proofs.lemmas.ArrayLemmas.{each-made}
 use Rattle.scroll.specs.declared.endian.Endian.{Endian}
 use Rattle.scroll.proofs.ctx.fixed.arrays.elements.Goals as goal
 

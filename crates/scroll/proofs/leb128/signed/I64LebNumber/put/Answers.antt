@@ -2,8 +2,8 @@ use Rattle.std.proofs.Common.{◌≡◌, ap, ◌∙◌, of_z}
 use Rattle.std.specs.Int.{w64}
 use Rattle.std.proofs.lemmas.Int.{to_z-of_z}
 use Rattle.std.proofs.lemmas.Result.{IfOk-weaker}
-use Rattle.scroll.proofs.lemmas.leb128.LebWriteLemmas.{tenth_of, tenth_below, tenth_above, signed_groups_form}
-use Rattle.scroll.proofs.lemmas.leb128.SpellingLemmas.{signed-form, written_reads, read_is_written}
+use Rattle.scroll.proofs.lemmas.LebWriteLemmas.{tenth_of, tenth_below, tenth_above, signed_groups_form}
+use Rattle.scroll.proofs.lemmas.EncodingLemmas.{signed-form, written_reads, read_is_written}
 use Rattle.scroll.proofs.leb128.signed.I64LebNumber.put.Goals as goal
 use Rattle.scroll.proofs.leb128.signed.I64LebNumber.put.Goals.{then-self-lt0, else-self-lt0}
 

@@ -1,6 +1,6 @@
 use Rattle.std.proofs.lemmas.Result.{IfOk-weaker}
-use Rattle.scroll.proofs.lemmas.leb128.LebWriteLemmas.{unsigned_groups_form}
-use Rattle.scroll.proofs.lemmas.leb128.SpellingLemmas.{unsigned-form, written_reads, read_is_written}
+use Rattle.scroll.proofs.lemmas.LebWriteLemmas.{unsigned_groups_form}
+use Rattle.scroll.proofs.lemmas.EncodingLemmas.{unsigned-form, written_reads, read_is_written}
 use Rattle.scroll.proofs.leb128.unsigned.U64LebNumber.put.Goals as goal
 
 pub returns-clause-wrote : goal.returns-clause-wrote

@@ -1,5 +1,5 @@
 use Rattle.std.proofs.Common.{rules}
-use Rattle.scroll.proofs.lemmas.search.VectorLemmas.{stop_marks}
+use Rattle.scroll.proofs.lemmas.SearchLemmas.{stop_marks}
 use Rattle.scroll.proofs.search.stops.AtOrNotAsciiStopsIn.marks.Goals as goal
 
 pub returns : goal.returns

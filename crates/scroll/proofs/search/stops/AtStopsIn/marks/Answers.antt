@@ -1,5 +1,5 @@
 use Rattle.std.proofs.Common.{rules}
-use Rattle.scroll.proofs.lemmas.search.VectorLemmas.{equal_marks}
+use Rattle.scroll.proofs.lemmas.SearchLemmas.{equal_marks}
 use Rattle.scroll.proofs.search.stops.AtStopsIn.marks.Goals as goal
 
 pub returns : goal.returns

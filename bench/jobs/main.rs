@@ -1,0 +1,213 @@
+//! Times whole jobs by the clients beside the same jobs by the crates that a user would take instead, and prints as
+//! bench/src/main.rs does. It stops at the first job whose sums differ.
+
+#[allow(dead_code)]
+mod dwarf;
+#[allow(dead_code)]
+mod inputs;
+mod peers;
+mod records;
+#[allow(dead_code)]
+mod timing;
+
+use inputs::Random;
+use std::alloc::{GlobalAlloc, Layout, System};
+use std::sync::atomic::{AtomicU64, Ordering};
+use timing::{Bench, Form, Job, ours, reading, writing};
+
+// All code comes after these bytes, so they shift it.
+std::arch::global_asm!(
+    ".pushsection .text.code_shift,\"ax\",@progbits",
+    ".globl code_shift",
+    "code_shift:",
+    concat!(".skip ", env!("SHIFT"), ", 0x90"),
+    ".popsection"
+);
+
+unsafe extern "C" {
+    fn code_shift();
+    fn malloc(size: usize) -> *mut u8;
+    fn realloc(place: *mut u8, size: usize) -> *mut u8;
+    fn free(place: *mut u8);
+    fn rt_sections(file: *const u8, len: usize) -> u64;
+    fn rt_abbreviations(bytes: *const u8, len: usize) -> u64;
+    fn rt_write_tables(bytes: *const u8, len: usize, target: *mut u8, room: usize) -> u64;
+    fn rt_index(file: *const u8, len: usize) -> u64;
+    fn rt_archive(archive: *const u8, len: usize) -> u64;
+    fn rt_log(log: *const u8, len: usize) -> u64;
+}
+
+// How often either side asked for memory.
+static ASKED: AtomicU64 = AtomicU64::new(0);
+
+struct Counted;
+
+unsafe impl GlobalAlloc for Counted {
+    unsafe fn alloc(&self, layout: Layout) -> *mut u8 {
+        ASKED.fetch_add(1, Ordering::Relaxed);
+        unsafe { System.alloc(layout) }
+    }
+
+    unsafe fn realloc(&self, place: *mut u8, layout: Layout, size: usize) -> *mut u8 {
+        ASKED.fetch_add(1, Ordering::Relaxed);
+        unsafe { System.realloc(place, layout, size) }
+    }
+
+    unsafe fn dealloc(&self, place: *mut u8, layout: Layout) {
+        unsafe { System.dealloc(place, layout) }
+    }
+}
+
+#[global_allocator]
+static COUNTED: Counted = Counted;
+
+// Whether there is memory, and where.
+#[repr(C)]
+struct Tried {
+    is_there: bool,
+    place: *mut u8,
+}
+
+#[unsafe(no_mangle)]
+extern "C" fn rattle_alloc(size: usize, _align: usize) -> Tried {
+    ASKED.fetch_add(1, Ordering::Relaxed);
+    tried(unsafe { malloc(size) })
+}
+
+#[unsafe(no_mangle)]
+extern "C" fn rattle_realloc(place: *mut u8, _kept: usize, size: usize, _align: usize) -> Tried {
+    ASKED.fetch_add(1, Ordering::Relaxed);
+    tried(unsafe { realloc(place, size) })
+}
+
+#[unsafe(no_mangle)]
+extern "C" fn rattle_dealloc(place: *mut u8) {
+    unsafe { free(place) }
+}
+
+fn tried(place: *mut u8) -> Tried {
+    Tried { is_there: !place.is_null(), place }
+}
+
+// An index of git of so many paths.
+fn index(count: u32) -> Vec<u8> {
+    let mut random = Random::new();
+    let mut file = b"DIRC\0\0\0\x02".to_vec();
+    file.extend(count.to_be_bytes());
+    for i in 0..count {
+        let path = format!("src/part{}/{:0len$}.c", i / 100, i, len = 6 + random.below(20) as usize);
+        let start = file.len();
+        file.extend((0..60).map(|_| random.next() as u8));
+        file.extend((path.len() as u16).to_be_bytes());
+        file.extend(path.as_bytes());
+        file.push(0);
+        while (file.len() - start) % 8 != 0 {
+            file.push(0);
+        }
+    }
+    file
+}
+
+// A log of so many records: a length, a name that a zero ends, and a body.
+fn log(count: u64) -> Vec<u8> {
+    let mut random = Random::new();
+    let mut bytes = Vec::new();
+    for i in 0..count {
+        let name = format!("eth{}.{i}", random.below(4));
+        let body = random.below(48) as usize;
+        bytes.extend(((name.len() + 1 + body) as u16).to_le_bytes());
+        bytes.extend(name.as_bytes());
+        bytes.push(0);
+        bytes.extend((0..body).map(|_| random.next() as u8));
+    }
+    bytes
+}
+
+fn file_of(variable: &str) -> Vec<u8> {
+    let path = std::env::var(variable).unwrap_or_else(|_| panic!("{variable}: a file"));
+    std::fs::read(&path).unwrap_or_else(|error| panic!("{path}: {error}"))
+}
+
+// The first table of a section of abbreviations: up to the code of zero.
+fn first_table(section: &[u8]) -> &[u8] {
+    let mut offset = 0;
+    peers::each_number(section, &mut offset);
+    &section[..offset]
+}
+
+fn run(bench: &mut Bench, row: &str, count: u64, job: &mut Job, forms: Vec<Form>) {
+    let asked = |form: &Form, job: &mut Job| {
+        let before = ASKED.load(Ordering::Relaxed);
+        (form.run)(job);
+        ASKED.load(Ordering::Relaxed) - before
+    };
+    for form in &forms {
+        eprintln!("ALLOCATIONS,{row},{},{}", form.name, asked(form, job));
+    }
+    bench.row("jobs", row, count, job, &forms);
+    if bench.differs() {
+        std::process::exit(1);
+    }
+}
+
+macro_rules! by {
+    ($name:ident) => {
+        ours("scroll", |job| unsafe { $name(job.input.as_ptr(), job.input.len()) })
+    };
+}
+
+fn with(first: Form, mut others: Vec<Form>) -> Vec<Form> {
+    others.insert(0, first);
+    others
+}
+
+macro_rules! records {
+    ($bench:expr, $name:ident, $title:literal, $read:ident, $write:ident) => {{
+        use records::$name::*;
+        let count = 4096;
+        let mut random = Random::new();
+        let table: Vec<u8> = (0..count * SIZE).map(|_| random.next() as u8).collect();
+        let read = ours("scroll", |job| unsafe { $read(job.input.as_ptr(), job.input.len()) });
+        let write = ours("scroll", |job| unsafe { $write(job.output.as_mut_ptr(), job.output.len()) });
+        let (reads, writes) = peers::records!($name);
+        let row = concat!("records of ", $title, " read");
+        run($bench, row, count as u64, &mut reading(&table), with(read, reads));
+        let mut target = vec![0; count * SIZE];
+        let row = concat!("records of ", $title, " written");
+        run($bench, row, count as u64, &mut writing(&mut target), with(write, writes));
+    }};
+}
+
+fn main() {
+    // (a linker leaves out what nothing names)
+    std::hint::black_box(code_shift as *const ());
+    let bench = &mut Bench::from_env();
+    let object = file_of("SECTIONS");
+    let sections = u64::from(u16::from_le_bytes([object[0x3c], object[0x3d]]));
+    run(bench, "sections of an object file", sections, &mut reading(&object), with(by!(rt_sections), peers::sections()));
+
+    let sample = file_of("SAMPLE");
+    let section = dwarf::section(&sample, ".debug_abbrev").expect("abbreviations");
+    let table = first_table(section);
+    let tables = table.repeat(40);
+    let job = &mut Job { numbers: &[table.len() as u64], ..reading(&tables) };
+    let forms = with(by!(rt_abbreviations), peers::abbreviations());
+    run(bench, "abbreviations read (per byte)", tables.len() as u64, job, forms);
+    let mut room = vec![0; table.len() * 40];
+    let job = &mut Job { output: &mut room, ..reading(table) };
+    let form = ours("scroll", |job| unsafe {
+        rt_write_tables(job.input.as_ptr(), job.input.len(), job.output.as_mut_ptr(), job.output.len())
+    });
+    run(bench, "abbreviations written (per byte)", tables.len() as u64, job, with(form, peers::written_abbreviations()));
+
+    let index = index(50_000);
+    run(bench, "entries of a git index", 50_000, &mut reading(&index), with(by!(rt_index), peers::index()));
+    let archive = file_of("ARCHIVE");
+    let entries = u64::from(u16::from_le_bytes([archive[archive.len() - 12], archive[archive.len() - 11]]));
+    run(bench, "files of a ZIP archive", entries, &mut reading(&archive), with(by!(rt_archive), peers::archive()));
+    let log = log(20_000);
+    run(bench, "records of a log", 20_000, &mut reading(&log), with(by!(rt_log), peers::log()));
+    records!(bench, five, "5", rt_read_five, rt_write_five);
+    records!(bench, twelve, "12", rt_read_twelve, rt_write_twelve);
+    records!(bench, forty, "40", rt_read_forty, rt_write_forty);
+}

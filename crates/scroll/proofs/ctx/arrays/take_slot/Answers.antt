@@ -1,0 +1,21 @@
+use Rattle.std.proofs.Common.{◌<◌, length, None}
+use Rattle.std.proofs.lemmas.List.{get_or_default}
+use Rattle.scroll.proofs.lemmas.ArrayLemmas.{is_there}
+use Rattle.scroll.proofs.ctx.arrays.take_slot.Goals as goal
+
+pub bounds-as_mut_slice-index : goal.bounds-as_mut_slice-index
+bounds-as_mut_slice-index g c = rw c.as_mut_slice.ensures.value (is_there c.args.slots.now.items c.args.index c.requires.0 c.requires.1)
+
+pub unreachable-requires : goal.unreachable-requires
+unreachable-requires g c =
+    let there : c.args.index < length c.args.slots.now.items = is_there c.args.slots.now.items c.args.index c.requires.0 c.requires.1 in
+    let same = get_or_default c.args.slots.now.items c.args.index c.index-as_mut_slice-index.result None there in
+    let found = rw c.as_mut_slice.ensures.value at c.in-None.ensures.value in
+    absurd (cc (same, found, c.requires.1))
+
+pub returns-clause-value : goal.returns-clause-value
+returns-clause-value g c =
+    let there : c.args.index < length c.args.slots.now.items = is_there c.args.slots.now.items c.args.index c.requires.0 c.requires.1 in
+    let same = get_or_default c.args.slots.now.items c.args.index c.index-as_mut_slice-index.result None there in
+    let found = rw c.as_mut_slice.ensures.value at c.in-Some.ensures.value in
+    cc (same, found)

@@ -1,6 +1,0 @@
-use Rattle.std.proofs.Common.{[]}
-use Rattle.scroll.proofs.lemmas.history.PlainLemmas.{plain-run}
-use Rattle.scroll.proofs.laws.runs.run_refuses_plainly.Goals as goal
-
-pub returns : goal.returns
-returns c first from to commands answers history run = plain-run first [] from commands answers history to run

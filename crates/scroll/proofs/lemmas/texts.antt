@@ -1,5 +1,0 @@
-pub mod CStringLemmas
-pub mod CStringReadLemmas
-pub mod StdCStrings
-pub mod TextLemmas
-pub mod TextReadLemmas

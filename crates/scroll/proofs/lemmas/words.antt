@@ -1,3 +1,0 @@
-pub mod LaneLemmas
-pub mod WordLemmas
-pub mod ZeroLemmas

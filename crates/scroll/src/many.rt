@@ -1,0 +1,61 @@
+//! Many values, one after another.
+ghost use Rattle.std.specs.Prelude.{◌≡◌, ◌≤◌, ℕ, List, length, IfOk, IfErr, OnOk};
+ghost use Rattle.scroll.specs.Many.{RefusesMany};
+ghost use Rattle.scroll.specs.Reads.{ReadsAll};
+
+use crate::ctx::TryFromCtx;
+use crate::error::Error;
+use crate::located::At;
+use crate::pread::Pread;
+use std::alloc::Global;
+use std::result::Result;
+
+/// Reads `count` values, one after another from the cursor `offset`, and advances the cursor past the last one.
+///
+/// Returns the error of the first value that can't be read, with the offset at which that value starts, and leaves the
+/// cursor there. An allocation failure is the error [`Error::NoMemory`] of the value for which there was no memory. Memory is
+/// allocated as values are read, so a count that is too large costs none.
+///
+/// ```rust
+/// let file: &[u8] = &[1, 0, 2, 0, 3];
+/// let mut offset = 0;
+/// let numbers: Vec<u16> = read_many(rt.alloc(), file, &mut offset, 2, LE)?;
+/// assert_eq!(rt; numbers.as_slice(), [1, 2]);
+/// ```
+pub fn read_many<'a, Ctx: Copy, E: From<Error>, T: TryFromCtx<'a, Ctx, Error = E> + Drop>(
+    alloc: Global,
+    from: &'a [u8],
+    offset: &mut usize,
+    count: usize,
+    ctx: Ctx,
+) -> Result<Vec<T>, At<E>>
+    ensures read { IfOk result (λ values.
+        ReadsAll (T.reads ctx) from.now offset.old values.items offset.new) }
+    ensures count { IfOk result (λ values. length values.items ≡ count) }
+    ensures refused { IfErr result (λ located.
+        RefusesMany (T.reads ctx) (T.refuses ctx) E.from_gives from.now offset.old count
+        located.offset located.error) }
+    ensures stays { IfErr result (λ located. offset.new ≡ located.offset) }
+{
+    let mut values = Vec::new(alloc);
+    for _i in 0..count {
+        let start = *offset;
+        let value: T = match from.gread_with(offset, ctx) {
+            Ok(value) => value,
+            Err(error) => {
+                return Err(At {
+                    offset: start,
+                    error,
+                });
+            }
+        };
+        if values.push(value).is_err() {
+            *offset = start;
+            return Err(At {
+                offset: start,
+                error: E::from(Error::NoMemory),
+            });
+        }
+    }
+    Ok(values)
+}

@@ -1,0 +1,153 @@
+"""Makes docs/API.md from the doc comments of the library: each public module, trait, type, constant and function, and each
+implementation that has a comment of its own.
+
+A function has its signature, its comment, and the names of its clauses. A link to an item leads to its heading. The files come in
+the order of `lib.rt`'s exports. The page is a check, and so is each exported name that it lacks.
+"""
+
+import re
+from pathlib import Path
+from typing import Dict, Iterator, List, NamedTuple, Set
+
+import markdown
+from step import TOP, Step
+
+SRC = TOP / "crates" / "scroll" / "src"
+PAGE = TOP / "docs" / "API.md"
+HEAD = """# API
+
+Each public item of the library, from its doc comments. Offsets and sizes are in bytes. A contract's clauses are named below the
+function, and [DEFINITIONS.md](DEFINITIONS.md) has their words; `rt check` proves that each call meets them.
+"""
+# The sections: what each is, and its files.
+SECTIONS = {
+    "Reads and writes": ["pread", "pwrite", "greater", "lesser", "source"],
+    "Byte orders and errors": ["endian", "error", "small_error", "located"],
+    "Slices": ["slice"],
+    "Contexts and types": ["ctx", "ctx/str_ctx", "ctx/text", "ctx/bytes", "ctx/measure", "ctx/zeros", "ctx/arrays", "ctx/c_strings"]
+    + ["ctx/std_c_strings", "cstr", "cstr/of_std"],
+    "Types of a fixed size": ["ctx/fixed", "ctx/fixed/arrays", "ctx/tuples", "ctx/encode"],
+    "LEB128": ["leb128", "leb128/counted", "leb128/unsigned", "leb128/signed", "leb128/bytewise", "leb128/block", "leb128/by_loads", "loads"],
+    "Runs of commands": ["runner"],
+    "Laws": ["laws", "laws/numbers", "laws/fixed", "laws/reads", "laws/texts", "laws/c_strings", "laws/floats", "laws/required"]
+    + ["laws/leb128", "laws/histories", "laws/runs", "laws/constants"],
+}
+ITEM = re.compile(r"(?P<indent>(?:    )?)(?P<open>pub )?(?:final |const |unsafe )*(?P<kind>trait|struct|enum|fn|const|type|impl)\b(?P<rest>.*)")
+VARIANT = re.compile(r"    (?:pub )?(?P<name>[A-Za-z_]\w*)[,({:]?.*")
+CLAUSE = re.compile(r"\s+(requires|ensures|succeeds) (?:(\w+) )?\{")
+LINK = re.compile(r"\[(`[^`]+`)\](?:\([\w:]+\))?")
+
+
+class Entry(NamedTuple):
+    """An item: how deep it stands, its heading, its signature, its comment, and the names of its clauses."""
+
+    depth: int
+    title: str
+    code: str
+    said: List[str]
+    clauses: List[str]
+
+
+def name_of(kind: str, rest: str) -> str:
+    found = re.match(r"\s*(\w+)", re.sub(r"^<[^>]*>", "", rest))
+    return found[1] if found else ""
+
+
+def of_impl(rest: str) -> str:
+    """Returns an implementation's trait and type, without the parameters that it declares."""
+    text = re.sub(r"^<(?:[^<>]|<[^<>]*>)*>", "", rest.strip()).strip()
+    return re.sub(r"\s+", " ", re.split(r"\s+where\b|\s*\{", text)[0]).replace("'static ", "").strip()
+
+
+def signature(lines: List[str], at: int) -> str:
+    """Returns the head of a function on one line, without its contract."""
+    head: List[str] = []
+    for line in lines[at:]:
+        if CLAUSE.match(line) or line.strip() in ("{", "{}"):
+            break
+        head.append(line.strip())
+        if line.rstrip().endswith((";", "{", "{}")):
+            break
+    text = re.sub(r"\s+", " ", " ".join(head)).rstrip("{};").strip()
+    return re.sub(r",? (?=[)>])|(?<=[(<]) ", "", re.sub(r",\s*([)>])", r"\1", text)).replace(" where Ctx: Default,", " where Ctx: Default")
+
+
+def clauses(lines: List[str], at: int) -> List[str]:
+    """Returns the names of a function's clauses."""
+    found: List[str] = []
+    for line in lines[at + 1 :]:
+        clause = CLAUSE.match(line)
+        found += [f"`{clause[2]}`"] if clause and clause[2] else []
+        if re.match(r"\s*(///|#\[|pub |fn |final fn |impl|\}|\{)", line):
+            break
+    return found
+
+
+def entries(path: Path) -> Iterator[Entry]:
+    """Returns what a file says: its module's comment first."""
+    lines = path.read_text(encoding="utf-8").split("\n")
+    module = [line[3:].removeprefix(" ") for line in lines if line.startswith("//!")]
+    if module:
+        yield Entry(3, f"`scroll::{path.relative_to(SRC).with_suffix('').as_posix().replace('/', '::')}`", "", module, [])
+    said: List[str] = []
+    owner, kind, is_open = "", "", False
+    for at, line in enumerate(lines):
+        if line.strip().startswith("///"):
+            said.append(line.strip()[3:].removeprefix(" "))
+            continue
+        if line.strip().startswith("#["):
+            continue
+        item = ITEM.fullmatch(line)
+        if item and not item["indent"]:
+            kind, is_open = item["kind"], bool(item["open"]) or item["kind"] == "impl"
+            owner = of_impl(item["rest"]) if kind == "impl" else name_of(kind, item["rest"])
+            if said and is_open:
+                code = signature(lines, at) if kind in ("fn", "type", "const") else ""
+                yield Entry(3 if kind != "impl" else 4, f"`{owner}`", code, said, clauses(lines, at) if kind == "fn" else [])
+        elif item and said and item["kind"] == "fn" and (item["open"] or kind in ("trait", "impl")):
+            name = name_of("fn", item["rest"])
+            yield Entry(4, f"`{owner.split(' for ')[-1].split('<')[0]}::{name}`", signature(lines, at), said, clauses(lines, at))
+        elif said and kind in ("enum", "struct") and is_open and VARIANT.fullmatch(line):
+            yield Entry(0, f"`{line.strip().rstrip(',{').strip()}`", "", said, [])
+        said = []
+
+
+def page() -> str:
+    parts = [HEAD]
+    found: Dict[str, List[Entry]] = {it: [e for file in files if (SRC / f"{file}.rt").is_file() for e in entries(SRC / f"{file}.rt")] for it, files in SECTIONS.items()}
+    titles: Set[str] = {e.title for listed in found.values() for e in listed if e.depth}
+
+    def linked(text: str, owner: str) -> str:
+        def link(match: "re.Match[str]") -> str:
+            name = match[1]
+            ends = [it for it in titles if it == name or it.strip("`").endswith(f"::{name.strip('`()')}")]
+            # (the item's own method, where it has one of the name)
+            nearest = sorted(ends, key=lambda it: (not it.startswith(f"`{owner}::"), len(it), it))
+            return f"[{name}](#{markdown.anchor(nearest[0])})" if ends else name
+
+        return LINK.sub(link, text)
+
+    for section, listed in found.items():
+        parts.append(f"\n## {section}\n")
+        for e in listed:
+            text = "\n".join(e.said)
+            pieces = re.split(r"(?ms)(^```.*?^```$)", text)
+            text = "".join(it if it.startswith("```") else linked(it, e.title.strip("`").split("::")[0]) for it in pieces)
+            if not e.depth:
+                parts.append(("" if parts[-1].startswith("- ") else "\n") + f"- {e.title}: {' '.join(text.split())}")
+                continue
+            parts.append(f"\n{'#' * e.depth} {e.title}\n")
+            if e.code:
+                parts.append(f"```rust\n{e.code}\n```\n")
+            parts.append(text)
+            if e.clauses:
+                parts.append(f"\nClauses: {', '.join(e.clauses)}.")
+    return re.sub(r"\n{3,}", "\n\n", "\n".join(parts)) + "\n"
+
+
+def try_all(step: Step, writes: bool) -> None:
+    wanted = page()
+    if writes:
+        PAGE.write_text(wanted, encoding="utf-8")
+    is_same = PAGE.is_file() and PAGE.read_text(encoding="utf-8") == wanted
+    step.count("docs/API.md is not what the doc comments say", None if is_same else "    python3 gate/docs.py write makes it")
