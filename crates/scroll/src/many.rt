@@ -20,7 +20,7 @@ use std::result::Result;
 /// let file: &[u8] = &[1, 0, 2, 0, 3];
 /// let mut offset = 0;
 /// let numbers: Vec<u16> = read_many(rt.alloc(), file, &mut offset, 2, LE)?;
-/// assert_eq!(rt; numbers.as_slice(), [1, 2]);
+/// assert_eq!(rt; numbers.as_slice(), [1, 2].as_slice());
 /// ```
 pub fn read_many<'a, Ctx: Copy, E: From<Error>, T: TryFromCtx<'a, Ctx, Error = E> + Drop>(
     alloc: Global,
