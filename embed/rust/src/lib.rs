@@ -47,15 +47,23 @@ fn failed(code: i32, error: raw::ScrollError) -> Error {
 }
 
 /// Returns a part of the bytes, which the library says is inside.
+#[inline]
 fn part(bytes: &[u8], offset: u64, len: u64) -> &[u8] {
     bytes.get(offset as usize..).and_then(|it| it.get(..len as usize)).unwrap_or_default()
 }
+
+/// How many sections are read in one call.
+const READY: usize = 32;
 
 /// The sections of an ELF file.
 #[derive(Clone, Debug)]
 pub struct Sections<'a> {
     file: &'a [u8],
     left: raw::ScrollElfSections,
+    /// Sections that have been read: those from `at` to `end` are the next.
+    ready: [raw::ScrollElfSection; READY],
+    at: usize,
+    end: usize,
 }
 
 /// A section: its name, and its entry in the table.
@@ -79,7 +87,25 @@ impl<'a> Sections<'a> {
         let mut error = raw::ScrollError::default();
         // SAFETY: a slice and references are what the function asks for.
         let code = unsafe { raw::scroll_elf_open(file.as_ptr(), file.len(), &mut left, &mut error) };
-        if code < 0 { Err(failed(code, error)) } else { Ok(Sections { file, left }) }
+        if code < 0 {
+            return Err(failed(code, error));
+        }
+        Ok(Sections { file, left, ready: [raw::ScrollElfSection::default(); READY], at: 0, end: 0 })
+    }
+
+    /// Reads as many sections as there is room for. Returns whether there are any.
+    #[inline(never)]
+    fn refill(&mut self) -> Result<bool, Error> {
+        let mut error = raw::ScrollError::default();
+        self.at = 0;
+        // SAFETY: as above.
+        let code = unsafe {
+            raw::scroll_elf_fill(
+                self.file.as_ptr(), self.file.len(), &mut self.left, self.ready.as_mut_ptr(), READY, &mut self.end,
+                &mut error,
+            )
+        };
+        if code < 0 { Err(failed(code, error)) } else { Ok(self.end != 0) }
     }
 }
 
@@ -88,20 +114,20 @@ impl<'a> Iterator for Sections<'a> {
 
     #[inline]
     fn next(&mut self) -> Option<Self::Item> {
-        let mut entry = raw::ScrollElfSection::default();
-        let mut error = raw::ScrollError::default();
-        // SAFETY: as above.
-        match unsafe {
-            raw::scroll_elf_next(self.file.as_ptr(), self.file.len(), &mut self.left, &mut entry, &mut error)
-        } {
-            0 => None,
-            1 => Some(Ok(Section { name: part(self.file, entry.name_offset, entry.name_len), entry })),
-            code => Some(Err(failed(code, error))),
+        if self.at == self.end {
+            match self.refill() {
+                Ok(true) => {}
+                Ok(false) => return None,
+                Err(error) => return Some(Err(error)),
+            }
         }
+        let entry = *self.ready.get(self.at)?;
+        self.at += 1;
+        Some(Ok(Section { name: part(self.file, entry.name_offset, entry.name_len), entry }))
     }
 
     fn size_hint(&self) -> (usize, Option<usize>) {
-        (0, Some(self.left.left as usize))
+        (0, Some(self.end - self.at + self.left.left as usize))
     }
 }
 
