@@ -26,7 +26,7 @@ from typing import Dict, Iterable, Iterator, List, NamedTuple, Set, Tuple
 FOLDERS = ("must-fail", "bugs")
 # How an edit is named: by its file, or by the first line of its block.
 TITLES = {"must-fail": re.compile(r"([A-Za-z0-9_-][A-Za-z0-9_.-]*)\.edit"), "bugs": re.compile(r"# ([A-Za-z0-9_-][A-Za-z0-9_.-]*)")}
-HEAD = re.compile(r"^([ \t]*)(?:pub(?:\([a-z]+\))? )?(?:final )?(?:const )?(?:unsafe )?fn (\w+)", re.M)
+HEAD = re.compile(r"^([ \t]*)(?:pub(?:\([a-z]+\))? )?(?:final )?(?:const )?(?:unsafe )?(?:extern \"C\" )?fn (\w+)", re.M)
 
 
 class Bad(Exception):

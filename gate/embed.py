@@ -6,8 +6,10 @@
 The proved crate of embed/scroll_formats has the layout of `rt fmt`. embed/list.c, compiled with warnings as errors, with sanitizers
 and without, and the Python module read real files, and say what `readelf`, `zipinfo` and Python's `zipfile` say; the module writes
 an archive again as it was. embed/damage.c, with sanitizers, compares the answers for COUNT files that are cut and damaged (5,000),
-and tries the arguments that the border refuses. cargo runs the Rust crate's documentation tests, one of which must not compile. The
-command refuses the exports that make no library.
+in four threads, and tries the arguments that the border refuses and memory that is refused; a few files are read under the
+sanitizer of threads. cargo runs the Rust crate's documentation tests, one of which must not compile. `nm` finds no names in the
+libraries but those of the header, and nothing that is written there. The command refuses the exports that make no library, and the
+prover the edits of embed/scroll_formats/bugs, one for each function at least (gate/edits.py says how edits are judged).
 
 Without a C compiler all is skipped; without `readelf`, `zipinfo` or cargo, what needs it.
 """
@@ -21,11 +23,14 @@ import zipfile
 from pathlib import Path
 from typing import Any, Callable, List, Optional, Tuple
 
+from edit_files import Texts, read_edits
+from edit_judge import Judge, parse
 from step import TOP, Step, Stop, count_workers, run_step
 
 sys.path.insert(0, str(TOP / "embed"))
 WARNINGS = ("-std=c11", "-Wall", "-Wextra", "-Werror")
 SANITIZERS = ("-g", "-O1", "-fsanitize=address,undefined", "-fno-sanitize-recover=all")
+DAMAGE = ("-pthread", "-Wl,--wrap=malloc,--wrap=realloc")
 LINE = re.compile(r"\s*\[\s*(\d+)\] (\S*)\s+\S+\s+([0-9a-f]{16}) ([0-9a-f]+) ([0-9a-f]+) ([0-9a-f]+) .*?\s(\d+)\s+(\d+)\s+(\d+)")
 
 
@@ -78,13 +83,51 @@ def try_c(step: Step, cc: List[str], out: Path, objects: List[Path], archives: L
 
 
 def try_damage(step: Step, cc: List[str], out: Path, files: List[Path], count: int) -> None:
-    program = step.room / "damage"
-    built = step.run(step.room, *cc, *WARNINGS, *SANITIZERS, "-I", out, TOP / "embed" / "damage.c", out / "libscroll_formats.a", "-o", program)
-    step.count("damage.c", built.end() if built.status else None)
-    if not built.status:
-        ran = step.run(step.room, program, count, *files)
-        step.count("damaged files", ran.end(60) if ran.status else None)
-        step.tell(ran.said.strip()[:200])
+    for kind, flags, number in (("", SANITIZERS, count), (" with the sanitizer of threads", ("-g", "-O1", "-fsanitize=thread"), 80)):
+        program = step.room / f"damage{number}"
+        source = (TOP / "embed" / "damage.c", out / "libscroll_formats.a", *DAMAGE)
+        built = step.run(step.room, *cc, *WARNINGS, *flags, "-I", out, *source, "-o", program)
+        step.count(f"damage.c{kind}", built.end() if built.status else None)
+        if not built.status:
+            ran = step.run(step.room, program, number, *files)
+            step.count(f"damaged files{kind}", ran.end(60) if ran.status else None)
+            step.tell(ran.said.strip()[:200])
+
+
+def try_names(step: Step, out: Path) -> None:
+    """Tries what `nm` says of the libraries: the names that they export, and what is written there."""
+    header = (out / "scroll_formats.h").read_text(encoding="utf-8")
+    names = sorted(re.findall(r"(?m)^(?:const )?\w+ \*?(\w+)\(.*\);$", header))
+    for file, flag in (("libscroll_formats.a", "-g"), ("libscroll_formats.so", "-D")):
+        said = step.run(out, "nm", flag, "--defined-only", file).said
+        step.count(f"the names of {file}", differ(sorted(re.findall(r"(?m)^[0-9a-f]+ \w (\S+)$", said)), names))
+    written = re.findall(r"(?m) [bBcCdD] (\S+)$", step.run(out, "nm", "libscroll_formats.a").said)
+    # (the kit's address of an allocation of no bytes)
+    step.count("nothing is written in the library", differ(sorted({*written} - {"nothing"}), []))
+
+
+def try_edits(step: Step, crate: Path, exports: List[str]) -> None:
+    """Tries the edits in the workspace, as many in one check as are in different functions."""
+    shutil.copytree(TOP / "embed" / "scroll_formats" / "bugs", crate / "bugs")
+    failures: List[str] = []
+    edits = read_edits(crate, failures)
+    failures += [f"no edit for {it}" for it in exports if it not in {edit.name.split(".")[0] for edit in edits}]
+    for it in failures:
+        step.count(it, "")
+    judge, left = Judge(crate, Texts(crate)), edits
+    while left:
+        batches, left = judge.batches(left), []
+        for batch in batches:
+            texts, places = judge.texts.after(batch)
+            for file, text in texts.items():
+                (crate / file).write_text(text, encoding="utf-8")
+            ran = step.run(crate, "rt", "check", "--jobs", os.environ["JOBS"])
+            left += judge.judge(batch, places, parse(ran.said))
+            for file in texts:
+                (crate / file).write_text(judge.texts.load(file), encoding="utf-8")
+    for edit in edits:
+        step.count(f"the edit {edit.name}", None if edit.name in judge.refused else f"    {judge.failed.get(edit.name)}")
+        step.tell(f"refused {edit.name}: {judge.refused.get(edit.name, 'not')}")
 
 
 def fails(call: Callable[[], object], kind: type) -> Optional[str]:
@@ -207,8 +250,10 @@ def work(step: Step, count: int) -> None:
     objects, archives = [sample, out / "libscroll_formats.so"], write_archives(step.room)
     try_c(step, cc, out, objects, archives)
     try_damage(step, cc, out, [*objects, *archives], count)
+    try_names(step, out)
     try_python(step, out, objects, archives)
     try_rust(step, out)
+    try_edits(step, crate, [it.name for it in library.read_crate(crate).exports])
 
 
 if __name__ == "__main__":

@@ -121,7 +121,7 @@ impl<'a> Iterator for Sections<'a> {
                 Err(error) => return Some(Err(error)),
             }
         }
-        let entry = *self.ready.get(self.at)?;
+        let entry = self.ready[self.at % READY];
         self.at += 1;
         Some(Ok(Section { name: part(self.file, entry.name_offset, entry.name_len), entry }))
     }
