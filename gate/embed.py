@@ -9,7 +9,7 @@ an archive again as it was. embed/damage.c, with sanitizers, compares the answer
 in four threads, and tries the arguments that the border refuses and memory that is refused; a few files are read under the
 sanitizer of threads. cargo runs the Rust crate's documentation tests, one of which must not compile. `nm` finds no names in the
 libraries but those of the header, and nothing that is written there. The command refuses the exports that make no library, and the
-prover the edits of embed/scroll_formats/bugs, one for each function at least (gate/edits.py says how edits are judged).
+prover a bug in each function (gate/edits.py says how edits are judged).
 
 Without a C compiler all is skipped; without `readelf`, `zipinfo` or cargo, what needs it.
 """
@@ -23,7 +23,7 @@ import zipfile
 from pathlib import Path
 from typing import Any, Callable, List, Optional, Tuple
 
-from edit_files import Texts, read_edits
+from edit_files import Edit, Pair, Texts
 from edit_judge import Judge, parse
 from step import TOP, Step, Stop, count_workers, run_step
 
@@ -106,14 +106,24 @@ def try_names(step: Step, out: Path) -> None:
     step.count("nothing is written in the library", differ(sorted({*written} - {"nothing"}), []))
 
 
+# Bugs that the prover must refuse, at least one for each export: the export, the function that is refused, its file, and the edit.
+EDITS = [
+    ("scroll_elf_open", "open", "src/elf.rt", "left: u32::from(header.section_count),", "left: u32::from(header.names_index),"),
+    ("scroll_elf_next", "next", "src/elf.rt", "sections.next = offset + 64;", "sections.next = offset + 40;"),
+    ("scroll_elf_table", "scroll_elf_table", "src/elf.rt", "if found <= sections.len() {", "if found >= sections.len() {"),
+    ("scroll_elf_fill", "fill", "src/elf_fill.rt", "sections.left -= found as u32;", "sections.left -= 1;"),
+    ("scroll_elf_fill", "count_ready", "src/elf_fill.rt", "there.min(room)", "there.min(room.saturating_sub(1))"),
+    ("scroll_zip_open", "scroll_zip_open", "src/zip_files.rt", "if record.comment.len() + 22 == back {", "if record.comment.len() + 22 <= back {"),
+    ("scroll_zip_next", "scroll_zip_next", "src/zip_files.rt", "file.contents_offset + file.contents_len;", "file.contents_offset;"),
+    ("scroll_zip_put", "scroll_zip_put", "src/zip_files.rt", "*offset = place;", "*offset = name.len();"),
+    ("scroll_zip_put_end", "scroll_zip_put_end", "src/zip_files.rt", "gwrite_with(archive, record, offset, LE);", "gwrite_with(archive, record, offset, scroll::BE);"),
+]
+
+
 def try_edits(step: Step, crate: Path, exports: List[str]) -> None:
     """Tries the edits in the workspace, as many in one check as are in different functions."""
-    shutil.copytree(TOP / "embed" / "scroll_formats" / "bugs", crate / "bugs")
-    failures: List[str] = []
-    edits = read_edits(crate, failures)
-    failures += [f"no edit for {it}" for it in exports if it not in {edit.name.split(".")[0] for edit in edits}]
-    for it in failures:
-        step.count(it, "")
+    step.count("an edit for each function", differ(sorted({it[0] for it in EDITS}), sorted(exports)))
+    edits = [Edit(crate.name, "", f"{name}: {new}", new, breaks, (), (Pair(file, old, new),)) for name, breaks, file, old, new in EDITS]
     judge, left = Judge(crate, Texts(crate)), edits
     while left:
         batches, left = judge.batches(left), []
@@ -127,7 +137,6 @@ def try_edits(step: Step, crate: Path, exports: List[str]) -> None:
                 (crate / file).write_text(judge.texts.load(file), encoding="utf-8")
     for edit in edits:
         step.count(f"the edit {edit.name}", None if edit.name in judge.refused else f"    {judge.failed.get(edit.name)}")
-        step.tell(f"refused {edit.name}: {judge.refused.get(edit.name, 'not')}")
 
 
 def fails(call: Callable[[], object], kind: type) -> Optional[str]:
@@ -213,6 +222,16 @@ def try_refusals(step: Step, library: Any) -> None:
         step.count(f"a crate that is refused: {why}", None if why in said else f"    {said}")
 
 
+def try_page(step: Step, library: Any) -> None:
+    """Tries that the example of embed/README.md is an export."""
+    source = step.room / "first" / "src" / "lib.rt"
+    source.parent.mkdir(parents=True)
+    blocks = re.findall(r"(?ms)^```rust\n(.*?)^```$", (TOP / "embed" / "README.md").read_text(encoding="utf-8"))
+    source.write_text("".join(blocks), encoding="utf-8")
+    crate = library.read_crate(source.parents[1])
+    step.count("the example of embed/README.md", differ([it.name for it in crate.exports], ["wav_rate"]))
+
+
 def try_rust(step: Step, out: Path) -> None:
     if not shutil.which("cargo"):
         step.tell("cargo is not there, so the Rust crate is not tried")
@@ -235,6 +254,7 @@ def work(step: Step, count: int) -> None:
     import library
 
     try_refusals(step, library)
+    try_page(step, library)
     os.environ.setdefault("JOBS", str(count_workers()))
     out = step.room / "out"
     try:
