@@ -97,7 +97,7 @@ impl<'a> Sections<'a> {
     #[inline(never)]
     fn refill(&mut self) -> Result<bool, Error> {
         let mut error = raw::ScrollError::default();
-        self.at = 0;
+        (self.at, self.end) = (0, 0);
         // SAFETY: as above.
         let code = unsafe {
             raw::scroll_elf_fill(
