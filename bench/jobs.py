@@ -1,12 +1,15 @@
 """Makes the table of jobs from the output of the programs of bench/run.sh jobs.
 
-    python3 jobs.py RAW SAID VERSIONS [--keep]
+    python3 jobs.py RAW SAID VERSIONS PROGRAM [--keep]
 
-RAW has the times, SAID the allocations and VERSIONS the versions of the crates. It prints the table and, without
-`--keep`, writes it to docs/SPEED.md, and the times to bench/results/jobs.csv.
+RAW has the times, SAID the allocations and the places of the code, VERSIONS the versions of the crates, and PROGRAM is the
+program that said so. It prints the table and, without `--keep`, writes it to docs/SPEED.md, and the times to
+bench/results/jobs.csv.
 """
 
 import csv
+import re
+import subprocess
 import sys
 from pathlib import Path
 
@@ -27,35 +30,93 @@ def read_times(path):
     return times
 
 
-def read_allocations(path):
+def read_costs(path):
+    """Returns for each job and each form how often it asked for memory, for how many bytes, and where its code is."""
     with open(path) as file:
-        lines = [line.strip() for line in file if line.startswith("ALLOCATIONS,")]
-    return {(row, form): int(count) for row, form, count in (split(line) for line in lines)}
+        lines = [line.strip().removeprefix("COSTS,") for line in file if line.startswith("COSTS,")]
+    return {(row, form): tuple(map(int, counts)) for row, form, *counts in map(split, lines)}
 
 
 def split(line):
-    row, rest = line.removeprefix("ALLOCATIONS,").split(",", 1)
-    return (row, *rest.rsplit(",", 1))
+    row, rest = line.split(",", 1)
+    return (row, *rest.rsplit(",", 3))
 
 
-def table(times, allocations, versions):
-    lines = ["| job | ours, ns | fastest peer | its ns | ratio | in four layouts | allocations, ours and its | other peers, ns |"]
-    lines.append("|---|--:|---|--:|--:|---|---|---|")
+FUNCTION = re.compile(r"([0-9a-f]+) <(.+)>:")
+CALL = re.compile(r"\t(?:addr32 )?(?:call|j\w+) .*?\b([0-9a-f]+) <([^>]+)>")
+# A place that holds the address of a function.
+PLACE = re.compile(r"([0-9a-f]+) R_X86_64_RELATIVE +\*ABS\*\+0x([0-9a-f]+)")
+# Functions that end the program are no part of a job.
+ENDS = re.compile(r"panic|fail|abort|handle_alloc_error")
+
+
+def read_code(program):
+    """Returns the functions of a program by their addresses: the name, the size in bytes, and the addresses that it calls."""
+    places = {int(it[1], 16): int(it[2], 16) for line in printed("objdump", "-R", program) if (it := PLACE.match(line))}
+    functions, last = {}, None
+    for line in printed("objdump", "-d", "--no-show-raw-insn", program):
+        if start := FUNCTION.fullmatch(line):
+            at = int(start[1], 16)
+            if last is not None:
+                functions[last][1] = at - last
+            functions[at], last = [start[2], 0, set()], at
+        elif call := CALL.search(line):
+            to = int(call[1], 16)
+            functions[last][2].add(places.get(to, to))
+    return functions
+
+
+def printed(*command):
+    return subprocess.run(command, check=True, capture_output=True, text=True).stdout.splitlines()
+
+
+def code_start(program):
+    """The address from which the program counts the places of its code."""
+    return next(int(line.split()[0], 16) for line in printed("nm", program) if line.endswith(" code_shift"))
+
+
+def code_size(at, functions):
+    """The bytes of machine code of a function and of all that it calls, but for calls of closures."""
+    seen, rest = set(), [at]
+    while rest:
+        at = rest.pop()
+        if at in functions and at not in seen and not ENDS.search(functions[at][0]):
+            seen.add(at)
+            rest.extend(functions[at][2])
+    return sum(functions[at][1] for at in seen)
+
+
+LARGE = " of 64 MiB"
+
+
+def table(times, costs, versions, size):
+    head = ["job", "ours, ns", "fastest peer", "its ns", "ratio", "in four layouts", "at 64 MiB"]
+    head += ["allocations, ours and its", "their bytes", "machine code, bytes", "other peers, ns"]
+    lines = [f"| {' | '.join(head)} |", "|---|--:|---|--:|--:|---|--:|---|---|---|---|"]
     for row, forms in times.items():
-        ours = forms["scroll"]
         peers = sorted((mean(best.values()), form) for form, best in forms.items() if form != "scroll")
-        if not peers:
+        if not peers or row.endswith(LARGE):
             continue
         its, peer = peers[0]
+        ours = forms["scroll"]
         ratios = [ours[shift] / forms[peer][shift] for shift in SHIFTS]
-        asked = f"{allocations[row, 'scroll']:,}, {allocations[row, peer]:,}"
-        others = ", ".join(f"{name(form, versions)} {draw.seen(time)}" for time, form in peers[1:])
         time = mean(ours.values())
-        lines.append(
-            f"| {row} | {draw.seen(time)} | {name(peer, versions)} | {draw.seen(its)} | {time / its:.2f} "
-            f"| {min(ratios):.2f} to {max(ratios):.2f} | {asked} | {others} |"
-        )
+        both = [costs[row, form] for form in ("scroll", peer)]
+        cells = [row, draw.seen(time), name(peer, versions), draw.seen(its), f"{time / its:.2f}"]
+        cells += [f"{min(ratios):.2f} to {max(ratios):.2f}", grown(times.get(row + LARGE), peer)]
+        cells += [", ".join(f"{cost[i]:,}" for cost in both) for i in (0, 1)]
+        cells.append(", ".join(f"{size(cost[2]):,}" for cost in both))
+        cells.append(", ".join(f"{name(form, versions)} {draw.seen(time)}" for time, form in peers[1:]))
+        lines.append(f"| {' | '.join(cells)} |")
     return lines
+
+
+def grown(forms, peer):
+    """Our time at 64 MiB, and its ratio to that of the peer."""
+    if not forms:
+        return ""
+    ours, its = (mean(forms[form].values()) for form in ("scroll", peer))
+    return f"{draw.seen(ours)} ({ours / its:.2f})"
 
 
 def name(form, versions):
@@ -65,11 +126,12 @@ def name(form, versions):
 
 
 def main():
-    raw, said, path, *keep = sys.argv[1:]
+    raw, said, path, program, *keep = sys.argv[1:]
     times = read_times(raw)
     with open(path) as file:
         versions = dict(line.split() for line in file)
-    lines = [draw.machine(), "", *table(times, read_allocations(said), versions)]
+    functions, start = read_code(program), code_start(program)
+    lines = [draw.machine(), "", *table(times, read_costs(said), versions, lambda at: code_size(start + at, functions))]
     print("\n".join(lines))
     if keep:
         return

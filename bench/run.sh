@@ -251,7 +251,7 @@ done
 [ "$status" -eq 0 ] || fail 'the two sides disagree, or a program failed'
 
 if [ "$sets" = jobs ]; then
-    python3 "$here/jobs.py" "$raw" "$room/said" "$room/versions" ${KEEP:+--keep}
+    python3 "$here/jobs.py" "$raw" "$room/said" "$room/versions" "$side/side_$shift" ${KEEP:+--keep}
 elif [ $# -gt 0 ]; then
     python3 "$here/draw.py" "$raw"
 else

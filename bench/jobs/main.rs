@@ -37,19 +37,25 @@ unsafe extern "C" {
     fn rt_log(log: *const u8, len: usize) -> u64;
 }
 
-// How often either side asked for memory.
+// How often either side asked for memory, and for how many bytes in all.
 static ASKED: AtomicU64 = AtomicU64::new(0);
+static BYTES: AtomicU64 = AtomicU64::new(0);
+
+fn count(size: usize) {
+    ASKED.fetch_add(1, Ordering::Relaxed);
+    BYTES.fetch_add(size as u64, Ordering::Relaxed);
+}
 
 struct Counted;
 
 unsafe impl GlobalAlloc for Counted {
     unsafe fn alloc(&self, layout: Layout) -> *mut u8 {
-        ASKED.fetch_add(1, Ordering::Relaxed);
+        count(layout.size());
         unsafe { System.alloc(layout) }
     }
 
     unsafe fn realloc(&self, place: *mut u8, layout: Layout, size: usize) -> *mut u8 {
-        ASKED.fetch_add(1, Ordering::Relaxed);
+        count(size);
         unsafe { System.realloc(place, layout, size) }
     }
 
@@ -70,13 +76,13 @@ struct Tried {
 
 #[unsafe(no_mangle)]
 extern "C" fn rattle_alloc(size: usize, _align: usize) -> Tried {
-    ASKED.fetch_add(1, Ordering::Relaxed);
+    count(size);
     tried(unsafe { malloc(size) })
 }
 
 #[unsafe(no_mangle)]
 extern "C" fn rattle_realloc(place: *mut u8, _kept: usize, size: usize, _align: usize) -> Tried {
-    ASKED.fetch_add(1, Ordering::Relaxed);
+    count(size);
     tried(unsafe { realloc(place, size) })
 }
 
@@ -137,12 +143,14 @@ fn first_table(section: &[u8]) -> &[u8] {
 
 fn run(bench: &mut Bench, row: &str, count: u64, job: &mut Job, forms: Vec<Form>) {
     let asked = |form: &Form, job: &mut Job| {
-        let before = ASKED.load(Ordering::Relaxed);
+        let before = (ASKED.load(Ordering::Relaxed), BYTES.load(Ordering::Relaxed));
         (form.run)(job);
-        ASKED.load(Ordering::Relaxed) - before
+        (ASKED.load(Ordering::Relaxed) - before.0, BYTES.load(Ordering::Relaxed) - before.1)
     };
     for form in &forms {
-        eprintln!("ALLOCATIONS,{row},{},{}", form.name, asked(form, job));
+        let (times, bytes) = asked(form, job);
+        let code = (form.run as usize).wrapping_sub(code_shift as *const () as usize) as isize;
+        eprintln!("COSTS,{row},{},{times},{bytes},{code}", form.name);
     }
     bench.row("jobs", row, count, job, &forms);
     if bench.differs() {
@@ -155,6 +163,9 @@ macro_rules! by {
         ours("scroll", |job| unsafe { $name(job.input.as_ptr(), job.input.len()) })
     };
 }
+
+// The size of the data by which a job shows how it grows.
+const LARGE: usize = 64 << 20;
 
 fn with(first: Form, mut others: Vec<Form>) -> Vec<Form> {
     others.insert(0, first);
@@ -172,6 +183,10 @@ macro_rules! records {
         let (reads, writes) = peers::records!($name);
         let row = concat!("records of ", $title, " read");
         run($bench, row, count as u64, &mut reading(&table), with(read, reads));
+        let read = ours("scroll", |job| unsafe { $read(job.input.as_ptr(), job.input.len()) });
+        let table = table.repeat(LARGE / table.len());
+        let row = concat!("records of ", $title, " read of 64 MiB");
+        run($bench, row, (table.len() / SIZE) as u64, &mut reading(&table), with(read, peers::records!($name).0));
         let mut target = vec![0; count * SIZE];
         let row = concat!("records of ", $title, " written");
         run($bench, row, count as u64, &mut writing(&mut target), with(write, writes));
@@ -193,6 +208,10 @@ fn main() {
     let job = &mut Job { numbers: &[table.len() as u64], ..reading(&tables) };
     let forms = with(by!(rt_abbreviations), peers::abbreviations());
     run(bench, "abbreviations read (per byte)", tables.len() as u64, job, forms);
+    let many = table.repeat(LARGE / table.len());
+    let job = &mut Job { numbers: &[table.len() as u64], ..reading(&many) };
+    let forms = with(by!(rt_abbreviations), peers::abbreviations());
+    run(bench, "abbreviations read (per byte) of 64 MiB", many.len() as u64, job, forms);
     let mut room = vec![0; table.len() * 40];
     let job = &mut Job { output: &mut room, ..reading(table) };
     let form = ours("scroll", |job| unsafe {
@@ -200,13 +219,15 @@ fn main() {
     });
     run(bench, "abbreviations written (per byte)", tables.len() as u64, job, with(form, peers::written_abbreviations()));
 
-    let index = index(50_000);
-    run(bench, "entries of a git index", 50_000, &mut reading(&index), with(by!(rt_index), peers::index()));
+    for (count, row) in [(50_000, "entries of a git index"), (LARGE as u32 / 88, "entries of a git index of 64 MiB")] {
+        run(bench, row, u64::from(count), &mut reading(&index(count)), with(by!(rt_index), peers::index()));
+    }
     let archive = file_of("ARCHIVE");
     let entries = u64::from(u16::from_le_bytes([archive[archive.len() - 12], archive[archive.len() - 11]]));
     run(bench, "files of a ZIP archive", entries, &mut reading(&archive), with(by!(rt_archive), peers::archive()));
-    let log = log(20_000);
-    run(bench, "records of a log", 20_000, &mut reading(&log), with(by!(rt_log), peers::log()));
+    for (count, row) in [(20_000, "records of a log"), (LARGE as u64 / 37, "records of a log of 64 MiB")] {
+        run(bench, row, count, &mut reading(&log(count)), with(by!(rt_log), peers::log()));
+    }
     records!(bench, five, "5", rt_read_five, rt_write_five);
     records!(bench, twelve, "12", rt_read_twelve, rt_write_twelve);
     records!(bench, forty, "40", rt_read_forty, rt_write_forty);

@@ -9,13 +9,14 @@ mod floats;
 mod signed;
 mod unsigned;
 
-// Returns the `N` bytes from `offset` on.
+// Returns the `N` bytes from `offset` on. The slice has `N` bytes whatever the source has, so that no test is left of
+// `first_chunk`.
 #[inline]
 fn bytes_at<const N: usize>(from: &[u8], offset: usize) -> [u8; N]
     requires { offset + N ≤ length from.now }
     ensures { result ≡ take N (drop offset from.now) }
 {
-    *from[offset..].first_chunk().unwrap()
+    *from[offset..offset + N].first_chunk().unwrap()
 }
 
 // Writes the bytes of a number to the start of a target.
