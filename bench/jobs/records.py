@@ -50,10 +50,9 @@ use scroll::{{LE, Pread, slice}};
 impl{blocks}
 #[unsafe(no_mangle)]
 pub extern "C" fn rt_read_{name}(source: &[u8]) -> u64 {{
-    let mut offset = 0;
     let mut total: u64 = 0;
-    for _ in 0..source.len() {{
-        match source.gread_with::<{title}>(&mut offset, LE) {{
+    for bytes in source.chunks_exact({sum(sizes)}) {{
+        match bytes.pread_with::<{title}>(0, LE) {{
             Ok(record) => total = total{total(sizes)},
             Err(_) => break,
         }}
