@@ -1,6 +1,8 @@
--- Many values, read one after another into memory.
-use Rattle.std.specs.Prelude.{◌<◌, ℕ, List, length, ◌⊎◌}
+-- Many values, read one after another into memory, and written one after another.
+use Rattle.std.specs.Prelude.{◌≡◌, ◌<◌, ◌++◌, ◌∷◌, ℕ, List, length, ◌⊎◌}
+use Rattle.scroll.specs.Arrays.{WritesAll}
 use Rattle.scroll.specs.Reads.{ReadsAll, RefusesAt}
+use Rattle.scroll.specs.Writes.{RefusesWriteAt}
 use Rattle.scroll.specs.Errors.{PastEnd}
 use Rattle.scroll.specs.declared.error.Error.{Error}
 use Rattle.scroll.specs.declared.error.Error.TheVariants.{NoMemory}
@@ -12,3 +14,14 @@ pub record RefusesMany {V E : Type 0} (reads : List ℕ → V → ℕ → Type 0
   pub fewer : length values < count
   pub each : ReadsAll reads buffer from values stop
   pub error : RefusesAt refuses (PastEnd gives) buffer stop e ⊎ gives NoMemory e
+
+-- a write of the values `all` stops at the error `e`: those before some value are written one after another from the offset
+-- `from`, and the write of that one, at the offset `stop`, fails with `e` and leaves `new`
+pub record FailsMany {V E : Type 0} (writes : V → List ℕ → List ℕ → ℕ → Type 0) (refuses : V → List ℕ → List ℕ → E → Type 0) (gives : Error → E → Type 0) (old : List ℕ) (from : ℕ) (all : List V) (new : List ℕ) (stop : ℕ) (e : E) : Type 0 where
+  pub values : List V
+  pub value : V
+  pub others : List V
+  pub split : all ≡ values ++ value ∷ others
+  pub mid : List ℕ
+  pub each : WritesAll writes old from values mid stop
+  pub error : RefusesWriteAt (refuses value) (PastEnd gives) mid stop new e
