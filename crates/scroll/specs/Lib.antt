@@ -22,7 +22,6 @@ pub mod Tagged
 pub mod Leb128
 pub mod Encoding
 pub mod Many
-pub mod Elements
 pub mod Runs
 pub mod Laws
 -- Lemmas, and no definitions: the implementations cite them for the laws of their traits, which may cite specs/ alone.

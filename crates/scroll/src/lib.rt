@@ -43,7 +43,6 @@ mod search;
 pub mod slice;
 mod small_error;
 mod source;
-mod tagged;
 #[cfg(test)]
 mod tests;
 
@@ -56,9 +55,8 @@ pub use crate::leb128::{
 pub use crate::lesser::{IOread, IOwrite};
 pub use crate::loads::Loads;
 pub use crate::located::{At, LocateError};
-pub use crate::many::{read_many, write_many};
+pub use crate::many::{read_many, write_many, write_tagged};
 pub use crate::pread::Pread;
 pub use crate::pwrite::Pwrite;
 pub use crate::small_error::SmallError;
 pub use crate::source::{ReadFrom, Source};
-pub use crate::tagged::write_tagged;

@@ -1,7 +1,7 @@
 // Elements of one size that are read where they lie.
 ghost use Rattle.std.specs.Prelude.{◌≡◌, ◌≤◌, ◌<◌, ◌*◌, ◌/◌, length, drop, IfSome, IfNone, OnSome};
 ghost use Rattle.std.specs.Iterator.{at_most};
-ghost use Rattle.scroll.specs.Elements.{YieldsElement};
+ghost use Rattle.scroll.specs.Many.{YieldsElement};
 
 use crate::ctx::fixed::Plain;
 use crate::endian::Endian;
