@@ -78,6 +78,18 @@ specs/EndRecordFormat.antt.txt|whole|specs/EndRecordFormat.antt.txt is not what 
 specs/EndRecordBack.antt.txt|p7|specs/EndRecordBack.antt.txt is not what tools/derive/derive.sh prints for EndRecord
 END
 
+# A file with one of the two traits alone.
+for trait in TryFromCtx TryIntoCtx; do
+    rm -rf "$room/zip" && cp -R clients/zip "$room/zip"
+    awk -v trait="$trait" '/^impl/ { left = index($0, trait) } !left { print } /^}/ { left = 0 }' clients/zip/src/end.rt.txt >"$room/zip/src/end.rt.txt"
+    said=$(sh tools/derive/derive.sh --check "$room/zip/src/end.rt.txt" EndRecord 2>&1)
+    status=$?
+    [ "$status" -eq 1 ] && [ "$said" = "$room/zip/src/end.rt.txt: the implementation for EndRecord is not what tools/derive/derive.sh prints" ]
+    result=$?
+    [ "$result" -eq 0 ] || echo "derive: without $trait --check ended with $status and '$said'"
+    count "$result"
+done
+
 # Tests whether the implementation for a struct has a line: FILE STRUCT LINE.
 cat >"$room/forms.rt" <<'END'
 // struct Forms { in_a_comment: u8 }
@@ -92,6 +104,7 @@ pub(crate) struct Forms {
 }
 struct Inner(pub u8, pub(crate) [u16; 2]);
 struct One { a: u8 }
+struct Seventeen { a: u8, b: u8, c: u8, d: u8, e: u8, f: u8, g: u8, h: u8, i: u8, j: [u64; 16usize], k: u8, l: u8, m: u8, n: u8, o: u8, p: u8, q: [u16; 0x10] }
 struct Left { number_one: u64, number_two: u64, number_three: u64, number_four: u64, number_five: u64, number_six: u64, number_seven: u64, number_eight: u64, number_nine: u64 }
 END
 while IFS='|' read -r name line; do
@@ -114,6 +127,14 @@ Inner|    ghost of_parts = { λ p. record { 0 = p.0; 1 = p.1 } };
 Inner|        Inner(parts.0, array_1)
 One|    type Parts = u8;
 One|        One { a: parts }
+Seventeen|        × (MakesArray 8 (λ s x. (x ≡ number order 8 s)) 16 (drop 9 s) x.j)
+Seventeen|        × (MakesArray 2 (λ s x. (x ≡ number order 2 s)) 16 (drop 143 s) x.q) };
+Seventeen|    ghost of_parts = { λ p. record {
+Seventeen|      j = p.0.2.1;
+Seventeen|      q = p.1;
+Seventeen|        let j = parts.0.2.1;
+Seventeen|        let q = parts.1;
+Seventeen|        let q = self.q;
 Left|    type Parts = ((u64, u64, u64, u64), (u64, u64, u64, u64), u64);
 Left|      ((h.4, (h.5, (h.6, h.7))), h.8),
 END
@@ -238,6 +259,59 @@ struct Kind<'a> {
     text: CStr<'a>,
     kind: char,
 }
+enum Failure { Short(Error), BadMark(u8) }
+// #[scroll(error = Failure::Long)]
+struct Failing<'a> { text: CStr<'a> }
+// #[scroll(error = Fault::Short)]
+struct Faulty<'a> { text: CStr<'a> }
+// #[scroll(fault = Failure::Short)]
+struct Noted<'a> { text: CStr<'a> }
+struct Marked {
+    // #[scroll(is = 1, else = Failure::BadMark)]
+    mark: u8,
+}
+enum Bared { A }
+// #[scroll(tag = i8)]
+enum Signs { A }
+// #[scroll(tag = u8)]
+enum Plain { A }
+// #[scroll(tag = u8)]
+enum Large {
+    // #[scroll(is = 256)]
+    A,
+}
+// #[scroll(tag = u8)]
+enum Same {
+    // #[scroll(is = 1)]
+    A,
+    // #[scroll(is = 0x1)]
+    B(u8),
+}
+// #[scroll(tag = u8)]
+enum Pairs {
+    // #[scroll(is = 1)]
+    A(u8, u8),
+}
+// #[scroll(tag = u8)]
+enum Inside {
+    // #[scroll(is = 1)]
+    A([u8; 4]),
+}
+// #[scroll(tag = u8)]
+enum Mixed {
+    // #[scroll(is = 1)]
+    A(Small),
+}
+// #[scroll(tag = u8, error = SmallError)]
+enum Lesser {
+    // #[scroll(is = 1)]
+    A,
+}
+// #[scroll(error = SmallError)]
+struct Small {
+    // #[scroll(is = 1)]
+    mark: u8,
+}
 END
 cp "$room/trial/src/bad.rt" "$room/bad.rt"
 cp "$room/bad.rt" "$room/bad.txt"
@@ -277,7 +351,7 @@ trial/src/bad.rt|Wide|bad.rt:52: the context len as usize + 1 of the field text 
 trial/src/bad.rt|Mark|bad.rt:56: the constant 0x100 of the field mark doesn't fit its type
 trial/src/bad.rt|Sign|bad.rt:60: the field mark has a constant, and is no unsigned number of at most 64 bits
 trial/src/bad.rt|Name|bad.rt:64: the constant MAGIC of the field mark is no literal
-trial/src/bad.rt|Note|bad.rt:68: the field mark has the note count = 1, and one `ctx = ..` or `is = ..` is known
+trial/src/bad.rt|Note|bad.rt:68: the field mark has the note count = 1, and one `ctx = ..`, or `is = ..` with `else = ..`, is known
 trial/src/bad.rt|Idle|bad.rt:72: the field mark has a context that its type u8 doesn't take
 trial/src/bad.rt|Pair|bad.rt:74: the struct Pair has fields without names
 trial/src/bad.rt|Owner|bad.rt:78: the context of the field text names len, which is no unsigned number of at most 64 bits
@@ -287,6 +361,20 @@ trial/src/bad.rt|Tail|bad.rt:91: the field pad has no context: how many bytes it
 trial/src/bad.rt|Cells|bad.rt:96: the context padding(offset, 4) of the field text is no sum of fields `as usize`, each times a number, and of numbers
 trial/src/bad.rt|Many|bad.rt:101: the context len as usize \* 18446744073709551615 of the field text adds to a number of more than 32 bits
 trial/src/bad.rt|Kind|bad.rt:105: the field kind is of the type char, which is no number of a fixed width, no array and no struct of this file
+trial/src/bad.rt|Failing|bad.rt:109: the error Failure::Long is no variant of Failure
+trial/src/bad.rt|Faulty|bad.rt:111: the error Fault::Short is no `SmallError`, and no variant of an enum of this crate
+trial/src/bad.rt|Noted|bad.rt:113: Noted has the note fault = Failure::Short, and one `error = ..` is known
+trial/src/bad.rt|Marked|bad.rt:116: the error Failure::BadMark of mark is no variant of the error type
+trial/src/bad.rt|Bared|bad.rt:118: the enum Bared has no note `tag = ..` with an unsigned number of at most 64 bits
+trial/src/bad.rt|Signs|bad.rt:120: the enum Signs has no note `tag = ..` with an unsigned number of at most 64 bits
+trial/src/bad.rt|Failure|bad.rt:107: the enum Failure has no note `tag = ..` with an unsigned number of at most 64 bits
+trial/src/bad.rt|Plain|bad.rt:122: the variant A has no note `is = ..` with a literal
+trial/src/bad.rt|Large|bad.rt:126: the tag 256 of the variant A doesn't fit u8
+trial/src/bad.rt|Same|bad.rt:133: the tag 0x1 of the variant B is that of another
+trial/src/bad.rt|Pairs|bad.rt:138: the variant A has more than a value
+trial/src/bad.rt|Inside|bad.rt:143: the variant A is an array, which a struct may hold
+trial/src/bad.rt|Mixed|bad.rt:148: the variant A is of the struct Small, which has another error
+trial/src/bad.rt|Lesser|bad.rt:151: the enum Lesser has the error SmallError, and takes that of the library or a variant of one
 END
 refuses 'bad.rt:20: the struct Twenty is of a fixed size, and has no definitions of its own' --specs "$room/bad.rt" Twenty
 refuses 'usage: derive.sh \[--check | --specs | --back\] FILE STRUCT' "$room/bad.rt"

@@ -11,20 +11,22 @@ from format_back import format_back
 from format_code import format_blocks, format_uses
 from format_specs import format_specs
 from kinds import read_struct
-from parts import Format, is_format, read_format
+from parts import is_format, read_format
 from source import BadInput, Source
+from variants import choice_specs, read_choice
+from variants_code import choice_back, choice_blocks, choice_uses
 
 OPTIONS = ("--check", "--specs", "--back")
 
 
-def check_specs(path: str, form: Format) -> int:
+def check_specs(path: str, name: str, texts: List[str]) -> int:
     """Compares the files of specs/ with what is printed."""
     specs = next(folder for folder in Path(path).resolve().parents if folder.name == "src").with_name("specs")
     ending = ".antt.txt" if path.endswith(".txt") else ".antt"
-    for name, text in ((f"{form.name}Format", format_specs(form)), (f"{form.name}Back", format_back(form))):
-        file = specs / f"{name}{ending}"
+    for kind, text in zip(("Format", "Back"), texts):
+        file = specs / f"{name}{kind}{ending}"
         if not file.exists() or file.read_text(encoding="utf-8") != f"{text}\n":
-            print(f"{path}: specs/{file.name} is not what tools/derive/derive.sh prints for {form.name}")
+            print(f"{path}: specs/{file.name} is not what tools/derive/derive.sh prints for {name}")
             return 1
     return 0
 
@@ -32,24 +34,30 @@ def check_specs(path: str, form: Format) -> int:
 def run(option: str, path: str, name: str) -> int:
     source = Source(path)
     raw = source.find_struct(name)
-    form = read_format(source, raw) if is_format(raw) else None
-    if form:
-        if option in ("--specs", "--back"):
-            print(format_specs(form) if option == "--specs" else format_back(form))
-            return 0
+    texts: List[str] = []
+    if raw.is_enum:
+        choice = read_choice(source, raw)
+        texts = [choice_specs(choice), choice_back(choice)]
+        uses, block = choice_uses(choice), choice_blocks(choice)
+    elif is_format(raw):
+        form = read_format(source, raw)
+        texts = [format_specs(form), format_back(form)]
         uses, block = format_uses(form), format_blocks(form)
+    elif option in ("--specs", "--back"):
+        source.refuse(raw.place, f"the struct {name} is of a fixed size, and has no definitions of its own")
     else:
-        if option in ("--specs", "--back"):
-            source.refuse(raw.place, f"the struct {name} is of a fixed size, and has no definitions of its own")
         block = record_block(read_struct(source, name))
         uses = record_uses(block)
+    if option in ("--specs", "--back"):
+        print(texts[("--specs", "--back").index(option)])
+        return 0
     if option == "--check":
         # The implementation for references may be left out.
         needed = block.split("\n\nimpl<'a> Written for", 1)[0]
         if f"\n{needed}\n" not in f"\n{source.text}":
             print(f"{path}: the implementation for {name} is not what tools/derive/derive.sh prints")
             return 1
-        return check_specs(path, form) if form else 0
+        return check_specs(path, name, texts)
     crate = "crate" if "crates/scroll/src/" in str(Path(path).resolve()) else "scroll"
     print("\n".join(uses).replace("{crate}", crate))
     print(f"\n{block}")

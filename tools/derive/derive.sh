@@ -1,5 +1,5 @@
 #!/bin/sh
-# Prints the implementations of the traits of scroll::ctx for a struct, in the context Endian:
+# Prints the implementations of the traits of scroll::ctx for a struct or an enum, in the context Endian:
 #
 #     sh tools/derive/derive.sh FILE STRUCT
 #     sh tools/derive/derive.sh --check FILE STRUCT     compares them with FILE, and prints nothing where they are in it; that
@@ -21,10 +21,25 @@
 #                                          times a number, as in `count as usize * 18`, and of a number; for a text within
 #                                          StrCtx::Length(..)
 #     // #[scroll(ctx = padding(offset, 8))]    of zeros: as many as there are up to a multiple, from the start of the struct
-#     // #[scroll(is = 0x04034b50)]        the constant that a number has to be
+#     // #[scroll(is = 0x04034b50)]        the constant that a number has to be; with `, else = ZipError::BadSignature` behind it,
+#                                          another number is the error of that variant, which holds it
 #
-# It gets TryFromCtx and TryIntoCtx. What --specs prints is its specs/STRUCTFormat.antt, and what --back prints is its
-# specs/STRUCTBack.antt.
+# In a comment before the struct may stand the type of its errors, which otherwise is scroll::Error:
+#
+#     // #[scroll(error = ZipError::Short)] a variant of an enum of the crate, which holds an error of the library; its
+#                                          `From<Error>` has `ghost from_gives = { λ error e. e ≡ Short error }`
+#     // #[scroll(error = SmallError)]
+#
+# An enum is a number and then the value of the variant that it says: a struct of any size, a number, a struct of a fixed size, or
+# none. Before it stands
+#
+#     // #[scroll(tag = u8)]               the type of the number; with `, error = .., else = ZipError::BadKind` behind it, errors
+#                                          of its own, the last for a number that is that of no variant
+#
+# and before each variant `// #[scroll(is = 1)]`, its number.
+#
+# A struct of any size and an enum get TryFromCtx and TryIntoCtx. What --specs prints is its specs/STRUCTFormat.antt, and what
+# --back prints is its specs/STRUCTBack.antt.
 #
 # The first lines printed are the `use` lines that the rest needs, followed by the blocks in the layout of `rt fmt`. They are
 # proved with no proof file.

@@ -33,7 +33,7 @@ MODULES = [
     (
         "Rattle.std.proofs.Common",
         ["◌≡◌", "◌≢◌", "◌+◌", "◌*◌", "◌^◌", "◌<◌", "◌≤◌", "◌≤ℤ◌", "◌<ℤ◌", "◌*ℤ◌", "◌++◌", "[]", "◌∷◌", "◌∙◌", "ℕ", "ℤ", "pos", "neg_ℤ"]
-        + ["List", "T", "IsUtf8", "length", "drop", "to_bits", "refl", "sym", "ap", "length-append", "length-drop", "arith"],
+        + ["List", "T", "IsUtf8", "length", "drop", "to_bits", "refl", "sym", "ap", "subst", "length-append", "length-drop", "arith"],
     ),
     ("Rattle.std.specs.CStr", ["c_str_bytes"]),
     ("Rattle.std.specs.Float", ["binary32", "binary64"]),

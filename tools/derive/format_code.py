@@ -6,7 +6,7 @@ import re
 from typing import Dict, List
 
 from kinds import Array
-from layout import MOST, struct_lines, tuple_lines
+from layout import MOST, WIDTH, struct_lines, tuple_lines
 from parts import Format, Part, offsets
 
 # Names that the body of a read has.
@@ -23,13 +23,17 @@ def cursor_of(form: Format) -> str:
     return next(it for it in ("offset", "cursor", "position", "offset_there") if it not in names)
 
 
-def refusal(found: str, message: str, indent: int) -> List[str]:
+def refusal(form: Format, found: str, message: str, indent: int) -> List[str]:
+    """Returns a return of `BadInput`."""
     space = " " * indent
+    head, tail = ("Error::BadInput {", "}")
+    if form.error:
+        head, tail = (f"{form.error.name}::from({head}", "})") if form.error.variant else ("SmallError::BadInput {", "}")
     return [
-        f"{space}return Err(Error::BadInput {{",
+        f"{space}return Err({head}",
         f"{space}    size: {found},",
         f'{space}    msg: "{message}",',
-        f"{space}}});",
+        f"{space}{tail});",
     ]
 
 
@@ -46,12 +50,10 @@ def as_usize(part: Part, value: str) -> str:
     return value if part.type == "usize" else f"{value} as usize"
 
 
-def constant_test(part: Part, value: str) -> List[str]:
-    return [
-        f"        if {value} != {part.constant} {{",
-        *refusal(as_usize(part, value), other_constant(part), 12),
-        "        }",
-    ]
+def constant_test(form: Format, part: Part, value: str) -> List[str]:
+    own = form.error.said(part.other) if form.error and part.other else ""
+    refused = [f"            return Err({own}({value}));"] if own else refusal(form, as_usize(part, value), other_constant(part), 12)
+    return [f"        if {value} != {part.constant} {{", *refused, "        }"]
 
 
 def context_of(form: Format, part: Part) -> str:
@@ -77,7 +79,7 @@ def read_lines(form: Format) -> List[str]:
             lines.append(f"        let {names[part.name]}: {part.type} = {values[part.name]};")
             values[part.name] = names[part.name]
         if part.constant:
-            lines += constant_test(part, names[part.name])
+            lines += constant_test(form, part, names[part.name])
     lines.append(f"        let mut {cursor} = {form.room};")
     for part in form.tail:
         values[part.name] = names[part.name]
@@ -86,7 +88,7 @@ def read_lines(form: Format) -> List[str]:
         call = f"read_fixed(from, &mut {cursor}, ctx)" if isinstance(part.fixed, Array) else f"from.gread_with(&mut {cursor}, {context_of(form, part)})"
         lines.append(f"        let {names[part.name]}: {part.type} = {call}?;")
         if part.constant:
-            lines += constant_test(part, names[part.name])
+            lines += constant_test(form, part, names[part.name])
     made = struct_lines(form.name, [(part.name, values[part.name]) for part in form.parts], False, 12)
     if len(made) == 1:
         return [*lines, f"        Ok(({made[0].strip()}, {cursor}))"]
@@ -128,13 +130,13 @@ def write_lines(form: Format) -> List[str]:
     lines: List[str] = []
     for part in form.parts:
         if part.constant:
-            lines += constant_test(part, names[part.name])
+            lines += constant_test(form, part, names[part.name])
         if part.is_counted:
             assert part.count
             length = f"{names[part.name]}.len()"
             lines += [
                 f"        if {part.count.in_code(names)} != {length} {{",
-                *refusal(length, other_count(part), 12),
+                *refusal(form, length, other_count(part), 12),
                 "        }",
             ]
     lines += [f"        let {part.name} = self.{part.name};" for part in form.parts if is_taken(part)]
@@ -159,15 +161,28 @@ def write_lines(form: Format) -> List[str]:
     ]
 
 
+def result_of(form: Format, value: str) -> str:
+    """Returns the type of a result. (A file may import the library's `Result` for other structs.)"""
+    return f"std::result::Result<{value}, {form.error.name}>" if form.error else f"Result<{value}>"
+
+
+def signature(name: str, parameters: List[str], result: str) -> List[str]:
+    line = f"    fn {name}({', '.join(parameters)}) -> {result} {{"
+    if len(line) <= WIDTH:
+        return [line]
+    return [f"    fn {name}(", *(f"        {it}," for it in parameters), f"    ) -> {result} {{"]
+
+
 def format_blocks(form: Format) -> str:
     """Returns the implementations."""
     name, snake = form.name, form.snake
     lifetime = form.lifetime or "'a"
     impl = f"impl<{form.lifetime}>" if form.lifetime else "impl"
+    error = form.error.name if form.error else "Error"
     keeps = f"WritesPrefix-keeps ({snake}_bytes order x) old new n h.wrote"
     return "\n".join([
         f"impl<{lifetime}> TryFromCtx<{lifetime}, Endian> for {form.type} {{",
-        "    type Error = Error;",
+        f"    type Error = {error};",
         "",
         f"    ghost reads = {{ Reads{name} }};",
         "",
@@ -175,13 +190,13 @@ def format_blocks(form: Format) -> str:
         "",
         f"    ghost reads_bounded = {{ {snake}-bounded }};",
         "",
-        f"    fn try_from_ctx(from: &{lifetime} [u8], ctx: Endian) -> Result<({form.type}, usize)> {{",
+        *signature("try_from_ctx", [f"from: &{lifetime} [u8]", "ctx: Endian"], result_of(form, f"({form.type}, usize)")),
         *read_lines(form),
         "    }",
         "}",
         "",
         f"{impl} TryIntoCtx<Endian> for {form.type} {{",
-        "    type Error = Error;",
+        f"    type Error = {error};",
         "",
         f"    ghost writes = {{ Writes{name} }};",
         "",
@@ -191,7 +206,7 @@ def format_blocks(form: Format) -> str:
         "",
         f"    ghost writes_keeps = {{ λ order x old new n h. {keeps} }};",
         "",
-        "    fn try_into_ctx(self, dst: &mut [u8], ctx: Endian) -> Result<usize> {",
+        *signature("try_into_ctx", ["self", "dst: &mut [u8]", "ctx: Endian"], result_of(form, "usize")),
         *write_lines(form),
         "    }",
         "}",
@@ -206,7 +221,11 @@ def format_uses(form: Format) -> List[str]:
     contexts = ["Encode", *(it for it in ("Gap", "Padded", "StrCtx", "TryFromCtx", "TryIntoCtx", "Value", "Zeros", "padding", "read_fixed") if it in words)]
     calls = {"Cread": "cread_with", "Pread": "gread_with"}
     ours = ("Cread", "Endian", "Error", "Pread", "Result", "Sleb128", "Uleb128", "check_room")
-    ours = [it for it in ours if calls.get(it, it) in words]
+    ours = [it for it in ours if calls.get(it, it) in words and not (it == "Result" and form.error)]
+    if form.error and not re.search(r"\bError::", block):
+        ours.remove("Error")
+    if form.error and not form.error.variant:
+        ours = sorted([*ours, "SmallError"], key=lambda it: (it.islower(), it))
     return [
         "ghost use Rattle.std.proofs.Common.{rules};",
         "ghost use Rattle.scroll.specs.lemmas.Frames.{WritesPrefix-keeps};",

@@ -2,7 +2,7 @@
 
 from __future__ import annotations
 
-from typing import Dict, List
+from typing import Dict, List, Tuple
 
 from fixed import made
 from format_code import other_constant, other_count
@@ -27,6 +27,16 @@ from format_words import (
 )
 from kinds import Number
 from parts import Format, Part, offsets
+
+
+# The mark of what is said of a small error itself, and not of an error of the library of which it is made.
+SMALL = "SmallError"
+
+IS_SMALL = """-- the small error is `BadInput` with the size `n` and a message of the bytes `text`
+abbrev pub IsSmallBadInput : SmallError → ℕ → List ℕ → Type 0
+IsSmallBadInput (its.BadInput size msg) n text = (size ≡ n) × (msg.now ≡ text)
+IsSmallBadInput e n text = ⊥
+"""
 
 
 def head_values(form: Format) -> Dict[str, str]:
@@ -106,13 +116,51 @@ def read_before(part: Part, names: Dict[str, str], at: str) -> List[str]:
 
 
 def constant_record(form: Format, part: Part, before: List[str], value: str) -> List[str]:
+    argument = at_argument(value)
     return [
         f"-- `{part.name}` was read, and is another number",
-        f"pub record Other{form.name}{camel(part.name)} (order : Endian) (s : List ℕ) (e : Error) : Type 0 where",
+        f"pub record Other{form.name}{camel(part.name)} (order : Endian) (s : List ℕ) ({given(form, part)}) : Type 0 where",
         *before,
         f"  pub other : {value} ≢ {part.constant}",
-        f"  pub error : IsBadInput e {at_argument(value)} (codes \"{other_constant(part)}\")",
+        error_said(form, part, value, argument, other_constant(part)),
     ]
+
+
+def is_small(form: Format) -> bool:
+    """Returns whether the error type is `SmallError`."""
+    return form.error is not None and not form.error.variant
+
+
+def given(form: Format, part: Part) -> str:
+    """Returns what is said of an error: the number that was found, or the error, which holds that and a message."""
+    return "found : ℕ" if part.other else f"e : {'SmallError' if is_small(form) else 'Error'}"
+
+
+def error_said(form: Format, part: Part, value: str, argument: str, message: str) -> str:
+    if part.other:
+        return f"  pub found-is : found ≡ {value}"
+    return f"  pub error : Is{'Small' if is_small(form) else ''}BadInput e {argument} (codes \"{message}\")"
+
+
+def error_lines(form: Format, name: str, parameters: str, cases: List[Tuple[str, str]]) -> List[str]:
+    """Returns a definition of all errors by its cases, each with the variant of the error type that holds what it says."""
+    error = form.error
+    if not error:
+        return by_cases(f"{name} {parameters} e", [case for _, case in cases])
+    if not error.variant:
+        own = [case for variant, case in cases if variant == SMALL]
+        return by_cases(f"{name} {parameters} e", [f"Shrunk ({name}Cause {parameters}) e", *own])
+    lines: List[str] = []
+    for variant in dict.fromkeys([error.variant, *(variant for variant, _ in cases if variant)]):
+        held = [case for it, case in cases if (it or error.variant) == variant]
+        found = "e" if variant == error.variant else "found"
+        lines += by_cases(f"{name} {parameters} ({variant} {found})", held)
+    covered = {error.variant, *(variant for variant, _ in cases)}
+    return [*lines, *([f"{name} {parameters} e = ⊥"] if not covered.issuperset(error.variants) else [])]
+
+
+def by_cases(head: str, cases: List[str]) -> List[str]:
+    return [f"{head} =", *(f"    {'⊎ ' if index else ''}{case}" for index, case in enumerate(cases))]
 
 
 def name_of(record: List[str]) -> str:
@@ -122,18 +170,34 @@ def name_of(record: List[str]) -> str:
 def refuses(form: Format) -> List[str]:
     """Returns the definition of all refusals, and the records before it."""
     records = refusal_records(form)
-    short = [f"RefusesShort {form.room} s e"] if form.head else []
-    cases = [*short, *(f"{name_of(record)} order s e" for record in records)]
+    small = SMALL if is_small(form) else ""
+    variants = {f"Other{form.name}{camel(part.name)}": part.other or small for part in form.parts if part.constant}
+    cases = [("", f"RefusesShort {form.room} s e")] if form.head else []
+    for record in records:
+        variant = variants.get(name_of(record), "")
+        cases.append((variant, f"{name_of(record)} order s {'found' if variant not in ('', SMALL) else 'e'}"))
     lines = [line for record in records for line in ["", *record]]
+    says = "the source is too short for its first numbers, or " if form.head else ""
     return [
         *lines,
+        *cause_lines(form, f"Refuses{form.name}", "Endian → List ℕ", "order s", cases),
         "",
-        f"-- the read of a `{form.name}` fails: " + ("the source is too short for its first numbers, or " if form.head else "")
-        + "one of these is the error",
-        f"abbrev pub Refuses{form.name} : Endian → List ℕ → Error → Type 0",
-        f"Refuses{form.name} order s e =",
-        *(f"    {'⊎ ' if index else ''}{case}" for index, case in enumerate(cases)),
+        f"-- the read of a `{form.name}` fails: {says}one of these is the error",
+        f"abbrev pub Refuses{form.name} : Endian → List ℕ → {error_name(form)} → Type 0",
+        *error_lines(form, f"Refuses{form.name}", "order s", cases),
     ]
+
+
+def error_name(form: Format) -> str:
+    return form.error.name if form.error else "Error"
+
+
+def cause_lines(form: Format, name: str, types: str, parameters: str, cases: List[Tuple[str, str]]) -> List[str]:
+    """Returns the definition of the errors of the library of which a small error is made."""
+    if not form.error or form.error.variant:
+        return []
+    own = by_cases(f"{name}Cause {parameters} e", [case for variant, case in cases if variant != SMALL])
+    return ["", "-- it fails with an error of the library", f"abbrev pub {name}Cause : {types} → Error → Type 0", *own]
 
 
 def bytes_definition(form: Format) -> List[str]:
@@ -186,18 +250,13 @@ def writes(form: Format) -> List[str]:
         *agrees,
         f"  pub wrote : WritesPrefix ({size}) ({form.snake}_bytes order x) old new n",
     ]
+    cases = []
     for part in own:
-        value = f"x.{part.label}" if part.constant else f"(length x.{part.label}.now)"
-        message = other_constant(part) if part.constant else other_count(part)
-        lines += [
-            "",
-            f"-- `{part.name}` doesn't agree, and the target is unchanged",
-            f"pub record Keeps{name}{camel(part.name)} (x : {name}) (old new : List ℕ) (e : Error) : Type 0 where",
-            f"  pub other : {agreement(form, part).format('≢')}",
-            "  pub same : new ≡ old",
-            f"  pub error : IsBadInput e {value} (codes \"{message}\")",
-        ]
-    cases = [*(f"Keeps{name}{camel(part.name)} x old new e" for part in own), f"Keeps{name}Short order x old new e"]
+        record = f"Keeps{name}{camel(part.name)}"
+        small = SMALL if is_small(form) else ""
+        cases.append((part.other or small, f"{record} x old new {'found' if part.other else 'e'}"))
+        lines += ["", *keeps_record(form, part, record)]
+    cases.append(("", f"Keeps{name}Short order x old new e"))
     lines += [
         "",
         "-- the target is too short, and is unchanged",
@@ -205,18 +264,33 @@ def writes(form: Format) -> List[str]:
         *agrees,
         f"  pub short : FailsShort (min ({size}) (2 ^ 64 - 1)) old new e",
         "",
+        *cause_lines(form, f"Keeps{name}", f"Endian → {name} → List ℕ → List ℕ", "order x old new", cases)[1:],
+        *([""] if form.error and not form.error.variant else []),
         "-- its write fails: one of these is the error",
-        f"abbrev pub Keeps{name} : Endian → {name} → List ℕ → List ℕ → Error → Type 0",
-        f"Keeps{name} order x old new e =",
-        *(f"    {'⊎ ' if index else ''}{case}" for index, case in enumerate(cases)),
+        f"abbrev pub Keeps{name} : Endian → {name} → List ℕ → List ℕ → {error_name(form)} → Type 0",
+        *error_lines(form, f"Keeps{name}", "order x old new", cases),
     ]
     return lines
+
+
+def keeps_record(form: Format, part: Part, record: str) -> List[str]:
+    """Returns a record for a constant or a count that doesn't agree."""
+    value = f"x.{part.label}" if part.constant else f"(length x.{part.label}.now)"
+    message = other_constant(part) if part.constant else other_count(part)
+    return [
+        f"-- `{part.name}` doesn't agree, and the target is unchanged",
+        f"pub record {record} (x : {form.name}) (old new : List ℕ) ({given(form, part)}) : Type 0 where",
+        f"  pub other : {agreement(form, part).format('≢')}",
+        "  pub same : new ≡ old",
+        error_said(form, part, value, value, message),
+    ]
 
 
 def format_specs(form: Format) -> str:
     """Returns the file of definitions."""
     lines = [*reads_record(form), *refuses(form), *bytes_definition(form), *writes(form)]
-    text = "\n".join(lines)
+    text = "\n".join([*([IS_SMALL] if is_small(form) else []), *lines])
     uses = use_lines(text, MODULES)
+    uses += [f"use {form.error.module}.TheVariants as its"] if form.error and is_small(form) else []
     head = f"-- `{form.name}` as bytes: its fields, one after another. `tools/derive/derive.sh` printed this from the struct."
     return "\n".join([head, *uses, *declared_uses(form, text), "", text])

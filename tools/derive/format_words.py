@@ -3,12 +3,12 @@
 from __future__ import annotations
 
 import re
-from typing import Dict, List, Optional, Sequence, Tuple
+from typing import Dict, List, Optional, Sequence, Set, Tuple
 
 from fixed import made
 from kinds import Array, Number, Struct, Type, width_of
 from layout import Tree, label, nested
-from parts import Format, Part, width
+from parts import Format, OwnError, Part, width
 from source import closing
 
 # The names that the records below have already.
@@ -20,7 +20,7 @@ TAKEN = {
 MODULES = [
     (
         "Rattle.std.specs.Prelude",
-        ["◌≡◌", "◌≢◌", "◌≤◌", "◌<◌", "◌+◌", "◌-◌", "◌*◌", "◌^◌", "◌++◌", "[]", "◌∷◌", "◌⊎◌", "ℕ", "ℤ", "List", "length", "drop", "min", "codes"],
+        ["◌≡◌", "◌≢◌", "◌≤◌", "◌<◌", "◌+◌", "◌-◌", "◌*◌", "◌^◌", "◌++◌", "[]", "◌∷◌", "◌⊎◌", "ℕ", "ℤ", "List", "length", "drop", "min", "codes", "⊤"],
     ),
     ("Rattle.std.specs.CStr", ["c_str_bytes"]),
     ("Rattle.std.specs.Float", ["Float", "binary32", "binary64"]),
@@ -29,12 +29,13 @@ MODULES = [
     ("Rattle.scroll.specs.Bytes", ["ReadsFixed", "RefusesShort", "WritesPrefix", "FailsShort"]),
     ("Rattle.scroll.specs.CStrings", ["ReadsCString", "RefusesCString"]),
     ("Rattle.scroll.specs.Reads", ["ReadsAt", "RefusesAt"]),
-    ("Rattle.scroll.specs.Errors", ["IsBadOffset", "IsBadInput"]),
+    ("Rattle.scroll.specs.Errors", ["IsBadOffset", "IsBadInput", "Shrunk"]),
     ("Rattle.scroll.specs.Fixed", ["exactly"]),
     ("Rattle.scroll.specs.Numbers", ["float", "float_bytes", "ReadsFloat"]),
     ("Rattle.scroll.specs.Leb128", ["Counted", "ReadsCountedUleb", "ReadsCountedSleb", "RefusesUleb", "RefusesSleb"]),
     ("Rattle.scroll.specs.Encoding", ["uleb_text", "sleb_text"]),
     ("Rattle.scroll.specs.Texts", ["ReadsSlice", "ReadsText", "RefusesText"]),
+    ("Rattle.scroll.specs.Tagged", ["ReadsTag", "ReadsTagged", "RefusesTagged", "WritesTagged", "FailsTagged"]),
     ("Rattle.scroll.specs.Zeros", ["padding_len", "zeros", "ReadsZeros", "RefusesZeros"]),
     (
         "Rattle.scroll.specs.Numbers",
@@ -43,6 +44,7 @@ MODULES = [
     ("Rattle.scroll.specs.declared.ctx.str_ctx.StrCtx.TheVariants", ["Length"]),
     ("Rattle.scroll.specs.declared.endian.Endian", ["Endian"]),
     ("Rattle.scroll.specs.declared.error.Error", ["Error"]),
+    ("Rattle.scroll.specs.declared.error.Error.TheVariants", ["BadOffset"]),
 ]
 
 
@@ -196,7 +198,15 @@ def declared_uses(form: Format, text: str) -> List[str]:
     words = set(re.findall(r"\w+", text))
     inner = [it for it in structs_in(form) if it.name in words]
     module = form.declared.rsplit(".", 1)[0]
-    return [*(f"use {module}.{it.name}.{{{it.name}}}" for it in inner), f"use {form.declared}.{{{form.name}}}"]
+    own = error_uses(form.error, words) if form.error else []
+    return [*own, *(f"use {module}.{it.name}.{{{it.name}}}" for it in inner), f"use {form.declared}.{{{form.name}}}"]
+
+
+def error_uses(error: OwnError, words: Set[str]) -> List[str]:
+    """Returns the `use` lines for an error type and those of its variants that are named."""
+    variants = [it for it in error.variants if it in words]
+    lines = [f"use {error.module}.{{{error.name}}}"] if error.name in words else []
+    return [*lines, *([f"use {error.module}.TheVariants.{{{', '.join(variants)}}}"] if variants else [])]
 
 
 def value_in(part: Part) -> str:

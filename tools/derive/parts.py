@@ -9,7 +9,7 @@ from typing import Dict, List, Optional, Sequence, Tuple
 
 from kinds import Array, Number, Type, kind_of, read_type, width_of
 from layout import label
-from source import RawField, RawStruct, Source
+from source import RawField, RawStruct, Source, split_top
 
 TERM = re.compile(r"(?:(?P<field>[A-Za-z_]\w*)\s+as\s+usize(?:\s*\*\s*(?P<times>\d+))?|(?P<number>\d+))")
 PADDING = re.compile(r"padding\(offset,\s*(\d+)\)")
@@ -45,6 +45,21 @@ class Count:
         return " + ".join([*terms, *([str(self.number)] if self.number or not terms else [])])
 
 
+@dataclass(frozen=True)
+class OwnError:
+    """An error type that isn't the library's: its name, the variant that holds an error of the library (none of `SmallError`), its
+    module in clauses, and all of its variants."""
+
+    name: str
+    variant: str
+    module: str
+    variants: Tuple[str, ...]
+
+    def said(self, variant: str) -> str:
+        """Returns a variant in code."""
+        return f"{self.name}::{variant}"
+
+
 # The types of fields that say by themselves where they end, and the kind of each.
 ENDED = {"Uleb128": "leb", "Sleb128": "leb", "CStr": "c_string"}
 
@@ -52,7 +67,7 @@ ENDED = {"Uleb128": "leb", "Sleb128": "leb", "CStr": "c_string"}
 @dataclass(frozen=True)
 class Part:
     """A field. `kind` is fixed, slice, text, zeros, leb or c_string. One of a fixed size has its type in `fixed`, and a number
-    may have to be a constant."""
+    may have to be a constant; another number is an error of the variant `other`, if it is named."""
 
     name: str
     type: str
@@ -60,6 +75,7 @@ class Part:
     fixed: Optional[Type] = None
     count: Optional[Count] = None
     constant: str = ""
+    other: str = ""
 
     @property
     def label(self) -> str:
@@ -90,6 +106,7 @@ class Format:
     crate: str
     module: Tuple[str, ...]
     parts: Tuple[Part, ...]
+    error: Optional[OwnError] = None
 
     @property
     def type(self) -> str:
@@ -146,23 +163,69 @@ def read_format(source: Source, raw: RawStruct) -> Format:
     if raw.is_tuple:
         source.refuse(raw.place, f"the struct {raw.name} has fields without names")
     crate, module = crate_of(source, raw)
+    notes = read_head(source, raw, ("error",))
+    error = read_error(source, raw, notes["error"]) if "error" in notes else None
     parts: List[Part] = []
     for field in raw.fields:
-        parts.append(read_part(source, raw, field, parts))
-    return Format(raw.name, raw.lifetime, crate, module, tuple(parts))
+        parts.append(read_part(source, raw, field, parts, error))
+    return Format(raw.name, raw.lifetime, crate, module, tuple(parts), error)
 
 
-def crate_of(source: Source, raw: RawStruct) -> Tuple[str, Tuple[str, ...]]:
-    """Returns the crate of a file and its module, by its path."""
-    folders = Path(source.path).resolve().parts
-    if "src" not in folders[1:-1]:
-        source.refuse(raw.place, f"the struct {raw.name} is in no src/ of a crate")
+def module_of(path: Path) -> Tuple[str, Tuple[str, ...]]:
+    """Returns the crate of a file below src/ and its module."""
+    folders = path.resolve().parts
     place = len(folders) - 1 - folders[::-1].index("src")
     module = [*folders[place + 1 : -1], folders[-1].split(".")[0]]
     return folders[place - 1], tuple(module[:-1] if module[-1] in ("lib", "main") else module)
 
 
-def read_part(source: Source, raw: RawStruct, field: RawField, before: Sequence[Part]) -> Part:
+def crate_of(source: Source, raw: RawStruct) -> Tuple[str, Tuple[str, ...]]:
+    """Returns the crate of a file and its module, by its path."""
+    path = Path(source.path)
+    if "src" not in path.resolve().parts[1:-1]:
+        source.refuse(raw.place, f"the {'enum' if raw.is_enum else 'struct'} {raw.name} is in no src/ of a crate")
+    return module_of(path)
+
+
+def read_head(source: Source, raw: RawStruct, known: Sequence[str]) -> Dict[str, str]:
+    """Returns the notes before a struct or an enum."""
+    notes: Dict[str, str] = {}
+    for key, value in (it for note in raw.notes for it in pairs_of(note)):
+        if key not in known or not value or key in notes:
+            words = " and ".join(f"one `{it} = ..`" for it in known)
+            source.refuse(raw.place, f"{raw.name} has the note {key} = {value}, and {words} is known")
+        notes[key] = value
+    return notes
+
+
+def read_error(source: Source, raw: RawStruct, text: str) -> OwnError:
+    """Returns an error type, from the variant that holds an error of the library."""
+    if text == "SmallError":
+        return OwnError(text, "", "Rattle.scroll.specs.declared.small_error.SmallError", ())
+    name, sign, variant = text.partition("::")
+    folder = next(it for it in Path(source.path).resolve().parents if it.name == "src")
+    for path in sorted(it for it in folder.rglob("*") if it.name.endswith((".rt", ".rt.txt"))):
+        other = Source(str(path))
+        if re.search(rf"\benum\s+{re.escape(name)}\b", other.code):
+            variants = tuple(field.name for field in other.find_struct(name).fields)
+            if not sign or variant not in variants:
+                source.refuse(raw.place, f"the error {text} is no variant of {name}")
+            crate, module = module_of(path)
+            return OwnError(name, variant, ".".join(["Rattle", crate, "specs", "declared", *module, name]), variants)
+    source.refuse(raw.place, f"the error {text} is no `SmallError`, and no variant of an enum of this crate")
+
+
+def read_other(source: Source, field: RawField, error: Optional[OwnError], text: str) -> str:
+    """Returns the variant of an error type that holds a number that was found."""
+    name, _, variant = text.partition("::")
+    if not error or name != error.name or variant not in error.variants:
+        source.refuse(field.place, f"the error {text} of {field.name} is no variant of the error type")
+    return variant
+
+
+def read_part(
+    source: Source, raw: RawStruct, field: RawField, before: Sequence[Part], error: Optional[OwnError]
+) -> Part:
     notes = read_notes(source, field)
     borrow = f"&{raw.lifetime} "
     kind = {f"{borrow}[u8]": "slice", f"{borrow}str": "text", "Zeros": "zeros"}.get(field.type, "")
@@ -173,20 +236,33 @@ def read_part(source: Source, raw: RawStruct, field: RawField, before: Sequence[
         if notes:
             source.refuse(field.place, f"the field {field.name} has the note {next(iter(notes))}, which its type {field.type} doesn't take")
         return Part(field.name, field.type, str(ended))
-    return read_fixed(source, raw, field, notes)
+    return read_fixed(source, raw, field, notes, error)
+
+
+def pairs_of(note: str) -> List[Tuple[str, str]]:
+    """Returns the names in a note, each with what it says."""
+    found = []
+    for _, part in split_top(note):
+        key, _, value = part.partition("=")
+        found.append((key.strip(), value.strip()))
+    return found
 
 
 def read_notes(source: Source, field: RawField) -> Dict[str, str]:
     notes: Dict[str, str] = {}
     for note in field.notes:
-        key, sign, value = (it.strip() for it in note.partition("="))
-        if key not in ("ctx", "is") or not sign or not value or notes:
-            source.refuse(field.place, f"the field {field.name} has the note {note}, and one `ctx = ..` or `is = ..` is known")
-        notes[key] = value
+        for key, value in pairs_of(note):
+            is_known = not notes if key in ("ctx", "is") else key == "else" and "is" in notes and "else" not in notes
+            if not is_known or not value:
+                message = "and one `ctx = ..`, or `is = ..` with `else = ..`, is known"
+                source.refuse(field.place, f"the field {field.name} has the note {note}, {message}")
+            notes[key] = value
     return notes
 
 
-def read_fixed(source: Source, raw: RawStruct, field: RawField, notes: Dict[str, str]) -> Part:
+def read_fixed(
+    source: Source, raw: RawStruct, field: RawField, notes: Dict[str, str], error: Optional[OwnError]
+) -> Part:
     fixed = read_type(source, field, field.type, (raw.name,))
     constant = notes.get("is", "")
     if "ctx" in notes:
@@ -199,7 +275,8 @@ def read_fixed(source: Source, raw: RawStruct, field: RawField, notes: Dict[str,
         source.refuse(field.place, f"the field {field.name} has a constant, and is no unsigned number of at most 64 bits")
     if constant and int(constant.replace("_", ""), 0) >= 256 ** width_of(fixed):
         source.refuse(field.place, f"the constant {constant} of the field {field.name} doesn't fit its type")
-    return Part(field.name, field.type, "fixed", fixed=fixed, constant=constant)
+    other = read_other(source, field, error, notes["else"]) if "else" in notes else ""
+    return Part(field.name, field.type, "fixed", fixed=fixed, constant=constant, other=other)
 
 
 def is_counter(fixed: Optional[Type]) -> bool:

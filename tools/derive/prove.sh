@@ -25,7 +25,8 @@ derive() {
 
 cp -R "$top/tools/derive/shapes" "$room/derived" && mkdir "$room/derived/specs" || stop 'the structs could not be copied'
 for file in "$room"/derived/src/*.rt.txt; do
-    sed -n 's/^pub struct \([A-Za-z0-9]*\).*/\1/p' "$file" >"$room/names"
+    awk '/#\[scroll\(tag = / { tagged = 1 } /^pub struct / || (/^pub enum / && tagged) { sub(/^pub [a-z]* /, ""); sub(/[^A-Za-z0-9].*/, ""); print; tagged = 0 }' \
+        "$file" >"$room/names"
     while read -r name; do
         derive "$file" "$name" >"$room/printed" || stop "nothing is printed for $name"
         { echo && sed -n '/^impl/,$p' "$room/printed"; } >>"$file"

@@ -32,13 +32,15 @@ class RawField:
 
 @dataclass(frozen=True)
 class RawStruct:
-    """A struct as it is written. `place` is the offset of its name in the file."""
+    """A struct as it is written, or an enum, whose variants are the fields. `place` is the offset of its name in the file."""
 
     name: str
     lifetime: str
     fields: Tuple[RawField, ...]
     is_tuple: bool
     place: int
+    notes: Tuple[str, ...] = ()
+    is_enum: bool = False
 
 
 def blank_comments(text: str) -> str:
@@ -115,25 +117,50 @@ class Source:
         return found[1].strip() if found else name
 
     def find_struct(self, name: str) -> RawStruct:
-        found = list(re.finditer(rf"\bstruct\s+({re.escape(name)})\b\s*", self.code))
+        found = list(re.finditer(rf"\b(struct|enum)\s+({re.escape(name)})\b\s*", self.code))
         if not found:
             raise BadInput(f"{self.path}: there is no struct {name}")
+        word = found[0][1]
         if len(found) > 1:
-            self.refuse(found[1].start(), f"there is a second struct {name}")
+            self.refuse(found[1].start(), f"there is a second {found[1][1]} {name}")
         start = found[0].end()
         parameter = re.compile(r"<\s*('[a-z]\w*)\s*>\s*").match(self.code, start)
         start = parameter.end() if parameter else start
         opening = self.code[start : start + 1]
+        part = "variants" if word == "enum" else "fields"
         if opening == "<":
-            self.refuse(start, f"the struct {name} has parameters")
+            self.refuse(start, f"the {word} {name} has parameters")
         if opening not in ("{", "("):
-            self.refuse(start, f"the struct {name} has no fields")
+            self.refuse(start, f"the {word} {name} has no {part}")
         parts = split_top(self.code[start + 1 : closing(self.code, start)])
         if not parts:
-            self.refuse(start, f"the struct {name} has no fields")
+            self.refuse(start, f"the {word} {name} has no {part}")
         is_tuple = opening == "("
-        fields = tuple(self.read_field(start + 1 + at, text, index, is_tuple) for index, (at, text) in enumerate(parts))
-        return RawStruct(name, parameter[1] if parameter else "", fields, is_tuple, found[0].start(1))
+        read = self.read_variant if word == "enum" else self.read_field
+        fields = tuple(read(start + 1 + at, text, index, is_tuple) for index, (at, text) in enumerate(parts))
+        notes = self.notes_before(found[0].start())
+        return RawStruct(name, parameter[1] if parameter else "", fields, is_tuple, found[0].start(2), notes, word == "enum")
+
+    def notes_before(self, place: int) -> Tuple[str, ...]:
+        """Returns the notes among the comments and attributes before a struct."""
+        *lines, _ = self.text[:place].split("\n")
+        notes: List[str] = []
+        while lines and lines[-1].lstrip().startswith(("//", "#[")):
+            notes = [*NOTE.findall(lines.pop()), *notes]
+        return tuple(note.strip() for note in notes)
+
+    def read_variant(self, place: int, text: str, index: int, is_tuple: bool) -> RawField:
+        """Returns a variant as a field: its name, and the type of its value, which is empty where it has none."""
+        begin = skip_head(text)
+        notes = tuple(note.strip() for note in NOTE.findall(self.text[place : place + begin]))
+        place, text = place + begin, " ".join(text[begin:].split())
+        found = re.fullmatch(r"([A-Za-z_]\w*)(?:\s*\((.*)\))?", text)
+        if not found:
+            self.refuse(place, f"the variant {text} has more than a value")
+        values = [it.strip() for _, it in split_top(found[2] or "")]
+        if len(values) > 1:
+            self.refuse(place, f"the variant {found[1]} has more than a value")
+        return RawField(found[1], values[0] if values else "", notes, place)
 
     def read_field(self, place: int, text: str, index: int, is_tuple: bool) -> RawField:
         begin = skip_head(text)

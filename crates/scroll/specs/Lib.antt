@@ -18,6 +18,7 @@ pub mod Zeros
 pub mod Arrays
 pub mod History
 pub mod Streams
+pub mod Tagged
 pub mod Leb128
 pub mod Encoding
 pub mod Many

@@ -41,14 +41,16 @@ mod measure;
 mod numbers;
 mod std_c_strings;
 mod str_ctx;
+mod table;
 mod text;
 mod tuples;
 mod zeros;
 
 pub use arrays::array_fits;
-pub use encode::{Encode, Gap, Padded, Value, read_fixed};
+pub use encode::{Encode, Gap, Padded, Value, append, read_fixed};
 pub use fixed::{Fixed, Plain, Record, RoundTrip, Written};
 pub use str_ctx::{NULL, RET, SPACE, StrCtx, TAB};
+pub use table::{Elements, Table};
 pub use zeros::{Zeros, padding};
 
 /// A type that can be read from bytes in a context.

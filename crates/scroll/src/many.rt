@@ -1,12 +1,17 @@
 //! Many values, one after another.
 ghost use Rattle.std.specs.Prelude.{◌≡◌, ◌≤◌, ℕ, List, length, IfOk, IfErr, OnOk};
-ghost use Rattle.scroll.specs.Many.{RefusesMany};
+ghost use Rattle.scroll.specs.Arrays.{WritesAll};
+ghost use Rattle.scroll.specs.Many.{RefusesMany, FailsMany};
 ghost use Rattle.scroll.specs.Reads.{ReadsAll};
+ghost use Rattle.scroll.specs.Tagged.{WritesTagged, FailsTagged};
+ghost use Rattle.scroll.specs.declared.endian.Endian.{Endian};
 
-use crate::ctx::TryFromCtx;
-use crate::error::Error;
+use crate::ctx::{Plain, TryFromCtx, TryIntoCtx};
+use crate::endian::Endian;
+use crate::error::{Error, check_room};
 use crate::located::At;
 use crate::pread::Pread;
+use crate::slice;
 use std::alloc::Global;
 use std::result::Result;
 
@@ -58,4 +63,75 @@ pub fn read_many<'a, Ctx: Copy, E: From<Error>, T: TryFromCtx<'a, Ctx, Error = E
         }
     }
     Ok(values)
+}
+
+/// Writes values, one after another from the cursor `offset`, and advances the cursor past the last one. [`read_many`] reads
+/// them back.
+///
+/// Returns the error of the first value that can't be written, with the offset at which that value would start, and leaves the
+/// cursor there. The values before it are then written.
+///
+/// ```rust
+/// let mut file = [0xffu8; 6];
+/// let mut offset = 1;
+/// write_many(&mut file, &[1u16, 2], &mut offset, LE)?;
+/// assert_eq!(rt; file, [0xff, 1, 0, 2, 0, 0xff]);
+/// assert_eq!(rt; offset, 5);
+/// ```
+pub fn write_many<Ctx: Copy, E: From<Error>, T: TryIntoCtx<Ctx, Error = E> + Copy + Drop>(
+    dst: &mut [u8],
+    values: &[T],
+    offset: &mut usize,
+    ctx: Ctx,
+) -> Result<(), At<E>>
+    ensures wrote { OnOk result
+        (WritesAll (T.writes ctx) dst.old offset.old values.now dst.new offset.new) }
+    ensures refused { IfErr result (λ located.
+        FailsMany (T.writes ctx) (T.refuses ctx) E.from_gives dst.old offset.old values.now dst.new
+        located.offset located.error) }
+    ensures stays { IfErr result (λ located. offset.new ≡ located.offset) }
+{
+    for i in 0..values.len() {
+        let start = *offset;
+        match slice::gwrite_with(dst, values[i], offset, ctx) {
+            Ok(_size) => (),
+            Err(error) => {
+                return Err(At {
+                    offset: start,
+                    error,
+                });
+            }
+        }
+    }
+    Ok(())
+}
+
+/// Writes a tag, such as the number of an enum's variant, and the value that follows it to the start of `dst`, and returns
+/// their size in bytes.
+///
+/// Returns [`Error::TooBig`] with the width of the tag and the length of `dst` if the tag has no room, and the value's own error
+/// if the value can't be written after it. The tag is then not written.
+///
+/// ```rust
+/// let mut file = [0xffu8; 4];
+/// let size: Result<usize, Error> = write_tagged(&mut file, 7u8, 258u16, BE);
+/// assert_eq!(rt; size?, 3);
+/// assert_eq!(rt; file, [7, 1, 2, 0xff]);
+/// ```
+pub fn write_tagged<E: From<Error>, T: Plain, V: TryIntoCtx<Endian, Error = E> + Drop>(
+    dst: &mut [u8],
+    tag: T,
+    value: V,
+    order: Endian,
+) -> Result<usize, E>
+    ensures wrote { IfOk result (WritesTagged T.width (T.bytes order tag) (V.writes order value)
+        dst.old dst.new) }
+    ensures refused { IfErr result (FailsTagged T.width (V.refuses order value) E.from_gives
+        dst.old dst.new) }
+{
+    let width = T::width();
+    check_room(width, dst.len())?;
+    let size = value.try_into_ctx(&mut dst[width..], order)?;
+    tag.write_prefix(dst, order);
+    Ok(width + size)
 }

@@ -6,6 +6,7 @@ mod cursor;
 mod drops;
 mod floats;
 mod leb128;
+mod many;
 mod numbers;
 mod printed;
 pub mod reads;

@@ -6,3 +6,5 @@ pub mod RoundTrips
 pub mod Sequences
 pub mod SpanLemmas
 pub mod Tables
+pub mod ManyLemmas
+pub mod TaggedLemmas

@@ -1,5 +1,5 @@
 // Values that are written one after another, each with a number of bytes of its own.
-ghost use Rattle.std.specs.Prelude.{◌≡◌, ◌≤◌, ◌<◌, ◌+◌, ◌-◌, ◌*◌, ◌^◌, ◌++◌, [], ◌∷◌, ℕ, List, length, take, drop, min, IfOk, IfErr, OnOk};
+ghost use Rattle.std.specs.Prelude.{◌≡◌, ◌≤◌, ◌<◌, ◌+◌, ◌-◌, ◌*◌, ◌^◌, ◌++◌, [], ◌∷◌, ℕ, List, length, take, drop, min, vec_capacity, IfOk, IfErr, IsOk, OnOk, OnErr};
 ghost use Rattle.std.specs.CStr.{c_str_bytes};
 ghost use Rattle.std.specs.List.{flat_map};
 ghost use Rattle.scroll.specs.Bytes.{ReadsFixed, RefusesShort};
@@ -9,6 +9,7 @@ ghost use Rattle.scroll.specs.Encoding.{leb_text};
 ghost use Rattle.scroll.specs.Reads.{ReadsAt, RefusesAt};
 ghost use Rattle.scroll.specs.Zeros.{padding_len, zeros};
 ghost use Rattle.scroll.specs.declared.endian.Endian.{Endian};
+ghost use Rattle.scroll.specs.declared.error.Error.TheVariants.{NoMemory};
 
 use crate::ctx::TryIntoCtx;
 use crate::ctx::fixed::{Fixed, Plain};
@@ -233,4 +234,33 @@ pub fn read_fixed<P: Fixed>(from: &[u8], offset: &mut usize, order: Endian) -> R
     let value = P::read_at(rest, 0, order);
     *offset += P::width();
     Ok(value)
+}
+
+/// Appends the bytes of a value to a vector, whose size needn't be known before.
+///
+/// An allocation failure is the error [`Error::NoMemory`], and the vector is then unchanged.
+///
+/// ```rust
+/// let mut file: Vec<u8> = Vec::new(rt.alloc());
+/// append(&mut file, Value(1u16), LE)?;
+/// append(&mut file, (Value(2u16), "hi"), LE)?;
+/// assert_eq!(rt; file.as_slice(), [1, 0, 2, 0, b'h', b'i'].as_slice());
+/// ```
+pub fn append<A: Encode>(target: &mut Vec<u8>, value: A, order: Endian) -> Result<()>
+    ensures appended { OnOk result
+        (target.new.items ≡ target.old.items ++ A.bytes order value) }
+    ensures unchanged { OnErr result (target.new.items ≡ target.old.items) }
+    ensures refused { IfErr result (λ e. e ≡ NoMemory) }
+    ensures succeeds { length target.old.items + length (A.bytes order value)
+        ≤ vec_capacity target.old → IsOk result }
+{
+    let start = target.len();
+    let Some(end) = start.checked_add(value.size(order)) else {
+        return Err(Error::NoMemory);
+    };
+    if target.resize(end, 0).is_err() {
+        return Err(Error::NoMemory);
+    }
+    value.put(&mut target.as_mut_slice()[start..], order);
+    Ok(())
 }
