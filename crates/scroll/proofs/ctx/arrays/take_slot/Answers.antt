@@ -1,7 +1,10 @@
-use Rattle.std.proofs.Common.{◌<◌, length, None}
+use Rattle.std.proofs.Common.{ℕ, ◌*◌, ◌<◌, ◌^◌, length, None, Fits, w64, arith}
 use Rattle.std.proofs.lemmas.List.{get_or_default}
 use Rattle.scroll.proofs.lemmas.ArrayLemmas.{is_there}
 use Rattle.scroll.proofs.ctx.arrays.take_slot.Goals as goal
+
+offset_fits : (i n size : ℕ) → i < n → n * size < 2 ^ 63 → Fits w64 (i * size)
+offset_fits i n size h room = grind arith
 
 pub bounds-as_mut_slice-index : goal.bounds-as_mut_slice-index
 bounds-as_mut_slice-index g c = rw c.as_mut_slice.ensures.value (is_there c.args.slots.now.items c.args.index c.requires.0 c.requires.1)
@@ -19,3 +22,9 @@ returns-clause-value g c =
     let same = get_or_default c.args.slots.now.items c.args.index c.index-as_mut_slice-index.result None there in
     let found = rw c.as_mut_slice.ensures.value at c.in-Some.ensures.value in
     cc (same, found)
+
+pub offset_bounds-as_mut_slice-index : goal.offset_bounds-as_mut_slice-index
+offset_bounds-as_mut_slice-index g c =
+    let there : c.args.index < length c.as_mut_slice.result.now =
+    rw c.as_mut_slice.ensures.value (is_there c.args.slots.now.items c.args.index c.requires.0 c.requires.1) in
+    offset_fits c.args.index _ _ there c.as_mut_slice.type_inv.1

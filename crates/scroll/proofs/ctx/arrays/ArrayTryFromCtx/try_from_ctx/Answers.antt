@@ -1,4 +1,5 @@
-use Rattle.std.proofs.Common.{◌≡◌, true, arith, rules, sym, ◌∙◌}
+use Rattle.std.proofs.Common.{◌≡◌, true, Some, refl, ap, arith, rules, sym, length, ◌∙◌}
+use Rattle.std.proofs.lemmas.List.{length-map}
 use Rattle.std.proofs.lemmas.Result.{err_from_is_err_and}
 use Rattle.scroll.specs.Errors.{PastEnd}
 use Rattle.scroll.proofs.lemmas.ArrayLemmas.{IsFilled-none, IsFilled-push, IsFilled-refused, map_some-same}
@@ -28,3 +29,16 @@ returns-in_err-value-clause-refused g c =
     _ _ g.row.N _ c.in_err-value.field-0.0 c.loop-i.invariant c.loop-i-test.true c.in_err-value.ensures.refused in
     let p = err_from_is_err_and c.from_residual.result c.from_residual.ensures.1 in
     rw (p.1, p.2) (λ _. refused)
+
+pub push-requires : goal.push-requires
+push-requires g c =
+    let was = c.loop-i.invariant in
+    (c.if-not-fits.ensures.fits refl, omega (arith, ap length was.slots, length-map was.values (λ x. Some x), was.len))
+
+pub unwrap_slots-values-requires : goal.unwrap_slots-values-requires
+unwrap_slots-values-requires g c =
+    let was = c.loop-i.invariant in
+    (c.if-not-fits.ensures.fits refl, (search rules, (was.values, was.slots, omega (arith, was.len))))
+
+pub new-slots-requires : goal.new-slots-requires
+new-slots-requires g c = c.if-not-fits.ensures.fits refl

@@ -1,4 +1,4 @@
-use Rattle.std.proofs.Common.{◌≡◌, true, rules}
+use Rattle.std.proofs.Common.{◌≡◌, true, refl, rules}
 use Rattle.std.specs.Array.Iter.{array_into_iter_items}
 use Rattle.scroll.proofs.lemmas.ArrayLemmas.{IsPartWritten-none, IsPartWritten-next}
 use Rattle.scroll.proofs.ctx.arrays.ArrayTryIntoCtx.try_into_ctx.Goals as goal
@@ -16,3 +16,12 @@ pub returns-then-not-fits-clause-refused : goal.returns-then-not-fits-clause-ref
 returns-then-not-fits-clause-refused g c = λ h.
     let is_true : c.fits.result ≡ true = c.fits.ensures.small h in
     absurd (cc)
+
+pub into_iter-values-requires : goal.into_iter-values-requires
+into_iter-values-requires g c = (search rules, c.if-not-fits.ensures.fits refl)
+
+pub drop-values-requires : goal.drop-values-requires
+drop-values-requires g c = c.if-not-fits.ensures.fits refl
+
+pub drop-values-requires-2 : goal.drop-values-requires-2
+drop-values-requires-2 g c = c.if-not-fits.ensures.fits refl
