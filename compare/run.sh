@@ -14,7 +14,7 @@
 #
 # It prints how many cases of each kind were tried, and how many differ. A case that differs is made smaller while it
 # still differs, and printed with both answers; a session can be stored as it is printed. What differs as
-# docs/DIFFERENCES.md tells is counted by itself. The last line is `N passed, M failed`, which counts kinds, with
+# docs/FROM-RUST.md tells is counted by itself. The last line is `N passed, M failed`, which counts kinds, with
 # `, K skipped` after it where derived structs can't be compared.
 #
 # It needs cargo and rt, and with --faults a C compiler. Variables:

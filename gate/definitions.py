@@ -21,7 +21,7 @@ PAGE = TOP / "docs" / "DEFINITIONS.md"
 
 HEAD = """# Definitions
 
-The words that the contracts cite. `python3 gate/docs.py write` makes this page from the comments in `specs/`.
+The words that the contracts cite, from the comments in `specs/`. `rt lemma WORD` prints a definition whole, with its parts and its import.
 """
 
 START = re.compile(r"(?:abbrev pub|pub record) ([^\s:({]+)(.*)")
@@ -89,9 +89,7 @@ def item(meaning: str, group: List[Definition]) -> str:
     if meaning.endswith(":"):
         code = "\n".join(f"  {line}" for it in group for line in it.equations)
         return f"{text}\n  ```text\n{code}\n  ```\n"
-    text += "" if meaning.endswith(".") else "."
-    parts = [f"`{part}`" for part in group[0].parts]
-    return text + (f" Parts: {', '.join(parts)}.\n" if len(parts) > 1 else "\n")
+    return text + ("\n" if meaning.endswith(".") else ".\n")
 
 
 def section(path: Path) -> str:
@@ -112,8 +110,8 @@ def section(path: Path) -> str:
         return ""
     if not title:
         raise Bad("it has no comment at its head")
-    link = f"[specs/{path.name}]({Path('..') / path.relative_to(TOP)})"
-    head = "\n\n".join([f"### {title.rstrip('.')}", link, *text])
+    link = f"[{path.name}]({Path('..') / path.relative_to(TOP)})"
+    head = "\n\n".join([f"### {title.rstrip('.')}", " ".join([f"{link}.", *text])])
     return f"\n{head}\n\n" + "".join(item(*entry) for entry in entries)
 
 
