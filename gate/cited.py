@@ -20,7 +20,7 @@ from step import TOP, Step
 FOREIGN = set("""
 BoxedSlice CowSlice I Self::Units array::try_from_fn array::from_fn cause collect c3 core::mem core::result f64 memchr scroll_derive x86-64-v2
 HEX HH ORD SESSION crates/first crates/first/src crates/first/src/lib.rt export description AsRef This RangeFrom memmove Proof Lts Tie
-SCROLL byteorder gimli goblin object zerocopy grind rw
+SCROLL byteorder pandoc gimli goblin object zerocopy grind rw
 """.split())
 # Paths into std begin so.
 STD = re.compile(r"(?:std|core|io|fmt|str|array|ffi)::[\w:]+")
@@ -57,7 +57,7 @@ def read_prose(path: Path) -> List[str]:
 def is_gone(path: str, document: Path) -> bool:
     if path in FOREIGN or re.search(r"\b[A-Z]{2,}\b(?!\.md)", path) or "out" in path.split("/"):
         return False
-    return not any((folder / path).exists() for folder in (TOP, document.parent, *TOP.glob("crates/*"), *TOP.glob("clients/*")))
+    return not any((folder / path).exists() for folder in (TOP, document.parent, *TOP.glob("crates/*"), *TOP.glob("crates/*/src"), *TOP.glob("clients/*")))
 
 
 def leads_nowhere(link: str, document: Path) -> bool:
