@@ -23,6 +23,8 @@ takes the default of the context's type, which for numbers is the machine's byte
 """
 # A note on a variant that has fewer words says no more than its name.
 SHORT = 9
+# How many paragraphs of a module's comment are on the page.
+OPENING = 3
 # The sections: what each is, and its files.
 SECTIONS = {
     "Reads and writes": ["pread", "pwrite", "greater", "lesser", "source"],
@@ -117,8 +119,9 @@ def entries(path: Path) -> Iterator[Entry]:
         said = []
 
 
-def paragraphs(said: List[str], printed: Set[str], is_slice: bool) -> str:
-    """Returns a comment without the examples that clients have, and without a paragraph that is on the page already."""
+def paragraphs(said: List[str], printed: Set[str], is_slice: bool, is_module: bool) -> str:
+    """Returns a comment without the examples that clients have, and without a paragraph that is on the page already; of a module's
+    the first paragraphs."""
     found: List[str] = []
     source = False
     for piece in re.split(r"(?ms)(^```.*?^```$)|\n\n+", "\n".join(said)):
@@ -135,12 +138,14 @@ def paragraphs(said: List[str], printed: Set[str], is_slice: bool) -> str:
             source = False
             printed.add(piece)
             found.append(" ".join(piece.split()) if not re.search(r"(?m)^[-|]", piece) else piece)
+    if is_module:
+        found = [it for it in found if not it.startswith(("- ", "Errors are"))][:OPENING]
     return "\n\n".join(found)
 
 
 def is_short(entry: Entry) -> bool:
     """Whether a function or a constant is one line on the page, with no heading."""
-    return bool(entry.code) and not entry.code.startswith("type ") and not re.search(r"(?m)^```|^$", "\n".join(entry.said))
+    return bool(entry.code) and not entry.code.startswith("type ") and not re.search(r"(?m)^```", "\n".join(entry.said))
 
 
 def merged(listed: List[Entry]) -> List[Entry]:
@@ -185,12 +190,14 @@ def page() -> str:
         parts.append(f"\n## {section}\n")
         heads: List[str] = []
         for e in merged(listed):
-            text = paragraphs(e.said, printed, section == "Slices") if e.depth else " ".join(e.said)
+            text = paragraphs(e.said, printed, section == "Slices", e.title.startswith("`scroll::")) if e.depth else " ".join(e.said)
             pieces = re.split(r"(?ms)(^```.*?^```$)", text)
             text = "".join(it if it.startswith("```") else linked(it, e.title.strip("`").split("::")[0]) for it in pieces)
             if e.depth and is_short(e):
                 owner = e.title.strip("`").rpartition("::")[0]
-                text = f"`{e.code}`" + (f" (clauses {', '.join(e.clauses)})" if e.clauses else "") + (f": {text}" if text else "")
+                text = " ".join(text.split())
+                code = e.title if section == "Laws" else f"`{e.code}`"
+                text = code + (f" (clauses {', '.join(e.clauses)})" if e.clauses else "") + (f": {text}" if text else "")
                 if owner and not heads or owner and owner != heads[-1]:
                     text = f"{owner}: {text}" if not owner.isidentifier() else f"`{owner}`: {text}"
                 parts.append(("" if parts[-1].startswith("- ") else "\n") + f"- {text}")

@@ -14,7 +14,6 @@ from dataclasses import dataclass
 from pathlib import Path
 from typing import Iterator, List, Tuple
 
-from markdown import anchor
 from step import TOP, Step
 
 PAGE = TOP / "docs" / "DEFINITIONS.md"
@@ -115,11 +114,6 @@ def section(path: Path) -> str:
     return f"\n{head}\n\n" + "".join(item(*entry) for entry in entries)
 
 
-def contents(sections: List[str]) -> str:
-    titles = [re.findall(r"^### (.*)", it, re.M)[0] for it in sections if it]
-    return " · ".join(f"[{it}](#{anchor(it)})" for it in titles)
-
-
 def try_all(step: Step, is_writing: bool) -> None:
     page = HEAD
     made: List[Tuple[Path, str]] = []
@@ -134,7 +128,7 @@ def try_all(step: Step, is_writing: bool) -> None:
         except Bad as why:
             step.count(f"{path.relative_to(TOP)}: {why}", "")
     title, *text = headed(next(blocks(lib))[0])
-    page += "\n" + "\n\n".join([f"## {title.rstrip('.')}", *text, contents(sections)]) + "\n" + "".join(sections)
+    page += "\n" + "\n\n".join([f"## {title.rstrip('.')}", *text]) + "\n" + "".join(sections)
     if is_writing and step.failed == failed:
         PAGE.write_text(page, encoding="utf-8")
     text = PAGE.read_text(encoding="utf-8") if PAGE.is_file() else ""
