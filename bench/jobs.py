@@ -1,15 +1,18 @@
 """Makes the table of jobs from the output of the programs of bench/run.sh jobs.
 
     python3 jobs.py RAW SAID VERSIONS [--keep]
+    python3 jobs.py
 
 RAW has the times, SAID the allocations and VERSIONS the versions of the crates. It prints the table and, without
-`--keep`, writes it to docs/SPEED.md, and the times to bench/results/jobs.csv.
+`--keep`, writes it to docs/SPEED.md, the times to bench/results/jobs.csv, and their chart. Without arguments it draws the chart
+again from the repository's jobs.csv.
 """
 
 import csv
 import sys
 from pathlib import Path
 
+import charts
 import draw
 from results import SHIFTS, mean
 
@@ -58,6 +61,31 @@ def table(times, allocations, versions):
     return lines
 
 
+class Bar:
+    """A job beside its fastest peer."""
+
+    def __init__(self, row, forms):
+        ours = forms["scroll"]
+        peer = min((form for form in forms if form != "scroll"), key=lambda it: mean(forms[it].values()))
+        ratios = [ours[shift] / forms[peer][shift] for shift in SHIFTS]
+        self.name = row
+        self.ratio, self.low, self.high = mean(ours.values()) / mean(forms[peer].values()), min(ratios), max(ratios)
+
+
+def draw_chart(times):
+    rows = [Bar(row, forms) for row, forms in times.items() if len(forms) > 1]
+    draw.write(TOP / "bench" / "results" / "jobs.svg", charts.jobs(rows))
+
+
+def read_csv():
+    """Returns the times of the repository's jobs.csv."""
+    times = {}
+    with open(TOP / "bench" / "results" / "jobs.csv", newline="") as file:
+        for line in csv.DictReader(file):
+            times.setdefault(line["job"], {})[line["form"]] = {shift: float(line[f"ns_{shift}"]) for shift in SHIFTS}
+    return times
+
+
 def name(form, versions):
     """The name of a form with the version of its crate."""
     words = form.split(",")[0].split()
@@ -65,6 +93,9 @@ def name(form, versions):
 
 
 def main():
+    if len(sys.argv) == 1:
+        draw_chart(read_csv())
+        return
     raw, said, path, *keep = sys.argv[1:]
     times = read_times(raw)
     with open(path) as file:
@@ -79,6 +110,7 @@ def main():
         for row, forms in times.items():
             for form, best in forms.items():
                 writer.writerow([row, form, *(f"{best[shift]:.4f}" for shift in SHIFTS)])
+    draw_chart(times)
     page = TOP / "docs" / "SPEED.md"
     before, rest = page.read_text().split(BEGIN)
     page.write_text(before + BEGIN + "\n" + "\n".join(lines) + "\n" + END + rest.split(END)[1])
