@@ -33,9 +33,9 @@ CODE = re.compile(r"^(?!bug:|breaks:|promise:).*$", re.M)
 FILE = re.compile(r"[a-z.][\w.-]*(?:/[\w.-]+)+/?")
 LINK = re.compile(r"\]\(([^()\s]+)\)")
 STRING = re.compile(r'b?"(?:[^"\\\n]|\\.)*"')
-# What a file defines: functions, types, constants, the shell's variables, and definitions and lemmas with their parts; and imports.
+# What a file defines: functions and types (of Python none), constants, the shell's variables, and definitions and lemmas with their parts; and imports.
 DEFINED = re.compile(
-    r"(?m)^ *(?:pub )?(?:def|class|fn|struct|enum|trait|const|mod) (\w+)|^([A-Z_]+)\b|\$\{?([A-Z_]+)\b|^(\w+)\(\)"
+    r"(?m)^ *(?:pub )?(?:fn|struct|enum|trait|const|mod) (\w+)|^([A-Z_]+)\b|\$\{?([A-Z_]+)\b|^(\w+)\(\)"
     r"|^(?:abbrev )?(?:pub )?(?:record )?([^\s:({=-][^\s:({=]*)(?= *[:({])|^  (?:pub )?([^\s:({=]+) :|^use [\w.]+\.\{(.*)\}"
 )
 # A function and the clauses after it; clauses, and the function after them.
