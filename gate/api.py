@@ -1,9 +1,9 @@
 """Makes docs/API.md from the doc comments of the library: each public module, trait, type, constant and function, and each
 implementation that has a comment of its own.
 
-A function has its signature, the names of its clauses, and its comment. A call without `_with` is part of the one with it. An
-example that is a client's has its file's name, and a paragraph that is on the page already isn't printed again. A link to an item
-leads to its heading. The page is a check.
+A function has its signature, the names of its clauses, and its comment. A call without `_with` is part of the one with it. Of an
+example the parts that show an error are on the page, and for a client's its file's name; a paragraph that is on the page already
+isn't printed again. A link to an item leads to its heading. The page is a check.
 """
 
 import re
@@ -19,9 +19,10 @@ HEAD = """# API
 
 Each public item of the library, from its doc comments. Offsets and sizes are in bytes. Behind a signature are the names of the
 contract's clauses, in words of [DEFINITIONS.md](DEFINITIONS.md). A call whose name ends in `_with` takes a context; the one without
-takes the default of the context's type, which for numbers is the machine's byte order.
+takes the default of the context's type, which for numbers is the machine's byte order. The examples are those that show an error; the
+gate runs these and the others, which are in the sources and in [GUIDE.md](GUIDE.md).
 """
-# A note on a variant that has fewer words says no more than its name.
+# A note on a variant or a function that has fewer words says no more than its name.
 SHORT = 9
 # How many paragraphs of a module's comment are on the page.
 OPENING = 3
@@ -120,16 +121,16 @@ def entries(path: Path) -> Iterator[Entry]:
 
 
 def paragraphs(said: List[str], printed: Set[str], is_slice: bool, is_module: bool) -> str:
-    """Returns a comment without the examples that clients have, and without a paragraph that is on the page already; of a module's
-    the first paragraphs."""
+    """Returns a comment with the parts of its examples that show an error, and without a paragraph that is on the page already; of a
+    module's the first paragraphs."""
     found: List[str] = []
     source = False
     for piece in re.split(r"(?ms)(^```.*?^```$)|\n\n+", "\n".join(said)):
         piece = (piece or "").strip("\n")
         if piece.startswith("```"):
             lines = [it for it in piece.strip("`\n").split("\n")[1:] if not it.startswith("use ")]
-            first = "\n".join(lines).strip("\n").split("\n\n")[0]
-            found += [] if source or first.startswith("impl ") else [f"```rust\n{first}\n```"]
+            shown = [it for it in "\n".join(lines).strip("\n").split("\n\n") if re.search(r"Err\(|None|\.err\(\)", it)]
+            found += [] if source or not shown else ["```rust\n" + "\n\n".join(shown) + "\n```"]
             source = False
         elif re.match(r"From `", piece):
             source = True
@@ -197,6 +198,7 @@ def page() -> str:
                 owner = e.title.strip("`").rpartition("::")[0]
                 text = " ".join(text.split())
                 code = e.title if section == "Laws" else f"`{e.code}`"
+                text = text if len(text.split()) >= SHORT or section == "Laws" else ""
                 text = code + (f" (clauses {', '.join(e.clauses)})" if e.clauses else "") + (f": {text}" if text else "")
                 if owner and not heads or owner and owner != heads[-1]:
                     text = f"{owner}: {text}" if not owner.isidentifier() else f"`{owner}`: {text}"

@@ -5,6 +5,7 @@ The files come in the order of specs/Lib.antt. The comment at the head of a file
 full stop, and then its text; an empty line of the comment ends a paragraph. The comment above a definition says what it means;
 a definition without one shares that of the definition before it. Where a definition has several equations, its comment begins
 with the name and the parameters, between backticks, and a colon. Where a comment ends with a colon, the page has the equations.
+Of the words of laws the page has the names.
 
 A file of specs/ is a check.
 """
@@ -22,6 +23,9 @@ HEAD = """# Definitions
 
 The words that the contracts cite, from the comments in `specs/`. `rt lemma WORD` prints a definition whole, with its parts and its import.
 """
+
+# The files of which only the laws' contracts speak: their names alone are on the page.
+FOR_LAWS = ("Laws",)
 
 START = re.compile(r"(?:abbrev pub|pub record) ([^\s:({]+)(.*)")
 FORMS = re.compile(r"((?:`[^`]+`(?:, )?)+): ")
@@ -110,6 +114,9 @@ def section(path: Path) -> str:
     if not title:
         raise Bad("it has no comment at its head")
     link = f"[{path.name}]({Path('..') / path.relative_to(TOP)})"
+    if path.stem in FOR_LAWS:
+        names = ", ".join(f"`{it.name}`" for _, group in entries for it in group)
+        return f"\n### {title.rstrip('.')}\n\n{link}, of which only laws speak: {names}.\n"
     head = "\n\n".join([f"### {title.rstrip('.')}", " ".join([f"{link}.", *text])])
     return f"\n{head}\n\n" + "".join(item(*entry) for entry in entries)
 

@@ -19,12 +19,12 @@ def head(path: Path) -> str:
 
 def listed(crate: str) -> str:
     source = TOP / "crates" / crate / "src"
-    paths = [it for it in [*sorted(source.glob("*.rt")), *sorted(source.glob("ctx/*.rt"))] if it.stem != "tests"]
+    paths = [it for it in sorted(source.glob("*.rt")) if it.stem != "tests"]
     return "".join(f"- `{it.relative_to(source)}`: {head(it)}\n" for it in paths)
 
 
 def try_all(step: Step, is_writing: bool) -> None:
-    wanted = "".join(f"\n`crates/{crate}/src`:\n\n{listed(crate)}" for crate in ("scroll", "scroll_run")) + "\n"
+    wanted = f"\n`crates/scroll/src`:\n\n{listed('scroll')}\n"
     before, _, rest = PAGE.read_text(encoding="utf-8").partition(BEGIN)
     found, _, after = rest.partition(END)
     if is_writing:
