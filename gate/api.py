@@ -169,9 +169,11 @@ def merged(listed: List[Entry]) -> List[Entry]:
 
 def page() -> str:
     parts = [HEAD]
-    found = {it: [e for file in files if (SRC / f"{file}.rt").is_file() for e in entries(SRC / f"{file}.rt")] for it, files in SECTIONS.items()}
+    paths = {it: [SRC / f"{file}.rt" for file in files] for it, files in SECTIONS.items()}
+    found = {it: [e for path in listed if path.is_file() for e in entries(path)] for it, listed in paths.items()}
     titles: Set[str] = {e.title for listed in found.values() for e in listed if e.depth}
-    merged_as = {part.strip("`"): e.title for listed in found.values() for e in merged(listed) if e.depth and not is_short(e) for part in e.title.split(", ")[:1]}
+    shown = [e.title for listed in found.values() for e in merged(listed) if e.depth and not is_short(e)]
+    merged_as = {it.split(", ")[0].strip("`"): it for it in shown}
     printed: Set[str] = set()
 
     def linked(text: str, owner: str) -> str:

@@ -2,10 +2,10 @@
 
 A name is a word between backticks, or words joined by `::`, such as `Pread::gread_with`. A name with `::` must lead to a
 declaration (gate/declared.py), from member to owner. A single word must be declared, be an identifier of code, a word of a
-session's lines, the name of a file, an edit, a session or a lemma, or one of the words below, of Rust or of a tool. Clauses that are
-cited after a function, as in "`slice::pwrite_with` `refused`", or before one, as in "clause `refused` of `slice::pwrite_with`", must be
-that function's. So must those of the line `breaks:` of an edit. A link to a file of the repository must lead to one, and its part after `#` to a
-heading there, or to a line. A document, or a file of edits, is a check.
+session's lines, the name of a file, an edit, a session or a lemma, or one of the words below, of Rust or of a tool. Clauses
+that are cited after a function, as in "`slice::pwrite_with` `refused`", or before one, as in "clause `refused` of
+`slice::pwrite_with`", must be that function's. So must those of the line `breaks:` of an edit. A link to a file of the repository
+must lead to one, and its part after `#` to a heading there, or to a line. A document, or a file of edits, is a check.
 """
 
 import re
@@ -18,7 +18,8 @@ from step import TOP, Step
 
 # Names of Rust, of its crates and of processors, and placeholders.
 FOREIGN = set("""
-BoxedSlice CowSlice I Self::Units array::try_from_fn array::from_fn cause collect c3 core::mem core::result f64 memchr scroll_derive x86-64-v2
+BoxedSlice CowSlice I Self::Units array::try_from_fn array::from_fn cause collect c3 core::mem core::result f64 memchr scroll_derive
+x86-64-v2
 HEX HH ORD SESSION crates/first crates/first/src crates/first/src/lib.rt export description AsRef This RangeFrom memmove Proof Lts Tie
 SCROLL byteorder pandoc gimli goblin object zerocopy grind rw
 """.split())
@@ -33,7 +34,8 @@ CODE = re.compile(r"^(?!bug:|breaks:|promise:).*$", re.M)
 FILE = re.compile(r"[a-z.][\w.-]*(?:/[\w.-]+)+/?")
 LINK = re.compile(r"\]\(([^()\s]+)\)")
 STRING = re.compile(r'b?"(?:[^"\\\n]|\\.)*"')
-# What a file defines: functions and types (of Python none), constants, the shell's variables, and definitions and lemmas with their parts; and imports.
+# What a file defines: functions and types (of Python none), constants, the shell's variables, definitions and lemmas with their
+# parts; and what it imports.
 DEFINED = re.compile(
     r"(?m)^ *(?:pub )?(?:fn|struct|enum|trait|const|mod) (\w+)|^([A-Z_]+)\b|\$\{?([A-Z_]+)\b|^(\w+)\(\)"
     r"|^(?:abbrev )?(?:pub )?(?:record )?([^\s:({=-][^\s:({=]*)(?= *[:({])|^  (?:pub )?([^\s:({=]+) :|^use [\w.]+\.\{(.*)\}"
@@ -76,7 +78,8 @@ def identifiers(path: Path, text: str) -> Iterator[str]:
     if suffix in (".py", ".sh", ".rs", ".antt") and "specs" not in path.parts:
         yield from (it for found in DEFINED.findall(text) for group in found for it in group.split(", ") if it)
         return
-    comment = {".antt": r"(?m)(?:^|\s)--.*|//.*", ".c": r"(?s)/\*.*?\*/|//[^\n]*", ".h": r"(?s)/\*.*?\*/|//[^\n]*"}.get(suffix, r"//.*")
+    of_c = r"(?s)/\*.*?\*/|//[^\n]*"
+    comment = {".antt": r"(?m)(?:^|\s)--.*|//.*", ".c": of_c, ".h": of_c}.get(suffix, r"//.*")
     yield from WORD.findall(STRING.sub("", re.sub(comment, "", text)))
 
 
@@ -114,7 +117,8 @@ def is_known(name: str, known: Set[str], declared: Declarations) -> bool:
 def wrong_clauses(line: str, declared: Declarations, is_list: bool) -> List[str]:
     """Returns the clauses that a line cites of a function that hasn't got them. In a list of names a comma is no citation."""
     line = re.sub(r"\(clauses `[^)]*\)", "", line)
-    pairs = [(it[1], it[2]) for it in AFTER.finditer(line) if not (is_list and f"{it[0][: it.start(2) - it.start()]}".rstrip().endswith(","))]
+    after = [(it, it[0][: it.start(2) - it.start()].rstrip()) for it in AFTER.finditer(line)]
+    pairs = [(it[1], it[2]) for it, before in after if not (is_list and before.endswith(","))]
     pairs += [(name, clauses) for clauses, name in BEFORE.findall(line)]
     wrong = []
     for name, clauses in pairs:

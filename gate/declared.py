@@ -87,7 +87,8 @@ class Declarations:
                         self.members["::".join([*it, name[1]])].append((path, number))
             if kind == "trait" and item["indent"]:
                 self.in_traits.add((path, number))
-            function = self.take(path, number, item["kind"], name[1] if name else "", owners if item["indent"] else ["::".join(it) for it in paths], function)
+            of = owners if item["indent"] else ["::".join(it) for it in paths]
+            function = self.take(path, number, item["kind"], name[1] if name else "", of, function)
 
     def take(self, path: Path, number: int, kind: str, name: str, owners: List[str], before: Optional[Function]) -> Optional[Function]:
         """Takes an item in, and returns the function whose clauses follow."""
@@ -123,7 +124,8 @@ class Declarations:
         """Returns where a citation leads: the file and the line, and for a function its clauses; with `of`, in implementations for
         this type alone, if there is one."""
         last = name.split("::")[-1]
-        own = {(it.file, it.line) for it in self.found(f"{of}::{last}")} | {it for path in self.paths(f"{of}::{last}") for it in self.members.get(path, [])}
+        own = {(it.file, it.line) for it in self.found(f"{of}::{last}")}
+        own |= {it for path in self.paths(f"{of}::{last}") for it in self.members.get(path, [])}
         found = [(it.file, it.line, set(it.clauses)) for it in self.found(name)]
         found += [(*it, set()) for path in sorted(self.paths(name)) for it in self.members.get(path, [])]
         # (what a trait declares comes before its implementations)

@@ -2,7 +2,8 @@
 
 Above each block of the guide is a comment `<!-- code: FILE | ITEM | ITEM .. -->`: the block has these items of the file, in this
 order. An item is named by the start of its first line of code, such as `pub fn read_length`; `imports` are the lines of `use` at the
-head, and `all` is the file without its tests. `python3 gate/docs.py write` writes the blocks, and the list of the lemmas in proofs/lemmas/callers/.
+head, and `all` is the file without its tests. `python3 gate/docs.py write` writes the blocks, and the list of the lemmas in
+proofs/lemmas/callers/.
 
 The blocks in the library's doc comments and in docs/FROM-RUST.md below a line that begins with a file's name, such as
 "From `clients/examples/src/chunk.rt.txt`", have the parts of that file in the same order. The checks of the tests, which callers
