@@ -1,7 +1,7 @@
 """Makes a crate whose tests are the examples of the library's documentation, for gate/depending.py, which runs them.
 
 Each block of Rust that asserts something, in a doc comment of crates/scroll/src or in docs/FROM-RUST.md, is one test, unless it is from a file: a line
-above it begins with that file's name, and gate/calling.py compares the two. A block may use the crate's public names, `rt` and
+above it begins with that file's name, and gate/guide.py compares the two. A block may use the crate's public names, `rt` and
 `?`.
 """
 
