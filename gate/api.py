@@ -23,7 +23,7 @@ takes the default of the context's type, which for numbers is the machine's byte
 gate runs these and the others, which are in the sources and in [GUIDE.md](GUIDE.md).
 """
 # A note on a variant or a function that has fewer words says no more than its name.
-SHORT = 9
+SHORT = 12
 # How many paragraphs of a module's comment are on the page.
 OPENING = 3
 # The sections: what each is, and its files.
