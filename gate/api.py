@@ -108,7 +108,14 @@ def entries(path: Path) -> Iterator[Entry]:
         item = ITEM.fullmatch(line)
         if item and not item["indent"]:
             kind, is_open = item["kind"], bool(item["open"]) or item["kind"] == "impl"
-            owner = of_impl(item["rest"]) if kind == "impl" else name_of(kind, item["rest"])
+            rest = item["rest"]
+            for more in lines[at + 1 :] if kind == "impl" else []:
+                if "{" in rest:
+                    break
+                rest += f" {more.strip()}"
+            owner = of_impl(rest.replace("< ", "<").replace(", >", ">")) if kind == "impl" else name_of(kind, rest)
+            bound = re.search(rf"\b{owner[-1:]}: (\w+)", rest) if kind == "impl" and re.search(r" for [A-Z]$", owner) else None
+            owner += f": {bound[1]}" if bound else ""
             if said and is_open:
                 code = signature(lines, at) if kind in ("fn", "type", "const") else ""
                 yield Entry(3 if kind != "impl" else 4, f"`{owner}`", code, said, clauses(lines, at) if kind == "fn" else [])
@@ -130,7 +137,10 @@ def paragraphs(said: List[str], printed: Set[str], is_slice: bool, is_module: bo
         if piece.startswith("```"):
             lines = [it for it in piece.strip("`\n").split("\n")[1:] if not it.startswith("use ")]
             shown = [it for it in "\n".join(lines).strip("\n").split("\n\n") if re.search(r"Err\(|None|\.err\(\)", it)]
-            found += [] if source or not shown else ["```rust\n" + "\n\n".join(shown) + "\n```"]
+            if source or not shown:
+                found[-1:] = [re.sub(r":$", ".", it) for it in found[-1:]]
+            else:
+                found.append("```rust\n" + "\n\n".join(shown) + "\n```")
             source = False
         elif re.match(r"From `", piece):
             source = True
