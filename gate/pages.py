@@ -1,7 +1,7 @@
 #!/usr/bin/env python3
 """Makes the documents a site by tools/site.py, follows each link of its pages, and looks words up in its search.
 
-    python3 gate/site.py
+    python3 gate/pages.py
 
 Without `pandoc` it is skipped. A page is a check, and so is each word: one of the search's entries has it in its heading, and its
 link leads there. Where `chromium` is there, the search of the site's first page is tried in it, by `?q=WORD`.
@@ -96,4 +96,4 @@ def try_browser(step: Step, folder: Path) -> None:
 
 
 if __name__ == "__main__":
-    sys.exit(run_step("site", work))
+    sys.exit(run_step("pages", work))
