@@ -8,7 +8,7 @@ isn't printed again. A link to an item leads to its heading. The page is a check
 
 import re
 from pathlib import Path
-from typing import Iterator, List, NamedTuple, Set
+from typing import Dict, Iterator, List, NamedTuple, Set
 
 import markdown
 from step import TOP, Step
@@ -24,6 +24,8 @@ gate runs these and the others, which are in the sources and in [GUIDE.md](GUIDE
 """
 # A note on a variant or a function that has fewer words says no more than its name.
 SHORT = 12
+# What differs between the words on an unsigned number and on a signed one.
+UNSIGNED = re.compile(r"\b(?:un)?signed\b|\b(?:an? )?[us]leb\w*|[US]leb128|\b[ui]64\b|#\w+|\b(?:its|the) ", re.I)
 # How many paragraphs of a module's comment are on the page.
 OPENING = 3
 # The sections: what each is, and its files.
@@ -185,6 +187,7 @@ def page() -> str:
     shown = [e.title for listed in found.values() for e in merged(listed) if e.depth and not is_short(e)]
     merged_as = {it.split(", ")[0].strip("`"): it for it in shown}
     printed: Set[str] = set()
+    twins: Dict[str, str] = {}
 
     def linked(text: str, owner: str) -> str:
         def link(match: "re.Match[str]") -> str:
@@ -211,6 +214,9 @@ def page() -> str:
                 text = " ".join(text.split())
                 code = e.title if section == "Laws" else f"`{e.code}`"
                 text = text if len(text.split()) >= SHORT or section == "Laws" else ""
+                like = UNSIGNED.sub("", text)
+                text = f"As {twins[like]}." if text and like in twins else text
+                twins.setdefault(like, e.title)
                 text = code + (f" (clauses {', '.join(e.clauses)})" if e.clauses else "") + (f": {text}" if text else "")
                 if owner and not heads or owner and owner != heads[-1]:
                     text = f"{owner}: {text}" if not owner.isidentifier() else f"`{owner}`: {text}"
