@@ -146,3 +146,18 @@ def growth(rows):
     for k, (name, points) in enumerate(found.items()):
         parts += draw_growth(56 + 388 * (k % 2), 66 + 174 * (k // 2), name, points)
     return panel(66 + 174 * ((len(found) + 1) // 2) - 22, "Growth", parts)
+
+
+def jobs(rows):
+    """Returns the chart of whole jobs, each beside the fastest peer."""
+    parts = [
+        text(16, 26, "Whole jobs: time of the proved library, divided by that of the fastest peer", 15, INK, weight="bold"),
+        text(16, 43, "Left of the line at 1 the proved library is faster. The band is the range of four layouts of the code.", 10.5, SOFT),
+    ]
+    half = (len(rows) + 1) // 2
+    deepest = 0
+    for x, members in ((10, rows[:half]), (10 + COLUMN + 6, rows[half:])):
+        drawn, y = draw_set(x, 62, "", members)
+        parts += draw_axis(x, 66) + drawn
+        deepest = max(deepest, y)
+    return panel(deepest + 6, "Whole jobs beside the fastest peer", parts)

@@ -1,9 +1,11 @@
 """Makes the table and the charts from the output of the programs of bench/run.sh.
 
     python3 draw.py RAW [TOP]
+    python3 draw.py
 
-It prints the table. With TOP, the top of the repository, it writes speed.csv, speed.svg and growth.svg into
-bench/results/, and the table between the marks of docs/SPEED.md. It needs no library.
+It prints the table of all rows. With TOP, the top of the repository, it writes speed.csv, speed.svg and growth.svg into
+bench/results/, and the summary by use between the marks of docs/SPEED.md. Without arguments it makes that summary and the
+charts again from the repository's speed.csv. It needs no library.
 """
 
 import datetime
@@ -45,11 +47,8 @@ def seen(number):
 
 
 def table(rows):
-    """Returns the table in Markdown, a part for each set."""
-    lines = [machine()]
-    both, near = results.steady(rows)
-    if both:
-        lines.append(f"In the run before it, {near} of {both} ratios differ from these by less than a tenth.")
+    """Returns the table of all rows in Markdown, a part for each set."""
+    lines = head(rows)
     for name, title in TITLES.items():
         members = [row for row in rows if row.set == name]
         if not members:
@@ -71,12 +70,40 @@ def put_between_marks(path, lines):
         file.write(before + BEGIN + "\n" + "\n".join(lines) + "\n" + END + after)
 
 
+def head(rows):
+    """Returns the lines above the summary."""
+    lines = [machine()]
+    both, near = results.steady(rows)
+    if both:
+        lines.append(f"In the run before it, {near} of {both} ratios differ from these by less than a tenth.")
+    return lines
+
+
+def head_of(path):
+    """Returns the lines that are above the summary on the page."""
+    with open(path) as file:
+        lines = file.read().split(BEGIN)[1].split(END)[0].strip().split("\n")
+    return [it for it in lines if it.startswith(("Taken on ", "In the run before "))]
+
+
+def draw(rows, top, lines):
+    """Writes the charts, and the page's summary below these lines."""
+    folder = os.path.join(top, "bench", "results")
+    write(os.path.join(folder, "speed.svg"), charts.ratios(rows))
+    write(os.path.join(folder, "growth.svg"), charts.growth(rows))
+    put_between_marks(os.path.join(top, "docs", "SPEED.md"), [*lines, "", *results.summary(rows)])
+
+
 def write(path, words):
     with open(path, "w") as file:
         file.write(words)
 
 
 def main():
+    if len(sys.argv) == 1:
+        top = os.path.dirname(os.path.dirname(os.path.abspath(__file__)))
+        draw(results.read_csv(os.path.join(top, "bench", "results", "speed.csv")), top, head_of(os.path.join(top, "docs", "SPEED.md")))
+        return
     raw, top = sys.argv[1], sys.argv[2] if len(sys.argv) > 2 else None
     folder = os.path.join(top, "bench", "results") if top else None
     rows = results.read_raw(raw)
@@ -89,9 +116,7 @@ def main():
     print("\n".join(lines))
     if folder:
         results.write_csv(os.path.join(folder, "speed.csv"), rows)
-        write(os.path.join(folder, "speed.svg"), charts.ratios(rows))
-        write(os.path.join(folder, "growth.svg"), charts.growth(rows))
-        put_between_marks(os.path.join(top, "docs", "SPEED.md"), lines)
+        draw(rows, top, head(rows))
     unexplained = [f"{row.set}, {row.name}: {row.ratio:.2f}" for row in rows if row.reason == "?"]
     if unexplained:
         print("bench: over 1.05, and bench/reasons.txt has no line for it:\n    " + "\n    ".join(unexplained), file=sys.stderr)

@@ -1,10 +1,11 @@
 """Makes the table of jobs from the output of the programs of bench/run.sh jobs.
 
     python3 jobs.py RAW SAID VERSIONS PROGRAM [--keep]
+    python3 jobs.py
 
 RAW has the times, SAID the allocations and the places of the code, VERSIONS the versions of the crates, and PROGRAM is the
-program that said so. It prints the table and, without `--keep`, writes it to docs/SPEED.md, and the times to
-bench/results/jobs.csv.
+program that said so. It prints the table and, without `--keep`, writes it to docs/SPEED.md, the times to
+bench/results/jobs.csv, and their chart. Without arguments it draws the chart again from the repository's jobs.csv.
 """
 
 import csv
@@ -13,6 +14,7 @@ import subprocess
 import sys
 from pathlib import Path
 
+import charts
 import draw
 from results import SHIFTS, mean
 
@@ -119,6 +121,31 @@ def grown(forms, peer):
     return f"{draw.seen(ours)} ({ours / its:.2f})"
 
 
+class Bar:
+    """A job beside its fastest peer."""
+
+    def __init__(self, row, forms):
+        ours = forms["scroll"]
+        peer = min((form for form in forms if form != "scroll"), key=lambda it: mean(forms[it].values()))
+        ratios = [ours[shift] / forms[peer][shift] for shift in SHIFTS]
+        self.name = row
+        self.ratio, self.low, self.high = mean(ours.values()) / mean(forms[peer].values()), min(ratios), max(ratios)
+
+
+def draw_chart(times):
+    rows = [Bar(row, forms) for row, forms in times.items() if len(forms) > 1 and not row.endswith(LARGE)]
+    draw.write(TOP / "bench" / "results" / "jobs.svg", charts.jobs(rows))
+
+
+def read_csv():
+    """Returns the times of the repository's jobs.csv."""
+    times = {}
+    with open(TOP / "bench" / "results" / "jobs.csv", newline="") as file:
+        for line in csv.DictReader(file):
+            times.setdefault(line["job"], {})[line["form"]] = {shift: float(line[f"ns_{shift}"]) for shift in SHIFTS}
+    return times
+
+
 def name(form, versions):
     """The name of a form with the version of its crate."""
     words = form.split(",")[0].split()
@@ -126,6 +153,9 @@ def name(form, versions):
 
 
 def main():
+    if len(sys.argv) == 1:
+        draw_chart(read_csv())
+        return
     raw, said, path, program, *keep = sys.argv[1:]
     times = read_times(raw)
     with open(path) as file:
@@ -141,6 +171,7 @@ def main():
         for row, forms in times.items():
             for form, best in forms.items():
                 writer.writerow([row, form, *(f"{best[shift]:.4f}" for shift in SHIFTS)])
+    draw_chart(times)
     page = TOP / "docs" / "SPEED.md"
     before, rest = page.read_text().split(BEGIN)
     page.write_text(before + BEGIN + "\n" + "\n".join(lines) + "\n" + END + rest.split(END)[1])

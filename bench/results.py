@@ -28,6 +28,27 @@ TITLES = {
 }
 
 
+# The rows of the summary in docs/SPEED.md: a use, and the sets of its rows with the names of these. The first use that fits a row
+# has it; what comes after them is left to speed.csv.
+USES = (
+    ("a header of five fields", "numbers:header of five *", "writes:header of five *"),
+    ("a table of numbers, little-endian", "numbers:* LE", "cread:* LE", "writes:* LE"),
+    ("a table of numbers, big-endian", "numbers:* BE", "numbers:* BE *", "cread:* BE", "writes:* BE", "writes:* BE by *"),
+    ("floats that are compared or added up", "floats:*"),
+    ("strings with other letters than ASCII", "texts:*ASCII*", "texts:Chinese *"),
+    ("strings in ASCII", "texts:*"),
+    ("C strings, borrowed or owned", "c_strings:*", "owned:*"),
+    ("byte slices and arrays", "slices:*"),
+    ("LEB128 as files have it", "leb_*:* real mix", "files:.debug*"),
+    ("LEB128 of one length", "leb_*:*"),
+    ("tables of abbreviations and of sections, in a loop", "files:*"),
+    ("functions of one's own that aren't inlined", "own:*"),
+    ("error handling, and refused calls", "errors:*"),
+    ("offsets in a table", "numbers:* at offsets *", "writes:* at offsets", "offsets:*"),
+    ("readers and writers", "streams:*"),
+)
+
+
 def mean(numbers):
     numbers = list(numbers)
     return sum(numbers) / len(numbers)
@@ -58,6 +79,37 @@ def read_raw(path):
             best = forms.setdefault(form, {})
             best[int(shift)] = min(float(nanoseconds), best.get(int(shift), float("inf")))
     return [Row(name_of_set, name, forms) for (name_of_set, name), forms in times.items()]
+
+
+def read_csv(path):
+    """Returns the rows of speed.csv."""
+    rows = []
+    with open(path, newline="") as file:
+        for line in csv.DictReader(file):
+            times = {side: {"best": {shift: float(line[f"{side}_{shift}"]) for shift in SHIFTS}} for side in ("ours", "rust")}
+            row = Row(line["set"], line["row"], times)
+            row.before = float(line["ratio_before"]) if line["ratio_before"] else None
+            rows.append(row)
+    return rows
+
+
+def use_of(row):
+    """Returns the use in the summary that a row belongs to; None if it belongs to none."""
+    for use, *patterns in USES:
+        for name_of_set, pattern in (it.split(":", 1) for it in patterns):
+            if fnmatch.fnmatchcase(row.set, name_of_set) and fnmatch.fnmatchcase(row.name, pattern):
+                return use
+    return None
+
+
+def summary(rows):
+    """Returns the summary in Markdown: for each use its rows, the middle one of their ratios, and the least and the greatest."""
+    lines = ["| use | rows | time beside Rust's | least | greatest |", "|---|--:|--:|--:|--:|"]
+    for use, *_ in USES:
+        ratios = sorted(row.ratio for row in rows if use_of(row) == use)
+        if ratios:
+            lines.append(f"| {use} | {len(ratios)} | {ratios[len(ratios) // 2]:.2f} | {ratios[0]:.2f} | {ratios[-1]:.2f} |")
+    return lines
 
 
 COLUMNS = (

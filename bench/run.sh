@@ -7,8 +7,8 @@
 #
 # It proves the library where necessary, and the loops (bench/sets), builds them as a static library, links that with
 # the loops in Rust (bench/src) four times, with all code shifted by 0, 16, 32 and 48 bytes, and runs each program
-# twice. Without a SET it runs all sets, and writes bench/results/ and the table of docs/SPEED.md. With names of sets it
-# runs these, prints the table, and writes nothing into the repository.
+# twice. Without a SET it runs all sets, and writes bench/results/ and the summary by use in docs/SPEED.md. With names of sets
+# it runs these, prints their rows, and writes nothing into the repository.
 #
 # `jobs` times whole jobs by the clients beside `object`, `goblin`, `gimli`, `zip`, `scroll_derive`, `zerocopy` and
 # `byteorder`, and writes bench/results/jobs.csv and the table of jobs in docs/SPEED.md. It takes these crates from

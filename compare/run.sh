@@ -4,7 +4,7 @@
 #     sh compare/run.sh [--faults] [--lie] [SEED] [COUNT]
 #     sh compare/run.sh --gate
 #
-# COUNT sessions (10000) go through the program and through the Rust crate, which answers them as docs/SESSIONS.md says
+# COUNT sessions (10000) go through the program and through the Rust crate, which answers them as crates/scroll_run/README.md says
 # (compare/src/spoken.rs), and ten times as many calls through the library (compare/calls) and through the crate. SEED (1)
 # is what all of them are made from. Their sizes grow: calls up to buffers of a megabyte, and sessions up to an input of
 # 65,536 bytes; longer ones, up to a megabyte or a hundred thousand commands, go through a copy of the program that is
@@ -14,7 +14,7 @@
 #
 # It prints how many cases of each kind were tried, and how many differ. A case that differs is made smaller while it
 # still differs, and printed with both answers; a session can be stored as it is printed. What differs as
-# docs/DIFFERENCES.md tells is counted by itself. The last line is `N passed, M failed`, which counts kinds, with
+# docs/FROM-RUST.md tells is counted by itself. The last line is `N passed, M failed`, which counts kinds, with
 # `, K skipped` after it where derived structs can't be compared.
 #
 # It needs cargo and rt, and with --faults a C compiler. Variables:

@@ -21,7 +21,6 @@ and is none of malloc, realloc, free and of the C library's on memory. The varia
 
 import os
 import re
-import shutil
 import subprocess
 import sys
 import tempfile
@@ -360,10 +359,10 @@ def embed_formats(tree: Path, out: Path) -> Path:
     """Makes the library of embed/scroll_formats in a new workspace, with the library's build and two clients, and returns its folder."""
     run(sys.executable, TOP / "gate" / "clients.py", "--unpack", tree, "object_files", "zip")
     crate = tree / "crates" / FORMATS
-    for file in (TOP / "embed" / FORMATS).rglob("*.txt"):
-        to = crate / file.relative_to(TOP / "embed" / FORMATS).with_suffix("")
-        to.parent.mkdir(parents=True, exist_ok=True)
-        shutil.copy(file, to)
+    sys.path.insert(0, str(TOP / "gate"))
+    from clients import copy_client
+
+    copy_client(TOP / "embed" / FORMATS, crate)
     with open(tree / "crates.txt", "a", encoding="utf-8") as lines:
         lines.write(f"{FORMATS} staticlib: object_files zip scroll\n")
     for low in ("object_files", "zip"):

@@ -1,8 +1,9 @@
 """Makes docs/API.md from the doc comments of the library: each public module, trait, type, constant and function, and each
 implementation that has a comment of its own.
 
-A function has its signature, its comment, and the names of its clauses. A link to an item leads to its heading. The files come in
-the order of `lib.rt`'s exports. The page is a check, and so is each exported name that it lacks.
+A function has its signature, the names of its clauses, and its comment. A call without `_with` is part of the one with it. Of an
+example the parts that show an error are on the page, and for a client's its file's name; a paragraph that is on the page already
+isn't printed again. A link to an item leads to its heading. The page is a check.
 """
 
 import re
@@ -16,9 +17,17 @@ SRC = TOP / "crates" / "scroll" / "src"
 PAGE = TOP / "docs" / "API.md"
 HEAD = """# API
 
-Each public item of the library, from its doc comments. Offsets and sizes are in bytes. A contract's clauses are named below the
-function, and [DEFINITIONS.md](DEFINITIONS.md) has their words; `rt check` proves that each call meets them.
+Each public item of the library, from its doc comments. Offsets and sizes are in bytes. Behind a signature are the names of the
+contract's clauses, in words of [DEFINITIONS.md](DEFINITIONS.md). A call whose name ends in `_with` takes a context; the one without
+takes the default of the context's type, which for numbers is the machine's byte order. The examples are those that show an error; the
+gate runs these and the others, which are in the sources and in [GUIDE.md](GUIDE.md).
 """
+# A note on a variant or a function that has fewer words says no more than its name.
+SHORT = 12
+# What differs between the words on an unsigned number and on a signed one.
+UNSIGNED = re.compile(r"\b(?:un)?signed\b|\b(?:an? )?[us]leb\w*|[US]leb128|\b[ui]64\b|#\w+|\b(?:its|the) ", re.I)
+# How many paragraphs of a module's comment are on the page.
+OPENING = 3
 # The sections: what each is, and its files.
 SECTIONS = {
     "Reads and writes": ["pread", "pwrite", "greater", "lesser", "source"],
@@ -69,7 +78,8 @@ def signature(lines: List[str], at: int) -> str:
         if line.rstrip().endswith((";", "{", "{}")):
             break
     text = re.sub(r"\s+", " ", " ".join(head)).rstrip("{};").strip()
-    return re.sub(r",? (?=[)>])|(?<=[(<]) ", "", re.sub(r",\s*([)>])", r"\1", text)).replace(" where Ctx: Default,", " where Ctx: Default")
+    text = re.sub(r",? (?=[)>])|(?<=[(<]) ", "", re.sub(r",\s*([)>])", r"\1", text)).replace(" where Ctx: Default,", "")
+    return text.removeprefix("pub ").replace(" where Ctx: Default", "")
 
 
 def clauses(lines: List[str], at: int) -> List[str]:
@@ -100,7 +110,14 @@ def entries(path: Path) -> Iterator[Entry]:
         item = ITEM.fullmatch(line)
         if item and not item["indent"]:
             kind, is_open = item["kind"], bool(item["open"]) or item["kind"] == "impl"
-            owner = of_impl(item["rest"]) if kind == "impl" else name_of(kind, item["rest"])
+            rest = item["rest"]
+            for more in lines[at + 1 :] if kind == "impl" else []:
+                if "{" in rest:
+                    break
+                rest += f" {more.strip()}"
+            owner = of_impl(rest.replace("< ", "<").replace(", >", ">")) if kind == "impl" else name_of(kind, rest)
+            bound = re.search(rf"\b{owner[-1:]}: (\w+)", rest) if kind == "impl" and re.search(r" for [A-Z]$", owner) else None
+            owner += f": {bound[1]}" if bound else ""
             if said and is_open:
                 code = signature(lines, at) if kind in ("fn", "type", "const") else ""
                 yield Entry(3 if kind != "impl" else 4, f"`{owner}`", code, said, clauses(lines, at) if kind == "fn" else [])
@@ -112,37 +129,108 @@ def entries(path: Path) -> Iterator[Entry]:
         said = []
 
 
+def paragraphs(said: List[str], printed: Set[str], is_slice: bool, is_module: bool) -> str:
+    """Returns a comment with the parts of its examples that show an error, and without a paragraph that is on the page already; of a
+    module's the first paragraphs."""
+    found: List[str] = []
+    source = False
+    for piece in re.split(r"(?ms)(^```.*?^```$)|\n\n+", "\n".join(said)):
+        piece = (piece or "").strip("\n")
+        if piece.startswith("```"):
+            lines = [it for it in piece.strip("`\n").split("\n")[1:] if not it.startswith("use ")]
+            shown = [it for it in "\n".join(lines).strip("\n").split("\n\n") if re.search(r"Err\(|None|\.err\(\)", it)]
+            if source or not shown:
+                found[-1:] = [re.sub(r":$", ".", it) for it in found[-1:]]
+            else:
+                found.append("```rust\n" + "\n\n".join(shown) + "\n```")
+            source = False
+        elif re.match(r"From `", piece):
+            source = True
+            found.append(re.sub(r"^From (`[^`]+`)(?:, (.*))?:$", r"Example: \1.", piece))
+        elif piece and not (piece in printed and (is_slice or len(piece.split()) > SHORT)):
+            source = False
+            printed.add(piece)
+            found.append(" ".join(piece.split()) if not re.search(r"(?m)^[-|]", piece) else piece)
+    if is_module:
+        found = [it for it in found if not it.startswith(("- ", "Errors are"))][:OPENING]
+    return "\n\n".join(found)
+
+
+def is_short(entry: Entry) -> bool:
+    """Whether a function or a constant is one line on the page, with no heading."""
+    return bool(entry.code) and not entry.code.startswith("type ") and not re.search(r"(?m)^```", "\n".join(entry.said))
+
+
+def merged(listed: List[Entry]) -> List[Entry]:
+    """Returns the entries, where one without `_with` is part of the one with it, and short notes on variants are left out."""
+    titles = {it.title for it in listed}
+    found: List[Entry] = []
+    for it in listed:
+        if it.depth and f"{it.title[:-1]}_with`" in titles:
+            continue
+        short = it.title.removesuffix("_with`") + "`"
+        if it.depth and short in titles and it.title.endswith("_with`"):
+            it = it._replace(title=f"{it.title}, `{short.strip('`').split('::')[-1]}`")
+        if not it.depth and found and not found[-1].depth and len(" ".join((*it.said, *found[-1].said)).split()) < 2 * SHORT:
+            if not found[-1].said or len(" ".join(it.said).split()) < SHORT and len(" ".join(found[-1].said).split()) < SHORT:
+                found[-1] = found[-1]._replace(title=f"{found[-1].title}, {it.title}", said=[])
+                continue
+        found.append(it)
+    return found
+
+
 def page() -> str:
     parts = [HEAD]
-    found: Dict[str, List[Entry]] = {it: [e for file in files if (SRC / f"{file}.rt").is_file() for e in entries(SRC / f"{file}.rt")] for it, files in SECTIONS.items()}
+    paths = {it: [SRC / f"{file}.rt" for file in files] for it, files in SECTIONS.items()}
+    found = {it: [e for path in listed if path.is_file() for e in entries(path)] for it, listed in paths.items()}
     titles: Set[str] = {e.title for listed in found.values() for e in listed if e.depth}
+    shown = [e.title for listed in found.values() for e in merged(listed) if e.depth and not is_short(e)]
+    merged_as = {it.split(", ")[0].strip("`"): it for it in shown}
+    printed: Set[str] = set()
+    twins: Dict[str, str] = {}
 
     def linked(text: str, owner: str) -> str:
         def link(match: "re.Match[str]") -> str:
             name = match[1]
             ends = [it for it in titles if it == name or it.strip("`").endswith(f"::{name.strip('`()')}")]
             # (the item's own method, where it has one of the name)
-            nearest = sorted(ends, key=lambda it: (not it.startswith(f"`{owner}::"), len(it), it))
-            return f"[{name}](#{markdown.anchor(nearest[0])})" if ends else name
+            nearest = [it.strip("`") for it in sorted(ends, key=lambda it: (not it.startswith(f"`{owner}::"), len(it), it))]
+            owners = [it.rpartition("::")[0] for it in nearest]
+            target = next((merged_as[it] for end in nearest for it in (end, f"{end}_with") if it in merged_as), None)
+            target = target or next((merged_as[it] for it in owners if it in merged_as), None)
+            return f"[{name}](#{markdown.anchor(target)})" if target else name
 
         return LINK.sub(link, text)
 
     for section, listed in found.items():
         parts.append(f"\n## {section}\n")
-        for e in listed:
-            text = "\n".join(e.said)
+        heads: List[str] = []
+        for e in merged(listed):
+            text = paragraphs(e.said, printed, section == "Slices", e.title.startswith("`scroll::")) if e.depth else " ".join(e.said)
             pieces = re.split(r"(?ms)(^```.*?^```$)", text)
             text = "".join(it if it.startswith("```") else linked(it, e.title.strip("`").split("::")[0]) for it in pieces)
-            if not e.depth:
-                parts.append(("" if parts[-1].startswith("- ") else "\n") + f"- {e.title}: {' '.join(text.split())}")
+            if e.depth and is_short(e):
+                owner = e.title.strip("`").rpartition("::")[0]
+                text = " ".join(text.split())
+                code = e.title if section == "Laws" else f"`{e.code}`"
+                text = text if len(text.split()) >= SHORT or section == "Laws" else ""
+                like = UNSIGNED.sub("", text)
+                text = f"As {twins[like]}." if text and like in twins else text
+                twins.setdefault(like, e.title)
+                text = code + (f" (clauses {', '.join(e.clauses)})" if e.clauses else "") + (f": {text}" if text else "")
+                if owner and not heads or owner and owner != heads[-1]:
+                    text = f"{owner}: {text}" if not owner.isidentifier() else f"`{owner}`: {text}"
+                parts.append(("" if parts[-1].startswith("- ") else "\n") + f"- {text}")
                 continue
+            if not e.depth:
+                parts.append(("" if parts[-1].startswith("- ") else "\n") + f"- {e.title}" + (f": {text}" if text else ""))
+                continue
+            heads.append(e.title.strip("`").split("`")[0].split("::")[0])
             parts.append(f"\n{'#' * e.depth} {e.title}\n")
             if e.code:
-                parts.append(f"```rust\n{e.code}\n```\n")
+                parts.append(f"`{e.code}`" + (f" (clauses {', '.join(e.clauses)})" if e.clauses else "") + "\n")
             parts.append(text)
-            if e.clauses:
-                parts.append(f"\nClauses: {', '.join(e.clauses)}.")
-    return re.sub(r"\n{3,}", "\n\n", "\n".join(parts)) + "\n"
+    return re.sub(r"\n{3,}", "\n\n", re.sub(r"(?m)(^- .*)\n\n(?=- )", r"\1\n", "\n".join(parts))) + "\n"
 
 
 def try_all(step: Step, writes: bool) -> None:

@@ -1,12 +1,17 @@
-"""Says which public call of the library no set of the bench makes. Each has a row, or a line below that says why not.
+"""Says which public call of the library no set of the bench makes. Each has a row, or a line below that says why not. And compares
+the summary in docs/SPEED.md with bench/results/speed.csv.
 
-A call is a check.
+A call is a check, and so is the summary.
 """
 
 import re
+import sys
 from typing import Set
 
 from step import TOP, Step
+
+sys.path.append(str(TOP / "bench"))
+import results  # noqa: E402
 
 SOURCES = TOP / "crates" / "scroll" / "src"
 SETS = TOP / "bench" / "sets"
@@ -76,4 +81,7 @@ def try_all(step: Step) -> None:
         step.count(f"{name}: no set of bench/sets calls it", None if is_called else "")
     for name in sorted(UNTIMED.keys() - calls):
         step.count(f"{name}: gate/benched.py leaves it out, and there is no such call", "")
+    summary = "\n".join(results.summary(results.read_csv(TOP / "bench" / "results" / "speed.csv")))
+    is_there = f"\n{summary}\n" in (TOP / "docs" / "SPEED.md").read_text(encoding="utf-8")
+    step.count("docs/SPEED.md has another summary than speed.csv", None if is_there else "    python3 bench/draw.py makes it")
     step.tell(f"{len(calls - UNTIMED.keys())} of {len(calls)} public calls have a row in the bench")

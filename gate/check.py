@@ -10,6 +10,7 @@
 Several of these words may be given; .ci/run gives `all verdict`. The steps are:
 
     docs.py         the documents: their code, names and links are those of the sources, and what is made of these is current
+    pages.py        the documents as a site: its links and its search, where `pandoc` is
     check.sh        what tools/derive/derive.sh prints is in the files that were proved
     prove.py        each crate is proved from nothing and built, its tests are proved and run, and its stored run
     clients.py      each client of the library, proved and tested as a crate of its own
@@ -183,7 +184,7 @@ def list_steps(groups: Sequence[str], workers: int, anew: str) -> List[Step]:
     if "verdict" in groups:
         steps.append(Step("rt ci", 0, tree="verdict"))
     if "stands" in groups:
-        steps += [Step("python3 gate/docs.py", 1), Step("sh tools/derive/check.sh", 1)]
+        steps += [Step("python3 gate/docs.py", 1), Step("python3 gate/pages.py", 1), Step("sh tools/derive/check.sh", 1)]
         steps += [
             Step(library, workers),
             Step(f"{PROVE} tests", half + 1, (library,), "tests", "crates/scroll/out/scroll_tests"),

@@ -7,7 +7,8 @@
 
 NAME is a folder of clients/, or of the folder that the variable CLIENTS names; without one, all that have a file
 src/lib.rt.txt are tried. `--unpack` makes a workspace outside of the repository, in which the clients are crates, to work on
-them by `rt`; `--pack` copies them back. A client's files are copied without their `.txt`. The library is proved and built in the
+them by `rt`; `--pack` copies them back. A client's files are copied without their `.txt`; those of its proofs/, each of a few
+lines, stand in one, `proofs.antt.txt`, below lines `-- file: PATH`. The library is proved and built in the
 tree itself, by `rt lib` over what its out/ keeps, and its build is copied, so it isn't proved again for the clients. As many
 clients are tried in parallel as there are workers (gate/step.py), and they share the jobs.
 
@@ -24,12 +25,14 @@ import sys
 import time
 from concurrent.futures import ThreadPoolExecutor
 from pathlib import Path
-from typing import Iterable, List, Optional
+from typing import Iterable, Iterator, List, Optional, Tuple
 
 from step import TOP, Step, Stop, copy_kept, count_workers, run_step
 
 CLIENTS = Path(os.environ.get("CLIENTS") or TOP / "clients").resolve()
-PART = re.compile(r"src/.*\.rt\.txt|(?:specs|proofs)/.*\.antt\.txt")
+PROOFS = "proofs.antt.txt"
+PROOF_FILE = re.compile(r"(?m)^-- file: (\S+)\n")
+PART = re.compile(r"src/.*\.rt\.txt|specs/.*\.antt\.txt|" + re.escape(PROOFS))
 PROOF = re.compile(r"scroll(?:\.|::)proofs(?!(?:\.|::)lemmas(?:\.|::)callers(?:\.|::))")
 # What the clients don't need of the library.
 LEFT_OUT = ("must-fail", "bugs", "incremental")
@@ -46,16 +49,32 @@ def list_clients() -> List[str]:
     return sorted(sizes, key=lambda name: -sizes[name])
 
 
-def copy_client(name: str, crate: Path) -> None:
+def write(path: Path, text: str) -> None:
+    path.parent.mkdir(parents=True, exist_ok=True)
+    path.write_text(text, encoding="utf-8")
+
+
+def split_proofs(file: Path) -> Iterator[Tuple[str, str]]:
+    """Returns the paths and the texts of the files of a client's proofs."""
+    first, *parts = PROOF_FILE.split(file.read_text(encoding="utf-8"))
+    if first or not parts:
+        raise Wrong(f"    {file}: it begins with no line `-- file: PATH`")
+    yield from zip(parts[::2], parts[1::2])
+
+
+def copy_client(client: Path, crate: Path) -> None:
     """Copies a client to a crate, without the `.txt` of its files."""
-    files = [it for it in (CLIENTS / name).rglob("*") if it.is_file() and it.suffix != ".md"]
-    paths = [str(it.relative_to(CLIENTS / name)) for it in files]
+    files = [it for it in client.rglob("*") if it.is_file() and it.suffix != ".md"]
+    paths = [str(it.relative_to(client)) for it in files]
     strays = [it for it in paths if not PART.fullmatch(it)]
     if strays or not files:
         raise Wrong("\n".join([f"    {it}: no file of a crate with .txt behind its name" for it in strays] or ["    it has no files"]))
     for file, path in zip(files, paths):
-        (crate / path).parent.mkdir(parents=True, exist_ok=True)
-        shutil.copy(file, crate / path[: -len(".txt")])
+        if path == PROOFS:
+            for name, text in split_proofs(file):
+                write(crate / "proofs" / name, text)
+        else:
+            write(crate / path[: -len(".txt")], file.read_text(encoding="utf-8"))
 
 
 def make_workspace(names: List[str], tree: Path) -> None:
@@ -65,7 +84,7 @@ def make_workspace(names: List[str], tree: Path) -> None:
     (tree / "crates.txt").write_text("".join(f"{it}\n" for it in [library, *(f"{name}: scroll" for name in names)]))
     shutil.copy(TOP / "HANDLES", tree)
     for name in names:
-        copy_client(name, tree / "crates" / name)
+        copy_client(CLIENTS / name, tree / "crates" / name)
 
 
 def pack(names: List[str], tree: Path) -> None:
@@ -74,12 +93,14 @@ def pack(names: List[str], tree: Path) -> None:
         crate = tree / "crates" / name
         if not (crate / "src" / "lib.rt").is_file():
             raise Stop(f"there is no crate {crate}")
-        for part in ("src", "specs", "proofs"):
+        for part in ("src", "specs"):
             shutil.rmtree(CLIENTS / name / part, ignore_errors=True)
             for file in [it for it in (crate / part).rglob("*") if it.suffix in (".rt", ".antt")]:
-                to = CLIENTS / name / f"{file.relative_to(crate)}.txt"
-                to.parent.mkdir(parents=True, exist_ok=True)
-                shutil.copy(file, to)
+                write(CLIENTS / name / f"{file.relative_to(crate)}.txt", file.read_text(encoding="utf-8"))
+        proofs = {str(it.relative_to(crate / "proofs")): it.read_text(encoding="utf-8") for it in (crate / "proofs").rglob("*.antt")}
+        (CLIENTS / name / PROOFS).unlink(missing_ok=True)
+        if proofs:
+            write(CLIENTS / name / PROOFS, "".join(f"-- file: {it}\n{proofs[it]}" for it in sorted(proofs)))
 
 
 def named_proofs(crate: Path) -> List[str]:
@@ -88,15 +109,19 @@ def named_proofs(crate: Path) -> List[str]:
     return [f"    {it.relative_to(crate)}: {line}" for it, line in lines if PROOF.search(line)]
 
 
-def count_lines(files: Iterable[Path]) -> int:
-    return sum(bool(line) for it in files for line in it.read_text(encoding="utf-8").split("\n"))
+def count_lines(texts: Iterable[str]) -> int:
+    return sum(bool(line) for it in texts for line in it.split("\n"))
 
 
-def count_parts(crate: Path, end: str) -> List[int]:
-    """Returns the lines of code without the tests, of definitions and of proof, in files with this end of their names."""
-    sources = [it for it in (crate / "src").rglob(f"*.rt{end}")]
-    code = count_lines(it for it in sources if it.name != f"tests.rt{end}" and "tests" not in it.parts[len(crate.parts) :])
-    return [code, *(count_lines((crate / it).rglob(f"*.antt{end}")) for it in ("specs", "proofs"))]
+def read_all(files: Iterable[Path]) -> Iterator[str]:
+    return (it.read_text(encoding="utf-8") for it in files)
+
+
+def count_parts(client: Path) -> List[int]:
+    """Returns the lines of code without the tests, of definitions and of proof."""
+    code = [it for it in (client / "src").rglob("*.rt.txt") if "tests" not in it.relative_to(client).parts and it.name != "tests.rt.txt"]
+    proofs = split_proofs(client / PROOFS) if (client / PROOFS).is_file() else []
+    return [count_lines(it) for it in (read_all(code), read_all((client / "specs").rglob("*.antt.txt")), (text for _, text in proofs))]
 
 
 def test(step: Step, name: str, jobs: int, skipped: List[str]) -> str:
@@ -118,7 +143,7 @@ def test(step: Step, name: str, jobs: int, skipped: List[str]) -> str:
         raise Wrong(f"    a test fails where memory is refused\n{refused.end()}")
     if refused.said.endswith(" skipped\n"):
         skipped.append(name)
-    code, definitions, proof = count_parts(crate, "")
+    code, definitions, proof = count_parts(CLIENTS / name)
     return (
         f"{name}: {ran.proved('functions')} functions, {ran.tests()} tests, {code} lines of code, {definitions} of definitions,"
         f" {proof} of proof, {time.time() - begun:.0f} s"

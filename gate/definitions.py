@@ -5,6 +5,7 @@ The files come in the order of specs/Lib.antt. The comment at the head of a file
 full stop, and then its text; an empty line of the comment ends a paragraph. The comment above a definition says what it means;
 a definition without one shares that of the definition before it. Where a definition has several equations, its comment begins
 with the name and the parameters, between backticks, and a colon. Where a comment ends with a colon, the page has the equations.
+Of the words of laws the page has the names.
 
 A file of specs/ is a check.
 """
@@ -14,15 +15,17 @@ from dataclasses import dataclass
 from pathlib import Path
 from typing import Iterator, List, Tuple
 
-from markdown import anchor
 from step import TOP, Step
 
 PAGE = TOP / "docs" / "DEFINITIONS.md"
 
 HEAD = """# Definitions
 
-The words that the contracts cite. `python3 gate/docs.py write` makes this page from the comments in `specs/`.
+The words that the contracts cite, from the comments in `specs/`. `rt lemma WORD` prints a definition whole, with its parts and its import.
 """
+
+# The files of which only the laws' contracts speak: their names alone are on the page.
+FOR_LAWS = ("Laws",)
 
 START = re.compile(r"(?:abbrev pub|pub record) ([^\s:({]+)(.*)")
 FORMS = re.compile(r"((?:`[^`]+`(?:, )?)+): ")
@@ -89,9 +92,7 @@ def item(meaning: str, group: List[Definition]) -> str:
     if meaning.endswith(":"):
         code = "\n".join(f"  {line}" for it in group for line in it.equations)
         return f"{text}\n  ```text\n{code}\n  ```\n"
-    text += "" if meaning.endswith(".") else "."
-    parts = [f"`{part}`" for part in group[0].parts]
-    return text + (f" Parts: {', '.join(parts)}.\n" if len(parts) > 1 else "\n")
+    return text + ("\n" if meaning.endswith(".") else ".\n")
 
 
 def section(path: Path) -> str:
@@ -112,14 +113,12 @@ def section(path: Path) -> str:
         return ""
     if not title:
         raise Bad("it has no comment at its head")
-    link = f"[specs/{path.name}]({Path('..') / path.relative_to(TOP)})"
-    head = "\n\n".join([f"### {title.rstrip('.')}", link, *text])
+    link = f"[{path.name}]({Path('..') / path.relative_to(TOP)})"
+    if path.stem in FOR_LAWS:
+        names = ", ".join(f"`{it.name}`" for _, group in entries for it in group)
+        return f"\n### {title.rstrip('.')}\n\n{link}, of which only laws speak: {names}.\n"
+    head = "\n\n".join([f"### {title.rstrip('.')}", " ".join([f"{link}.", *text])])
     return f"\n{head}\n\n" + "".join(item(*entry) for entry in entries)
-
-
-def contents(sections: List[str]) -> str:
-    titles = [re.findall(r"^### (.*)", it, re.M)[0] for it in sections if it]
-    return " · ".join(f"[{it}](#{anchor(it)})" for it in titles)
 
 
 def try_all(step: Step, is_writing: bool) -> None:
@@ -136,7 +135,7 @@ def try_all(step: Step, is_writing: bool) -> None:
         except Bad as why:
             step.count(f"{path.relative_to(TOP)}: {why}", "")
     title, *text = headed(next(blocks(lib))[0])
-    page += "\n" + "\n\n".join([f"## {title.rstrip('.')}", *text, contents(sections)]) + "\n" + "".join(sections)
+    page += "\n" + "\n\n".join([f"## {title.rstrip('.')}", *text]) + "\n" + "".join(sections)
     if is_writing and step.failed == failed:
         PAGE.write_text(page, encoding="utf-8")
     text = PAGE.read_text(encoding="utf-8") if PAGE.is_file() else ""

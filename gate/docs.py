@@ -2,14 +2,14 @@
 """Compares the documents with the sources.
 
     python3 gate/docs.py          compares
-    python3 gate/docs.py write    writes first what is made from the sources: docs/API.md, docs/DEFINITIONS.md, PROVED's column of
-                                  edits, and the clients' columns of lines
+    python3 gate/docs.py write    writes first what is made from the sources: docs/API.md, docs/DEFINITIONS.md, the tables of
+                                  docs/PROVED.md, the code in docs/GUIDE.md, and the clients' columns of lines
 
-The code in CALLING.md and README.md is that of the files that it names (gate/calling.py). The names that the documents cite are
-in the sources, and their links lead somewhere (gate/cited.py). docs/API.md has the library's doc comments (gate/api.py).
-docs/DEFINITIONS.md has what the comments in specs/ say
-(gate/definitions.py). docs/PROVED.md has for each promise the edits that are for it (gate/promises.py). clients/README.md has
-the lines of each client (gate/sizes.py). The bench has a row for each public call (gate/benched.py).
+The code in docs/GUIDE.md is put there from clients and proofs (gate/guide.py). The names and clauses that the documents cite are
+declared, and their links lead somewhere (gate/cited.py). CONTRIBUTING.md lists the sources (gate/sizes.py). docs/API.md has the library's doc comments (gate/api.py), and
+docs/DEFINITIONS.md what the comments in specs/ say (gate/definitions.py). docs/PROVED.md has the promises of gate/promises.txt, each
+with its clauses and how many edits there are for it (gate/promises.py). clients/README.md has the lines of each client
+(gate/sizes.py). The bench has a row for each public call, and docs/SPEED.md the summary of its times (gate/benched.py).
 """
 
 import sys
@@ -17,7 +17,7 @@ from typing import List
 
 import api
 import benched
-import calling
+import guide
 import cited
 import definitions
 import promises
@@ -32,7 +32,7 @@ def work(step: Step, words: List[str]) -> None:
     definitions.try_all(step, words == ["write"])
     promises.try_all(step, words == ["write"])
     sizes.try_all(step, words == ["write"])
-    calling.try_all(step)
+    guide.try_all(step, words == ["write"])
     cited.try_all(step)
     benched.try_all(step)
 

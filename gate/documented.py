@@ -1,7 +1,7 @@
 """Makes a crate whose tests are the examples of the library's documentation, for gate/depending.py, which runs them.
 
-Each block of Rust that asserts something, in a doc comment of crates/scroll/src, is one test, unless it is from a file: a line
-above it begins with that file's name, and gate/calling.py compares the two. A block may use the crate's public names, `rt` and
+Each block of Rust that asserts something, in a doc comment of crates/scroll/src or in docs/FROM-RUST.md, is one test, unless it is from a file: a line
+above it begins with that file's name, and gate/guide.py compares the two. A block may use the crate's public names, `rt` and
 `?`.
 """
 
@@ -26,10 +26,10 @@ TRAITS = {"Cread", "Cwrite", "IOread", "IOwrite", "LocateError", "MeasureWith", 
 
 def examples() -> Iterator[Tuple[str, List[str]]]:
     """The name and the lines of each example."""
-    for path in sorted(it for it in SRC.rglob("*.rt") if "tests" not in it.parts):
+    for path in [*sorted(it for it in SRC.rglob("*.rt") if "tests" not in it.parts), TOP / "docs" / "FROM-RUST.md"]:
         for block in markdown.read(path).blocks:
             if block.language == "rust" and not block.source and any("assert" in it for it in block.code):
-                yield f"{path.stem}_{block.line}", [it for it in block.code if not it.startswith("use ")]
+                yield f"{path.stem.lower().replace('-', '_')}_{block.line}", [it for it in block.code if not it.startswith("use ")]
 
 
 def names(file: str) -> Set[str]:

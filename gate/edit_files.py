@@ -12,7 +12,7 @@ the edits of a source file:
     old:     if offset > dst.len() {
     new:     if offset >= dst.len() {
 
-`promise:` names rows of docs/PROVED.md (gate/promises.py). The text after `old:` occurs exactly once in its file. More pairs of
+`promise:` names promises of gate/promises.txt (gate/promises.py). The text after `old:` occurs exactly once in its file. More pairs of
 `old:` and `new:` may follow, and before one of them `file: src/error.rt` if it is in another file. The folder `must-fail/` holds
 edits that `rt` tries too, each in a file NAME.edit of the form that `rt` wants: the same lines without the first, and with
 `file:` before the first pair.

@@ -1,20 +1,73 @@
-"""Makes the column of edits in docs/PROVED.md, how many there are for each promise, from their lines `promise:`, and compares it.
+"""Makes the tables of docs/PROVED.md from gate/promises.txt and from the lines `promise:` of the edits, and compares them.
 
-A row of PROVED.md that has an edit begins with its name, as in `**number is read**: a number reads as ..`. The line `promise:`
-of an edit has the names of the rows that it is for, with `, ` between two. Each row is a check.
+A row is a promise: what it says, the clauses that state it, each with a link to the line where the contract is, how many edits
+there are for it, and where it is tested too. A clause must be one of its function, and a test must be there. The line
+`promise:` of an edit has the names of the promises that it is for, with `, ` between two. Each promise is a check.
 """
 
 import re
-from typing import Dict, List
+from typing import Dict, List, NamedTuple, Optional
 
-import markdown
+from declared import Declarations
 from edit_files import Edit, read_edits
 from step import TOP, Step
 
 PAGE = TOP / "docs" / "PROVED.md"
-COLUMNS = 4
-EDITS = 2
-NAME = re.compile(r"\*\*([^*]+)\*\*")
+SOURCE = TOP / "gate" / "promises.txt"
+BEGIN, END = "<!-- promises: begin -->\n", "<!-- promises: end -->\n"
+CITED = re.compile(r"(?P<name>[\w:<>]+)(?: of (?P<of>\[T; N\]|[&\w:\[\]]+))?(?: (?P<clauses>\w+(?:, \w+)*))?")
+
+
+class Promise(NamedTuple):
+    section: str
+    name: str
+    says: str
+    by: str
+    tests: List[str]
+
+
+class Bad(Exception):
+    """A promise cites what isn't there."""
+
+
+def read_promises() -> List[Promise]:
+    found: List[Promise] = []
+    section = ""
+    for line in SOURCE.read_text(encoding="utf-8").splitlines():
+        if line.startswith("## "):
+            section = line[3:]
+        elif line.startswith("  by: "):
+            found[-1] = found[-1]._replace(by=line[6:])
+        elif line.startswith("  test: "):
+            found[-1] = found[-1]._replace(tests=line[8:].split(", "))
+        elif line and not line.startswith("# "):
+            name, _, says = line.partition(": ")
+            found.append(Promise(section, name, says, "", []))
+    return found
+
+
+def cited(text: str, declared: Declarations) -> str:
+    """Returns a citation with a link to its line."""
+    if text.startswith('"'):
+        return text.strip('"')
+    parts = CITED.fullmatch(text)
+    if not parts:
+        raise Bad(f"`{text}` is no function with its clauses")
+    name, of, clauses = parts["name"], parts["of"] or "", [it for it in (parts["clauses"] or "").split(", ") if it]
+    places = declared.places(name, of)
+    if not places:
+        raise Bad(f"`{text}`: there is no such declaration")
+    for clause in clauses:
+        if clause not in declared.clauses(name):
+            raise Bad(f"`{name}` has no clause `{clause}`")
+    best = max(places, key=lambda it: ("/crates/" in str(it[0]), bool(set(clauses) & it[2])))
+    line = best[1]
+    for it in declared.found(name):
+        if (it.file, it.line) == best[:2] and clauses and clauses[0] in it.clauses:
+            line = it.clauses[clauses[0]]
+    words = f"`{name}`" + (f" of `{of}`" if of else "")
+    link = f"[{words}](../{best[0].relative_to(TOP).as_posix()}#L{line})"
+    return f"{link} {', '.join(f'`{it}`' for it in clauses)}".strip()
 
 
 def edits_by_promise(step: Step) -> Dict[str, List[Edit]]:
@@ -24,7 +77,7 @@ def edits_by_promise(step: Step) -> Dict[str, List[Edit]]:
         failures: List[str] = []
         for edit in read_edits(folder.parent, failures):
             if not edit.promises:
-                failures.append(f"{edit.crate}/{edit.name} has no line `promise:` with the name of a row of docs/PROVED.md")
+                failures.append(f"{edit.crate}/{edit.name} has no line `promise:` with a name of gate/promises.txt")
             for it in edit.promises:
                 edits.setdefault(it, []).append(edit)
         for failure in failures:
@@ -32,27 +85,37 @@ def edits_by_promise(step: Step) -> Dict[str, List[Edit]]:
     return edits
 
 
+def row(promise: Promise, edits: int, declared: Declarations) -> str:
+    for test in promise.tests:
+        if not declared.resolves(test):
+            raise Bad(f"there is no test `{test}`")
+    by = "; ".join(cited(it, declared) for it in re.split(r"; (?!N\])", promise.by))
+    return f"| **{promise.name}**: {promise.says} | {by} | {edits or ''} | {', '.join(f'`{it}`' for it in promise.tests)} |".replace("  |", " |")
+
+
 def try_all(step: Step, is_writing: bool) -> None:
     edits = edits_by_promise(step)
-    document = markdown.read(PAGE)
-    lines = PAGE.read_text(encoding="utf-8").split("\n")
+    declared = Declarations()
+    lines: List[str] = []
+    section: Optional[str] = None
     names: List[str] = []
-    for index, cells in document.rows():
-        named = NAME.match(cells[0])
-        if len(cells) != COLUMNS or cells[EDITS] == "edits":
-            continue
-        name = named[1] if named else ""
-        what = f"docs/PROVED.md:{index + 1}: {name or 'a row with no name'}"
-        if name in names:
-            step.count(f"{what} stands twice", "")
-        names += [name] if name else []
-        wanted = str(len(edits[name])) if name in edits else ""
-        if is_writing and wanted != cells[EDITS]:
-            cells[EDITS] = wanted
-            lines[index] = f"| {' | '.join(cells)} |".replace("|  |", "| |")
-        step.count(f"{what}: the column has another number of edits than the lines `promise:`", None if wanted == cells[EDITS] else "")
-    for it in edits.keys() - {*names}:
-        step.count(f"{', '.join(edit.name for edit in edits[it])}: docs/PROVED.md has no row `**{it}**`", "")
+    for it in read_promises():
+        if it.section != section:
+            section = it.section
+            lines += ["", f"### {section}", "", "| promise | by | edits | tests |", "|---|---|--:|---|"]
+        fault = "    it stands twice" if it.name in names else None
+        names.append(it.name)
+        try:
+            lines.append(row(it, len(edits.get(it.name, [])), declared))
+        except Bad as why:
+            fault = f"    {why}"
+        step.count(f"gate/promises.txt: {it.name}", fault)
+    for name in sorted(edits.keys() - {*names}):
+        step.count(f"{', '.join(edit.name for edit in edits[name])}: gate/promises.txt has no promise `{name}`", "")
+    table = "\n".join(lines).lstrip("\n") + "\n\n"
+    before, _, rest = PAGE.read_text(encoding="utf-8").partition(BEGIN)
+    is_same = rest.partition(END)[0] == "\n" + table
     if is_writing:
-        PAGE.write_text("\n".join(lines), encoding="utf-8")
-    step.tell(f"{len(names)} named promises have {sum(map(len, edits.values()))} edits")
+        PAGE.write_text(before + BEGIN + "\n" + table + END + rest.partition(END)[2], encoding="utf-8")
+    step.count("docs/PROVED.md has other tables", None if is_same or is_writing else "    python3 gate/docs.py write makes them")
+    step.tell(f"{len(names)} promises have {sum(map(len, edits.values()))} edits")

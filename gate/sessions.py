@@ -4,8 +4,9 @@
     python3 gate/sessions.py [--program PROGRAM] [NAME..]
     python3 gate/sessions.py --unpack FOLDER [NAME..]
 
-Each file sessions/SUBJECT.txt holds sessions, one a block; docs/SESSIONS.md says what their lines are. A NAME is that of a
-session, or a subject, for all of its sessions. Without one, all are tried.
+Each file sessions/SUBJECT.txt holds sessions, one a block; crates/scroll_run/README.md says what their lines are, and
+its own first session is one more, `readme`. A NAME is that of a session, or a subject, for all of its sessions. Without one, all
+are tried.
 
 PROGRAM is a path, or a name that the shell finds. Without it the program is crates/scroll_run/out/scroll_run, as
 `rt run` or `rt ci` left it; if it is missing, or older than a file that it is made of, `rt run` first proves and builds
@@ -26,8 +27,10 @@ from dataclasses import dataclass, field
 from pathlib import Path
 from typing import Dict, Iterator, List, NamedTuple, Optional, Tuple
 
+import markdown
 from step import TOP, Step, count_workers, run_step
 
+PAGE = TOP / "crates" / "scroll_run" / "README.md"
 SESSIONS = TOP / "sessions"
 PROGRAM = TOP / "crates" / "scroll_run" / "out" / "scroll_run"
 
@@ -39,7 +42,7 @@ FRONT = re.compile(r"((?:[0-9a-f]{2})+)\[\.\.n(-\d+)?\]")
 
 
 class Malformed(Exception):
-    """A file of sessions isn't in the form that docs/SESSIONS.md says."""
+    """A file of sessions isn't in the form that crates/scroll_run/README.md says."""
 
 
 class Row(NamedTuple):
@@ -165,6 +168,12 @@ def read_sessions(failures: List[str]) -> List[Session]:
             except Malformed as why:
                 head = block.partition("\n")[0]
                 failures.append(f"{path.relative_to(TOP)}, {head}: {why}")
+    blocks = [it.code for it in markdown.read(PAGE).blocks if it.section == "A session"]
+    if len(blocks) == 2:
+        whole, output = ("".join(f"{line}\n" for line in it).encode() for it in blocks)
+        sessions["readme"] = Session("page", "readme", input=whole, output=output, is_whole=True)
+    else:
+        failures.append("crates/scroll_run/README.md has no session with its input and its output")
     failures += [f"{it.relative_to(TOP)}: it is no file of sessions" for it in sorted(SESSIONS.iterdir()) if it.suffix != ".txt"]
     return list(sessions.values())
 

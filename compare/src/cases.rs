@@ -8,7 +8,7 @@ use std::time::{Duration, Instant};
 #[derive(Clone, Copy, PartialEq)]
 pub enum Verdict {
     Same,
-    /// They differ as docs/DIFFERENCES.md says.
+    /// They differ as docs/FROM-RUST.md says.
     Told,
     Differs,
 }

@@ -5,7 +5,7 @@
 //! Case 0, 11, 22 and so on is a session, and the others are calls. Each is made from the seed and its own number. The long
 //! program takes inputs of up to 64 MiB, LIBRARY is gate/faults.c as a shared library, after N seconds no further cases
 //! are tried, and --lie makes the crate's answers wrong at one place. The exit status is 1 if a case differs in what
-//! docs/DIFFERENCES.md doesn't say.
+//! docs/FROM-RUST.md doesn't say.
 
 mod calls;
 mod cases;
@@ -197,7 +197,7 @@ fn summarize(found: &BTreeMap<String, Found>) -> (usize, usize) {
         println!("{kind}: {cases} cases, {} differ{first}{additions}{told}", differing.len());
     }
     println!(
-        "(docs/DIFFERENCES.md tells the additions, which types of the harness stand for, and the other differences)"
+        "(docs/FROM-RUST.md tells the additions, which types of the harness stand for, and the other differences)"
     );
     let failed = found.values().filter(|it| !it.differing.is_empty()).count();
     (found.len() - failed, failed)

@@ -4,7 +4,7 @@ use crate::spoken::{Required, size_of_uleb};
 use scroll::{Error, Result, Sleb128, Uleb128};
 use std::ffi::{CStr, CString};
 
-/// An answer. Where `quiet`, it is given as docs/DIFFERENCES.md tells: with one NaN of each width.
+/// An answer. Where `quiet`, it is given as docs/FROM-RUST.md tells: with one NaN of each width.
 pub struct Reply {
     pub bytes: Vec<u8>,
     pub quiet: bool,

@@ -1,4 +1,4 @@
-//! Sessions, answered by the Rust crate: what docs/SESSIONS.md says a line means, done by the crate's own calls.
+//! Sessions, answered by the Rust crate: what crates/scroll_run/README.md says a line means, done by the crate's own calls.
 //!
 //! The crate lacks texts by `required` and writes of numbers in LEB128. These are types of this file, which the crate's
 //! calls read and write.

@@ -43,6 +43,9 @@ clients/zip/src/file.rt.txt StoredFile
 clients/zip/src/end.rt.txt EndRecord
 clients/git_index/src/entry.rt.txt Stat
 clients/git_index/src/entry.rt.txt Entry
+clients/git_index/src/header.rt.txt Header
+clients/zip/src/entry.rt.txt Entry
+clients/png/src/chunk.rt.txt Chunk
 END
 
 # Tests whether a file in which one line of the implementation differs is found out: --check ends with 1 and one line.

@@ -21,7 +21,7 @@
 //! numbers in LEB128, zeros, arrays, and your own types. [`runner`] runs lists of such reads and writes, and [`laws`]
 //! states laws of the definitions that the contracts use.
 //!
-//! `CALLING.md`, in the folder of this crate, shows callers and types of your own with their proofs. `clients/examples/src`
+//! `docs/GUIDE.md` of the repository shows callers and types of your own with their proofs. `clients/examples/src`
 //! of the repository has them whole, and the examples of the Rust crate's documentation.
 #![tactic(auto)]
 
