@@ -11,6 +11,7 @@ from format_back import format_back
 from format_code import format_blocks, format_uses
 from format_specs import format_specs
 from kinds import read_struct
+from layout import wrap_comments
 from parts import is_format, read_format
 from source import BadInput, Source
 from variants import choice_specs, read_choice
@@ -48,6 +49,7 @@ def run(option: str, path: str, name: str) -> int:
     else:
         block = record_block(read_struct(source, name))
         uses = record_uses(block)
+    texts = [wrap_comments(it) for it in texts]
     if option in ("--specs", "--back"):
         print(texts[("--specs", "--back").index(option)])
         return 0

@@ -2,6 +2,7 @@
 
 from __future__ import annotations
 
+import textwrap
 from typing import List, Sequence, Tuple, Union
 
 # Parts in nested tuples.
@@ -124,3 +125,14 @@ def record_lines(head: str, fields: Sequence[Tuple[str, str]], tail: str, indent
     if len(line) <= WIDTH:
         return [line]
     return [f"{space}{head}record {{", *(f"{space}  {key} = {value};" for key, value in fields), f"{space}}}{tail}"]
+
+
+def wrap_comments(text: str) -> str:
+    """Breaks the lines of comments in a file of definitions that are too long."""
+    return "\n".join(wrapped for line in text.split("\n") for wrapped in wrap_comment(line))
+
+
+def wrap_comment(line: str) -> List[str]:
+    if len(line) <= WIDTH or not line.startswith("-- "):
+        return [line]
+    return textwrap.wrap(line, WIDTH, subsequent_indent="-- ", break_long_words=False, break_on_hyphens=False)

@@ -1,9 +1,9 @@
 -- Arrays. The elements are read or written one after another, from the start of a source or a
--- target. An array of no elements has the size 0, and its read and its write never fail.
--- A value of a type takes fewer than 2^63 bytes wherever there is such a value. A function that is generic over the type
--- and the length of an array can't know that, so there a contract states the errors of an array under a condition: the
--- type that holds the elements meanwhile fits. For a known type the condition is an inequality between two numbers,
--- which the prover decides.
+-- target. An array of no elements has the size 0, and its read and its write never fail. A value of
+-- a type takes fewer than 2^63 bytes wherever there is such a value. A function that is generic
+-- over the type and the length of an array can't know that, so there a contract states the errors
+-- of an array under a condition: the type that holds the elements meanwhile fits. For a known type
+-- the condition is an inequality between two numbers, which the prover decides.
 use Rattle.std.specs.Prelude.{◌≡◌, ◌<◌, ℕ, ◌+◌, ◌*◌, ◌++◌, List, [], ◌∷◌, length, take, drop, slice_index_or}
 use Rattle.scroll.specs.Reads.{ReadsAll, RefusesAt}
 use Rattle.scroll.specs.Writes.{WritesAt, FailsAt}

@@ -1,8 +1,8 @@
 -- LEB128 by division. These are the same encodings, made by division as section 7.6 of DWARF 5
 -- makes them. No reader uses this. A `encoding` is the encoding of a number in a given number of
--- bytes.
--- A number is written as its encoding, in as many bytes as its `Counted` says. The laws are the same for unsigned and for
--- signed numbers: in them, `Has v n` says that `v` has an encoding of `n` bytes, which is that of the unsigned number `form v n`.
+-- bytes. A number is written as its encoding, in as many bytes as its `Counted` says. The laws are
+-- the same for unsigned and for signed numbers: in them, `Has v n` says that `v` has an encoding of
+-- `n` bytes, which is that of the unsigned number `form v n`.
 use Rattle.std.specs.Prelude.{◌≡◌, ℕ, suc, ◌+◌, ◌-◌, ◌*◌, ◌/◌, ◌%◌, ◌^◌, ◌<◌, ◌≤◌, nat_lt, ⊤, List, take, if◌then◌else◌, ℤ, pos, negsuc, ◌≤ℤ◌, ◌<ℤ◌, neg_ℤ, FitsSigned, ◌++◌, ◌↔◌, drop}
 use Rattle.std.specs.Int.{w64}
 use Rattle.scroll.specs.Bytes.{list_below, WritesPrefix}

@@ -1,8 +1,8 @@
 -- Histories. A history is the list of the pieces that were written to a buffer, in order. Nothing
--- in it is overwritten; which bytes are seen after it is computed.
--- A value that is written is a list of leaves, and a leaf is a list of bytes that is written whole or not at all. A
--- number is one leaf, its bytes; a number in LEB128 is one leaf, its encoding; and an array has the leaves of its
--- elements, in order.
+-- in it is overwritten; which bytes are seen after it is computed. A value that is written is a
+-- list of leaves, and a leaf is a list of bytes that is written whole or not at all. A number is
+-- one leaf, its bytes; a number in LEB128 is one leaf, its encoding; and an array has the leaves of
+-- its elements, in order.
 use Rattle.std.specs.Prelude.{ℕ, ◌-◌, List, [], ◌∷◌, length, nat_le, if◌then◌else◌, Option, None, unwrap_or, slice_get, slice_index, ◌≡◌, ◌+◌, nat_lt, Some, Result, Ok, Err, MatchResult}
 use Rattle.std.specs.Option.{option_or}
 use Rattle.scroll.specs.Bytes.{list_below}

@@ -1,7 +1,7 @@
 -- Numbers in LEB128. The encoding is that of section 7.6 of DWARF 5: each byte has seven bits of
 -- the number, the lowest first, and a byte below 128 ends it. A read takes encodings of at most ten
--- bytes, whose numbers fit into 64 bits.
--- A reader finds the groups of a number in these bytes; a read of a source that doesn't begin with such an encoding fails.
+-- bytes, whose numbers fit into 64 bits. A reader finds the groups of a number in these bytes; a
+-- read of a source that doesn't begin with such an encoding fails.
 use Rattle.std.specs.Prelude.{◌≡◌, ℕ, ◌+◌, ◌*◌, ◌%◌, ◌^◌, ◌<◌, ◌≤◌, ◌==◌, nat_lt, ⊤, Bool, List, length, slice_index, ℤ, pos, ◌-ℤ◌, if◌then◌else◌, FitsSigned, Some, ◌⊎◌, codes}
 use Rattle.std.specs.Int.{w64}
 use Rattle.std.specs.List.{position_or_len, slice_get}

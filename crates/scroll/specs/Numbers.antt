@@ -1,9 +1,10 @@
 -- Numbers as bytes. The byte order is `Little`, with the lowest byte first, or `Big`, with the
 -- highest first. That `number_bytes` and `signed_bytes` are the only bytes that read as the number
--- is said by the laws `laws::fixed_size_is_kept` and `laws::fixed_size_is_written_back`.
--- The formats of floats are `binary32` and `binary64` of IEEE 754-2019, in either byte order. Std's `from_bits` returns the
--- float that has given bits, and `to_bits` the bits of a float. There is one NaN: the bits of every NaN give it, and its
--- own bits are those of the quiet NaN with no sign and no payload, `7fc00000` and `7ff8000000000000`.
+-- is said by the laws `laws::fixed_size_is_kept` and `laws::fixed_size_is_written_back`. The
+-- formats of floats are `binary32` and `binary64` of IEEE 754-2019, in either byte order. Std's
+-- `from_bits` returns the float that has given bits, and `to_bits` the bits of a float. There is
+-- one NaN: the bits of every NaN give it, and its own bits are those of the quiet NaN with no sign
+-- and no payload, `7fc00000` and `7ff8000000000000`.
 use Rattle.std.specs.Prelude.{ℕ, ◌*◌, ◌^◌, ◌-◌, ◌/◌, ◌%◌, List, slice_index, ℤ, pos, ◌-ℤ◌, ◌+ℤ◌, nat_abs, int_lt, nat_lt, if◌then◌else◌, to_bits, from_bits}
 use Rattle.scroll.specs.Bytes.{sum_below, list_below, ReadsPrefix, WritesPrefix}
 use Rattle.scroll.specs.declared.endian.Endian.{Endian}

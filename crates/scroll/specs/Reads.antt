@@ -1,9 +1,8 @@
 -- Reads at an offset. In a context, a type has two relations: `reads` says which value and size a
 -- source may give, and `refuses` which error. Here they speak of the rest of a buffer at an offset.
 -- The relation `past_end` says which error an offset past the end may give; for `Error` it is
--- `BadOffset` with that offset.
--- Callers that read or write one value after another speak of the bytes between two offsets. A `Loads` is a source that
--- counts how often bytes were loaded from it.
+-- `BadOffset` with that offset. Callers that read or write one value after another speak of the
+-- bytes between two offsets. A `Loads` is a source that counts how often bytes were loaded from it.
 use Rattle.std.specs.Prelude.{◌≡◌, ◌≤◌, ◌<◌, ◌+◌, ℕ, List, [], ◌∷◌, length, take, drop, ◌⊎◌, ◌-◌, ◌++◌, nat_lt, if◌then◌else◌}
 use Rattle.scroll.specs.declared.error.Error.{Error}
 use Rattle.scroll.specs.declared.error.Error.TheVariants.{TooBig}

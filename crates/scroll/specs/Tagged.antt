@@ -1,4 +1,5 @@
--- A value after a tag. A tag is a number of `w` bytes that says what follows it, such as the number of an enum's variant.
+-- A value after a tag. A tag is a number of `w` bytes that says what follows it, such as the number
+-- of an enum's variant.
 use Rattle.std.specs.Prelude.{◌≡◌, ◌≤◌, ◌<◌, ◌+◌, ℕ, List, length, take, drop, ◌⊎◌}
 use Rattle.scroll.specs.Numbers.{number}
 use Rattle.scroll.specs.Reads.{ReadsAt, RefusesAt}
@@ -24,13 +25,14 @@ pub record ReadsTag (order : Endian) (w tag : ℕ) (s : List ℕ) (n : ℕ) : Ty
   pub tagged : HasTag order w tag s
   pub whole : n ≡ w
 
--- a tag is read, and the read of the value after it fails; `past_end` says which error an offset past the end may give
+-- a tag is read, and the read of the value after it fails; `past_end` says which error an offset
+-- past the end may give
 pub record RefusesTagged {E : Type 0} (order : Endian) (w tag : ℕ) (refuses : List ℕ → E → Type 0) (past_end : ℕ → E → Type 0) (s : List ℕ) (e : E) : Type 0 where
   pub tagged : HasTag order w tag s
   pub refused : RefusesAt refuses past_end s w e
 
--- the bytes `tag` of a tag are written over the first `w` bytes of a target, and a value after them by `writes`, in `n` bytes
--- together
+-- the bytes `tag` of a tag are written over the first `w` bytes of a target, and a value after them
+-- by `writes`, in `n` bytes together
 pub record WritesTagged (w : ℕ) (tag : List ℕ) (writes : List ℕ → List ℕ → ℕ → Type 0) (old new : List ℕ) (n : ℕ) : Type 0 where
   pub room : w ≤ length old
   pub is : take w new ≡ tag
@@ -38,14 +40,14 @@ pub record WritesTagged (w : ℕ) (tag : List ℕ) (writes : List ℕ → List �
   pub value : writes (drop w old) (drop w new) size
   pub whole : n ≡ w + size
 
--- the target has fewer than `w` bytes and is unchanged, and the error is what `gives` makes of `TooBig` with `w` and the length
--- of the target
+-- the target has fewer than `w` bytes and is unchanged, and the error is what `gives` makes of
+-- `TooBig` with `w` and the length of the target
 pub record FailsTag {E : Type 0} (w : ℕ) (gives : Error → E → Type 0) (old new : List ℕ) (e : E) : Type 0 where
   pub short : length old < w
   pub same : new ≡ old
   pub error : gives (TooBig w (length old)) e
 
--- such a write fails: there is no room for the tag, or the write of the value after it fails, and the bytes of the tag are
--- unchanged
+-- such a write fails: there is no room for the tag, or the write of the value after it fails, and
+-- the bytes of the tag are unchanged
 abbrev pub FailsTagged : {E : Type 0} → ℕ → (List ℕ → List ℕ → E → Type 0) → (Error → E → Type 0) → List ℕ → List ℕ → E → Type 0
 FailsTagged w refuses gives old new e = FailsTag w gives old new e ⊎ FailsAt refuses old w new e

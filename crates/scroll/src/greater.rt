@@ -8,9 +8,9 @@ use crate::source::Source;
 
 /// Infallible reads from a byte slice, of any type that implements [`FromCtx`].
 ///
-/// Offsets are in bytes, from the start of the slice. The caller ensures that the offset plus the number of bytes that
-/// the type needs is at most the length of the slice. [`Pread`](crate::Pread) checks this instead, and returns an
-/// error.
+/// Offsets are in bytes, from the start of the slice. The caller ensures that the offset plus the
+/// number of bytes that the type needs is at most the length of the slice. [`Pread`](crate::Pread)
+/// checks this instead, and returns an error.
 ///
 /// From `clients/examples/src/overview.rt.txt`:
 ///
@@ -28,7 +28,8 @@ use crate::source::Source;
 /// }
 /// ```
 pub trait Cread<Ctx: Copy>: Source {
-    /// Reads a value of type `N` at `offset` in the default context, which for numbers is the machine's byte order.
+    /// Reads a value of type `N` at `offset` in the default context, which for numbers is the
+    /// machine's byte order.
     ///
     /// ```rust
     /// let bytes: [u8; 12] = [1, 0, 0, 0, 0, 0, 0, 0, 0xef, 0xbe, 0, 0];
@@ -68,9 +69,10 @@ impl<'a, Ctx: Copy> Cread<Ctx> for &'a [u8] {
 
 /// Infallible writes to a byte slice, of any type that implements [`IntoCtx`].
 ///
-/// Offsets are in bytes, from the start of the slice. The caller ensures that the offset plus the number of bytes that
-/// the type needs is at most the length of the slice. The bytes before the offset, and those after the bytes that the
-/// type needs, are unchanged. [`Pwrite`](crate::Pwrite) checks the room instead, and returns an error.
+/// Offsets are in bytes, from the start of the slice. The caller ensures that the offset plus the
+/// number of bytes that the type needs is at most the length of the slice. The bytes before the
+/// offset, and those after the bytes that the type needs, are unchanged. [`Pwrite`](crate::Pwrite)
+/// checks the room instead, and returns an error.
 ///
 /// From `clients/examples/src/overview.rt.txt`:
 ///
@@ -95,7 +97,8 @@ pub trait Cwrite<Ctx: Copy> {
     // Holds of two values that refer to the same target.
     ghost same_target: { Self → Self → Type 0 };
 
-    /// Writes `n` at `offset` in the default context, which for numbers is the machine's byte order.
+    /// Writes `n` at `offset` in the default context, which for numbers is the machine's byte
+    /// order.
     ///
     /// ```rust
     /// let mut bytes = [0u8; 12];

@@ -1,19 +1,25 @@
-//! Laws of the definitions that the contracts use, for whoever builds a format on them. The functions here change
-//! nothing: the contract of each is a law, and its proof is the proof of the law. To cite a law in a proof, call its
-//! function. All bodies are empty, except that of [`size_is_that_of_reads_and_writes`], which returns the sizes that its
-//! law speaks of. The name of each function says its law; a law that has a number has it as a second name.
+//! Laws of the definitions that the contracts use, for whoever builds a format on them. The
+//! functions here change nothing: the contract of each is a law, and its proof is the proof of the
+//! law. To cite a law in a proof, call its function. All bodies are empty, except that of
+//! [`size_is_that_of_reads_and_writes`], which returns the sizes that its law speaks of. The name
+//! of each function says its law; a law that has a number has it as a second name.
 //!
-//! - **Readers of records**: a record may be read from a longer buffer than it was tested on, and no read ends more than
-//!   a byte past the buffer ([`fixed_size_is_kept`], [`reads_keep_their_laws`]).
-//! - **Writers of fixed headers**: fields may be written in any order ([`writes_apart_may_be_exchanged`]), what was
-//!   written is unchanged until it is overwritten ([`what_was_written_stands`]) and reads back ([`fixed_size_is_kept`]),
-//!   and its size is known before there is a value ([`size_is_that_of_reads_and_writes`]).
-//! - **Tests**: one call at an offset says what every other call there returns ([`reads_keep_their_laws`]).
-//! - **Types of your own**: a struct that is a `Record` has the laws of `Fixed`. For other types the lemmas of
-//!   `OneAnswer` and `Leaves` say the same of every relation, which a clause can't quantify over.
+//! - **Readers of records**: a record may be read from a longer buffer than it was tested on, and
+//!   no read ends more than a byte past the buffer ([`fixed_size_is_kept`],
+//!   [`reads_keep_their_laws`]).
+//! - **Writers of fixed headers**: fields may be written in any order
+//!   ([`writes_apart_may_be_exchanged`]), what was written is unchanged until it is overwritten
+//!   ([`what_was_written_stands`]) and reads back ([`fixed_size_is_kept`]), and its size is known
+//!   before there is a value ([`size_is_that_of_reads_and_writes`]).
+//! - **Tests**: one call at an offset says what every other call there returns
+//!   ([`reads_keep_their_laws`]).
+//! - **Types of your own**: a struct that is a `Record` has the laws of `Fixed`. For other types
+//!   the lemmas of `OneAnswer` and `Leaves` say the same of every relation, which a clause can't
+//!   quantify over.
 //!
-//! Errors are compared by `SameError`: the message of a `BadInput` by its bytes, and not by its address. A value that
-//! borrows, such as a `&str`, has an address too, which the relations leave open: the laws speak of its bytes.
+//! Errors are compared by `SameError`: the message of a `BadInput` by its bytes, and not by its
+//! address. A value that borrows, such as a `&str`, has an address too, which the relations leave
+//! open: the laws speak of its bytes.
 
 mod fixed;
 mod histories;

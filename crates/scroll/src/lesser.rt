@@ -209,7 +209,8 @@ fn append<W: Write>(writer: &mut W, bytes: &[u8]) -> io::Result<()>
     match writer.write(bytes) {
         Ok(count) if count == bytes.len() => Ok(()),
         Ok(0) => {
-            // (the error of a writer without room, with its message; its contract doesn't say that it fails)
+            // (the error of a writer without room, with its message; its contract doesn't say that
+            // it fails)
             [].as_mut_slice().write_all(bytes)?;
             Err(io::Error::from(ErrorKind::WriteZero))
         }

@@ -1,5 +1,5 @@
-//! Reads typed values from byte slices and writes them there, each in a context such as a byte order. The crate follows
-//! the Rust crate `scroll` 0.13.0.
+//! Reads typed values from byte slices and writes them there, each in a context such as a byte
+//! order. The crate follows the Rust crate `scroll` 0.13.0.
 //!
 //! ```rust
 //! use scroll::{BE, Pread, Pwrite};
@@ -15,14 +15,16 @@
 //! assert_eq!(rt; bytes, [0xde, 0xff, 0xfe, 0xef]);
 //! ```
 //!
-//! [`Pread`] and [`Pwrite`] check that there is room, and return an error where there is none. [`Cread`] and [`Cwrite`]
-//! return no error: the caller ensures that there is room, and the prover checks it. Any type that implements the
-//! traits of [`ctx`] can be read and written: the ten integer types, `f32` and `f64`, strings, byte slices, C strings,
-//! numbers in LEB128, zeros, arrays, and your own types. [`runner`] runs lists of such reads and writes, and [`laws`]
-//! states laws of the definitions that the contracts use.
+//! [`Pread`] and [`Pwrite`] check that there is room, and return an error where there is none.
+//! [`Cread`] and [`Cwrite`] return no error: the caller ensures that there is room, and the prover
+//! checks it. Any type that implements the traits of [`ctx`] can be read and written: the ten
+//! integer types, `f32` and `f64`, strings, byte slices, C strings, numbers in LEB128, zeros,
+//! arrays, and your own types. [`runner`] runs lists of such reads and writes, and [`laws`] states
+//! laws of the definitions that the contracts use.
 //!
-//! `docs/GUIDE.md` of the repository shows callers and types of your own with their proofs. `clients/examples/src`
-//! of the repository has them whole, and the examples of the Rust crate's documentation.
+//! `docs/GUIDE.md` of the repository shows callers and types of your own with their proofs.
+//! `clients/examples/src` of the repository has them whole, and the examples of the Rust crate's
+//! documentation.
 #![tactic(auto)]
 
 pub mod cstr;

@@ -15,11 +15,13 @@ use crate::slice;
 use std::alloc::Global;
 use std::result::Result;
 
-/// Reads `count` values, one after another from the cursor `offset`, and advances the cursor past the last one.
+/// Reads `count` values, one after another from the cursor `offset`, and advances the cursor past
+/// the last one.
 ///
-/// Returns the error of the first value that can't be read, with the offset at which that value starts, and leaves the
-/// cursor there. An allocation failure is the error [`Error::NoMemory`] of the value for which there was no memory. Memory is
-/// allocated as values are read, so a count that is too large costs none.
+/// Returns the error of the first value that can't be read, with the offset at which that value
+/// starts, and leaves the cursor there. An allocation failure is the error [`Error::NoMemory`] of
+/// the value for which there was no memory. Memory is allocated as values are read, so a count that
+/// is too large costs none.
 ///
 /// ```rust
 /// let file: &[u8] = &[1, 0, 2, 0, 3];
@@ -65,11 +67,11 @@ pub fn read_many<'a, Ctx: Copy, E: From<Error>, T: TryFromCtx<'a, Ctx, Error = E
     Ok(values)
 }
 
-/// Writes values, one after another from the cursor `offset`, and advances the cursor past the last one. [`read_many`] reads
-/// them back.
+/// Writes values, one after another from the cursor `offset`, and advances the cursor past the last
+/// one. [`read_many`] reads them back.
 ///
-/// Returns the error of the first value that can't be written, with the offset at which that value would start, and leaves the
-/// cursor there. The values before it are then written.
+/// Returns the error of the first value that can't be written, with the offset at which that value
+/// would start, and leaves the cursor there. The values before it are then written.
 ///
 /// ```rust
 /// let mut file = [0xffu8; 6];
@@ -106,11 +108,12 @@ pub fn write_many<Ctx: Copy, E: From<Error>, T: TryIntoCtx<Ctx, Error = E> + Cop
     Ok(())
 }
 
-/// Writes a tag, such as the number of an enum's variant, and the value that follows it to the start of `dst`, and returns
-/// their size in bytes.
+/// Writes a tag, such as the number of an enum's variant, and the value that follows it to the
+/// start of `dst`, and returns their size in bytes.
 ///
-/// Returns [`Error::TooBig`] with the width of the tag and the length of `dst` if the tag has no room, and the value's own error
-/// if the value can't be written after it. The tag is then not written.
+/// Returns [`Error::TooBig`] with the width of the tag and the length of `dst` if the tag has no
+/// room, and the value's own error if the value can't be written after it. The tag is then not
+/// written.
 ///
 /// ```rust
 /// let mut file = [0xffu8; 4];

@@ -1,5 +1,5 @@
--- What a session prints. It has a line for each command, then the buffer and the cursor; or one line that says why
--- nothing was run.
+-- What a session prints. It has a line for each command, then the buffer and the cursor; or one
+-- line that says why nothing was run.
 use Rattle.std.specs.Prelude.{◌≡◌, ◌<◌, ◌≤◌, ◌++◌, ◌==◌, ◌⊎◌, ℕ, List, [], ◌∷◌, length, codes, slice_index, string_bytes, if◌then◌else◌, Option, IfSome}
 use Rattle.std.specs.Fmt.{decimal, signed_decimal}
 use Rattle.std.specs.Io.KnownBytes.{Consumes, IsAtEnd, Keeps}
@@ -21,7 +21,8 @@ use Rattle.scroll_run.specs.declared.lines.Script.{Script}
 abbrev pub hex_text : List ℕ → List ℕ
 hex_text bytes = if length bytes == 0 then codes "-" else encode_lower bytes
 
--- the text is `line_of e`. The line of a stream's error, which no command returns, is not specified.
+-- the text is `line_of e`. The line of a stream's error, which no command returns, is not
+-- specified.
 abbrev pub Says : Error → List ℕ → Type 0
 Says e text = IfSome (line_of e) (λ line. text ≡ line)
 
@@ -58,7 +59,8 @@ pub record Prints (answers : List Answer) (buffer : List ℕ) (cursor : ℕ) (te
   pub lines : AreAnswerLines answers prefix
   pub whole : text ≡ prefix ++ codes "buffer " ++ hex_text buffer ++ codes "\n" ++ codes "cursor " ++ decimal cursor ++ codes "\n"
 
--- the commands are run over the buffer `first` from the cursor `from`, and `text` is what is printed for them
+-- the commands are run over the buffer `first` from the cursor `from`, and `text` is what is
+-- printed for them
 pub record RunsCommands (first : List ℕ) (from : ℕ) (commands : List Command) (text : List ℕ) : Type 0 where
   pub answers : List Answer
   pub buffer : List ℕ
@@ -66,7 +68,8 @@ pub record RunsCommands (first : List ℕ) (from : ℕ) (commands : List Command
   pub ran : IsRun first buffer from cursor commands [] answers
   pub prints : Prints answers buffer cursor text
 
--- the commands of a script are run over its buffer from its cursor, and `text` is what is printed for them
+-- the commands of a script are run over its buffer from its cursor, and `text` is what is printed
+-- for them
 pub record RunsScript (script : Script) (text : List ℕ) : Type 0 where
   pub commands : List Command
   pub held : AreCommandsOf script.commands.items commands
@@ -86,8 +89,8 @@ pub record HasBadLine (input text : List ℕ) (status : ℕ) : Type 0 where
   pub says : text ≡ codes "bad line " ++ decimal line ++ codes "\n"
   pub status_is : status ≡ 2
 
--- the input has at most that many bytes, its lines spell a script, the text is what is printed for its run, and the
--- status is 0
+-- the input has at most that many bytes, its lines spell a script, the text is what is printed for
+-- its run, and the status is 0
 pub record IsAnswered (input text : List ℕ) (status : ℕ) : Type 0 where
   pub short : length input ≤ 65536
   pub buffer : List ℕ
@@ -101,20 +104,22 @@ pub record IsAnswered (input text : List ℕ) (status : ℕ) : Type 0 where
 abbrev pub AnswersInput : List ℕ → List ℕ → ℕ → Type 0
 AnswersInput input text status = IsTooLong input text status ⊎ (HasBadLine input text status ⊎ IsAnswered input text status)
 
--- what a reader gave: all that it had, or the first 65,537 bytes of it, one more than an input may have
+-- what a reader gave: all that it had, or the first 65,537 bytes of it, one more than an input may
+-- have
 pub record IsInput (old new : Option (List ℕ)) (input : List ℕ) : Type 0 where
   pub bound : length input ≤ 65537
   pub taken : Consumes old new input
   pub whole : length input < 65537 → IsAtEnd new
 
--- what is printed by a session whose reader had `old` before and has `new` after it, and the status: one of these three
--- for what the reader gave, or `out of memory` and 3, and then memory was `refused`
+-- what is printed by a session whose reader had `old` before and has `new` after it, and the
+-- status: one of these three for what the reader gave, or `out of memory` and 3, and then memory
+-- was `refused`
 abbrev pub AnswersSession : Type 0 → Option (List ℕ) → Option (List ℕ) → List ℕ → ℕ → Type 0
 AnswersSession refused old new text status =
     (refused × (text ≡ codes "out of memory\n") × (status ≡ 3)) ⊎ ((input : List ℕ) × IsInput old new input × AnswersInput input text status)
 
--- a session ends with a stream's error: its output is unchanged from `before` to `after`, or has grown by a prefix of
--- the text of such a session
+-- a session ends with a stream's error: its output is unchanged from `before` to `after`, or has
+-- grown by a prefix of the text of such a session
 abbrev pub BreaksOff : Type 0 → Option (List ℕ) → Option (List ℕ) → Option (List ℕ) → Option (List ℕ) → Type 0
 BreaksOff refused old new before after =
     Keeps before after

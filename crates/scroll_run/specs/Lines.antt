@@ -1,4 +1,5 @@
--- Lines. The first line of an input spells the buffer, the second the cursor, and each further line a command.
+-- Lines. The first line of an input spells the buffer, the second the cursor, and each further line
+-- a command.
 use Rattle.std.specs.Prelude.{◌≡◌, ◌<◌, ◌≤◌, ◌+◌, ◌-◌, ◌^◌, ◌++◌, ◌==◌, ℕ, zero, suc, List, [], ◌∷◌, length, max, slice_index, slice_index_or, take, codes, if◌then◌else◌}
 use Rattle.std.specs.List.{slice_split, AllZip}
 use Rattle.scroll.specs.declared.runner.Command.{Command}
@@ -13,8 +14,8 @@ use Rattle.scroll_run.specs.declared.lines.Stop.TheVariants.{BadLine, NoMemory}
 abbrev pub without_feed : List ℕ → List ℕ
 without_feed input = if slice_index input (length input - 1) == 10 then take (length input - 1) input else input
 
--- what is before, between and after the line feeds of an input, of which the last one counts only where something
--- follows it
+-- what is before, between and after the line feeds of an input, of which the last one counts only
+-- where something follows it
 abbrev pub lines_of : List ℕ → List (List ℕ)
 lines_of input = slice_split (λ b. b == 10) (without_feed input)
 
@@ -48,7 +49,8 @@ pub record SpellsScript (lines : List (List ℕ)) (buffer : List ℕ) (cursor : 
   pub cursor_is : SpellsCursor second cursor
   pub commands_are : SpellsAllCommands rest commands
 
--- every list of commands that borrows from the script is spelled, with the script's buffer and cursor
+-- every list of commands that borrows from the script is spelled, with the script's buffer and
+-- cursor
 abbrev pub HoldsScript : List (List ℕ) → Script → Type 0
 HoldsScript lines script =
     (commands : List Command) → AreCommandsOf script.commands.items commands
@@ -58,7 +60,8 @@ HoldsScript lines script =
 abbrev pub IsCommand : List ℕ → Type 0
 IsCommand line = (c : Command) × SpellsCommand (words_of line) c
 
--- `IsGoodLine i line`: as line `i`, counted from 0, the line spells something: a buffer, a cursor, or a command
+-- `IsGoodLine i line`: as line `i`, counted from 0, the line spells something: a buffer, a cursor,
+-- or a command
 abbrev pub IsGoodLine : ℕ → List ℕ → Type 0
 IsGoodLine zero line = (bytes : List ℕ) × SpellsBuffer line bytes
 IsGoodLine (suc zero) line = (n : ℕ) × SpellsCursor line n
@@ -68,20 +71,22 @@ IsGoodLine (suc (suc i)) line = IsCommand line
 abbrev pub HasGoodLine : List (List ℕ) → ℕ → Type 0
 HasGoodLine lines i = (i < length lines) × IsGoodLine i (slice_index_or lines i [])
 
--- line `k`, counted from 1, is the first bad one: it spells nothing, or it is one of the first two lines and missing
+-- line `k`, counted from 1, is the first bad one: it spells nothing, or it is one of the first two
+-- lines and missing
 pub record IsFirstBadLine (lines : List (List ℕ)) (k : ℕ) : Type 0 where
   pub counted : 0 < k
   pub needed : k ≤ max 2 (length lines)
   pub good : (i : ℕ) → i + 1 < k → HasGoodLine lines i
   pub bad : ¬ (HasGoodLine lines (k - 1))
 
--- `Stops refused lines stop`: why the lines are not run: the first bad line, or out of memory, and then some was `refused`
+-- `Stops refused lines stop`: why the lines are not run: the first bad line, or out of memory, and
+-- then some was `refused`
 abbrev pub Stops : Type 0 → List (List ℕ) → Stop → Type 0
 Stops refused lines (BadLine k) = IsFirstBadLine lines k
 Stops refused lines NoMemory = refused
 
--- `StopsCommands refused lines stop`: why the lines of the commands, which begin at line 3, are not run: the first of
--- them that is no command, or out of memory, and then some was `refused`
+-- `StopsCommands refused lines stop`: why the lines of the commands, which begin at line 3, are not
+-- run: the first of them that is no command, or out of memory, and then some was `refused`
 abbrev pub StopsCommands : Type 0 → List (List ℕ) → Stop → Type 0
 StopsCommands refused lines (BadLine k) =
     (i : ℕ) × (k ≡ i + 3) × (i < length lines)

@@ -47,7 +47,8 @@ pub fn borrow_commands<M: Memory>(
     Ok(commands)
 }
 
-/// Returns the command that a line spells, or `None` for a bad line. The only error is an allocation failure.
+/// Returns the command that a line spells, or `None` for a bad line. The only error is an
+/// allocation failure.
 pub fn parse_command<M: Memory>(memory: M, line: &[u8]) -> Result<Option<CommandLine>, AllocError>
     ensures { MatchResult result (Finds IsCommandOf (SpellsCommand (words_of line.now)))
         (λ _. M.refuses memory) }

@@ -37,7 +37,8 @@ impl From<AllocError> for ReadError {
 
 /// Reads the input up to its end, but at most its first [`MAX_READ`] bytes.
 ///
-/// An interrupted call of the reader is repeated. After too many calls, it returns an error of kind `Other`.
+/// An interrupted call of the reader is repeated. After too many calls, it returns an error of kind
+/// `Other`.
 pub fn read_input<M: Memory, R: Read>(memory: M, input: &mut R) -> Result<Vec<u8>, ReadError>
     ensures bound { IfOk result (λ bytes. vec_len bytes ≤ 65537) }
     ensures taken { IfOk result (λ bytes.

@@ -1,7 +1,7 @@
 //! Reads lines of commands from standard input, runs them over a buffer, and prints their results.
 //!
-//! The exit status is 0 if all commands were run, 2 for a bad input, 3 if it ran out of memory, and 4 for an error of
-//! standard input or output.
+//! The exit status is 0 if all commands were run, 2 for a bad input, 3 if it ran out of memory, and
+//! 4 for an error of standard input or output.
 #![tactic(auto)]
 
 mod answers;

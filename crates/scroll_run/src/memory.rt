@@ -18,7 +18,8 @@ use std::fmt::Display;
 
 /// Memory for a session.
 ///
-/// The functions of the program take any, and return an error for want of memory only where it refuses some.
+/// The functions of the program take any, and return an error for want of memory only where it
+/// refuses some.
 pub trait Memory: Copy {
     // Holds where the memory refuses an allocation.
     ghost refuses: { Self → Type 0 };

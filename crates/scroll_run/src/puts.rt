@@ -41,8 +41,8 @@ impl OwnedPut {
     }
 }
 
-// Copies a value that borrows nothing, part by part: the prover doesn't copy it as a whole from a reference, since it
-// may hold a number in LEB128.
+// Copies a value that borrows nothing, part by part: the prover doesn't copy it as a whole from a
+// reference, since it may hold a number in LEB128.
 fn copied(put: &Put<'static>) -> Put<'static>
     ensures { result ≡ put.now }
 {
@@ -58,7 +58,8 @@ fn copied(put: &Put<'static>) -> Put<'static>
     }
 }
 
-/// Returns the value that the words spell, or `None` where they spell none. The only error is an allocation failure.
+/// Returns the value that the words spell, or `None` where they spell none. The only error is an
+/// allocation failure.
 pub fn parse_put<M: Memory>(memory: M, words: &[&[u8]]) -> Result<Option<OwnedPut>, AllocError>
     ensures { MatchResult result (Finds IsPutOf (SpellsPut (texts_of words.now)))
         (λ _. M.refuses memory) }

@@ -30,7 +30,8 @@ struct Outcome {
 
 /// Runs the session that the reader gives, writes its output, and returns its status.
 ///
-/// An error is one of the reader or of the writer. None, some or all of the output was then written.
+/// An error is one of the reader or of the writer. None, some or all of the output was then
+/// written.
 pub fn session<M: Memory, R: Read, W: Write>(
     memory: M,
     input: &mut R,

@@ -78,8 +78,8 @@ pub fn parse_usize(word: &[u8]) -> Option<usize>
     usize::try_from(parse_number(word)?).ok()
 }
 
-/// Returns the bytes that a word spells: `-` for none, or two hexadecimal digits of either case for each byte. Returns
-/// `None` for any other word. The only error is an allocation failure.
+/// Returns the bytes that a word spells: `-` for none, or two hexadecimal digits of either case for
+/// each byte. Returns `None` for any other word. The only error is an allocation failure.
 pub fn parse_bytes<M: Memory>(memory: M, word: &[u8]) -> Result<Option<Vec<u8>>, AllocError>
     ensures { MatchResult result (ParsesAs (λ bytes. bytes.items) (SpellsBytes word.now))
         (λ _. M.refuses memory) }

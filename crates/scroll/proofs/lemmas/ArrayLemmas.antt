@@ -1,6 +1,7 @@
--- Arrays that are made by calls, none of which changes what the calls read; lists that a bulk read fills; arrays whose
--- elements are viewed as other values, such as strings as their bytes; values that are written one after another; and the
--- leaves of an array, which are those of its elements, in order.
+-- Arrays that are made by calls, none of which changes what the calls read; lists that a bulk read
+-- fills; arrays whose elements are viewed as other values, such as strings as their bytes; values
+-- that are written one after another; and the leaves of an array, which are those of its elements,
+-- in order.
 use Rattle.std.proofs.Common.{◌≡◌, ◌≢◌, ℕ, zero, suc, ◌+◌, ◌<◌, ◌≤◌, List, [], ◌∷◌, length, map, get_or, set, Option, Some, None, sym, ap, ◌∙◌, subst, arith, add-zero, drop, inl, inr, Result, Ok, Err, IfErr, ◌*◌, ◌++◌, refl, append_assoc}
 use Rattle.std.proofs.lemmas.List.{get_or-set_other, get_or-map, length-map, same_lists, get_or_default, drop-drop, length_push, map-append}
 use Rattle.std.specs.Fn.{Mut, Called, Takes}
@@ -205,7 +206,8 @@ WritesAll-push writes old from [] mid to x new n h w =
 WritesAll-push writes old from (y ∷ vs) mid to x new n h w =
     (h.0, h.1, h.2, WritesAll-push writes h.0 (from + h.1) vs mid to x new n h.3 w)
 
--- that many values of an array are written, the others are left, and the last one written ends at an offset
+-- that many values of an array are written, the others are left, and the last one written ends at
+-- an offset
 pub record IsPartWritten {V : Type 0} (writes : V → List ℕ → List ℕ → ℕ → Type 0) (all left : List V) (old new : List ℕ) (count offset : ℕ) : Type 0 where
   pub done : List V
   pub split : all ≡ done ++ left

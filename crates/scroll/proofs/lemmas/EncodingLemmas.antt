@@ -1,4 +1,5 @@
--- Digits to the base 128, the encodings that they make, and numbers of either sign that are encoded so.
+-- Digits to the base 128, the encodings that they make, and numbers of either sign that are encoded
+-- so.
 use Rattle.std.proofs.Common.{◌≡◌, ℕ, suc, ◌+◌, ◌-◌, ◌*◌, ◌/◌, ◌%◌, ◌^◌, ◌<◌, ◌≤◌, ◌↔◌, inl, inr, true, false, nat_lt, List, ◌++◌, take, drop, length, get_or, refl, sym, ap, subst, ◌∙◌, arith, ℤ, pos, negsuc, ◌-ℤ◌, FitsSigned}
 use Rattle.std.proofs.Math.Nat.{mod-eq_of_lt, one-le-pow, pow-le-pow_right}
 use Rattle.std.proofs.lemmas.Nat.{div_below}

@@ -1,5 +1,5 @@
--- What is seen after a history, and the pieces that a write of leaves leaves at an offset of a buffer, and in the rest of the
--- buffer. A run grows by one command, and its errors own no memory.
+-- What is seen after a history, and the pieces that a write of leaves leaves at an offset of a
+-- buffer, and in the rest of the buffer. A run grows by one command, and its errors own no memory.
 use Rattle.std.proofs.Common.{◌≡◌, ℕ, ◌<◌, ◌++◌, List, [], ◌∷◌, length, get_or, arith, refl, sym, ◌∙◌, ap, Option, Some, None, unwrap_or, ◌+◌, ◌-◌, ◌≤◌, take, drop, inl, inr, slice_get, length-drop, length-append, subst, append_assoc, append-nil, Result, Ok, Err, IfOk}
 use Rattle.std.proofs.lemmas.Grind.{same_number_lists}
 use Rattle.std.proofs.lemmas.List.FromFn.{length-map-range_with_len, get_or-map-range_with_len}

@@ -121,7 +121,8 @@ byte_there s i b t e =
     let at = slice_get-get_or s i b inside ∙ ap Some (sym e) in
     (inside, at, get_or_from_slice_get s i b 0 at)
 
--- what is known at the tenth byte, as a look-up gives it, where none of the nine before it ends the encoding
+-- what is known at the tenth byte, as a look-up gives it, where none of the nine before it ends the
+-- encoding
 pub tenth_there : (s : List ℕ) (i g b : ℕ) → true ≡ nat_lt 9 (length s) → b ≡ get_or s 9 b → i ≡ 9 → ((k : ℕ) → k < i → 128 ≤ get_or s k 0) → g ≡ groups_value s i
     → (9 ≤ end_of s) × (slice_get s 9 ≡ Some b) × (g ≡ groups_value s 9)
 tenth_there s i g b t e nine more value =

@@ -1,5 +1,5 @@
--- Reads in LEB128. A number depends only on the bytes of its encoding, a read has exactly one result, and what the first
--- bytes of a source say of its encoding.
+-- Reads in LEB128. A number depends only on the bytes of its encoding, a read has exactly one
+-- result, and what the first bytes of a source say of its encoding.
 use Rattle.std.proofs.Common.{◌≡◌, ℕ, ℤ, pos, negsuc, ◌-ℤ◌, suc, ◌+◌, ◌-◌, ◌*◌, ◌%◌, ◌^◌, ◌<◌, ◌≤◌, ◌⊎◌, inl, inr, true, false, nat_lt, if◌then◌else◌, Some, List, length, take, get_or, bit_and, bit_or, refl, sym, ap, ◌∙◌, arith, subst, codes, FitsSigned, to_z, of_z}
 use Rattle.std.proofs.Math.Nat.{mod-eq_of_lt, pow-le-pow_right}
 use Rattle.std.proofs.Math.Facts.{to_z-neg}

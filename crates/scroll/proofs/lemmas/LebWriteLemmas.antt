@@ -1,4 +1,5 @@
--- Encodings as a writer makes them: digits of the groups, the shortest count, signed numbers, and words of four groups.
+-- Encodings as a writer makes them: digits of the groups, the shortest count, signed numbers, and
+-- words of four groups.
 use Rattle.std.proofs.Common.{◌≡◌, ℕ, suc, ◌+◌, ◌-◌, ◌*◌, ◌/◌, ◌%◌, ◌^◌, ◌<◌, ◌≤◌, inl, inr, true, false, nat_lt, List, [], ◌∷◌, ◌++◌, length, take, drop, get_or, bit_and, bit_or, refl, sym, ap, ◌∙◌, arith, below_none, below_more, ℤ, pos, negsuc, of_z, FitsSigned}
 use Rattle.std.proofs.Math.ListN.{set}
 use Rattle.std.proofs.Math.Nat.{mod-eq_of_lt, mul_assoc, one-le-pow, div-div-eq-div-mul}
@@ -312,8 +313,8 @@ close_byte low tenth n k b last nine e =
 pub later_digit : (low m j : ℕ) → low / 2 ^ (7 * m) / 128 ^ j % 128 ≡ low / 128 ^ (m + j) % 128
 later_digit low m j = ap (λ p. low / p / 128 ^ j % 128) (pow_128 m) ∙ ap (λ q. q % 128) (div-div-eq-div-mul low (128 ^ m) (128 ^ j) ∙ ap (λ p. low / p) (sym (pow-add 128 m j)))
 
--- ---- targets that were written by words of four bytes: `at` says which bytes of a list are in a target from an offset
--- on
+-- ---- targets that were written by words of four bytes: `at` says which bytes of a list are in a
+-- target from an offset on
 pub record FourAt (index : ℕ) (bytes old new : List ℕ) : Type 0 where
   pub put : (k : ℕ) → k < 4 → get_or new (index + k) 0 ≡ get_or bytes k 0
   pub before : (k : ℕ) → k < index → get_or new k 0 ≡ get_or old k 0

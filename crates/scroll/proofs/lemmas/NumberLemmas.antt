@@ -1,6 +1,6 @@
--- Numbers, floats and their bytes: reads that depend only on the bytes that they take, and that take no more than there are;
--- the sixteen bytes of a number as two halves of eight; numbers of reversed bytes; and reads of what begins with a number's
--- bytes.
+-- Numbers, floats and their bytes: reads that depend only on the bytes that they take, and that
+-- take no more than there are; the sixteen bytes of a number as two halves of eight; numbers of
+-- reversed bytes; and reads of what begins with a number's bytes.
 use Rattle.std.proofs.Common.{◌≡◌, ℕ, ◌+◌, ◌≤◌, List, [], ◌∷◌, length, take, drop, arith, sym, ◌∙◌, ap, length-drop, ◌/◌, ◌%◌, ◌<◌, ◌++◌, get_or, reverse, refl, inl, inr, append_assoc, subst, below_none, below_more, ◌-◌, ◌*◌, ◌^◌, ℤ, pos, neg_ℤ, nat_abs, ◌+ℤ◌, ◌-ℤ◌, ◌*ℤ◌, ◌≤ℤ◌, ◌<ℤ◌, length-take, slice_index, Fits, w8}
 use Rattle.std.proofs.lemmas.List.{take-take, drop-take, drop-drop, append-nil, get_or_past, get_or-reverse, take-append-drop}
 use Rattle.scroll.specs.Arrays.{ReadsArray}

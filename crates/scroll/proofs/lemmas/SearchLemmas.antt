@@ -1,5 +1,6 @@
--- A search block by block: how many bytes come before the first that passes a test; a stop, which is the delimiter or a byte
--- that isn't ASCII: what comes before it, and where the string ends; and masks of a vector's lanes.
+-- A search block by block: how many bytes come before the first that passes a test; a stop, which
+-- is the delimiter or a byte that isn't ASCII: what comes before it, and where the string ends; and
+-- masks of a vector's lanes.
 use Rattle.std.proofs.Common.{◌≡◌, ℕ, zero, suc, ◌+◌, ◌-◌, ◌*◌, ◌/◌, ◌<◌, ◌≤◌, inl, inr, Bool, not, List, [], ◌∷◌, length, take, drop, min, get_or, refl, sym, ap, ◌∙◌, arith, length-drop, length-take, ◌⊎◌, nat_le, ◌==◌, get_or-take, ◌%◌, ◌^◌, true, false, cond, eqb, leb, ◌||◌, map, replicate, bit_or, w8}
 use Rattle.std.proofs.Math.Nat.{add-mul, div-mul-le_self}
 use Rattle.std.proofs.lemmas.Nat.{row_fits, or_block}

@@ -1,6 +1,6 @@
--- Strings, byte slices, C strings and zeros depend only on the bytes that they take, and a read of one has exactly one
--- result. The index of the first byte of a value, and what comes before it. The C strings of std and those of the crate are
--- the same lists of bytes.
+-- Strings, byte slices, C strings and zeros depend only on the bytes that they take, and a read of
+-- one has exactly one result. The index of the first byte of a value, and what comes before it. The
+-- C strings of std and those of the crate are the same lists of bytes.
 use Rattle.std.proofs.Common.{◌≡◌, ℕ, ◌≤◌, ◌==◌, List, length, take, min, ap, ◌∙◌, arith, ◌+◌, ◌<◌, refl, sym, subst, inl, inr, ◌⊎◌, IsUtf8, codes, true≢false, ◌-◌, [], ◌∷◌, ◌++◌, get_or, ◌≢◌, true, false, drop, length-append, append_assoc, length-take, not, zero, suc, slice_index}
 use Rattle.std.proofs.lemmas.List.{length-take-le, take-take, get_or-take, take_at, take_more}
 use Rattle.scroll.specs.declared.ctx.str_ctx.StrCtx.{StrCtx}
@@ -58,7 +58,8 @@ local-slice c s t v n r h long e = record {
   size = r.size;
 }
 
--- a source that begins with the same bytes as another, as many as a read takes, has a text of the same length
+-- a source that begins with the same bytes as another, as many as a read takes, has a text of the
+-- same length
 same-len : (ctx : StrCtx) (n : ℕ) (s t : List ℕ) → n ≡ text_len ctx s + delimiter_len ctx → take n t ≡ take n s → text_len ctx t ≡ text_len ctx s
 same-len (Delimiter d) n s t size e = let f = index_of-prefixes d n s t e in omega (arith, size, f)
 same-len (DelimiterUntil d k) n s t size e = let f = index_of-prefixes d n s t e in omega (arith, size, f)

@@ -1,5 +1,5 @@
--- Words of eight bytes: what masks, shifts and counts of zeros do lane by lane, the complement of a word byte by byte, and the
--- number of trailing zeros of a number in base 2.
+-- Words of eight bytes: what masks, shifts and counts of zeros do lane by lane, the complement of a
+-- word byte by byte, and the number of trailing zeros of a number in base 2.
 use Rattle.std.proofs.Common.{◌≡◌, ℕ, ◌+◌, ◌-◌, ◌*◌, ◌/◌, ◌%◌, ◌^◌, ◌<◌, List, [], ◌∷◌, map, bit_and, bit_or, refl, ap, ◌∙◌, arith, length, pow-suc, zero, suc, sym}
 use Rattle.std.proofs.Math.Nat.{mod-eq_of_lt, mul_assoc}
 use Rattle.std.proofs.lemmas.Nat.{and_mask, and_block, or_block, from_le_bytes-to_le_bytes_8}

@@ -1,5 +1,6 @@
--- Types of a fixed size and arrays of them, and numbers that were read, which have the bytes that were read: the lemmas that
--- the implementations of `Fixed` and of `RoundTrip` cite for their laws. They are proved, and promise nothing.
+-- Types of a fixed size and arrays of them, and numbers that were read, which have the bytes that
+-- were read: the lemmas that the implementations of `Fixed` and of `RoundTrip` cite for their laws.
+-- They are proved, and promise nothing.
 use Rattle.std.proofs.Common.{◌≡◌, ℕ, zero, suc, ◌+◌, ◌*◌, ◌<◌, ◌≤◌, ◌++◌, List, [], ◌∷◌, length, take, drop, map, sym, ap, subst, ◌∙◌, arith, append_assoc, length-append, ℤ, pos, neg_ℤ, ◌*ℤ◌, ◌≤ℤ◌, ◌<ℤ◌, ◌^◌, T, refl, nat_abs, ◌+ℤ◌, ◌-ℤ◌, ◌-◌, ◌/◌, ◌%◌, Fits, w8, get_or-take}
 use Rattle.std.proofs.Math.Nat.{mul-suc, mul-le-mul_left}
 use Rattle.std.proofs.Math.Seq.{drop-append_seam, drop-append-add, take-add}

@@ -1,6 +1,7 @@
--- Numbers, floats and their bytes: what begins with the bytes of a number begins with the number, and a number depends on its
--- bytes alone; sums over the numbers below a bound, digits to a base, and two's complement. The implementations of `Fixed`
--- cite these lemmas. They are proved, and promise nothing.
+-- Numbers, floats and their bytes: what begins with the bytes of a number begins with the number,
+-- and a number depends on its bytes alone; sums over the numbers below a bound, digits to a base,
+-- and two's complement. The implementations of `Fixed` cite these lemmas. They are proved, and
+-- promise nothing.
 use Rattle.std.proofs.Common.{◌≡◌, ℕ, zero, suc, ◌+◌, ◌-◌, ◌*◌, ◌/◌, ◌%◌, ◌^◌, ◌<◌, refl, sym, ap, ◌∙◌, inl, inr, arith, ℤ, pos, neg_ℤ, nat_abs, ◌+ℤ◌, ◌-ℤ◌, ◌*ℤ◌, ◌≤ℤ◌, ◌<ℤ◌, List, length, slice_index, Fits, w8, All, ◌++◌, take, get_or, T, to_bits, from_bits}
 use Rattle.std.proofs.Math.Arith.{mod-mul}
 use Rattle.std.proofs.Math.Nat.{add_comm, add-mul-div_right, add-mul-mod_self_right, mod-eq_of_lt, mul_comm, one-le-pow, pow-suc, pow-zero}

@@ -21,9 +21,9 @@ use std::ffi::CStr;
 
 /// A value that is written as bytes, however many it has.
 ///
-/// A tuple of two to four is its parts in order, so a struct is written as tuples of its fields, such as
-/// `(a, b, c, (d, e))`. Slices, texts and arrays are parts by themselves, a value of a fixed size is one as [`Value`], and
-/// zeros as [`Gap`].
+/// A tuple of two to four is its parts in order, so a struct is written as tuples of its fields,
+/// such as `(a, b, c, (d, e))`. Slices, texts and arrays are parts by themselves, a value of a
+/// fixed size is one as [`Value`], and zeros as [`Gap`].
 pub trait Encode: Copy {
     // The bytes of a value.
     ghost bytes: { Endian → Self → List ℕ };
@@ -32,7 +32,8 @@ pub trait Encode: Copy {
     fn size(self, order: Endian) -> usize
         ensures { result ≡ min (length (bytes order self)) (2 ^ 64 - 1) };
 
-    /// Writes the bytes to the start of `dst`, which has room for them. The bytes after them are unchanged.
+    /// Writes the bytes to the start of `dst`, which has room for them. The bytes after them are
+    /// unchanged.
     fn put(self, dst: &mut [u8], order: Endian)
         requires { length (bytes order self) ≤ length dst.old }
         ensures { dst.new ≡ bytes order self ++ drop (length (bytes order self)) dst.old };
@@ -85,7 +86,8 @@ impl Encode for Gap {
     }
 }
 
-/// Parts, and the zero bytes after them up to a multiple of a size, counted from the first of the parts.
+/// Parts, and the zero bytes after them up to a multiple of a size, counted from the first of the
+/// parts.
 #[derive(Clone, Copy, Debug, PartialEq, Eq)]
 pub struct Padded<A>(pub A, pub usize);
 
@@ -213,10 +215,11 @@ impl<A: Encode, B: Encode, C: Encode, D: Encode> Encode for (A, B, C, D) {
     }
 }
 
-/// Reads a value of a fixed size at the cursor `offset`, also an array, and advances the cursor past it.
+/// Reads a value of a fixed size at the cursor `offset`, also an array, and advances the cursor
+/// past it.
 ///
-/// Returns [`Error::BadOffset`] for an offset past the end, and [`Error::TooBig`] with the width of the value and the number of
-/// bytes there if they are fewer.
+/// Returns [`Error::BadOffset`] for an offset past the end, and [`Error::TooBig`] with the width of
+/// the value and the number of bytes there if they are fewer.
 #[inline(always)]
 pub fn read_fixed<P: Fixed>(from: &[u8], offset: &mut usize, order: Endian) -> Result<P>
     requires { P.width < 2 ^ 64 }

@@ -9,8 +9,8 @@ mod floats;
 mod signed;
 mod unsigned;
 
-// Returns the `N` bytes from `offset` on. The slice has `N` bytes whatever the source has, so that no test is left of
-// `first_chunk`.
+// Returns the `N` bytes from `offset` on. The slice has `N` bytes whatever the source has, so that
+// no test is left of `first_chunk`.
 #[inline]
 fn bytes_at<const N: usize>(from: &[u8], offset: usize) -> [u8; N]
     requires { offset + N ≤ length from.now }

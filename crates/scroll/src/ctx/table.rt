@@ -9,8 +9,8 @@ use std::marker::PhantomData;
 
 /// The elements of a table, each of the same size, one after another in bytes that are borrowed.
 ///
-/// It allocates no memory: an element is read where it lies. The number of elements is that of the bytes by the size of an
-/// element; bytes after the last whole element are no part of the table.
+/// It allocates no memory: an element is read where it lies. The number of elements is that of the
+/// bytes by the size of an element; bytes after the last whole element are no part of the table.
 ///
 /// ```rust
 /// let file: &[u8] = &[3, 1, 0, 2, 0, 3, 0];

@@ -23,10 +23,11 @@ ghost use Rattle.scroll.specs.declared.runner.Answer.{Answer};
 use crate::ctx::TryIntoCtx;
 use crate::error::Error;
 
-/// After any list of commands, what was written reads back at its offset until one of its bytes is written again.
+/// After any list of commands, what was written reads back at its offset until one of its bytes is
+/// written again.
 ///
-/// Each leaf of a write is a piece of the history, even if a later leaf of the same array failed. The leaves of a write
-/// don't overlap.
+/// Each leaf of a write is a piece of the history, even if a later leaf of the same array failed.
+/// The leaves of a write don't overlap.
 pub fn what_was_written_stands()
     ensures bytes { (first : List ℕ) (commands : List Command) (history : List Piece)
         → IsHistory first commands history → (o : ℕ) (t : List ℕ) → WrittenLast history (o, t)
@@ -56,8 +57,8 @@ pub fn what_was_written_stands()
         → pieces len o leaves ≡ before ++ p ∷ after → Apart (p ∷ []) after }
 {}
 
-/// Two writes whose pieces don't overlap may be exchanged: they leave the same buffer, and both return the same, errors
-/// included.
+/// Two writes whose pieces don't overlap may be exchanged: they leave the same buffer, and both
+/// return the same, errors included.
 pub fn writes_apart_may_be_exchanged()
     ensures { (old mid new : List ℕ) (offset offset' : ℕ) (leaves leaves' : List (List ℕ))
         (r r' : Result ℕ Error)
@@ -67,9 +68,9 @@ pub fn writes_apart_may_be_exchanged()
         × WritesLeaves mid' offset leaves new r }
 {}
 
-/// What is written is a list of leaves, each of them bytes that are written whole or not at all. A slice or a string, a
-/// C string and a number in LEB128 are one leaf; so is each value of a fixed size, by
-/// [`fixed_size_is_kept`](super::fixed_size_is_kept).
+/// What is written is a list of leaves, each of them bytes that are written whole or not at all. A
+/// slice or a string, a C string and a number in LEB128 are one leaf; so is each value of a fixed
+/// size, by [`fixed_size_is_kept`](super::fixed_size_is_kept).
 pub fn writes_have_leaves()
     ensures bytes { HasLeaves (λ t. t ∷ []) (λ t. WritesPrefix (length t) t) (λ t.
         FailsShort (length t)) }
@@ -79,8 +80,8 @@ pub fn writes_have_leaves()
     ensures sleb { HasLeaves (λ x. sleb_text x ∷ []) WritesSleb (λ x. FailsShort x.count) }
 {}
 
-/// Arrays, nested to any depth, have the leaves of the innermost elements in order: `counts` has the lengths, from the
-/// outermost.
+/// Arrays, nested to any depth, have the leaves of the innermost elements in order: `counts` has
+/// the lengths, from the outermost.
 pub fn array_has_leaves<Ctx: Copy, T: TryIntoCtx<Ctx, Error = Error>>()
     ensures { (ctx : Ctx) (leaves : T → List (List ℕ)) (counts : List ℕ)
         → HasLeaves leaves (T.writes ctx) (T.refuses ctx)
@@ -88,9 +89,9 @@ pub fn array_has_leaves<Ctx: Copy, T: TryIntoCtx<Ctx, Error = Error>>()
         (FailsNested (T.writes ctx) (T.refuses ctx) counts) }
 {}
 
-/// A call of `Pwrite` or of `slice` that writes at an offset writes the leaves of the value there: `WritesLeaves` says
-/// what it leaves and what it returns, errors included. The two premises are the clauses `wrote` and `refused` of the
-/// call.
+/// A call of `Pwrite` or of `slice` that writes at an offset writes the leaves of the value there:
+/// `WritesLeaves` says what it leaves and what it returns, errors included. The two premises are
+/// the clauses `wrote` and `refused` of the call.
 pub fn write_is_of_its_leaves<Ctx: Copy, T: TryIntoCtx<Ctx, Error = Error>>()
     ensures { (ctx : Ctx) (leaves : T → List (List ℕ))
         → HasLeaves leaves (T.writes ctx) (T.refuses ctx)
@@ -100,7 +101,8 @@ pub fn write_is_of_its_leaves<Ctx: Copy, T: TryIntoCtx<Ctx, Error = Error>>()
         → WritesLeaves old offset (leaves x) new r }
 {}
 
-/// The error of a command in a run is `TooBig`, `BadOffset` or `BadInput`, and never `NoMemory`, `Custom` or `IO`.
+/// The error of a command in a run is `TooBig`, `BadOffset` or `BadInput`, and never `NoMemory`,
+/// `Custom` or `IO`.
 pub fn run_refuses_plainly()
     ensures { (first : List ℕ) (from to : ℕ) (commands : List Command) (answers : List Answer)
         (history : List Piece) → Run first [] from commands answers history to

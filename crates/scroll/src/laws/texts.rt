@@ -10,8 +10,8 @@ ghost use Rattle.scroll.specs.Texts.{ReadsText, RefusesText};
 ghost use Rattle.scroll.specs.declared.ctx.str_ctx.StrCtx.TheVariants.{Required};
 ghost use Rattle.scroll.specs.declared.error.Error.TheVariants.{BadOffset};
 
-/// A C string that was read contains no zero before its end. Written where it fits, it gives back the bytes from which
-/// it was read.
+/// A C string that was read contains no zero before its end. Written where it fits, it gives back
+/// the bytes from which it was read.
 pub fn c_string_has_one_zero()
     ensures no_zero { (source text : List ℕ) (n : ℕ) → ReadsCString source text n
         → All (λ b. b ≢ 0) text }
@@ -22,8 +22,9 @@ pub fn c_string_has_one_zero()
         → (m ≡ n) × (take m new ≡ take n source) }
 {}
 
-/// The size of a string that was read in the context `Required` is at most the length of its source. So such a string
-/// depends only on its own bytes, and an array of them never returns `BadOffset` from within.
+/// The size of a string that was read in the context `Required` is at most the length of its
+/// source. So such a string depends only on its own bytes, and an array of them never returns
+/// `BadOffset` from within.
 pub fn required_text_is_within_its_source()
     ensures within { (d : ℕ) → IsWithin (ReadsText (Required d)) }
     ensures depends { (d : ℕ) (s t text : List ℕ) (n : ℕ)

@@ -6,8 +6,8 @@ ghost use Rattle.scroll.specs.Leb128.{end_of, groups_value, ReadsGroups, ReadsSl
 // The low seven bits of each byte.
 const GROUPS: u64 = 0x7f7f_7f7f_7f7f_7f7f;
 
-/// Returns the value of the unsigned encoding that starts at the first of eight bytes, and its size in bytes. Returns
-/// `None` where none of the eight bytes ends it.
+/// Returns the value of the unsigned encoding that starts at the first of eight bytes, and its size
+/// in bytes. Returns `None` where none of the eight bytes ends it.
 #[inline(always)]
 pub fn uleb_block(b: [u8; 8]) -> Option<(u64, usize)>
     ensures read { IfSome result (λ read. ReadsUleb b read.0 read.1) }
@@ -16,8 +16,8 @@ pub fn uleb_block(b: [u8; 8]) -> Option<(u64, usize)>
     groups_in(u64::from_le_bytes(b))
 }
 
-/// Returns the value of the signed encoding that starts at the first of eight bytes, and its size in bytes. Returns
-/// `None` where none of the eight bytes ends it.
+/// Returns the value of the signed encoding that starts at the first of eight bytes, and its size
+/// in bytes. Returns `None` where none of the eight bytes ends it.
 #[inline(always)]
 pub fn sleb_block(b: [u8; 8]) -> Option<(i64, usize)>
     ensures read { IfSome result (λ read. ReadsSleb b read.0 read.1) }
@@ -34,14 +34,16 @@ pub(crate) fn block_groups(b: [u8; 8]) -> u64
     gathered(u64::from_le_bytes(b))
 }
 
-// Returns the groups up to the end of the encoding as one number, and how many there are. (`signed_in` is its twin.)
+// Returns the groups up to the end of the encoding as one number, and how many there are.
+// (`signed_in` is its twin.)
 #[inline(always)]
 #[tactic(auto, using(crate::proofs::lemmas::BlockLemmas::one_byte, crate::proofs::lemmas::BlockLemmas::two_bytes))]
 fn groups_in(word: u64) -> Option<(u64, usize)>
     ensures { MatchOption result (8 ≤ end_of (to_le_bytes w64 word)) (λ read.
         ReadsGroups (to_le_bytes w64 word) read.0 read.1) }
 {
-    // Most encodings have one or two bytes: a predicted branch takes less time than waiting for a count.
+    // Most encodings have one or two bytes: a predicted branch takes less time than waiting for a
+    // count.
     if word & 0x80 == 0 {
         return Some((word & 0x7f, 1));
     }
@@ -51,8 +53,9 @@ fn groups_in(word: u64) -> Option<(u64, usize)>
     counted_groups(word)
 }
 
-// Returns the signed number that the groups encode, and how many groups there are. It tests for one and two bytes itself,
-// as its twin `groups_in` does: where it took the groups and their count from there, it would shift by a count.
+// Returns the signed number that the groups encode, and how many groups there are. It tests for one
+// and two bytes itself, as its twin `groups_in` does: where it took the groups and their count from
+// there, it would shift by a count.
 #[inline(always)]
 fn signed_in(word: u64) -> Option<(i64, usize)>
     ensures { MatchOption result (8 ≤ end_of (to_le_bytes w64 word)) (λ read.
@@ -79,13 +82,15 @@ fn counted_groups(word: u64) -> Option<(u64, usize)>
     if filled == u64::MAX {
         return None;
     }
-    // The carry goes up to the first high bit that was clear. It sets that bit and clears all bits below it.
+    // The carry goes up to the first high bit that was clear. It sets that bit and clears all bits
+    // below it.
     let carried = filled + 1;
     let count = (carried << 1).trailing_zeros() as usize / 8;
     Some((gathered(word & !carried), count))
 }
 
-// Returns the low seven bits of the eight bytes next to each other: combined in pairs first, then in fours.
+// Returns the low seven bits of the eight bytes next to each other: combined in pairs first, then
+// in fours.
 #[inline(always)]
 #[tactic(auto, using(crate::proofs::lemmas::WordLemmas::gathered_word))]
 fn gathered(word: u64) -> u64
@@ -98,8 +103,9 @@ fn gathered(word: u64) -> u64
     fours & 0x0000_0000_0fff_ffff | (fours & 0x0fff_ffff_0000_0000) >> 4
 }
 
-// Sign-extends the number that `count` groups are. Flips the sign bit of the last group and then subtracts it: where it
-// was set, this subtracts the power of 128. One shift by a count, and no branch.
+// Sign-extends the number that `count` groups are. Flips the sign bit of the last group and then
+// subtracts it: where it was set, this subtracts the power of 128. One shift by a count, and no
+// branch.
 #[inline(always)]
 pub(crate) fn sign_extend(groups: u64, count: usize) -> i64
     requires some { 1 ≤ count }

@@ -9,9 +9,9 @@ use super::groups::{Groups, signed, unfit, unsigned};
 use crate::error::Result;
 use crate::loads::Loads;
 
-/// Reads the unsigned number at the start of a source, and returns its value and its size in bytes. It makes at most
-/// three loads or, if the source has fewer than eight bytes, at most one for each byte. The caller ensures that fewer than
-/// 2^62 loads were made before.
+/// Reads the unsigned number at the start of a source, and returns its value and its size in bytes.
+/// It makes at most three loads or, if the source has fewer than eight bytes, at most one for each
+/// byte. The caller ensures that fewer than 2^62 loads were made before.
 ///
 /// It returns what a read of a [`Uleb128`](super::Uleb128) returns, errors included.
 #[inline(always)]
@@ -45,9 +45,9 @@ pub fn uleb_loads(src: &mut Loads<'_>) -> Result<(u64, usize)>
     Ok(read)
 }
 
-/// Reads the signed number at the start of a source, and returns its value and its size in bytes. It makes at most
-/// three loads or, if the source has fewer than eight bytes, at most one for each byte. The caller ensures that fewer than
-/// 2^62 loads were made before.
+/// Reads the signed number at the start of a source, and returns its value and its size in bytes.
+/// It makes at most three loads or, if the source has fewer than eight bytes, at most one for each
+/// byte. The caller ensures that fewer than 2^62 loads were made before.
 ///
 /// It returns what a read of a [`Sleb128`](super::Sleb128) returns, errors included.
 #[inline(always)]
@@ -115,7 +115,8 @@ fn short_groups(src: &mut Loads<'_>) -> Option<Groups>
     ensures loads { Loaded src.old src.new (length src.old.bytes) }
 {
     let mut groups: u64 = 0;
-    // The number of rounds is constant, so the loop can be unrolled: then a caller's source need not be in memory.
+    // The number of rounds is constant, so the loop can be unrolled: then a caller's source need
+    // not be in memory.
     for i in 0..7 {
         if i == src.len() {
             return None;

@@ -6,7 +6,8 @@ use super::TRUNCATED;
 use super::groups::{Groups, signed, unfit, unsigned};
 use crate::error::Result;
 
-/// Reads the unsigned number at the start of `src`, byte by byte, and returns its value and its size in bytes.
+/// Reads the unsigned number at the start of `src`, byte by byte, and returns its value and its
+/// size in bytes.
 ///
 /// It returns what a read of a [`Uleb128`](super::Uleb128) returns, errors included.
 #[inline(always)]
@@ -23,7 +24,8 @@ pub fn plain_uleb(src: &[u8]) -> Result<(u64, usize)>
     Ok(read)
 }
 
-/// Reads the signed number at the start of `src`, byte by byte, and returns its value and its size in bytes.
+/// Reads the signed number at the start of `src`, byte by byte, and returns its value and its size
+/// in bytes.
 ///
 /// It returns what a read of a [`Sleb128`](super::Sleb128) returns, errors included.
 #[inline(always)]

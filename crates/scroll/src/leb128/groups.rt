@@ -7,11 +7,13 @@ ghost use Rattle.scroll.specs.Leb128.{IsComplete, IsTruncated, ReadsUleb, ReadsS
 use super::block::sign_extend;
 use crate::error::Error;
 
-// The first bytes of an encoding. An encoding of up to nine bytes has as many groups, whose number fits into 63 bits.
+// The first bytes of an encoding. An encoding of up to nine bytes has as many groups, whose number
+// fits into 63 bits.
 pub(crate) enum Groups {
     // The number of all groups, and how many there are, of an encoding of up to nine bytes.
     UpToNine(u64, usize),
-    // The number of the first nine groups, and the tenth byte, where none of the nine bytes ends the encoding.
+    // The number of the first nine groups, and the tenth byte, where none of the nine bytes ends
+    // the encoding.
     Ten(u64, u8),
 }
 
@@ -50,7 +52,8 @@ pub(crate) fn signed(groups: Groups) -> Option<(i64, usize)>
     }
 }
 
-// Returns the error of a source of `len` bytes that isn't truncated, but whose encoding has no number that fits.
+// Returns the error of a source of `len` bytes that isn't truncated, but whose encoding has no
+// number that fits.
 #[inline(always)]
 pub(crate) fn unfit(len: usize) -> Error
     ensures { IsBadInput result len (codes "failed to parse") }

@@ -10,7 +10,8 @@ use crate::error::{Result, check_room};
 pub(crate) fn shortest_count(value: u64) -> usize
     ensures { IsLeast (HoldsGroups value) result }
 {
-    // Most numbers have one byte, and a write tests for one byte first: the two tests become one jump.
+    // Most numbers have one byte, and a write tests for one byte first: the two tests become one
+    // jump.
     if value < 0x80 {
         1
     } else {
@@ -23,12 +24,14 @@ pub(crate) fn shortest_count(value: u64) -> usize
 fn count_by_top_bit(value: u64) -> usize
     ensures { IsLeast (HoldsGroups value) result }
 {
-    // The position of the highest set bit. Seven positions make a group: for positions up to 63 this is index / 7 + 1.
+    // The position of the highest set bit. Seven positions make a group: for positions up to 63
+    // this is index / 7 + 1.
     let index = 63 - (value | 1).leading_zeros() as usize;
     (index * 9 + 73) / 64
 }
 
-// Returns the bits of a number, inverted if it is negative. A signed number takes as many groups as twice the result.
+// Returns the bits of a number, inverted if it is negative. A signed number takes as many groups as
+// twice the result.
 #[inline(always)]
 pub(crate) fn to_magnitude(value: i64) -> u64
     ensures { result ≡ magnitude_bits value }
@@ -40,8 +43,9 @@ pub(crate) fn to_magnitude(value: i64) -> u64
     }
 }
 
-// Writes an encoding of `count` groups to the start of a target, and returns `count`. The first nine groups are those
-// of `low`, and the tenth is `tenth`. A shorter target returns `TooBig`, and is unchanged.
+// Writes an encoding of `count` groups to the start of a target, and returns `count`. The first
+// nine groups are those of `low`, and the tenth is `tenth`. A shorter target returns `TooBig`, and
+// is unchanged.
 #[inline(always)]
 pub(crate) fn put_groups(dst: &mut [u8], low: u64, tenth: u8, count: usize) -> Result<usize>
     requires group { tenth < 128 }
@@ -78,8 +82,8 @@ fn put_one(dst: &mut [u8], low: u64, tenth: u8)
     dst[0] = byte_of(low, tenth, 1, 0);
 }
 
-// Writes an encoding of two or three bytes without a branch on the length: the second byte is written twice if it is
-// the last.
+// Writes an encoding of two or three bytes without a branch on the length: the second byte is
+// written twice if it is the last.
 #[inline(always)]
 fn put_short(dst: &mut [u8], low: u64, tenth: u8, count: usize)
     requires group { tenth < 128 }
@@ -150,7 +154,8 @@ fn put_four(dst: &mut [u8], at: usize, bytes: [u8; 4])
     fill_four(&mut dst[at..at + 4], bytes);
 }
 
-// Fills four bytes by one store, where `copy_from_slice` would first test whether source and target overlap.
+// Fills four bytes by one store, where `copy_from_slice` would first test whether source and target
+// overlap.
 #[inline(always)]
 fn fill_four(dst: &mut [u8], bytes: [u8; 4])
     requires { length dst.old ≡ 4 }

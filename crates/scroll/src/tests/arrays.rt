@@ -1,4 +1,5 @@
-// Arrays, read and written: values from outside, and what an error leaves; and a struct that says its fields once.
+// Arrays, read and written: values from outside, and what an error leaves; and a struct that says
+// its fields once.
 ghost use Rattle.std.specs.Prelude.{◌≡◌, ◌≤◌, ◌++◌, length, drop, refl, IfOk, OnOk};
 ghost use Rattle.std.proofs.Common.{rules};
 ghost use Rattle.scroll.specs.Numbers.{number, number_bytes, signed_number};

@@ -1,6 +1,7 @@
-// C strings, and those of std, read and written, and converted from those of the crate. Each test also passes where an
-// allocation fails (`rt try --test --fail-alloc N`): the call that allocates then returns `NoMemory`, and nothing else
-// changes. So what allocates is called twice: whichever allocation fails, one of the two calls must succeed.
+// C strings, and those of std, read and written, and converted from those of the crate. Each test
+// also passes where an allocation fails (`rt try --test --fail-alloc N`): the call that allocates
+// then returns `NoMemory`, and nothing else changes. So what allocates is called twice: whichever
+// allocation fails, one of the two calls must succeed.
 use crate::cstr::{CStr, CString};
 use crate::ctx::{TryFromCtx, TryIntoCtx};
 use crate::tests::reads::check_read;

@@ -1,5 +1,6 @@
-// The calls for the types of the crate; each call at the greatest offset, which is past the end of every slice: it returns
-// that offset as an error, and nothing changes; and the generic laws, for a type of the crate.
+// The calls for the types of the crate; each call at the greatest offset, which is past the end of
+// every slice: it returns that offset as an error, and nothing changes; and the generic laws, for a
+// type of the crate.
 use crate::cstr::CStr;
 use crate::ctx::{FromCtx, IntoCtx, StrCtx, TryFromCtx, TryIntoCtx};
 use crate::laws::{

@@ -1,4 +1,5 @@
-// The cursor, the default contexts and bulk reads; and writes to a borrowed slice, in the default context and in a given one.
+// The cursor, the default contexts and bulk reads; and writes to a borrowed slice, in the default
+// context and in a given one.
 ghost use Rattle.std.specs.Prelude.{◌<◌};
 
 use crate::tests::reads::{check_gread_gwrite, check_read};

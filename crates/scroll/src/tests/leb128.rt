@@ -19,7 +19,8 @@ fn signed(source: &[u8]) -> Result<(i64, usize)> {
     Ok((*number.as_ref(), number.size()))
 }
 
-// Checks that a read of `len` bytes was refused: ten bytes or more are no number, and fewer are truncated.
+// Checks that a read of `len` bytes was refused: ten bytes or more are no number, and fewer are
+// truncated.
 fn check_refusal<T: Drop>(rt: &impl Abort, read: Result<T>, len: usize) {
     if len < 10 {
         check_too_big(rt, read, 1, 0);
@@ -120,8 +121,8 @@ fn padded_texts(rt: HostRuntime) {
     );
 }
 
-// For each number of bytes before the last one, what both types read where the last byte is 0x40, and what they read
-// where it is 0x3f.
+// For each number of bytes before the last one, what both types read where the last byte is 0x40,
+// and what they read where it is 0x3f.
 const SIGN_BITS: [(u64, i64, i64); 9] = [
     (64, -64, 63),
     (8192, -8192, 8064),
@@ -157,7 +158,8 @@ fn sign_bits(rt: HostRuntime) {
     check_value(&rt, signed(&eight_groups), (-72057594037927936, 9));
 }
 
-// Checks that a read of twelve bytes returned this number of ten bytes, or refused it where there is none.
+// Checks that a read of twelve bytes returned this number of ten bytes, or refused it where there
+// is none.
 fn check_ten<N: PartialEq + Debug + Drop>(
     rt: &impl Abort,
     read: Result<(N, usize)>,

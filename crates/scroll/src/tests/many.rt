@@ -1,4 +1,5 @@
-// Many values, and bytes that are appended to a vector. The bytes are those of Python's `struct.pack`.
+// Many values, and bytes that are appended to a vector. The bytes are those of Python's
+// `struct.pack`.
 use crate::ctx::{Table, Value, append};
 use crate::tests::results::{check_eq, check_too_big, check_value, expect_value};
 use crate::{BE, Error, LE, Result, read_many, write_many, write_tagged};

@@ -1,5 +1,5 @@
-// Strings, byte slices and measures: the calls for them, which bytes are strings, and strings whose delimiter the source
-// must contain.
+// Strings, byte slices and measures: the calls for them, which bytes are strings, and strings whose
+// delimiter the source must contain.
 use crate::ctx::{MeasureWith, NULL, RET, SPACE, StrCtx, TAB};
 use crate::tests::reads::check_read;
 use crate::tests::results::{

@@ -1,5 +1,5 @@
-// Sessions of numbers of each type, of strings, slices, C strings, numbers in LEB128 and arrays, and of reads and writes at the
-// cursor.
+// Sessions of numbers of each type, of strings, slices, C strings, numbers in LEB128 and arrays,
+// and of reads and writes at the cursor.
 use crate::tests::sessions::{expect_session, expect_sessions};
 use std::alloc::Global;
 use std::process::Abort;

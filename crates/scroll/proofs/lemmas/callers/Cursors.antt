@@ -1,5 +1,5 @@
--- Lemmas for callers: what was read at an offset and where the cursor then is, lists of reads, bytes that are written
--- one after another, a number and its bytes, and an error that `?` returns.
+-- Lemmas for callers: what was read at an offset and where the cursor then is, lists of reads,
+-- bytes that are written one after another, a number and its bytes, and an error that `?` returns.
 use Rattle.std.proofs.Common.{◌≡◌, ℕ, zero, suc, ◌+◌, ◌*◌, ◌<◌, ◌≤◌, ◌++◌, List, [], ◌∷◌, length, take, drop, slice_index, Some, refl, sym, ap, ◌∙◌, arith, append_assoc, Result, Err, IfErr, OnErr}
 use Rattle.std.proofs.Math.Nat.{mul-suc}
 use Rattle.std.proofs.lemmas.Grind.{common_steps}
@@ -18,8 +18,8 @@ use Rattle.scroll.specs.declared.endian.Endian.TheVariants.{Little, Big}
 pub use Rattle.scroll.specs.lemmas.Frames.{length-number_bytes, length-signed_bytes}
 -- numbers of the same bytes
 pub use Rattle.scroll.specs.lemmas.NumberLemmas.{number-prefix}
--- the bytes of a slice are below 256, and a number of w of them below 256 ^ w; of a slice `s` of bytes `type_inv.s` says
--- that each fits
+-- the bytes of a slice are below 256, and a number of w of them below 256 ^ w; of a slice `s` of
+-- bytes `type_inv.s` says that each fits
 pub use Rattle.scroll.specs.lemmas.FixedLemmas.{byte-bound, number-bound}
 
 -- the value that was read with a cursor at an offset
@@ -43,8 +43,8 @@ ReadsAll-next reads buffer from vs mid to v h read = ReadsAll-push reads buffer 
 pub ReadsAll-pushed : {V : Type 0} {reads : List ℕ → V → ℕ → Type 0} {buffer : List ℕ} (from : ℕ) {mid to : ℕ} (vs : List V) {xs : List V} {v : V} → ReadsAll reads buffer from vs mid → ReadsBetween reads buffer mid to v → xs ≡ vs ++ v ∷ [] → ReadsAll reads buffer from xs to
 ReadsAll-pushed {V} {reads} {buffer} from {mid} {to} vs {xs} {v} h read is = rw is (ReadsAll-next reads buffer from vs mid to v h read)
 
--- a call with a cursor failed, and `at` added the offset to its error: the offset is the cursor, and what holds of the
--- call's error holds of the one in the `At`
+-- a call with a cursor failed, and `at` added the offset to its error: the offset is the cursor,
+-- and what holds of the call's error holds of the one in the `At`
 pub located : {V E : Type 0} (P : E → Type 0) {from to offset : ℕ} {r : Result V E} {e : E} → r ≡ Err e → offset ≡ to → OnErr r (to ≡ from) → IfErr r P → (offset ≡ from) × P e
 located P is at stays refused = (at ∙ (rw is at stays), rw is at refused)
 

@@ -1,6 +1,6 @@
--- From a call to leaves. What is written is a list of leaves, each of which is written whole or not at all. These
--- lemmas say which leaves a type has, that a write at an offset is a write of them there, and that writes that don't
--- overlap may be exchanged.
+-- From a call to leaves. What is written is a list of leaves, each of which is written whole or not
+-- at all. These lemmas say which leaves a type has, that a write at an offset is a write of them
+-- there, and that writes that don't overlap may be exchanged.
 use Rattle.std.proofs.Common.{◌≡◌, ℕ, ℤ, ◌+◌, ◌-◌, ◌≤◌, ◌<◌, ◌++◌, List, [], ◌∷◌, length, drop, map, arith, refl, sym, ◌∙◌, ap, subst, inl, inr, ◌⊎◌, Some, Result, Ok, Err, IfOk, IfErr, FitsSigned, to_z, of_z}
 use Rattle.std.proofs.lemmas.Int.{to_z-of_z}
 use Rattle.std.specs.Borrow.{Bor}
@@ -25,9 +25,8 @@ use Rattle.scroll.specs.declared.error.Error.{Error}
 use Rattle.scroll.specs.declared.error.Error.TheVariants.{TooBig}
 use Rattle.scroll.specs.lemmas.Frames.{length-number_bytes, length-signed_bytes, length-encoding}
 
--- WHICH LEAVES A TYPE HAS
--- bytes that are written whole or not at all are one leaf, such as those of a caller's own type with `WritesPrefix` and
--- `FailsShort`
+-- WHICH LEAVES A TYPE HAS bytes that are written whole or not at all are one leaf, such as those of
+-- a caller's own type with `WritesPrefix` and `FailsShort`
 pub prefix-leaf-by : {V : Type 0} (w : V → ℕ) (bytes : V → List ℕ) → ((x : V) → length (bytes x) ≡ w x) → HasLeaves (λ x. bytes x ∷ []) (λ x. WritesPrefix (w x) (bytes x)) (λ x. FailsShort (w x))
 prefix-leaf-by w bytes len = record {
   written = λ x old new n h.

@@ -1,5 +1,5 @@
--- Lemmas for callers: values that are written one after another by `write_many`, or by a loop of one's own, and that these
--- read back by `read_many`.
+-- Lemmas for callers: values that are written one after another by `write_many`, or by a loop of
+-- one's own, and that these read back by `read_many`.
 use Rattle.std.proofs.Common.{◌≡◌, ℕ, ◌+◌, ◌<◌, ◌≤◌, ◌++◌, List, [], ◌∷◌, length, take, drop, sym, ap, subst, append_assoc, arith, ◌∙◌}
 use Rattle.std.proofs.lemmas.List.{drop-take, take-take, take_more, take-append-drop}
 use Rattle.std.proofs.lemmas.List.Elements.{All-head, All-tail}

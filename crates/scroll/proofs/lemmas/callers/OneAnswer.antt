@@ -1,4 +1,5 @@
--- Exactly one result, and the laws of a reader: lemmas that give these for a type, for its arrays, and for arrays of these.
+-- Exactly one result, and the laws of a reader: lemmas that give these for a type, for its arrays,
+-- and for arrays of these.
 use Rattle.std.proofs.Common.{◌≡◌, ℕ, zero, suc, ◌+◌, ◌≤◌, ◌<◌, List, [], ◌∷◌, length, drop, arith, refl, sym, ◌∙◌, ap, subst, inl, inr, ◌⊎◌, Result, Ok, Err}
 use Rattle.std.proofs.lemmas.Bool.{cases_lt}
 use Rattle.scroll.specs.Arrays.{ReadsArray, RefusesArray, ReadsNested, RefusesNested}

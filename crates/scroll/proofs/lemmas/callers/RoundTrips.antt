@@ -30,7 +30,8 @@ back-grow order w offset s prefix h room is = back-next offset w s is (number-ba
 is-byte : (b d : ℕ) → (b == d) ≡ true → b ≡ d
 is-byte b d e = grind (arith, e)
 
--- a string that a delimiter ends: its size, and that the bytes of this size are the string and the delimiter
+-- a string that a delimiter ends: its size, and that the bytes of this size are the string and the
+-- delimiter
 pub required-size : (d : ℕ) (s text : List ℕ) (n : ℕ) → ReadsText (Required d) s text n → n ≡ length text + 1
 required-size d s text n r = let len = ap length r.prefix in let part = length-take (index_of d s) s in omega (arith, r.size, len, part, r.there)
 

@@ -45,7 +45,8 @@ prefix-stands {t} {buffer} {a} {b} n inside room is to =
 pub bytes-below : (offset : ℕ) (s : List ℕ) → ((i : ℕ) → Fits w8 (slice_index s i)) → All (λ b. b < 256) (drop offset s)
 bytes-below offset s h = All-from_get_or (λ b. b < 256) (drop offset s) 0 (λ i l. rw (get_or-drop offset s i 0) (omega (arith, (h (offset + i)).fits)))
 
--- a number in LEB128 that was read is there as its encoding; `law` is what `unsigned_reads_are_encodings` says
+-- a number in LEB128 that was read is there as its encoding; `law` is what
+-- `unsigned_reads_are_encodings` says
 pub uleb-stands : {buffer : List ℕ} {a b : ℕ} {x : Counted ℕ} → ((s : List ℕ) (v n : ℕ) → All (λ b. b < 256) s → ReadsUleb s v n ↔ BeginsWith s v n)
     → ((i : ℕ) → Fits w8 (slice_index buffer i)) → ReadsBetween ReadsCountedUleb buffer a b x → Stands (uleb_text x) buffer a b
 uleb-stands {buffer} {a} {b} {x} law bytes r =
@@ -199,6 +200,7 @@ pub puts-copy : {X : Type 0} (f : X → List ℕ) (xs : List X) (i : ℕ) (d : X
 puts-copy f xs i d {a} {b} {c} {p} {q} {r} h before wrote =
     subst (λ t. Puts t a c p r) (sym (ap (flat_map f) (take_more xs i d h) ∙ sym (flat_map_more f [] (take i xs) (get_or xs i d)))) (puts-next before wrote)
 
--- for functions that write one part of a text after another: `#[tactic(auto, using(scroll::proofs::lemmas::callers::SpanLemmas::parts))]`
--- tries these on the error of each part
+-- for functions that write one part of a text after another: `#[tactic(auto,
+-- using(scroll::proofs::lemmas::callers::SpanLemmas::parts))]` tries these on the error of each
+-- part
 pub ruleset parts = (prefix-first, prefix-next, uleb-prefix, sleb-prefix, byte-prefix)

@@ -1,5 +1,6 @@
--- Lemmas for callers: loops over a table, whose elements follow one another. Each record is the invariant of such a
--- loop: of elements that are read, of elements of one size that are read, and of elements that are written.
+-- Lemmas for callers: loops over a table, whose elements follow one another. Each record is the
+-- invariant of such a loop: of elements that are read, of elements of one size that are read, and
+-- of elements that are written.
 use Rattle.std.proofs.Common.{◌≡◌, ℕ, suc, ◌+◌, ◌*◌, ◌<◌, ◌≤◌, ◌++◌, List, [], ◌∷◌, length, take, drop, get_or, Some, inl, inr, sym, ap, subst, ◌∙◌, arith, append_assoc, length-append, length-drop}
 use Rattle.std.proofs.Math.Nat.{mul-suc}
 use Rattle.std.proofs.lemmas.Grind.{take_at_read, flat_map-append}
@@ -65,8 +66,8 @@ table-at {X} {f} {w} {buffer} {from} {to} {xs} h = ReadsAll-at f w buffer from x
 pub record PutsEach {X : Type 0} (text : X → List ℕ) (prefix : List ℕ) (xs : List X) (i : ℕ) (old now : List ℕ) (from to : ℕ) : Type 0 where
   pub put : Puts (prefix ++ flat_map text (take i xs)) old now from to
 
--- Of a loop `for x in &xs` over a vector, `same` is the clause `value` of the call that lends its slice, as
--- `c.deref-x-items.ensures.value`; over a slice it is `refl`.
+-- Of a loop `for x in &xs` over a vector, `same` is the clause `value` of the call that lends its
+-- slice, as `c.deref-x-items.ensures.value`; over a slice it is `refl`.
 module _ {X : Type 0} {text : X → List ℕ} {prefix : List ℕ} {xs : List X} {old now : List ℕ} {from to : ℕ} where
   -- none yet
   pub written-none : Puts prefix old now from to → PutsEach text prefix xs 0 old now from to
