@@ -219,7 +219,7 @@ impl<A: Encode, B: Encode, C: Encode, D: Encode> Encode for (A, B, C, D) {
 /// past it.
 ///
 /// Returns [`Error::BadOffset`] for an offset past the end, and [`Error::TooBig`] with the width of
-/// the value and the number of bytes there if they are fewer.
+/// the value and the number of bytes there if they are fewer. On an error the cursor is unchanged.
 #[inline(always)]
 pub fn read_fixed<P: Fixed>(from: &[u8], offset: &mut usize, order: Endian) -> Result<P>
     requires { P.width < 2 ^ 64 }
@@ -228,6 +228,7 @@ pub fn read_fixed<P: Fixed>(from: &[u8], offset: &mut usize, order: Endian) -> R
     ensures moves { OnOk result (offset.new ≡ offset.old + P.width) }
     ensures refused { IfErr result
         (RefusesAt (RefusesShort P.width) IsBadOffset from.now offset.old) }
+    ensures stays { OnErr result (offset.new ≡ offset.old) }
 {
     if *offset > from.len() {
         return Err(Error::BadOffset(*offset));
