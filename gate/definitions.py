@@ -10,6 +10,7 @@ Of the words of laws the page has the names.
 A file of specs/ is a check.
 """
 
+import itertools
 import re
 from dataclasses import dataclass
 from pathlib import Path
@@ -68,10 +69,12 @@ def definition(name: str, after_name: str, lines: List[str]) -> Definition:
     """A definition with its form, the name and the parameters; the form is empty where there are several equations."""
     parts = [found[1] for found in map(PART.match, lines) if found]
     if lines[0].startswith("pub record"):
+        after_name = " ".join([after_name, *itertools.takewhile(lambda line: not PART.match(line), lines[1:])])
         return Definition(name, " ".join([name, *PARAMETERS.findall(after_name)]), parts, [])
-    heads = [re.split(r" =(?: |$)", line)[0] for line in lines[1:] if line.split(" ")[0] == name]
+    equations = list(itertools.dropwhile(lambda line: line.split(" ")[0] != name, lines[1:]))
+    heads = [re.split(r" =(?: |$)", line)[0] for line in equations if line.split(" ")[0] == name]
     form = " ".join(re.sub(r"\{\w+\}", "", heads[0]).split()) if len(heads) == 1 else ""
-    return Definition(name, form, [], lines[1:])
+    return Definition(name, form, [], equations)
 
 
 def item(meaning: str, group: List[Definition]) -> str:

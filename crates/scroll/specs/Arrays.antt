@@ -15,14 +15,17 @@ use Rattle.arrayvec.specs.contracts.array_vec.ArrayVec as vec
 
 -- `vs` are `count` values, read one after another from the start of the source, and the last ends
 -- at `n`
-pub record ReadsArray {V : Type 0} (reads : List ℕ → V → ℕ → Type 0) (count : ℕ) (source : List ℕ) (vs : List V) (n : ℕ) : Type 0 where
+pub record ReadsArray {V : Type 0} (reads : List ℕ → V → ℕ → Type 0) (count : ℕ) (source : List ℕ)
+    (vs : List V) (n : ℕ) : Type 0 where
   pub len : length vs ≡ count
   pub each : ReadsAll reads source 0 vs n
 
 -- fewer than `count` values are read one after another from the start of the source, and `e` is the
 -- error of the next, at the offset where the last of them ends. That offset counts from the start
 -- of the array.
-pub record RefusesArray {V E : Type 0} (reads : List ℕ → V → ℕ → Type 0) (refuses : List ℕ → E → Type 0) (past_end : ℕ → E → Type 0) (count : ℕ) (source : List ℕ) (e : E) : Type 0 where
+pub record RefusesArray {V E : Type 0} (reads : List ℕ → V → ℕ → Type 0)
+    (refuses : List ℕ → E → Type 0) (past_end : ℕ → E → Type 0) (count : ℕ) (source : List ℕ)
+    (e : E) : Type 0 where
   pub prefix : List V
   pub stop : ℕ
   pub fewer : length prefix < count
@@ -37,32 +40,40 @@ Nested V (count ∷ counts) = List (Nested V counts)
 
 -- `ReadsNested reads counts`: how such an array is read: with no length by `reads`, and else by
 -- `ReadsArray` over `ReadsNested` for the other lengths
-abbrev pub ReadsNested : {V : Type 0} → (List ℕ → V → ℕ → Type 0) → (counts : List ℕ) → List ℕ → Nested V counts → ℕ → Type 0
+abbrev pub ReadsNested : {V : Type 0} → (List ℕ → V → ℕ → Type 0) → (counts : List ℕ) → List ℕ
+    → Nested V counts → ℕ → Type 0
 ReadsNested reads [] = reads
 ReadsNested reads (count ∷ counts) = ReadsArray (ReadsNested reads counts) count
 
 -- `RefusesNested reads refuses past_end counts`: how the read of such an array fails: with no
 -- length by `refuses`, and else by `RefusesArray` over `RefusesNested` for the other lengths
-abbrev pub RefusesNested : {V E : Type 0} → (List ℕ → V → ℕ → Type 0) → (List ℕ → E → Type 0) → (ℕ → E → Type 0) → List ℕ → List ℕ → E → Type 0
+abbrev pub RefusesNested : {V E : Type 0} → (List ℕ → V → ℕ → Type 0) → (List ℕ → E → Type 0)
+    → (ℕ → E → Type 0) → List ℕ → List ℕ → E → Type 0
 RefusesNested reads refuses past_end [] = refuses
 RefusesNested reads refuses past_end (count ∷ counts) =
-    RefusesArray (ReadsNested reads counts) (RefusesNested reads refuses past_end counts) past_end count
+    RefusesArray (ReadsNested reads counts)
+    (RefusesNested reads refuses past_end counts) past_end count
 
 -- `WritesAll writes old from vs new to`: the values `vs` are written one after another, the first
 -- at `from` and each where the one before it ends, and the last ends at `to`
-abbrev pub WritesAll : {V : Type 0} → (V → List ℕ → List ℕ → ℕ → Type 0) → List ℕ → ℕ → List V → List ℕ → ℕ → Type 0
+abbrev pub WritesAll : {V : Type 0} → (V → List ℕ → List ℕ → ℕ → Type 0) → List ℕ → ℕ → List V
+    → List ℕ → ℕ → Type 0
 WritesAll writes old from [] new to = (new ≡ old) × (to ≡ from)
 WritesAll writes old from (v ∷ vs) new to =
-    (mid : List ℕ) × (n : ℕ) × WritesAt (writes v) old from mid n × WritesAll writes mid (from + n) vs new to
+    (mid : List ℕ) × (n : ℕ) × WritesAt (writes v) old from mid n
+    × WritesAll writes mid (from + n) vs new to
 
 -- `WritesAll` from the start of the target, where the last value ends at `n`
-abbrev pub WritesArray : {V : Type 0} → (V → List ℕ → List ℕ → ℕ → Type 0) → List V → List ℕ → List ℕ → ℕ → Type 0
+abbrev pub WritesArray : {V : Type 0} → (V → List ℕ → List ℕ → ℕ → Type 0) → List V → List ℕ
+    → List ℕ → ℕ → Type 0
 WritesArray writes vs old new n = WritesAll writes old 0 vs new n
 
 -- the values before some value of `vs` are written one after another from the start of the target,
 -- and the write of that value, at the offset where the last of them ends, fails with `e` and leaves
 -- `new`
-pub record FailsArray {V E : Type 0} (writes : V → List ℕ → List ℕ → ℕ → Type 0) (refuses : V → List ℕ → List ℕ → E → Type 0) (vs : List V) (old new : List ℕ) (e : E) : Type 0 where
+pub record FailsArray {V E : Type 0} (writes : V → List ℕ → List ℕ → ℕ → Type 0)
+    (refuses : V → List ℕ → List ℕ → E → Type 0) (vs : List V) (old new : List ℕ)
+    (e : E) : Type 0 where
   pub prefix : List V
   pub value : V
   pub back : List V
@@ -74,25 +85,30 @@ pub record FailsArray {V E : Type 0} (writes : V → List ℕ → List ℕ → �
 
 -- `vs` are `count` values, each made of the bytes that begin `width` bytes after those of the value
 -- before it
-pub record MakesArray {V : Type 0} (width : ℕ) (makes : List ℕ → V → Type 0) (count : ℕ) (source : List ℕ) (vs : List V) : Type 0 where
+pub record MakesArray {V : Type 0} (width : ℕ) (makes : List ℕ → V → Type 0) (count : ℕ)
+    (source : List ℕ) (vs : List V) : Type 0 where
   pub len : length vs ≡ count
   pub each : (i : ℕ) (d : V) → i < count → makes (drop (width * i) source) (slice_index_or vs i d)
 
 -- a value is put at the offset `offset` of a target, and the bytes before it are unchanged
-pub record OverwritesValue (overwrites : List ℕ → List ℕ → Type 0) (old : List ℕ) (offset : ℕ) (new : List ℕ) : Type 0 where
+pub record OverwritesValue (overwrites : List ℕ → List ℕ → Type 0) (old : List ℕ) (offset : ℕ)
+    (new : List ℕ) : Type 0 where
   pub before : take offset new ≡ take offset old
   pub after : overwrites (drop offset old) (drop offset new)
 
 -- `OverwritesAll width overwrites old from vs new`: the values are put one after another from the
 -- offset `from`, each `width` bytes after the one before it
-abbrev pub OverwritesAll : {V : Type 0} → ℕ → (V → List ℕ → List ℕ → Type 0) → List ℕ → ℕ → List V → List ℕ → Type 0
+abbrev pub OverwritesAll : {V : Type 0} → ℕ → (V → List ℕ → List ℕ → Type 0) → List ℕ → ℕ → List V
+    → List ℕ → Type 0
 OverwritesAll width overwrites old from [] new = new ≡ old
 OverwritesAll width overwrites old from (v ∷ vs) new =
-    (mid : List ℕ) × OverwritesValue (overwrites v) old from mid × OverwritesAll width overwrites mid (from + width) vs new
+    (mid : List ℕ) × OverwritesValue (overwrites v) old from mid
+    × OverwritesAll width overwrites mid (from + width) vs new
 
 -- `vs` are `count` values, put one after another from the start of the target, each `width` bytes
 -- after the one before it
-pub record FillsArray {V : Type 0} (width : ℕ) (overwrites : V → List ℕ → List ℕ → Type 0) (count : ℕ) (vs : List V) (old new : List ℕ) : Type 0 where
+pub record FillsArray {V : Type 0} (width : ℕ) (overwrites : V → List ℕ → List ℕ → Type 0)
+    (count : ℕ) (vs : List V) (old new : List ℕ) : Type 0 where
   pub len : length vs ≡ count
   pub each : OverwritesAll width overwrites old 0 vs new
 
@@ -112,4 +128,5 @@ ItemsFit T N = OptionFits (items.the_row T N)
 -- both fit with one `Option` more: an optional value of an optional such vector takes fewer than
 -- 2^63 bytes, and so does one of an optional such iterator. Then `array_fits` returns `true`.
 abbrev pub HoldersFit : RattleType → RattleType → Type 0
-HoldersFit T N = OptionFits (option.the_row (vec.the_row (option.the_row T) N unit)) × OptionFits (option.the_row (items.the_row T N))
+HoldersFit T N = OptionFits (option.the_row (vec.the_row (option.the_row T) N unit))
+    × OptionFits (option.the_row (items.the_row T N))

@@ -17,7 +17,8 @@ list_below f n = map f (range_with_len 0 n)
 
 -- a value is read from the first `w` bytes of a source: the source has `w` bytes or more and makes
 -- `x`, and the size `n` is `w`
-pub record ReadsFixed {X : Type 0} (w : ℕ) (makes : List ℕ → X → Type 0) (source : List ℕ) (x : X) (n : ℕ) : Type 0 where
+pub record ReadsFixed {X : Type 0} (w : ℕ) (makes : List ℕ → X → Type 0) (source : List ℕ) (x : X)
+    (n : ℕ) : Type 0 where
   pub room : w ≤ length source
   pub value : makes source x
   pub size : n ≡ w

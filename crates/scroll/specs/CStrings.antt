@@ -26,7 +26,8 @@ pub record RefusesCString (source : List ℕ) (e : Error) : Type 0 where
 -- a read that copies the text fails: `RefusesCString`; or the source has a zero, and the error is
 -- `NoMemory`
 abbrev pub RefusesCopy : List ℕ → Error → Type 0
-RefusesCopy source e = RefusesCString source e ⊎ ((index_of 0 source < length source) × (e ≡ NoMemory))
+RefusesCopy source e =
+    RefusesCString source e ⊎ ((index_of 0 source < length source) × (e ≡ NoMemory))
 
 -- no C string is made of a text: it has a zero, and the error is `BadInput` with the index of the
 -- first one as its size and the message `nul byte in text`; or it has none, and the error is

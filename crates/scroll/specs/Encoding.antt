@@ -33,7 +33,8 @@ abbrev pub SignedRoom : ℤ → ℕ → Type 0
 SignedRoom v n = (neg_ℤ (pos (64 * 128 ^ (n - 1))) ≤ℤ v) × (v <ℤ pos (64 * 128 ^ (n - 1)))
 
 -- `v` has an encoding of `n` bytes: `n` is from 1 to 10, `n` groups have room for `v`, and `v` fits
-pub record HasLeb {V : Type 0} (HasRoom : V → ℕ → Type 0) (Fits : V → Type 0) (v : V) (n : ℕ) : Type 0 where
+pub record HasLeb {V : Type 0} (HasRoom : V → ℕ → Type 0) (Fits : V → Type 0) (v : V)
+    (n : ℕ) : Type 0 where
   pub some : 1 ≤ n
   pub few : n ≤ 10
   pub room : HasRoom v n
@@ -51,7 +52,8 @@ abbrev pub HoldsGroups : ℕ → ℕ → Type 0
 HoldsGroups = HasLeb Room (λ v. ⊤)
 
 -- `Has v n` holds, and `s` begins with the encoding of the unsigned number `form v n` in `n` bytes
-pub record BeginsWithLeb {V : Type 0} (Has : V → ℕ → Type 0) (form : V → ℕ → ℕ) (s : List ℕ) (v : V) (n : ℕ) : Type 0 where
+pub record BeginsWithLeb {V : Type 0} (Has : V → ℕ → Type 0) (form : V → ℕ → ℕ) (s : List ℕ) (v : V)
+    (n : ℕ) : Type 0 where
   pub has : Has v n
   pub prefix : take n s ≡ encoding (form v n) n
 
@@ -100,8 +102,10 @@ ten_groups low tenth = tenth * 2 ^ 63 + low % 2 ^ 63
 -- a source reads as a value with a size exactly where it begins with the encoding of that value in
 -- that many bytes; a value has one encoding of each length from its shortest to ten; and no
 -- encoding is a prefix of another
-pub record ReadsEncodings {V : Type 0} (reads_as : List ℕ → V → ℕ → Type 0) (Has : V → ℕ → Type 0) (form : V → ℕ → ℕ) : Type 0 where
-  pub reads : (source : List ℕ) (x : V) (n : ℕ) → All (λ b. b < 256) source → reads_as source x n ↔ BeginsWithLeb Has form source x n
+pub record ReadsEncodings {V : Type 0} (reads_as : List ℕ → V → ℕ → Type 0) (Has : V → ℕ → Type 0)
+    (form : V → ℕ → ℕ) : Type 0 where
+  pub reads : (source : List ℕ) (x : V) (n : ℕ) → All (λ b. b < 256) source
+      → reads_as source x n ↔ BeginsWithLeb Has form source x n
   pub longer : (x : V) (m n : ℕ) → Has x m → m ≤ n → n ≤ 10 → Has x n
   pub one : (x y : V) (m n : ℕ) (after_x after_y : List ℕ) → Has x m → Has y n
       → encoding (form x m) m ++ after_x ≡ encoding (form y n) n ++ after_y → (x ≡ y) × (m ≡ n)
@@ -109,10 +113,14 @@ pub record ReadsEncodings {V : Type 0} (reads_as : List ℕ → V → ℕ → Ty
 -- what was read is written back byte for byte; what was written reads back with the same value and
 -- size, whatever bytes follow; and every source that reads as it begins with the bytes that were
 -- written
-pub record KeepsTexts {V : Type 0} (reads_as : List ℕ → V → ℕ → Type 0) (Has : V → ℕ → Type 0) (form : V → ℕ → ℕ) : Type 0 where
-  pub back : (source old new : List ℕ) (x : Counted V) (m n : ℕ) → All (λ b. b < 256) source → ReadsCounted reads_as source x n
+pub record KeepsTexts {V : Type 0} (reads_as : List ℕ → V → ℕ → Type 0) (Has : V → ℕ → Type 0)
+    (form : V → ℕ → ℕ) : Type 0 where
+  pub back : (source old new : List ℕ) (x : Counted V) (m n : ℕ) → All (λ b. b < 256) source
+      → ReadsCounted reads_as source x n
       → WritesLeb form x old new m → (m ≡ n) × (new ≡ take n source ++ drop n old)
-  pub again : (old new after : List ℕ) (x : Counted V) (n : ℕ) → Has x.value x.count → WritesLeb form x old new n
+  pub again : (old new after : List ℕ) (x : Counted V) (n : ℕ) → Has x.value x.count
+      → WritesLeb form x old new n
       → ReadsCounted reads_as (take n new ++ after) x n
-  pub begins : (source old new : List ℕ) (x : Counted V) (m n : ℕ) → All (λ b. b < 256) source → ReadsCounted reads_as source x n
+  pub begins : (source old new : List ℕ) (x : Counted V) (m n : ℕ) → All (λ b. b < 256) source
+      → ReadsCounted reads_as source x n
       → WritesLeb form x old new m → take m source ≡ take m new

@@ -13,9 +13,11 @@ use Rattle.scroll.specs.declared.small_error.SmallError.TheVariants as small
 -- `line_of e`: the line that an error prints, byte for byte; the contracts leave open what a
 -- stream's error prints:
 abbrev pub line_of : Error → Option (List ℕ)
-line_of (TooBig size len) = Some (codes "type is too big (" ++ decimal size ++ codes ") for " ++ decimal len)
+line_of (TooBig size len) =
+    Some (codes "type is too big (" ++ decimal size ++ codes ") for " ++ decimal len)
 line_of (BadOffset offset) = Some (codes "bad offset " ++ decimal offset)
-line_of (BadInput size msg) = Some (codes "bad input " ++ msg.now ++ codes " (" ++ decimal size ++ codes ")")
+line_of (BadInput size msg) =
+    Some (codes "bad input " ++ msg.now ++ codes " (" ++ decimal size ++ codes ")")
 line_of (Custom text) = Some (string_bytes text)
 line_of (IO fault) = None
 line_of NoMemory = Some (codes "out of memory")

@@ -26,14 +26,16 @@ last_byte (p ∷ ps) i = option_or (last_byte ps i) (byte_of p i)
 -- the buffer as it is seen after a history, with the length unchanged: at each offset the last byte
 -- of the history, or that of `buffer` where no piece covers the offset
 abbrev pub seen : List ℕ → List Piece → List ℕ
-seen buffer history = list_below (λ i. unwrap_or (last_byte history i) (slice_index buffer i)) (length buffer)
+seen buffer history =
+    list_below (λ i. unwrap_or (last_byte history i) (slice_index buffer i)) (length buffer)
 
 -- `pieces len offset leaves`: the leaves laid one after another from the offset `offset` in a
 -- buffer of the length `len`, ending before the first leaf that is longer than the bytes left to it
 abbrev pub pieces : ℕ → ℕ → List (List ℕ) → List Piece
 pieces len offset [] = []
 pieces len offset (leaf ∷ leaves) =
-    if nat_le (offset + length leaf) len then (offset, leaf) ∷ pieces len (offset + length leaf) leaves else []
+    if nat_le (offset + length leaf) len
+    then (offset, leaf) ∷ pieces len (offset + length leaf) leaves else []
 
 -- `left_over len offset leaves`: the error of that first leaf, if there is one: `TooBig` with its
 -- length and the number of bytes left to it
@@ -46,21 +48,28 @@ left_over len offset (leaf ∷ leaves) =
 -- the error of a write of leaves, if it fails: `BadOffset` where the offset is past the end, and
 -- else `left_over`
 abbrev pub refusal : ℕ → ℕ → List (List ℕ) → Option Error
-refusal len offset leaves = if nat_lt len offset then Some (BadOffset offset) else left_over len offset leaves
+refusal len offset leaves =
+    if nat_lt len offset then Some (BadOffset offset) else left_over len offset leaves
 
 -- a write of leaves returns `r`: the `refusal` where there is one, and else the sum of the lengths
 -- of the leaves
 abbrev pub AnswersLeaves : ℕ → ℕ → List (List ℕ) → Result ℕ Error → Type 0
 AnswersLeaves len offset leaves r =
-    MatchResult r (λ n. (refusal len offset leaves ≡ None) × (n ≡ sum_by length leaves)) (λ e. refusal len offset leaves ≡ Some e)
+    MatchResult r (λ n. (refusal len offset leaves ≡ None) × (n ≡ sum_by length leaves))
+    (λ e. refusal len offset leaves ≡ Some e)
 
 -- `new` is what is seen of `old` after the pieces, and `r` is what the write returns
-pub record WritesLeaves (old : List ℕ) (offset : ℕ) (leaves : List (List ℕ)) (new : List ℕ) (r : Result ℕ Error) : Type 0 where
+pub record WritesLeaves (old : List ℕ) (offset : ℕ) (leaves : List (List ℕ)) (new : List ℕ)
+    (r : Result ℕ Error) : Type 0 where
   pub after : new ≡ seen old (pieces (length old) offset leaves)
   pub answer : AnswersLeaves (length old) offset leaves r
 
 -- of every value, the relations of its type imply `WritesLeaves` of its leaves at the start of a
 -- target
-pub record HasLeaves {V : Type 0} (leaves : V → List (List ℕ)) (writes : V → List ℕ → List ℕ → ℕ → Type 0) (refuses : V → List ℕ → List ℕ → Error → Type 0) : Type 0 where
-  pub written : (x : V) (old new : List ℕ) (n : ℕ) → writes x old new n → WritesLeaves old 0 (leaves x) new (Ok n)
-  pub refused : (x : V) (old new : List ℕ) (e : Error) → refuses x old new e → WritesLeaves old 0 (leaves x) new (Err e)
+pub record HasLeaves {V : Type 0} (leaves : V → List (List ℕ))
+    (writes : V → List ℕ → List ℕ → ℕ → Type 0)
+    (refuses : V → List ℕ → List ℕ → Error → Type 0) : Type 0 where
+  pub written : (x : V) (old new : List ℕ) (n : ℕ) → writes x old new n
+      → WritesLeaves old 0 (leaves x) new (Ok n)
+  pub refused : (x : V) (old new : List ℕ) (e : Error) → refuses x old new e
+      → WritesLeaves old 0 (leaves x) new (Err e)

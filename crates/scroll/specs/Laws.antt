@@ -21,7 +21,8 @@ abbrev pub Apart : List Piece → List Piece → Type 0
 Apart ps qs = (i : ℕ) → Any (λ p. Covers p i) ps → Any (λ q. Covers q i) qs → ⊥
 
 -- `history` is that of a run of the commands over the buffer `first`, from some cursor
-pub record IsHistory (first : List ℕ) (commands : List Command) (history : List Piece) : Type 0 where
+pub record IsHistory (first : List ℕ) (commands : List Command)
+    (history : List Piece) : Type 0 where
   pub from : ℕ
   pub to : ℕ
   pub answers : List Answer
@@ -45,15 +46,20 @@ RefusesPlainly a = ⊤
 -- innermost elements in order: with no length `writes`, `refuses` and `leaves`, and else
 -- `WritesArray`, `FailsArray` and the leaves of each element, over what this gives for the other
 -- lengths. The lengths are those of `Nested`.
-abbrev pub WritesNested : {V : Type 0} → (V → List ℕ → List ℕ → ℕ → Type 0) → (counts : List ℕ) → Nested V counts → List ℕ → List ℕ → ℕ → Type 0
+abbrev pub WritesNested : {V : Type 0} → (V → List ℕ → List ℕ → ℕ → Type 0) → (counts : List ℕ)
+    → Nested V counts → List ℕ → List ℕ → ℕ → Type 0
 WritesNested writes [] = writes
 WritesNested writes (count ∷ counts) = WritesArray (WritesNested writes counts)
 
-abbrev pub FailsNested : {V E : Type 0} → (V → List ℕ → List ℕ → ℕ → Type 0) → (V → List ℕ → List ℕ → E → Type 0) → (counts : List ℕ) → Nested V counts → List ℕ → List ℕ → E → Type 0
+abbrev pub FailsNested : {V E : Type 0} → (V → List ℕ → List ℕ → ℕ → Type 0)
+    → (V → List ℕ → List ℕ → E → Type 0) → (counts : List ℕ) → Nested V counts → List ℕ → List ℕ → E
+    → Type 0
 FailsNested writes refuses [] = refuses
-FailsNested writes refuses (count ∷ counts) = FailsArray (WritesNested writes counts) (FailsNested writes refuses counts)
+FailsNested writes refuses (count ∷ counts) =
+    FailsArray (WritesNested writes counts) (FailsNested writes refuses counts)
 
-abbrev pub leaves_nested : {V : Type 0} → (V → List (List ℕ)) → (counts : List ℕ) → Nested V counts → List (List ℕ)
+abbrev pub leaves_nested : {V : Type 0} → (V → List (List ℕ)) → (counts : List ℕ) → Nested V counts
+    → List (List ℕ)
 leaves_nested leaves [] = leaves
 leaves_nested leaves (count ∷ counts) = flat_map (leaves_nested leaves counts)
 
@@ -61,7 +67,8 @@ leaves_nested leaves (count ∷ counts) = flat_map (leaves_nested leaves counts)
 -- that is at least as long and begins with as many of the same bytes
 abbrev pub IsLocal : {V : Type 0} → (List ℕ → V → ℕ → Type 0) → Type 0
 IsLocal {V} reads =
-    (s t : List ℕ) (v : V) (n : ℕ) → reads s v n → n ≤ length s → length s ≤ length t → take n t ≡ take n s → reads t v n
+    (s t : List ℕ) (v : V) (n : ℕ) → reads s v n → n ≤ length s → length s ≤ length t
+    → take n t ≡ take n s → reads t v n
 
 -- each size is at most the length of the source
 abbrev pub IsWithin : {V : Type 0} → (List ℕ → V → ℕ → Type 0) → Type 0
@@ -81,7 +88,8 @@ SameAnswer (Err d) (Err e) = SameError d e
 SameAnswer q r = ⊥
 
 -- `r` is a value and a size of which `reads` holds, or an error of which `refuses` holds
-abbrev pub Allows : {V : Type 0} → (V → ℕ → Type 0) → (Error → Type 0) → Result (V × ℕ) Error → Type 0
+abbrev pub Allows : {V : Type 0} → (V → ℕ → Type 0) → (Error → Type 0) → Result (V × ℕ) Error
+    → Type 0
 Allows reads refuses r = MatchResult r (λ x. reads x.0 x.1) (λ e. refuses e)
 
 -- some result is allowed, and each that is allowed is the same, by `SameAnswer`
@@ -92,17 +100,21 @@ pub record AllowsOne {V : Type 0} (reads : V → ℕ → Type 0) (refuses : Erro
 
 -- a read at each offset of each buffer has exactly one result, `AllowsOne`, which past the end is
 -- `BadOffset`
-abbrev pub AllowsOneAtEach : {V : Type 0} → (List ℕ → V → ℕ → Type 0) → (List ℕ → Error → Type 0) → Type 0
-AllowsOneAtEach reads refuses = (b : List ℕ) (o : ℕ) → AllowsOne (ReadsAt reads b o) (RefusesAt refuses IsBadOffset b o)
+abbrev pub AllowsOneAtEach : {V : Type 0} → (List ℕ → V → ℕ → Type 0) → (List ℕ → Error → Type 0)
+    → Type 0
+AllowsOneAtEach reads refuses =
+    (b : List ℕ) (o : ℕ) → AllowsOne (ReadsAt reads b o) (RefusesAt refuses IsBadOffset b o)
 
 -- the laws of a type that is read: what is read depends on its own bytes alone, its size is at most
 -- one more than the length of the source, and at each offset a read has exactly one result
-pub record IsReader {V : Type 0} (reads : List ℕ → V → ℕ → Type 0) (refuses : List ℕ → Error → Type 0) : Type 0 where
+pub record IsReader {V : Type 0} (reads : List ℕ → V → ℕ → Type 0)
+    (refuses : List ℕ → Error → Type 0) : Type 0 where
   pub local : IsLocal reads
   pub bounded : IsBounded reads
   pub one : AllowsOneAtEach reads refuses
 
 -- the laws of a type whose size is at most the length of the source
-pub record IsReaderWithin {V : Type 0} (reads : List ℕ → V → ℕ → Type 0) (refuses : List ℕ → Error → Type 0) : Type 0 where
+pub record IsReaderWithin {V : Type 0} (reads : List ℕ → V → ℕ → Type 0)
+    (refuses : List ℕ → Error → Type 0) : Type 0 where
   pub reader : IsReader reads refuses
   pub within : IsWithin reads

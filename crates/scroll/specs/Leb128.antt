@@ -45,11 +45,13 @@ unsigned_of s = groups_value s (count_of s)
 -- the signed number of the encoding, sign-extended: `unsigned_of s`, less `128^n` where the last of
 -- its `n` groups is at least 64
 abbrev pub signed_of : List ℕ → ℤ
-signed_of s = if nat_lt (group s (end_of s)) 64 then pos (unsigned_of s) else pos (unsigned_of s) -ℤ pos (128 ^ count_of s)
+signed_of s = if nat_lt (group s (end_of s)) 64 then pos (unsigned_of s)
+    else pos (unsigned_of s) -ℤ pos (128 ^ count_of s)
 
 -- a number is read from the start of a source: the encoding is complete, its number
 -- `value_of source` fits, `x` is that number, and the size `n` is the length of the encoding
-pub record ReadsLeb {V : Type 0} (value_of : List ℕ → V) (Fits : V → Type 0) (source : List ℕ) (x : V) (n : ℕ) : Type 0 where
+pub record ReadsLeb {V : Type 0} (value_of : List ℕ → V) (Fits : V → Type 0) (source : List ℕ)
+    (x : V) (n : ℕ) : Type 0 where
   pub complete : IsComplete source
   pub fits : Fits (value_of source)
   pub value : x ≡ value_of source
@@ -92,7 +94,8 @@ ReadsCountedSleb = ReadsCounted ReadsSleb
 -- of which ends the encoding, and the tenth byte
 abbrev pub HasGroups : List ℕ → Groups → Type 0
 HasGroups source (UpToNine groups count) = ReadsGroups source groups count × (count ≤ 9)
-HasGroups source (Ten groups tenth) = (9 ≤ end_of source) × (slice_get source 9 ≡ Some tenth) × (groups ≡ groups_value source 9)
+HasGroups source (Ten groups tenth) =
+    (9 ≤ end_of source) × (slice_get source 9 ≡ Some tenth) × (groups ≡ groups_value source 9)
 
 -- the source is truncated, and the error is `TooBig` with the size 1 and the length 0
 pub record RefusesTruncated (source : List ℕ) (e : Error) : Type 0 where
@@ -101,7 +104,8 @@ pub record RefusesTruncated (source : List ℕ) (e : Error) : Type 0 where
 
 -- the source is not truncated, but the encoding is not complete or its number does not fit. The
 -- error is `BadInput` with the length of the source and the message `failed to parse`.
-pub record RefusesUnfit {V : Type 0} (value_of : List ℕ → V) (Fits : V → Type 0) (source : List ℕ) (e : Error) : Type 0 where
+pub record RefusesUnfit {V : Type 0} (value_of : List ℕ → V) (Fits : V → Type 0) (source : List ℕ)
+    (e : Error) : Type 0 where
   pub whole : ¬ IsTruncated source
   pub unfit : IsComplete source → ¬ Fits (value_of source)
   pub error : IsBadInput e (length source) (codes "failed to parse")

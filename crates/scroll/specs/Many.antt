@@ -11,7 +11,9 @@ use Rattle.scroll.specs.declared.error.Error.TheVariants.{NoMemory}
 -- a read of `count` values stops at the error `e`: fewer are read one after another from the offset
 -- `from`, and the next, at the offset `stop`, fails with `e`, or there is no memory for it. The
 -- relation `gives` converts an `Error` to `e`.
-pub record RefusesMany {V E : Type 0} (reads : List ℕ → V → ℕ → Type 0) (refuses : List ℕ → E → Type 0) (gives : Error → E → Type 0) (buffer : List ℕ) (from count stop : ℕ) (e : E) : Type 0 where
+pub record RefusesMany {V E : Type 0} (reads : List ℕ → V → ℕ → Type 0)
+    (refuses : List ℕ → E → Type 0) (gives : Error → E → Type 0) (buffer : List ℕ)
+    (from count stop : ℕ) (e : E) : Type 0 where
   pub values : List V
   pub fewer : length values < count
   pub each : ReadsAll reads buffer from values stop
@@ -20,7 +22,9 @@ pub record RefusesMany {V E : Type 0} (reads : List ℕ → V → ℕ → Type 0
 -- a write of the values `all` stops at the error `e`: those before some value are written one after
 -- another from the offset `from`, and the write of that one, at the offset `stop`, fails with `e`
 -- and leaves `new`
-pub record FailsMany {V E : Type 0} (writes : V → List ℕ → List ℕ → ℕ → Type 0) (refuses : V → List ℕ → List ℕ → E → Type 0) (gives : Error → E → Type 0) (old : List ℕ) (from : ℕ) (all : List V) (new : List ℕ) (stop : ℕ) (e : E) : Type 0 where
+pub record FailsMany {V E : Type 0} (writes : V → List ℕ → List ℕ → ℕ → Type 0)
+    (refuses : V → List ℕ → List ℕ → E → Type 0) (gives : Error → E → Type 0) (old : List ℕ)
+    (from : ℕ) (all : List V) (new : List ℕ) (stop : ℕ) (e : E) : Type 0 where
   pub values : List V
   pub value : V
   pub others : List V
@@ -31,12 +35,15 @@ pub record FailsMany {V E : Type 0} (writes : V → List ℕ → List ℕ → �
 
 -- the first element is taken: it is made of the first `w` bytes of `old`, and the bytes after these
 -- are left
-pub record TakesElement {V : Type 0} (w : ℕ) (makes : List ℕ → V → Type 0) (old new : List ℕ) (x : V) : Type 0 where
+pub record TakesElement {V : Type 0} (w : ℕ) (makes : List ℕ → V → Type 0) (old new : List ℕ)
+    (x : V) : Type 0 where
   pub room : w ≤ length old
   pub value : makes old x
   pub rest : new ≡ drop w old
 
 -- a call of an iterator's `next`: it takes the first element, or there is no whole one, and the
 -- bytes are unchanged
-abbrev pub YieldsElement : {V : Type 0} → ℕ → (List ℕ → V → Type 0) → List ℕ → Option V → List ℕ → Type 0
-YieldsElement w makes old r new = MatchOption r ((length old / w ≡ 0) × (new ≡ old)) (TakesElement w makes old new)
+abbrev pub YieldsElement : {V : Type 0} → ℕ → (List ℕ → V → Type 0) → List ℕ → Option V → List ℕ
+    → Type 0
+YieldsElement w makes old r new =
+    MatchOption r ((length old / w ≡ 0) × (new ≡ old)) (TakesElement w makes old new)

@@ -22,7 +22,8 @@ number Big w s = sum_below (λ i. slice_index s i * 256 ^ (w - 1 - i)) w
 -- `256^w` where it is at least half of `256^w`
 abbrev pub signed_number : Endian → ℕ → List ℕ → ℤ
 signed_number order w s =
-    if nat_lt (2 * number order w s) (256 ^ w) then pos (number order w s) else pos (number order w s) -ℤ pos (256 ^ w)
+    if nat_lt (2 * number order w s) (256 ^ w) then pos (number order w s)
+    else pos (number order w s) -ℤ pos (256 ^ w)
 
 -- `number_bytes order w x`: the `w` lowest digits of `x` to the base 256, `x / 256^i mod 256` for
 -- the `i` below `w`. The lowest comes first in the order `Little`, and the highest in the order

@@ -13,7 +13,8 @@ IsBounded {V} reads = (s : List ℕ) (v : V) (n : ℕ) → reads s v n → n ≤
 
 -- the offset `offset` is at most the length of the buffer, and the rest there reads as `v` with the
 -- size `n`
-pub record ReadsAt {V : Type 0} (reads : List ℕ → V → ℕ → Type 0) (buffer : List ℕ) (offset : ℕ) (v : V) (n : ℕ) : Type 0 where
+pub record ReadsAt {V : Type 0} (reads : List ℕ → V → ℕ → Type 0) (buffer : List ℕ) (offset : ℕ)
+    (v : V) (n : ℕ) : Type 0 where
   pub inside : offset ≤ length buffer
   pub value : reads (drop offset buffer) v n
 
@@ -27,20 +28,25 @@ ReadsBetween reads buffer from to v = (n : ℕ) × (to ≡ from + n) × ReadsAt 
 
 -- the offset is past the end, and `past_end` holds of it and `e`; or it is at most the length of
 -- the buffer, and the read of the rest there fails with `e`
-abbrev pub RefusesAt : {E : Type 0} → (List ℕ → E → Type 0) → (ℕ → E → Type 0) → List ℕ → ℕ → E → Type 0
+abbrev pub RefusesAt : {E : Type 0} → (List ℕ → E → Type 0) → (ℕ → E → Type 0) → List ℕ → ℕ → E
+    → Type 0
 RefusesAt refuses past_end buffer offset e =
-    ((length buffer < offset) × past_end offset e) ⊎ ((offset ≤ length buffer) × refuses (drop offset buffer) e)
+    ((length buffer < offset) × past_end offset e)
+    ⊎ ((offset ≤ length buffer) × refuses (drop offset buffer) e)
 
 -- `ReadsAll reads buffer from vs to`: the values `vs` are read one after another, the first at
 -- `from` and each where the one before it ends, and the last ends at `to`
 abbrev pub ReadsAll : {V : Type 0} → (List ℕ → V → ℕ → Type 0) → List ℕ → ℕ → List V → ℕ → Type 0
 ReadsAll reads buffer from [] to = to ≡ from
-ReadsAll reads buffer from (v ∷ vs) to = (n : ℕ) × ReadsAt reads buffer from v n × ReadsAll reads buffer (from + n) vs to
+ReadsAll reads buffer from (v ∷ vs) to =
+    (n : ℕ) × ReadsAt reads buffer from v n × ReadsAll reads buffer (from + n) vs to
 
 -- a bulk read stops at an error: for some `count` below the number of elements, the first `count`
 -- elements of `new` are read between `from` and `to`, the others are those of `old`, and `e` is the
 -- error of the next read, at `to`
-pub record StopsAt {V E : Type 0} (reads : List ℕ → V → ℕ → Type 0) (refuses : List ℕ → E → Type 0) (past_end : ℕ → E → Type 0) (buffer : List ℕ) (from to : ℕ) (old new : List V) (e : E) : Type 0 where
+pub record StopsAt {V E : Type 0} (reads : List ℕ → V → ℕ → Type 0) (refuses : List ℕ → E → Type 0)
+    (past_end : ℕ → E → Type 0) (buffer : List ℕ) (from to : ℕ) (old new : List V)
+    (e : E) : Type 0 where
   pub count : ℕ
   pub fewer : count < length old
   pub prefix : ReadsAll reads buffer from (take count new) to

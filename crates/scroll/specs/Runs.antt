@@ -73,7 +73,8 @@ ReadsKind kind.CString source (value.CStr text) n = ReadsCString source text.ite
 ReadsKind kind.Uleb source (value.Uleb x) n = ReadsCountedUleb source x n
 ReadsKind kind.Sleb source (value.Sleb x) n = ReadsCountedSleb source x n
 ReadsKind (kind.U8x0 order) source value.U8x0 n = ReadsArray (ReadsNumber 1 order) 0 source [] n
-ReadsKind (kind.U16x3 order) source (value.U16x3 xs) n = ReadsArray (ReadsNumber 2 order) 3 source xs n
+ReadsKind (kind.U16x3 order) source (value.U16x3 xs) n =
+    ReadsArray (ReadsNumber 2 order) 3 source xs n
 ReadsKind (kind.Textx2 ctx) source (value.Textx2 a b) n =
     ReadsArray (ReadsText ctx) 2 source (string_bytes a ∷ string_bytes b ∷ []) n
 ReadsKind what source x n = ⊥
@@ -87,9 +88,12 @@ RefusesKind kind.CStr source e = RefusesCString source e
 RefusesKind kind.CString source e = RefusesCString source e
 RefusesKind kind.Uleb source e = RefusesUleb source e
 RefusesKind kind.Sleb source e = RefusesSleb source e
-RefusesKind (kind.U8x0 order) source e = RefusesArray (ReadsNumber 1 order) (RefusesShort 1) IsBadOffset 0 source e
-RefusesKind (kind.U16x3 order) source e = RefusesArray (ReadsNumber 2 order) (RefusesShort 2) IsBadOffset 3 source e
-RefusesKind (kind.Textx2 ctx) source e = RefusesArray (ReadsText ctx) (RefusesText ctx) IsBadOffset 2 source e
+RefusesKind (kind.U8x0 order) source e =
+    RefusesArray (ReadsNumber 1 order) (RefusesShort 1) IsBadOffset 0 source e
+RefusesKind (kind.U16x3 order) source e =
+    RefusesArray (ReadsNumber 2 order) (RefusesShort 2) IsBadOffset 3 source e
+RefusesKind (kind.Textx2 ctx) source e =
+    RefusesArray (ReadsText ctx) (RefusesText ctx) IsBadOffset 2 source e
 
 -- `Copies what`: the value of the kind is copied into memory of its own
 abbrev pub Copies : Kind → Type 0
@@ -143,12 +147,14 @@ moved offset.Cursor cursor size = cursor + size
 
 -- a value is read at the offset at which a command acts, `ReadsAt`, and `after` is the cursor after
 -- it
-abbrev pub ReadsHere : {V : Type 0} → (List ℕ → V → ℕ → Type 0) → List ℕ → ℕ → Place → V → ℕ → Type 0
+abbrev pub ReadsHere : {V : Type 0} → (List ℕ → V → ℕ → Type 0) → List ℕ → ℕ → Place → V → ℕ
+    → Type 0
 ReadsHere reads buffer cursor at x after =
     (n : ℕ) × ReadsAt reads buffer (offset_of at cursor) x n × (after ≡ moved at cursor n)
 
 -- a read fails at the offset at which a command acts, `RefusesAt`, and the cursor is unchanged
-abbrev pub RefusesHere : {E : Type 0} → (List ℕ → E → Type 0) → (ℕ → E → Type 0) → List ℕ → ℕ → Place → E → ℕ → Type 0
+abbrev pub RefusesHere : {E : Type 0} → (List ℕ → E → Type 0) → (ℕ → E → Type 0) → List ℕ → ℕ
+    → Place → E → ℕ → Type 0
 RefusesHere refuses past_end buffer cursor at e after =
     RefusesAt refuses past_end buffer (offset_of at cursor) e × (after ≡ cursor)
 
@@ -159,8 +165,10 @@ UnlessNoMemory fact e = fact e
 
 -- `ReadStep buffer cursor at what a after`: the result `a` of one read, and the cursor `after` it
 abbrev pub ReadStep : List ℕ → ℕ → Place → Kind → Answer → ℕ → Type 0
-ReadStep buffer cursor at what (answer.Read x) after = ReadsHere (ReadsKind what) buffer cursor at x after
-ReadStep buffer cursor at what (answer.Refused e) after = RefusesHere (RefusesKind what) IsBadOffset buffer cursor at e after
+ReadStep buffer cursor at what (answer.Read x) after =
+    ReadsHere (ReadsKind what) buffer cursor at x after
+ReadStep buffer cursor at what (answer.Refused e) after =
+    RefusesHere (RefusesKind what) IsBadOffset buffer cursor at e after
 ReadStep buffer cursor at what (answer.Wrote n) after = ⊥
 
 -- `WriteStep buffer cursor at leaves a after`: the result `a` of one write of these leaves, and the
@@ -175,13 +183,15 @@ WriteStep buffer cursor at leaves (answer.Read x) after = ⊥
 -- `Step buffer cursor c a written after`: one command over the buffer that is seen: its result `a`,
 -- the pieces that it writes, and the cursor `after` it
 abbrev pub Step : List ℕ → ℕ → Command → Answer → List Piece → ℕ → Type 0
-Step buffer cursor (command.Read at what) a written after = ReadStep buffer cursor at what a after × (written ≡ [])
+Step buffer cursor (command.Read at what) a written after =
+    ReadStep buffer cursor at what a after × (written ≡ [])
 Step buffer cursor (command.Write at x) a written after =
     WriteStep buffer cursor at (leaves_of x) a after
     × (written ≡ pieces (length buffer) (offset_of at cursor) (leaves_of x))
 
 -- one command over the buffer `old`, which leaves the buffer `new`
-pub record IsStep (old new : List ℕ) (cursor : ℕ) (c : Command) (a : Answer) (after : ℕ) : Type 0 where
+pub record IsStep (old new : List ℕ) (cursor : ℕ) (c : Command) (a : Answer)
+    (after : ℕ) : Type 0 where
   pub written : List Piece
   pub step : Step old cursor c a written after
   pub bytes : new ≡ seen old written
@@ -200,7 +210,8 @@ Run first history cursor (c ∷ cs) [] whole after = ⊥
 
 -- a run from the buffer `first` and the cursor `from`: its results are appended to `old` in order,
 -- `buffer` is what is seen after its history, and `to` is the cursor after it
-pub record IsRun (first buffer : List ℕ) (from to : ℕ) (commands : List Command) (old new : List Answer) : Type 0 where
+pub record IsRun (first buffer : List ℕ) (from to : ℕ) (commands : List Command)
+    (old new : List Answer) : Type 0 where
   pub answers : List Answer
   pub history : List Piece
   pub appended : new ≡ old ++ answers
@@ -208,7 +219,8 @@ pub record IsRun (first buffer : List ℕ) (from to : ℕ) (commands : List Comm
   pub bytes : buffer ≡ seen first history
 
 -- a run of the first commands, fewer than all
-pub record IsPrefixRun (first buffer : List ℕ) (from to : ℕ) (commands : List Command) (old new : List Answer) : Type 0 where
+pub record IsPrefixRun (first buffer : List ℕ) (from to : ℕ) (commands : List Command)
+    (old new : List Answer) : Type 0 where
   pub count : ℕ
   pub fewer : count < length commands
   pub prefix : IsRun first buffer from to (take count commands) old new

@@ -6,7 +6,8 @@ use Rattle.std.specs.Io.KnownBytes.{Appends, Consumes}
 
 -- a value is read from a reader: `old` is some bytes, `size` of them, followed by `new`, and
 -- `makes` holds of those bytes
-pub record TakesValue (old new : Option (List ℕ)) (size : ℕ) (makes : List ℕ → Type 0) : Type 0 where
+pub record TakesValue (old new : Option (List ℕ)) (size : ℕ)
+    (makes : List ℕ → Type 0) : Type 0 where
   pub bytes : List ℕ
   pub count : length bytes ≡ size
   pub taken : Consumes old new bytes
@@ -14,7 +15,8 @@ pub record TakesValue (old new : Option (List ℕ)) (size : ℕ) (makes : List �
 
 -- a value is written to a writer: `new` is `old` followed by some bytes, `size` of them, and
 -- `overwrites` holds of those bytes
-pub record AppendsValue (old new : Option (List ℕ)) (size : ℕ) (overwrites : List ℕ → Type 0) : Type 0 where
+pub record AppendsValue (old new : Option (List ℕ)) (size : ℕ)
+    (overwrites : List ℕ → Type 0) : Type 0 where
   pub bytes : List ℕ
   pub count : length bytes ≡ size
   pub appended : Appends old new bytes

@@ -81,7 +81,8 @@ pub record RefusesMissing (ctx : StrCtx) (source : List ℕ) (e : Error) : Type 
 -- the read of a text fails: the source is too short, which is tested first, or a required delimiter
 -- is missing, or the text is not UTF-8
 abbrev pub RefusesText : StrCtx → List ℕ → Error → Type 0
-RefusesText ctx source e = RefusesShort (wanted_len ctx) source e ⊎ RefusesInvalid ctx source e ⊎ RefusesMissing ctx source e
+RefusesText ctx source e = RefusesShort (wanted_len ctx) source e ⊎ RefusesInvalid ctx source e
+    ⊎ RefusesMissing ctx source e
 
 -- the first `n` bytes of a source are read: `ReadsPrefix n (take n)`
 abbrev pub ReadsSlice : ℕ → List ℕ → List ℕ → ℕ → Type 0

@@ -33,35 +33,44 @@ value_line (value.Signed x) = codes "number " ++ signed_decimal x ++ codes "\n"
 value_line (value.Text text) = codes "text " ++ hex_text (string_bytes text) ++ codes "\n"
 value_line (value.Bytes bytes) = codes "bytes " ++ hex_text bytes.items ++ codes "\n"
 value_line (value.CStr text) = codes "cstr " ++ hex_text text.items ++ codes "\n"
-value_line (value.Uleb x) = codes "uleb " ++ decimal x.value ++ codes " " ++ decimal x.count ++ codes "\n"
-value_line (value.Sleb x) = codes "sleb " ++ signed_decimal x.value ++ codes " " ++ decimal x.count ++ codes "\n"
+value_line (value.Uleb x) =
+    codes "uleb " ++ decimal x.value ++ codes " " ++ decimal x.count ++ codes "\n"
+value_line (value.Sleb x) =
+    codes "sleb " ++ signed_decimal x.value ++ codes " " ++ decimal x.count ++ codes "\n"
 value_line value.U8x0 = codes "numbers\n"
 value_line (value.U16x3 xs) =
-    codes "numbers " ++ decimal (slice_index xs 0) ++ codes " " ++ decimal (slice_index xs 1) ++ codes " "
+    codes "numbers " ++ decimal (slice_index xs 0) ++ codes " " ++ decimal (slice_index xs 1)
+      ++ codes " "
     ++ decimal (slice_index xs 2) ++ codes "\n"
 value_line (value.Textx2 first second) =
-    codes "texts " ++ hex_text (string_bytes first) ++ codes " " ++ hex_text (string_bytes second) ++ codes "\n"
+    codes "texts " ++ hex_text (string_bytes first) ++ codes " " ++ hex_text (string_bytes second)
+      ++ codes "\n"
 
 -- `IsAnswerLine answer line`: the printed line of a command's result:
 abbrev pub IsAnswerLine : Answer → List ℕ → Type 0
 IsAnswerLine (answer.Read x) line = line ≡ value_line x
 IsAnswerLine (answer.Wrote n) line = line ≡ codes "wrote " ++ decimal n ++ codes "\n"
-IsAnswerLine (answer.Refused e) line = (text : List ℕ) × Says e text × (line ≡ codes "error " ++ text ++ codes "\n")
+IsAnswerLine (answer.Refused e) line =
+    (text : List ℕ) × Says e text × (line ≡ codes "error " ++ text ++ codes "\n")
 
 -- `AreAnswerLines answers text`: the text is a line for each result, in order
 abbrev pub AreAnswerLines : List Answer → List ℕ → Type 0
 AreAnswerLines [] text = text ≡ []
-AreAnswerLines (a ∷ more) text = (line rest : List ℕ) × (text ≡ line ++ rest) × IsAnswerLine a line × AreAnswerLines more rest
+AreAnswerLines (a ∷ more) text =
+    (line rest : List ℕ) × (text ≡ line ++ rest) × IsAnswerLine a line × AreAnswerLines more rest
 
 -- the text is the lines of the results, and then those of the buffer and of the cursor
-pub record Prints (answers : List Answer) (buffer : List ℕ) (cursor : ℕ) (text : List ℕ) : Type 0 where
+pub record Prints (answers : List Answer) (buffer : List ℕ) (cursor : ℕ)
+    (text : List ℕ) : Type 0 where
   pub prefix : List ℕ
   pub lines : AreAnswerLines answers prefix
-  pub whole : text ≡ prefix ++ codes "buffer " ++ hex_text buffer ++ codes "\n" ++ codes "cursor " ++ decimal cursor ++ codes "\n"
+  pub whole : text ≡ prefix ++ codes "buffer " ++ hex_text buffer ++ codes "\n" ++ codes "cursor "
+    ++ decimal cursor ++ codes "\n"
 
 -- the commands are run over the buffer `first` from the cursor `from`, and `text` is what is
 -- printed for them
-pub record RunsCommands (first : List ℕ) (from : ℕ) (commands : List Command) (text : List ℕ) : Type 0 where
+pub record RunsCommands (first : List ℕ) (from : ℕ) (commands : List Command)
+    (text : List ℕ) : Type 0 where
   pub answers : List Answer
   pub buffer : List ℕ
   pub cursor : ℕ
@@ -102,7 +111,8 @@ pub record IsAnswered (input text : List ℕ) (status : ℕ) : Type 0 where
 
 -- what is printed for an input where no memory is refused, and the status: one of these three
 abbrev pub AnswersInput : List ℕ → List ℕ → ℕ → Type 0
-AnswersInput input text status = IsTooLong input text status ⊎ (HasBadLine input text status ⊎ IsAnswered input text status)
+AnswersInput input text status =
+    IsTooLong input text status ⊎ (HasBadLine input text status ⊎ IsAnswered input text status)
 
 -- what a reader gave: all that it had, or the first 65,537 bytes of it, one more than an input may
 -- have
@@ -116,11 +126,14 @@ pub record IsInput (old new : Option (List ℕ)) (input : List ℕ) : Type 0 whe
 -- was `refused`
 abbrev pub AnswersSession : Type 0 → Option (List ℕ) → Option (List ℕ) → List ℕ → ℕ → Type 0
 AnswersSession refused old new text status =
-    (refused × (text ≡ codes "out of memory\n") × (status ≡ 3)) ⊎ ((input : List ℕ) × IsInput old new input × AnswersInput input text status)
+    (refused × (text ≡ codes "out of memory\n") × (status ≡ 3))
+      ⊎ ((input : List ℕ) × IsInput old new input × AnswersInput input text status)
 
 -- a session ends with a stream's error: its output is unchanged from `before` to `after`, or has
 -- grown by a prefix of the text of such a session
-abbrev pub BreaksOff : Type 0 → Option (List ℕ) → Option (List ℕ) → Option (List ℕ) → Option (List ℕ) → Type 0
+abbrev pub BreaksOff : Type 0 → Option (List ℕ) → Option (List ℕ) → Option (List ℕ)
+    → Option (List ℕ) → Type 0
 BreaksOff refused old new before after =
     Keeps before after
-    ⊎ ((text : List ℕ) × (status : ℕ) × AnswersSession refused old new text status × AppendsPrefix before after text)
+    ⊎ ((text : List ℕ) × (status : ℕ) × AnswersSession refused old new text status
+      × AppendsPrefix before after text)

@@ -12,7 +12,8 @@ use Rattle.scroll_run.specs.declared.lines.Stop.TheVariants.{BadLine, NoMemory}
 
 -- the input without a line feed at its end
 abbrev pub without_feed : List ℕ → List ℕ
-without_feed input = if slice_index input (length input - 1) == 10 then take (length input - 1) input else input
+without_feed input =
+    if slice_index input (length input - 1) == 10 then take (length input - 1) input else input
 
 -- what is before, between and after the line feeds of an input, of which the last one counts only
 -- where something follows it
@@ -21,11 +22,13 @@ lines_of input = slice_split (λ b. b == 10) (without_feed input)
 
 -- the line is `buffer ` and a word that spells the bytes
 abbrev pub SpellsBuffer : List ℕ → List ℕ → Type 0
-SpellsBuffer line bytes = (word : List ℕ) × (line ≡ codes "buffer " ++ word) × SpellsBytes word bytes
+SpellsBuffer line bytes =
+    (word : List ℕ) × (line ≡ codes "buffer " ++ word) × SpellsBytes word bytes
 
 -- the line is `cursor ` and a word that spells a number of 64 bits
 abbrev pub SpellsCursor : List ℕ → ℕ → Type 0
-SpellsCursor line n = (word : List ℕ) × (line ≡ codes "cursor " ++ word) × SpellsNumber (2 ^ 64) word n
+SpellsCursor line n =
+    (word : List ℕ) × (line ≡ codes "cursor " ++ word) × SpellsNumber (2 ^ 64) word n
 
 -- the lines spell the commands, one each
 abbrev pub SpellsAllCommands : List (List ℕ) → List Command → Type 0
@@ -40,7 +43,8 @@ abbrev pub SpellsAllHeld : List (List ℕ) → List CommandLine → Type 0
 SpellsAllHeld lines held = AllZip SpellsHeld lines held
 
 -- the lines spell the buffer, the cursor and the commands
-pub record SpellsScript (lines : List (List ℕ)) (buffer : List ℕ) (cursor : ℕ) (commands : List Command) : Type 0 where
+pub record SpellsScript (lines : List (List ℕ)) (buffer : List ℕ) (cursor : ℕ)
+    (commands : List Command) : Type 0 where
   pub first : List ℕ
   pub second : List ℕ
   pub rest : List (List ℕ)
@@ -90,5 +94,6 @@ Stops refused lines NoMemory = refused
 abbrev pub StopsCommands : Type 0 → List (List ℕ) → Stop → Type 0
 StopsCommands refused lines (BadLine k) =
     (i : ℕ) × (k ≡ i + 3) × (i < length lines)
-    × ((j : ℕ) → j < i → IsCommand (slice_index_or lines j [])) × (¬ (IsCommand (slice_index_or lines i [])))
+    × ((j : ℕ) → j < i → IsCommand (slice_index_or lines j []))
+      × (¬ (IsCommand (slice_index_or lines i [])))
 StopsCommands refused lines NoMemory = refused

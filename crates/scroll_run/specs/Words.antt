@@ -20,7 +20,8 @@ texts_of words = map (λ word. word.now) words
 -- `ParsesAs value IsSpelled found`: the value of what was found is spelled, or nothing was found
 -- and nothing is spelled
 abbrev pub ParsesAs : {X Y : Type 0} → (X → Y) → (Y → Type 0) → Option X → Type 0
-ParsesAs {X} {Y} value IsSpelled found = MatchOption found ((y : Y) → ¬ (IsSpelled y)) (λ x. IsSpelled (value x))
+ParsesAs {X} {Y} value IsSpelled found =
+    MatchOption found ((y : Y) → ¬ (IsSpelled y)) (λ x. IsSpelled (value x))
 
 -- `Parses IsSpelled found`: what was found is spelled, or nothing was found and nothing is spelled
 abbrev pub Parses : {X : Type 0} → (X → Type 0) → Option X → Type 0
@@ -34,19 +35,22 @@ Finds {X} {Y} Borrows IsSpelled found =
 
 -- the word is one decimal digit or more, with the value `x`, which is below the limit
 abbrev pub SpellsNumber : ℕ → List ℕ → ℕ → Type 0
-SpellsNumber limit word x = IsNumeral 10 word × (digits_value 10 word < limit) × (x ≡ digits_value 10 word)
+SpellsNumber limit word x =
+    IsNumeral 10 word × (digits_value 10 word < limit) × (x ≡ digits_value 10 word)
 
 -- the word spells the signed number `x`: digits with a value below `half` spell that value, and `-`
 -- before digits with a value of at most `half` spells its negative
 abbrev pub SpellsSigned : ℕ → List ℕ → ℤ → Type 0
 SpellsSigned half word x =
     ((n : ℕ) × SpellsNumber half word n × (x ≡ pos n))
-    ⊎ ((digits : List ℕ) × (n : ℕ) × (word ≡ codes "-" ++ digits) × SpellsNumber (half + 1) digits n × (x ≡ neg_ℤ (pos n)))
+    ⊎ ((digits : List ℕ) × (n : ℕ) × (word ≡ codes "-" ++ digits) × SpellsNumber (half + 1) digits n
+      × (x ≡ neg_ℤ (pos n)))
 
 -- `-` spells no bytes, and an even number of hexadecimal digits of either case, two or more, spells
 -- a byte for each two
 abbrev pub SpellsBytes : List ℕ → List ℕ → Type 0
-SpellsBytes word bytes = ((word ≡ codes "-") × (bytes ≡ [])) ⊎ ((0 < length word) × (decode_of word ≡ Ok bytes))
+SpellsBytes word bytes =
+    ((word ≡ codes "-") × (bytes ≡ [])) ⊎ ((0 < length word) × (decode_of word ≡ Ok bytes))
 
 -- two hexadecimal digits of either case spell one byte
 abbrev pub SpellsByte : List ℕ → ℕ → Type 0

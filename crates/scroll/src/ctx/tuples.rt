@@ -21,7 +21,8 @@ impl<A: Fixed, B: Fixed> Fixed for (A, B) {
         (A.bytes_len order x.0) (B.bytes_len order x.1) };
 
     ghost back = { λ order x prefix rest h.
-        both-back A.width (A.bytes order x.0) (B.bytes order x.1) prefix rest (A.bytes_len order x.0)
+        both-back A.width (A.bytes order x.0) (B.bytes order x.1) prefix rest
+        (A.bytes_len order x.0)
         (λ s at. A.makes order s at x.0) (λ s at. B.makes order s at x.1)
         (λ f t. A.back order x.0 f t h.0) (λ f t. B.back order x.1 f t h.1) };
 
@@ -32,7 +33,8 @@ impl<A: Fixed, B: Fixed> Fixed for (A, B) {
 
     ghost local = { λ order s at t to x same h. (
       A.local order s at t to x.0 (same-first A.width B.width s at t to same) h.0,
-      B.local order s (at + A.width) t (to + A.width) x.1 (same-second A.width B.width s at t to same) h.1,
+      B.local order s (at + A.width) t (to + A.width) x.1
+          (same-second A.width B.width s at t to same) h.1,
     ) };
 
     fn width() -> usize {
@@ -77,7 +79,8 @@ impl<A: Fixed, B: Fixed, C: Fixed> Fixed for (A, B, C) {
     ghost fits = { λ x. A.fits x.0 × (B.fits x.1 × C.fits x.2) };
 
     ghost bytes_len = { λ order x.
-        both-len (A.bytes order x.0) (B.bytes order x.1 ++ C.bytes order x.2) (A.bytes_len order x.0)
+        both-len (A.bytes order x.0) (B.bytes order x.1 ++ C.bytes order x.2)
+        (A.bytes_len order x.0)
         (both-len (B.bytes order x.1) (C.bytes order x.2)
         (B.bytes_len order x.1) (C.bytes_len order x.2)) };
 
@@ -152,12 +155,14 @@ impl<A: Fixed, B: Fixed, C: Fixed, D: Fixed> Fixed for (A, B, C, D) {
     ghost bytes_len = { λ order x.
         both-len (A.bytes order x.0) (B.bytes order x.1 ++ (C.bytes order x.2 ++ D.bytes order x.3))
         (A.bytes_len order x.0)
-        (both-len (B.bytes order x.1) (C.bytes order x.2 ++ D.bytes order x.3) (B.bytes_len order x.1)
+        (both-len (B.bytes order x.1) (C.bytes order x.2 ++ D.bytes order x.3)
+        (B.bytes_len order x.1)
         (both-len (C.bytes order x.2) (D.bytes order x.3)
         (C.bytes_len order x.2) (D.bytes_len order x.3))) };
 
     ghost back = { λ order x prefix rest h.
-        both-back A.width (A.bytes order x.0) (B.bytes order x.1 ++ (C.bytes order x.2 ++ D.bytes order x.3))
+        both-back A.width (A.bytes order x.0)
+        (B.bytes order x.1 ++ (C.bytes order x.2 ++ D.bytes order x.3))
         prefix rest (A.bytes_len order x.0) (λ s at. A.makes order s at x.0)
         (λ s at. B.makes order s at x.1
         × (C.makes order s (at + B.width) x.2 × D.makes order s (at + B.width + C.width) x.3))
@@ -182,7 +187,8 @@ impl<A: Fixed, B: Fixed, C: Fixed, D: Fixed> Fixed for (A, B, C, D) {
     ) };
 
     ghost one = { λ order s at.
-        record-one (λ x. (x.0, (x.1, (x.2, x.3)))) (λ p. (p.0, p.1.0, p.1.1.0, p.1.1.1)) (λ x. refl) (λ p. refl)
+        record-one (λ x. (x.0, (x.1, (x.2, x.3)))) (λ p. (p.0, p.1.0, p.1.1.0, p.1.1.1))
+        (λ x. refl) (λ p. refl)
         (both-one (A.one order s at)
         (both-one (B.one order s (at + A.width))
         (both-one (C.one order s (at + A.width + B.width))
@@ -191,16 +197,22 @@ impl<A: Fixed, B: Fixed, C: Fixed, D: Fixed> Fixed for (A, B, C, D) {
 
     ghost local = { λ order s at t to x same h.
         let rest = same-second A.width (B.width + (C.width + D.width)) s at t to same in
-        let last = same-second B.width (C.width + D.width) s (at + A.width) t (to + A.width) rest in (
-          A.local order s at t to x.0 (same-first A.width (B.width + (C.width + D.width)) s at t to same) h.0,
+        let last =
+        same-second B.width (C.width + D.width) s (at + A.width) t (to + A.width) rest in (
+          A.local order s at t to x.0
+              (same-first A.width (B.width + (C.width + D.width)) s at t to same) h.0,
           (
             B.local order s (at + A.width) t (to + A.width) x.1
-                (same-first B.width (C.width + D.width) s (at + A.width) t (to + A.width) rest) h.1.0,
+                (same-first B.width (C.width + D.width) s (at + A.width) t (to + A.width) rest)
+                h.1.0,
             (
               C.local order s (at + A.width + B.width) t (to + A.width + B.width) x.2
-                  (same-first C.width D.width s (at + A.width + B.width) t (to + A.width + B.width) last) h.1.1.0,
-              D.local order s (at + A.width + B.width + C.width) t (to + A.width + B.width + C.width) x.3
-                  (same-second C.width D.width s (at + A.width + B.width) t (to + A.width + B.width) last) h.1.1.1,
+                  (same-first C.width D.width s (at + A.width + B.width) t
+                  (to + A.width + B.width) last) h.1.1.0,
+              D.local order s (at + A.width + B.width + C.width) t
+                  (to + A.width + B.width + C.width) x.3
+                  (same-second C.width D.width s (at + A.width + B.width) t
+                  (to + A.width + B.width) last) h.1.1.1,
             ),
           ),
         ) };
@@ -251,5 +263,6 @@ impl<A: RoundTrip, B: RoundTrip, C: RoundTrip, D: RoundTrip> RoundTrip for (A, B
         (B.kept order s (at + A.width) x.1 all (omega (arith, room)) h.1.0)
         (both-kept C.width D.width s (at + A.width + B.width)
         (C.kept order s (at + A.width + B.width) x.2 all (omega (arith, room)) h.1.1.0)
-        (D.kept order s (at + A.width + B.width + C.width) x.3 all (omega (arith, room)) h.1.1.1))) };
+        (D.kept order s (at + A.width + B.width + C.width) x.3 all (omega (arith, room))
+        h.1.1.1))) };
 }

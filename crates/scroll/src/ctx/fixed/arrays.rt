@@ -24,7 +24,8 @@ impl<T: Fixed, const N: usize> Fixed for [T; N] {
     ghost bytes_len = { λ order xs. length-exactly (T.width * N) (flat_map (T.bytes order) xs) };
 
     ghost back = { λ order xs prefix rest h.
-        array-back T.width N (T.bytes order) (T.makes order) T.fits (T.bytes_len order) (T.back order)
+        array-back T.width N (T.bytes order) (T.makes order) T.fits (T.bytes_len order)
+        (T.back order)
         xs prefix rest h.0 h.1 };
 
     ghost made_fits = { λ order s at xs all h.

@@ -220,7 +220,8 @@ impl Fixed for i128 {
 
     ghost makes = { λ order s at x. x ≡ signed_number order 16 (drop at s) };
 
-    ghost fits = { λ x. (neg_ℤ (pos (256 ^ 16)) ≤ℤ (pos 2 *ℤ x)) × ((pos 2 *ℤ x) <ℤ pos (256 ^ 16)) };
+    ghost fits = { λ x.
+        (neg_ℤ (pos (256 ^ 16)) ≤ℤ (pos 2 *ℤ x)) × ((pos 2 *ℤ x) <ℤ pos (256 ^ 16)) };
 
     ghost bytes_len = { λ order x. length-signed_bytes order 16 x };
 
