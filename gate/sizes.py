@@ -1,5 +1,6 @@
 """Makes the columns of lines in clients/README.md from the files of the clients, and the list of modules in CONTRIBUTING.md from the
-first sentences of the files' head comments, and compares them. Each client is a check, and so is the list.
+first sentences of the files' head comments, and compares them. Each client is a check, and so is the list. Contracts, definitions
+and comments have at most 100 columns; imports, the strings of tests and examples in comments may have more.
 """
 
 import re
@@ -12,6 +13,8 @@ from step import TOP, Step
 PAGE = TOP / "clients" / "README.md"
 COLUMNS = 5
 MODULES = TOP / "CONTRIBUTING.md"
+WIDTH = 100
+MAY_BE_WIDE = re.compile(r"(?:ghost )?use |//[/!]     |#\[")
 BEGIN, END = "<!-- files: begin -->\n", "<!-- files: end -->\n"
 
 
@@ -37,6 +40,17 @@ def try_modules(step: Step, is_writing: bool) -> None:
     step.count("CONTRIBUTING.md has another list of files", None if is_same else "    python3 gate/docs.py write makes it")
 
 
+def try_widths(step: Step) -> None:
+    files = [it for crate in TOP.glob("crates/*") for part in ("src/**/*.rt", "specs/**/*.antt") for it in crate.glob(part)]
+    for path in files:
+        if path.relative_to(TOP).parts[3] == "tests":
+            continue
+        for index, line in enumerate(path.read_text(encoding="utf-8").split("\n")):
+            if len(line) > WIDTH and not MAY_BE_WIDE.match(line):
+                step.count(f"{path.relative_to(TOP)}:{index + 1} has more than {WIDTH} columns", "")
+    step.count("lines of at most 100 columns", None)
+
+
 def try_all(step: Step, is_writing: bool) -> None:
     lines = PAGE.read_text(encoding="utf-8").split("\n")
     names = []
@@ -55,4 +69,5 @@ def try_all(step: Step, is_writing: bool) -> None:
     if is_writing:
         PAGE.write_text("\n".join(lines), encoding="utf-8")
     try_modules(step, is_writing)
+    try_widths(step)
     step.tell(f"{len(names)} clients have their lines in clients/README.md")

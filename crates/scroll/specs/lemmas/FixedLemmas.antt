@@ -138,7 +138,8 @@ pub array-local : {V : Type 0} (w n : ℕ) (makes : List ℕ → ℕ → V → T
 array-local w n makes local s at t to xs same h = record {
   len = h.len;
   each =
-      λ i d l. local (drop (w * i) (drop at s)) 0 (drop (w * i) (drop to t)) 0 (slice_index_or xs i d)
+      λ i d l. local (drop (w * i) (drop at s)) 0 (drop (w * i) (drop to t)) 0
+      (slice_index_or xs i d)
       (part-same (w * i) w (w * n) (drop at s) (drop to t) (element-inside w i n l) same)
       (h.each i d l);
 }
