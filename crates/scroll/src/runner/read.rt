@@ -1,5 +1,5 @@
 // The reads of a run.
-ghost use Rattle.std.specs.Prelude.{◌≡◌, ◌≢◌, [], ◌∷◌, IfOk, IfErr, IsOk, OnErr};
+ghost use Rattle.std.specs.Prelude.{◌≡◌, ◌≢◌, ℕ, ℤ, [], ◌∷◌, IfOk, IfErr, IsOk, OnErr};
 ghost use Rattle.std.specs.String.{string_bytes};
 ghost use Rattle.scroll.specs.Runs.{Copies, ReadsKind, RefusesKind, ReadsHere, RefusesHere, ReadStep, UnlessNoMemory, ReadsWide, is_signed, bytes_in};
 ghost use Rattle.scroll.specs.Arrays.{ReadsArray, RefusesArray};
@@ -9,6 +9,7 @@ ghost use Rattle.scroll.specs.Errors.{IsBadOffset, PastEnd};
 ghost use Rattle.scroll.specs.Texts.{ReadsText, RefusesText};
 ghost use Rattle.scroll.specs.declared.error.Error.TheVariants.{NoMemory};
 ghost use Rattle.scroll.specs.declared.runner.Kind.TheVariants as kind;
+ghost use Rattle.scroll.specs.declared.runner.Value.TheVariants as value;
 
 use super::{Answer, Kind, Place, Value, Width};
 use crate::cstr::{CStr, CString};
@@ -159,17 +160,29 @@ fn read_number(
         (RefusesShort (bytes_in width)) IsBadOffset buffer.now cursor.old place e cursor.new) }
 {
     match width {
-        Width::U8 => read_at(buffer, cursor, place, order).map(|x: u8| Value::Unsigned(x.into())),
-        Width::I8 => read_at(buffer, cursor, place, order).map(|x: i8| Value::Signed(x.into())),
-        Width::U16 => read_at(buffer, cursor, place, order).map(|x: u16| Value::Unsigned(x.into())),
-        Width::I16 => read_at(buffer, cursor, place, order).map(|x: i16| Value::Signed(x.into())),
-        Width::U32 => read_at(buffer, cursor, place, order).map(|x: u32| Value::Unsigned(x.into())),
-        Width::I32 => read_at(buffer, cursor, place, order).map(|x: i32| Value::Signed(x.into())),
-        Width::U64 => read_at(buffer, cursor, place, order).map(|x: u64| Value::Unsigned(x.into())),
-        Width::I64 => read_at(buffer, cursor, place, order).map(|x: i64| Value::Signed(x.into())),
+        Width::U8 => read_at(buffer, cursor, place, order).map(unsigned::<u8>),
+        Width::I8 => read_at(buffer, cursor, place, order).map(signed::<i8>),
+        Width::U16 => read_at(buffer, cursor, place, order).map(unsigned::<u16>),
+        Width::I16 => read_at(buffer, cursor, place, order).map(signed::<i16>),
+        Width::U32 => read_at(buffer, cursor, place, order).map(unsigned::<u32>),
+        Width::I32 => read_at(buffer, cursor, place, order).map(signed::<i32>),
+        Width::U64 => read_at(buffer, cursor, place, order).map(unsigned::<u64>),
+        Width::I64 => read_at(buffer, cursor, place, order).map(signed::<i64>),
         Width::U128 => read_at(buffer, cursor, place, order).map(Value::Unsigned),
         Width::I128 => read_at(buffer, cursor, place, order).map(Value::Signed),
     }
+}
+
+fn unsigned<N: Into<u128>>(x: N) -> Value
+    ensures { (wide : ℕ) × N.converts x wide × (result ≡ value.Unsigned wide) }
+{
+    Value::Unsigned(x.into())
+}
+
+fn signed<N: Into<i128>>(x: N) -> Value
+    ensures { (wide : ℤ) × N.converts x wide × (result ≡ value.Signed wide) }
+{
+    Value::Signed(x.into())
 }
 
 // Reads an array of two strings, and takes it apart, since a `match` can't bind an array of
