@@ -140,8 +140,8 @@ fn read_texts(
 ) -> Result<Value>
     ensures read { IfOk result (λ x.
         ReadsHere (ReadsKind (kind.Textx2 ctx)) buffer.now cursor.old place x cursor.new) }
-    ensures refused { IfErr result (UnlessNoMemory (λ e.
-        RefusesHere (RefusesKind (kind.Textx2 ctx)) IsBadOffset buffer.now cursor.old place e cursor.new)) }
+    ensures refused { IfErr result (UnlessNoMemory (λ e. RefusesHere
+        (RefusesKind (kind.Textx2 ctx)) IsBadOffset buffer.now cursor.old place e cursor.new)) }
 {
     let (first, second) = borrow_texts(buffer, cursor, place, ctx)?;
     Ok(Value::Textx2(copy_text(alloc, first)?, copy_text(alloc, second)?))
