@@ -61,9 +61,9 @@ impl fmt::Display for Error {
             Error::TooBig { size, len } => write!(f, "type is too big ({size}) for {len}"),
             Error::BadOffset(offset) => write!(f, "bad offset {offset}"),
             Error::BadInput { size, msg } => write!(f, "bad input {msg} ({size})"),
-            Error::Custom(text) => write!(f, "{text}"),
+            Error::Custom(text) => f.write_str(text),
             Error::IO(error) => write!(f, "{error}"),
-            Error::NoMemory => write!(f, "out of memory"),
+            Error::NoMemory => f.write_str("out of memory"),
         }
     }
 }

@@ -32,10 +32,8 @@ impl fmt::Display for SmallError {
 
     fn fmt<W: fmt::Write>(&self, f: &mut fmt::Formatter<W>) -> fmt::Result {
         match self {
-            SmallError::TooBig { size, len } => write!(f, "type is too big ({size}) for {len}"),
-            SmallError::BadOffset(offset) => write!(f, "bad offset {offset}"),
-            SmallError::BadInput { size, msg } => write!(f, "bad input {msg} ({size})"),
-            SmallError::Other => write!(f, "other error"),
+            SmallError::Other => f.write_str("other error"),
+            small => write!(f, "{}", Error::from(*small)),
         }
     }
 }

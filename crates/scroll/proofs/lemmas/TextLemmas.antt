@@ -9,7 +9,7 @@ use Rattle.scroll.specs.lemmas.Frames.{index_of-le}
 use Rattle.scroll.specs.Texts.{index_of, text_len, wanted_len, delimiter_len, HasDelimiter, ReadsText, RefusesInvalid, RefusesMissing, RefusesText, ReadsSlice}
 use Rattle.scroll.proofs.lemmas.SearchLemmas.{position_or_len-take}
 use Rattle.std.proofs.lemmas.Bool.{cases_lt, cases_Bool}
-use Rattle.std.proofs.lemmas.Str.{IsUtf8-from_is_utf8, is_utf8-from_IsUtf8}
+use Rattle.std.proofs.lemmas.Str.{IsUtf8-from_is_utf8, is_utf8-from_IsUtf8, IsUtf8-from_ascii}
 use Rattle.std.specs.Str.{is_utf8}
 use Rattle.scroll.proofs.lemmas.NumberLemmas.{begins-length, begins-split, take-same}
 use Rattle.scroll.proofs.lemmas.callers.OneAnswer.{one-Ok, one-Err, same-too_big}
@@ -46,6 +46,8 @@ text_len-take (Required d) s h = length-take-le (index_of d s) s (index_of-le d 
 pub ruleset text_lens = (text_len-take)
 
 pub ruleset index_ofs = (index_of-le, index_of-take)
+
+pub ruleset ascii = (IsUtf8-from_ascii)
 
 -- the index of the first byte of a value in lists with equal prefixes
 pub index_of-prefixes : (d n : ℕ) (s t : List ℕ) → take n t ≡ take n s → min n (index_of d t) ≡ min n (index_of d s)

@@ -1,11 +1,13 @@
 // Elements of one size that are read where they lie.
-ghost use Rattle.std.specs.Prelude.{◌≡◌, ◌≤◌, ◌<◌, ◌*◌, ◌/◌, length, drop, IfSome, IfNone, OnSome};
+ghost use Rattle.std.specs.Prelude.{◌≡◌, ◌≤◌, ◌<◌, ◌*◌, ◌/◌, ⊤, length, drop, IfSome, IfNone, OnSome};
 ghost use Rattle.std.specs.Iterator.{at_most};
 ghost use Rattle.scroll.specs.Many.{YieldsElement};
 
 use crate::ctx::fixed::Plain;
 use crate::endian::Endian;
+use std::alloc::AllocError;
 use std::marker::PhantomData;
+use std::result::Result;
 
 /// The elements of a table, each of the same size, one after another in bytes that are borrowed.
 ///
@@ -25,11 +27,22 @@ use std::marker::PhantomData;
 /// }
 /// assert_eq!(rt; sum, 6);
 /// ```
-#[derive(Clone, Copy, Debug)]
+#[derive(Debug)]
 pub struct Table<'a, T> {
     /// The bytes of the elements.
     pub bytes: &'a [u8],
     of: PhantomData<T>,
+}
+
+impl<'a, T> Copy for Table<'a, T> {}
+
+impl<'a, T> Clone for Table<'a, T> {
+    ghost is_infallible = { λ _. ⊤ };
+
+    #[inline(always)]
+    fn clone(&self) -> Result<Table<'a, T>, AllocError> {
+        Ok(*self)
+    }
 }
 
 impl<'a, T: Plain> Table<'a, T> {
@@ -84,13 +97,24 @@ impl<'a, T: Plain> Table<'a, T> {
 }
 
 /// The elements that are left of a [`Table`].
-#[derive(Clone, Copy, Debug, Drop)]
+#[derive(Debug)]
 pub struct Elements<'a, T> {
     /// The bytes that are left.
     pub bytes: &'a [u8],
     /// The byte order.
     pub order: Endian,
     of: PhantomData<T>,
+}
+
+impl<'a, T> Copy for Elements<'a, T> {}
+
+impl<'a, T> Clone for Elements<'a, T> {
+    ghost is_infallible = { λ _. ⊤ };
+
+    #[inline(always)]
+    fn clone(&self) -> Result<Elements<'a, T>, AllocError> {
+        Ok(*self)
+    }
 }
 
 impl<'a, T: Plain> Iterator for Elements<'a, T> {

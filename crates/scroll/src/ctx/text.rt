@@ -124,6 +124,7 @@ fn text_before(delimiter: u8, source: &[u8]) -> (usize, Option<&str>)
 
 // Returns ASCII bytes as a string.
 #[inline(always)]
+#[tactic(auto, using(crate::proofs::lemmas::TextLemmas::ascii))]
 fn text_of_ascii(bytes: &[u8]) -> &str
     requires { IsAscii bytes.now }
     ensures { result.now ≡ bytes.now }

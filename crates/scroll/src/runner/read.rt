@@ -1,12 +1,15 @@
 // The reads of a run.
-ghost use Rattle.std.specs.Prelude.{◌≡◌, ◌≢◌, [], ◌∷◌, IfOk, IfErr, IsOk, OnErr};
+ghost use Rattle.std.specs.Prelude.{◌≡◌, ◌≢◌, ℕ, ℤ, [], ◌∷◌, IfOk, IfErr, IsOk, OnErr};
 ghost use Rattle.std.specs.String.{string_bytes};
 ghost use Rattle.scroll.specs.Runs.{Copies, ReadsKind, RefusesKind, ReadsHere, RefusesHere, ReadStep, UnlessNoMemory, ReadsWide, is_signed, bytes_in};
 ghost use Rattle.scroll.specs.Arrays.{ReadsArray, RefusesArray};
 ghost use Rattle.scroll.specs.Bytes.{RefusesShort};
+ghost use Rattle.scroll.specs.CStrings.{RefusesCString};
 ghost use Rattle.scroll.specs.Errors.{IsBadOffset, PastEnd};
 ghost use Rattle.scroll.specs.Texts.{ReadsText, RefusesText};
 ghost use Rattle.scroll.specs.declared.error.Error.TheVariants.{NoMemory};
+ghost use Rattle.scroll.specs.declared.runner.Kind.TheVariants as kind;
+ghost use Rattle.scroll.specs.declared.runner.Value.TheVariants as value;
 
 use super::{Answer, Kind, Place, Value, Width};
 use crate::cstr::{CStr, CString};
@@ -61,18 +64,10 @@ fn read_value(
 {
     match kind {
         Kind::Number(width, order) => read_number(buffer, cursor, place, width, order),
-        Kind::Text(ctx) => read_at(buffer, cursor, place, ctx)
-            .and_then(|text: &str| copy_text(alloc, text))
-            .map(Value::Text),
-        Kind::Bytes(len) => read_at(buffer, cursor, place, len)
-            .and_then(|bytes: &[u8]| copy_bytes(alloc, bytes))
-            .map(Value::Bytes),
-        Kind::CStr => read_at(buffer, cursor, place, ())
-            .and_then(|text: CStr| copy_bytes(alloc, text.to_bytes()))
-            .map(Value::CStr),
-        Kind::CString => read_at(buffer, cursor, place, &alloc)
-            .and_then(|text: CString| copy_bytes(alloc, text.as_bytes()))
-            .map(Value::CStr),
+        Kind::Text(ctx) => read_text(alloc, buffer, cursor, place, ctx),
+        Kind::Bytes(len) => read_bytes(alloc, buffer, cursor, place, len),
+        Kind::CStr => read_c_str(alloc, buffer, cursor, place),
+        Kind::CString => read_c_string(alloc, buffer, cursor, place),
         Kind::Uleb => read_at(buffer, cursor, place, ()).map(Value::Uleb),
         Kind::Sleb => read_at(buffer, cursor, place, ()).map(Value::Sleb),
         Kind::U8x0(order) => {
@@ -80,10 +75,76 @@ fn read_value(
             Ok(Value::U8x0)
         }
         Kind::U16x3(order) => read_at(buffer, cursor, place, order).map(Value::U16x3),
-        Kind::Textx2(ctx) => read_texts(buffer, cursor, place, ctx)
-            .and_then(|(first, second)| copy_texts(alloc, first, second))
-            .map(|(first, second)| Value::Textx2(first, second)),
+        Kind::Textx2(ctx) => read_texts(alloc, buffer, cursor, place, ctx),
     }
+}
+
+fn read_text(
+    alloc: Global,
+    buffer: &[u8],
+    cursor: &mut usize,
+    place: Place,
+    ctx: StrCtx,
+) -> Result<Value>
+    ensures read { IfOk result (λ x.
+        ReadsHere (ReadsKind (kind.Text ctx)) buffer.now cursor.old place x cursor.new) }
+    ensures refused { IfErr result (UnlessNoMemory (λ e.
+        RefusesHere (RefusesText ctx) IsBadOffset buffer.now cursor.old place e cursor.new)) }
+{
+    let text: &str = read_at(buffer, cursor, place, ctx)?;
+    copy_text(alloc, text).map(Value::Text)
+}
+
+fn read_bytes(
+    alloc: Global,
+    buffer: &[u8],
+    cursor: &mut usize,
+    place: Place,
+    len: usize,
+) -> Result<Value>
+    ensures read { IfOk result (λ x.
+        ReadsHere (ReadsKind (kind.Bytes len)) buffer.now cursor.old place x cursor.new) }
+    ensures refused { IfErr result (UnlessNoMemory (λ e.
+        RefusesHere (RefusesShort len) IsBadOffset buffer.now cursor.old place e cursor.new)) }
+{
+    let bytes: &[u8] = read_at(buffer, cursor, place, len)?;
+    copy_bytes(alloc, bytes).map(Value::Bytes)
+}
+
+fn read_c_str(alloc: Global, buffer: &[u8], cursor: &mut usize, place: Place) -> Result<Value>
+    ensures read { IfOk result (λ x.
+        ReadsHere (ReadsKind kind.CStr) buffer.now cursor.old place x cursor.new) }
+    ensures refused { IfErr result (UnlessNoMemory (λ e.
+        RefusesHere RefusesCString IsBadOffset buffer.now cursor.old place e cursor.new)) }
+{
+    let text: CStr = read_at(buffer, cursor, place, ())?;
+    copy_bytes(alloc, text.to_bytes()).map(Value::CStr)
+}
+
+fn read_c_string(alloc: Global, buffer: &[u8], cursor: &mut usize, place: Place) -> Result<Value>
+    ensures read { IfOk result (λ x.
+        ReadsHere (ReadsKind kind.CString) buffer.now cursor.old place x cursor.new) }
+    ensures refused { IfErr result (UnlessNoMemory (λ e.
+        RefusesHere RefusesCString IsBadOffset buffer.now cursor.old place e cursor.new)) }
+{
+    let text: CString = read_at(buffer, cursor, place, &alloc)?;
+    copy_bytes(alloc, text.as_bytes()).map(Value::CStr)
+}
+
+fn read_texts(
+    alloc: Global,
+    buffer: &[u8],
+    cursor: &mut usize,
+    place: Place,
+    ctx: StrCtx,
+) -> Result<Value>
+    ensures read { IfOk result (λ x.
+        ReadsHere (ReadsKind (kind.Textx2 ctx)) buffer.now cursor.old place x cursor.new) }
+    ensures refused { IfErr result (UnlessNoMemory (λ e. RefusesHere
+        (RefusesKind (kind.Textx2 ctx)) IsBadOffset buffer.now cursor.old place e cursor.new)) }
+{
+    let (first, second) = borrow_texts(buffer, cursor, place, ctx)?;
+    Ok(Value::Textx2(copy_text(alloc, first)?, copy_text(alloc, second)?))
 }
 
 fn read_number(
@@ -99,22 +160,34 @@ fn read_number(
         (RefusesShort (bytes_in width)) IsBadOffset buffer.now cursor.old place e cursor.new) }
 {
     match width {
-        Width::U8 => read_at(buffer, cursor, place, order).map(|x: u8| Value::Unsigned(x.into())),
-        Width::I8 => read_at(buffer, cursor, place, order).map(|x: i8| Value::Signed(x.into())),
-        Width::U16 => read_at(buffer, cursor, place, order).map(|x: u16| Value::Unsigned(x.into())),
-        Width::I16 => read_at(buffer, cursor, place, order).map(|x: i16| Value::Signed(x.into())),
-        Width::U32 => read_at(buffer, cursor, place, order).map(|x: u32| Value::Unsigned(x.into())),
-        Width::I32 => read_at(buffer, cursor, place, order).map(|x: i32| Value::Signed(x.into())),
-        Width::U64 => read_at(buffer, cursor, place, order).map(|x: u64| Value::Unsigned(x.into())),
-        Width::I64 => read_at(buffer, cursor, place, order).map(|x: i64| Value::Signed(x.into())),
+        Width::U8 => read_at(buffer, cursor, place, order).map(unsigned::<u8>),
+        Width::I8 => read_at(buffer, cursor, place, order).map(signed::<i8>),
+        Width::U16 => read_at(buffer, cursor, place, order).map(unsigned::<u16>),
+        Width::I16 => read_at(buffer, cursor, place, order).map(signed::<i16>),
+        Width::U32 => read_at(buffer, cursor, place, order).map(unsigned::<u32>),
+        Width::I32 => read_at(buffer, cursor, place, order).map(signed::<i32>),
+        Width::U64 => read_at(buffer, cursor, place, order).map(unsigned::<u64>),
+        Width::I64 => read_at(buffer, cursor, place, order).map(signed::<i64>),
         Width::U128 => read_at(buffer, cursor, place, order).map(Value::Unsigned),
         Width::I128 => read_at(buffer, cursor, place, order).map(Value::Signed),
     }
 }
 
+fn unsigned<N: Into<u128>>(x: N) -> Value
+    ensures { (wide : ℕ) × N.converts x wide × (result ≡ value.Unsigned wide) }
+{
+    Value::Unsigned(x.into())
+}
+
+fn signed<N: Into<i128>>(x: N) -> Value
+    ensures { (wide : ℤ) × N.converts x wide × (result ≡ value.Signed wide) }
+{
+    Value::Signed(x.into())
+}
+
 // Reads an array of two strings, and takes it apart, since a `match` can't bind an array of
 // references.
-fn read_texts<'b>(
+fn borrow_texts<'b>(
     buffer: &'b [u8],
     cursor: &mut usize,
     place: Place,
@@ -143,15 +216,6 @@ fn copy_text(alloc: Global, text: &str) -> Result<String>
         Ok(copy) => Ok(copy),
         Err(_) => Err(Error::NoMemory),
     }
-}
-
-fn copy_texts(alloc: Global, first: &str, second: &str) -> Result<(String, String)>
-    ensures copied { IfOk result (λ copy.
-        (string_bytes copy.0 ≡ first.now) × (string_bytes copy.1 ≡ second.now)) }
-    ensures only_memory { IfErr result (λ e. e ≡ NoMemory) }
-{
-    let first = copy_text(alloc, first)?;
-    Ok((first, copy_text(alloc, second)?))
 }
 
 fn copy_bytes(alloc: Global, bytes: &[u8]) -> Result<Vec<u8>>

@@ -25,3 +25,6 @@ drop-values-requires g c = c.if-not-fits.ensures.fits refl
 
 pub drop-values-requires-2 : goal.drop-values-requires-2
 drop-values-requires-2 g c = c.if-not-fits.ensures.fits refl
+
+pub next-requires : goal.next-requires
+next-requires g c = (c.if-not-fits.ensures.fits refl, search rules)

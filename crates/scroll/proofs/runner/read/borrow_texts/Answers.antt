@@ -5,7 +5,7 @@ use Rattle.scroll.specs.Arrays.{RefusesArray}
 use Rattle.scroll.specs.Errors.{IsBadOffset}
 use Rattle.scroll.specs.Runs.{RefusesHere}
 use Rattle.scroll.specs.Texts.{ReadsText, RefusesText}
-use Rattle.scroll.proofs.runner.read.read_texts.Goals as goal
+use Rattle.scroll.proofs.runner.read.borrow_texts.Goals as goal
 
 pub returns-clause-refused : goal.returns-clause-refused
 returns-clause-refused c =
