@@ -3,7 +3,7 @@
 use crate::inputs::{Letters, Random, SIZE, bytes, push_text};
 use crate::timing::{Bench, Job, ours, reading, rust, writing};
 use scroll::ctx::StrCtx;
-use scroll::{BE, Cread, Cwrite, Endian, Error, LE, Pread};
+use scroll::{BE, Cread, Cwrite, Endian, Error, LE, Pread, Pwrite};
 use std::ffi::CStr;
 
 unsafe extern "C" {
@@ -16,6 +16,12 @@ unsafe extern "C" {
     fn rt_until_nul(source: *const u8, len: usize) -> u64;
     fn rt_sizes(source: *const u8, len: usize) -> u64;
     fn rt_padding(source: *const u8, len: usize) -> u64;
+    fn rt_many(source: *const u8, len: usize) -> u64;
+    fn rt_append(source: *const u8, len: usize) -> u64;
+    fn rt_read_fixed(source: *const u8, len: usize) -> u64;
+    fn rt_elements(source: *const u8, len: usize) -> u64;
+    fn rt_write_many(numbers: *const u64, count: usize, target: *mut u8, len: usize) -> u64;
+    fn rt_tagged(numbers: *const u64, count: usize, target: *mut u8, len: usize) -> u64;
 }
 
 // (the Rust crate reads no arrays, so the numbers are read one by one)
@@ -133,9 +139,81 @@ fn padded(source: &[u8]) -> u64 {
     total
 }
 
+#[inline(never)]
+fn many(source: &[u8]) -> u64 {
+    let mut offset = 0;
+    let mut numbers: Vec<u32> = Vec::new();
+    for _ in 0..source.len() / 4 {
+        match source.gread_with(&mut offset, LE) {
+            Ok(number) => numbers.push(number),
+            Err(_) => return 0,
+        }
+    }
+    numbers.iter().fold(0, |total, number| total.wrapping_add(u64::from(*number)))
+}
+
+#[inline(never)]
+fn write_many(numbers: &[u64], target: &mut [u8]) -> u64 {
+    let mut offset = 0;
+    for number in numbers {
+        if target.gwrite_with(*number, &mut offset, LE).is_err() {
+            break;
+        }
+    }
+    offset as u64
+}
+
+#[inline(never)]
+fn tagged(numbers: &[u64], target: &mut [u8]) -> u64 {
+    let mut offset = 0;
+    for number in numbers {
+        if target.gwrite_with(7u8, &mut offset, LE).is_err() || target.gwrite_with(*number, &mut offset, LE).is_err() {
+            break;
+        }
+    }
+    offset as u64
+}
+
+#[inline(never)]
+fn append(source: &[u8]) -> u64 {
+    let mut made: Vec<u8> = Vec::new();
+    for byte in source {
+        made.extend_from_slice(&u32::from(*byte).to_le_bytes());
+        made.extend_from_slice(&7u16.to_le_bytes());
+    }
+    std::hint::black_box(&made).len() as u64
+}
+
+#[inline(never)]
+fn fixed(source: &[u8]) -> u64 {
+    let mut offset = 0;
+    let mut total: u64 = 0;
+    let mut x = [0u16; 4];
+    while source.gread_inout_with(&mut offset, &mut x, LE).is_ok() {
+        total = total.wrapping_add(u64::from(x[0]) ^ u64::from(x[3]));
+    }
+    total
+}
+
+#[inline(never)]
+fn elements(source: &[u8]) -> u64 {
+    let mut offset = 0;
+    let mut total: u64 = 0;
+    while let Ok(number) = source.gread_with::<u32>(&mut offset, LE) {
+        total = total.wrapping_add(u64::from(number));
+    }
+    total
+}
+
 macro_rules! source {
     ($name:ident) => {
         ours("for", |job| unsafe { $name(job.input.as_ptr(), job.input.len()) })
+    };
+}
+
+macro_rules! put {
+    ($name:ident) => {
+        ours("for", |job| unsafe { $name(job.numbers.as_ptr(), job.numbers.len(), job.output.as_mut_ptr(), job.output.len()) })
     };
 }
 
@@ -150,6 +228,10 @@ pub fn all(bench: &mut Bench) {
     bench.row("calls", "nested arrays of 12 u16 LE", len / 24, &mut job, &[source!(rt_nested_le), rust("while", |job| nested(job.input, LE))]);
     bench.row("calls", "nested arrays of 12 u16 BE", len / 24, &mut job, &[source!(rt_nested_be), rust("while", |job| nested(job.input, BE))]);
     bench.row("calls", "check_room and cread in a function", len, &mut job, &[source!(rt_check_room), rust("for", |job| pairs(job.input))]);
+    bench.row("calls", "read_many of u32", len / 4, &mut job, &[source!(rt_many), rust("for", |job| many(job.input))]);
+    bench.row("calls", "append of u32 and u16", len, &mut job, &[source!(rt_append), rust("for", |job| append(job.input))]);
+    bench.row("calls", "read_fixed of four u16", len / 8, &mut job, &[source!(rt_read_fixed), rust("while", |job| fixed(job.input))]);
+    bench.row("calls", "elements of a table of u32", len / 4, &mut job, &[source!(rt_elements), rust("while", |job| elements(job.input))]);
     bench.row("calls", "size of a Uleb128", len, &mut job, &[source!(rt_sizes), rust("for", |job| sizes(job.input))]);
 
     let mut random = Random::new();
@@ -185,4 +267,10 @@ pub fn all(bench: &mut Bench) {
         rust("while", |job| write_default(job.output)),
     ];
     bench.row("calls", "cwrite of u32", len / 4, &mut writing(&mut output), &writes);
+    let numbers: Vec<u64> = (0..len / 16).map(|_| random.below(u64::MAX)).collect();
+    let mut job = Job { numbers: &numbers, ..writing(&mut output) };
+    let forms = [put!(rt_write_many), rust("for", |job| write_many(job.numbers, job.output))];
+    bench.row("calls", "write_many of u64", len / 16, &mut job, &forms);
+    let forms = [put!(rt_tagged), rust("for", |job| tagged(job.numbers, job.output))];
+    bench.row("calls", "write_tagged of u64", len / 16, &mut job, &forms);
 }

@@ -1,9 +1,9 @@
 //! Records of five numbers by each form of error handling, and calls that are refused.
 
 use crate::inputs::{SIZE, bytes};
-use crate::timing::{Bench, Form, ours, reading, rust, writing};
-use scroll::ctx::StrCtx;
-use scroll::{Error, LE, Pread, Pwrite};
+use crate::timing::{Bench, Form, Job, ours, reading, rust, writing};
+use scroll::ctx::{StrCtx, TryFromCtx};
+use scroll::{Endian, Error, LE, Pread, Pwrite};
 
 unsafe extern "C" {
     fn rt_form_small(source: *const u8, len: usize) -> u64;
@@ -16,6 +16,10 @@ unsafe extern "C" {
     fn rt_refused_small(source: *const u8, len: usize) -> u64;
     fn rt_refused_text(source: *const u8, len: usize) -> u64;
     fn rt_refused_writes(target: *mut u8, len: usize) -> u64;
+    fn rt_five_error(source: *const u8, len: usize, little: bool) -> u64;
+    fn rt_five_small(source: *const u8, len: usize, little: bool) -> u64;
+    fn rt_five_at(source: *const u8, len: usize, little: bool) -> u64;
+    fn rt_five_in_line(source: *const u8, len: usize, little: bool) -> u64;
 }
 
 #[inline(never)]
@@ -108,9 +112,60 @@ fn refused_writes(target: &mut [u8]) -> u64 {
     total
 }
 
+// Five numbers, of 16 bytes in all, read as the Rust crate's derive prints it.
+struct Five {
+    a: u32,
+    b: u16,
+    c: u8,
+    d: u64,
+    e: u8,
+}
+
+impl<'a> TryFromCtx<'a, Endian> for Five {
+    type Error = Error;
+
+    #[inline]
+    fn try_from_ctx(from: &'a [u8], order: Endian) -> Result<(Five, usize), Error> {
+        let offset = &mut 0;
+        let five = Five {
+            a: from.gread_with(offset, order)?,
+            b: from.gread_with(offset, order)?,
+            c: from.gread_with(offset, order)?,
+            d: from.gread_with(offset, order)?,
+            e: from.gread_with(offset, order)?,
+        };
+        Ok((five, *offset))
+    }
+}
+
+#[inline(never)]
+fn read_five(source: &[u8], offset: &mut usize, order: Endian) -> Result<Five, Error> {
+    source.gread_with(offset, order)
+}
+
+#[inline(always)]
+fn five_in_line(source: &[u8], offset: &mut usize, order: Endian) -> Result<Five, Error> {
+    source.gread_with(offset, order)
+}
+
+macro_rules! fives {
+    ($read:expr) => {
+        rust("while", |job| {
+            let (source, order) = (job.input, Endian::from(job.little));
+            let mut offset = 0;
+            let mut total: u64 = 0;
+            while let Ok(five) = $read(source, &mut offset, order) {
+                let small = u64::from(five.a) + u64::from(five.b) + u64::from(five.c) + u64::from(five.e);
+                total = total.wrapping_add(five.d).wrapping_add(small);
+            }
+            total
+        })
+    };
+}
+
 macro_rules! source {
-    ($name:ident) => {
-        ours("for", |job| unsafe { $name(job.input.as_ptr(), job.input.len()) })
+    ($name:ident $(, $little:ident)?) => {
+        ours("for", |job| unsafe { $name(job.input.as_ptr(), job.input.len() $(, job.$little)?) })
     };
 }
 
@@ -138,4 +193,14 @@ pub fn all(bench: &mut Bench) {
         rust("for", |job| refused_writes(job.output)),
     ];
     bench.row("errors", "refused writes", len, &mut writing(&mut output), &forms);
+    for (little, order) in [(true, "LE"), (false, "BE")] {
+        let mut job = Job { little, ..reading(&source) };
+        let mut row = |by: &str, form: Form, other: Form| {
+            bench.row("errors", &format!("five numbers {order} {by}"), len / 16, &mut job, &[form, other]);
+        };
+        row("by Error", source!(rt_five_error, little), fives!(read_five));
+        row("by SmallError", source!(rt_five_small, little), fives!(read_five));
+        row("by At[Error]", source!(rt_five_at, little), fives!(read_five));
+        row("in line", source!(rt_five_in_line, little), fives!(five_in_line));
+    }
 }

@@ -10,6 +10,12 @@ unsafe extern "C" {
     fn rt_gread_slebs(source: *const u8, len: usize) -> u64;
     fn rt_read_ulebs(source: *const u8, len: usize) -> u64;
     fn rt_read_slebs(source: *const u8, len: usize) -> u64;
+    fn rt_plain_ulebs(source: *const u8, len: usize) -> u64;
+    fn rt_plain_slebs(source: *const u8, len: usize) -> u64;
+    fn rt_loaded_ulebs(source: *const u8, len: usize) -> u64;
+    fn rt_loaded_slebs(source: *const u8, len: usize) -> u64;
+    fn rt_uleb_blocks(source: *const u8, len: usize) -> u64;
+    fn rt_sleb_blocks(source: *const u8, len: usize) -> u64;
 }
 
 // Both calls of the crate, each in both forms of the loop.
@@ -105,6 +111,43 @@ fn all_reads(bench: &mut Bench) {
         row(format!("Uleb128::read {name}"), lengths, false, sources!("read for", rt_read_ulebs));
         row(format!("Sleb128::read {name}"), lengths, true, sources!("read for", rt_read_slebs));
     }
+    // By the functions that read from what is left.
+    let (name, lengths) = LENGTHS[12];
+    row(format!("plain_uleb {name}"), lengths, false, sources!("for", rt_plain_ulebs));
+    row(format!("plain_sleb {name}"), lengths, true, sources!("for", rt_plain_slebs));
+    row(format!("uleb_loads {name}"), lengths, false, sources!("for", rt_loaded_ulebs));
+    row(format!("sleb_loads {name}"), lengths, true, sources!("for", rt_loaded_slebs));
+}
+
+// The sum of the numbers that blocks of eight bytes begin with, each with its size.
+macro_rules! blocks {
+    ($name:literal, $mine:ident, $number:ty, $value:ty, $bench:expr, $source:expr) => {{
+        #[inline(never)]
+        fn sum(source: &[u8]) -> u64 {
+            let mut total: u64 = 0;
+            for start in (0..source.len()).step_by(8) {
+                let mut offset = start;
+                if let Ok(number) = <$number>::read(source, &mut offset) {
+                    total = total.wrapping_add(number as u64 ^ (offset - start) as u64);
+                }
+            }
+            total
+        }
+        let forms = [sources!("for", $mine), rust("for", |job| sum(job.input))];
+        $bench.row("leb_reads", $name, SIZE as u64 / 8, &mut reading($source), &forms);
+    }};
+}
+
+fn all_blocks(bench: &mut Bench) {
+    let mut random = Random::new();
+    let mut source = Vec::new();
+    while source.len() < SIZE {
+        let from = source.len();
+        push_uleb(&mut source, LENGTHS[12].1.unsigned(&mut random) >> 8);
+        source.resize(from + 8, 0);
+    }
+    blocks!("uleb_block real mix", rt_uleb_blocks, Uleb128, u64, bench, &source);
+    blocks!("sleb_block real mix", rt_sleb_blocks, Sleb128, i64, bench, &source);
 }
 
 unsafe extern "C" {
@@ -169,5 +212,6 @@ fn all_writes(bench: &mut Bench) {
 
 pub fn all(bench: &mut Bench) {
     all_reads(bench);
+    all_blocks(bench);
     all_writes(bench);
 }

@@ -24,6 +24,7 @@ pub enum Side {
 }
 
 /// A loop, and its name in the table.
+#[derive(Clone, Copy)]
 pub struct Form {
     pub side: Side,
     pub name: &'static str,

@@ -26,7 +26,7 @@ pub trait Pread<Ctx: Copy, E>: Source {
     /// assert_eq!(rt; byte, 127);
     /// ```
     #[inline(always)]
-    fn pread<N: ReadFrom<Self, Ctx, Error = E>>(self, offset: usize) -> Result<N, E>
+    final fn pread<N: ReadFrom<Self, Ctx, Error = E>>(self, offset: usize) -> Result<N, E>
     where
         Ctx: Default,
         ensures read { IfOk result (λ x.
@@ -49,7 +49,11 @@ pub trait Pread<Ctx: Copy, E>: Source {
     /// assert!(rt; matches!(past, Err(Error::BadOffset(3))));
     /// ```
     #[inline(always)]
-    fn pread_with<N: ReadFrom<Self, Ctx, Error = E>>(self, offset: usize, ctx: Ctx) -> Result<N, E>
+    final fn pread_with<N: ReadFrom<Self, Ctx, Error = E>>(
+        self,
+        offset: usize,
+        ctx: Ctx,
+    ) -> Result<N, E>
         ensures read { IfOk result (ReadsSome (N.reads ctx) (Self.bytes self) offset) }
         ensures refused { IfErr result
             (RefusesAt (N.refuses ctx) past_end (Self.bytes self) offset) }
@@ -69,7 +73,7 @@ pub trait Pread<Ctx: Copy, E>: Source {
     /// assert_eq!(rt; *offset, 1);
     /// ```
     #[inline(always)]
-    fn gread<N: ReadFrom<Self, Ctx, Error = E>>(self, offset: &mut usize) -> Result<N, E>
+    final fn gread<N: ReadFrom<Self, Ctx, Error = E>>(self, offset: &mut usize) -> Result<N, E>
     where
         Ctx: Default,
         ensures read { IfOk result (λ x. ByDefault Ctx.is_default (λ ctx.

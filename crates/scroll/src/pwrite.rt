@@ -37,7 +37,7 @@ pub trait Pwrite<Ctx: Copy, E> {
     /// assert_eq!(rt; bytes[..].pread::<u32>(0)?, 0xbeefbeef);
     /// ```
     #[inline(always)]
-    fn pwrite<N: TryIntoCtx<Ctx, Error = E> + Drop>(
+    final fn pwrite<N: TryIntoCtx<Ctx, Error = E> + Drop>(
         &mut self,
         n: N,
         offset: usize,
@@ -69,7 +69,7 @@ pub trait Pwrite<Ctx: Copy, E> {
     /// assert!(rt; matches!(short, Err(Error::TooBig { size: 2, len: 1 })));
     /// ```
     #[inline(always)]
-    fn pwrite_with<N: TryIntoCtx<Ctx, Error = E> + Drop>(
+    final fn pwrite_with<N: TryIntoCtx<Ctx, Error = E> + Drop>(
         &mut self,
         n: N,
         offset: usize,
@@ -97,7 +97,7 @@ pub trait Pwrite<Ctx: Copy, E> {
     /// assert_eq!(rt; *offset, 4);
     /// ```
     #[inline(always)]
-    fn gwrite<N: TryIntoCtx<Ctx, Error = E> + Drop>(
+    final fn gwrite<N: TryIntoCtx<Ctx, Error = E> + Drop>(
         &mut self,
         n: N,
         offset: &mut usize,
