@@ -122,7 +122,8 @@ pub fn write_kept<Ctx: Copy, E: From<Error>, T: Kept<Ctx> + TryIntoCtx<Ctx, Erro
     offset: &mut usize,
     ctx: Ctx,
 ) -> Result<usize, E>
-    ensures wrote { IfOk result (WritesAt (T.TryIntoCtx.writes ctx value) dst.old offset.old dst.new) }
+    ensures wrote { IfOk result
+        (WritesAt (T.TryIntoCtx.writes ctx value) dst.old offset.old dst.new) }
     ensures again { OnOk result
         (ReadsBetween (T.Kept.reads ctx) dst.new offset.old offset.new value) }
     ensures kept { OnOk result
