@@ -1,8 +1,8 @@
 -- Many values, read one after another into memory, and written one after another; and the elements
 -- of a table, each of the same size.
-use Rattle.std.specs.Prelude.{◌≡◌, ◌<◌, ◌≤◌, ◌++◌, ◌/◌, ◌∷◌, ℕ, List, length, drop, ◌⊎◌, Option, MatchOption}
+use Rattle.std.specs.Prelude.{◌≡◌, ◌<◌, ◌≤◌, ◌++◌, ◌/◌, ◌∷◌, ℕ, List, length, take, drop, ◌⊎◌, Option, MatchOption}
 use Rattle.scroll.specs.Arrays.{WritesAll}
-use Rattle.scroll.specs.Reads.{ReadsAll, RefusesAt}
+use Rattle.scroll.specs.Reads.{ReadsAll, ReadsBetween, RefusesAt}
 use Rattle.scroll.specs.Writes.{RefusesWriteAt}
 use Rattle.scroll.specs.Errors.{PastEnd}
 use Rattle.scroll.specs.declared.error.Error.{Error}
@@ -32,6 +32,22 @@ pub record FailsMany {V E : Type 0} (writes : V → List ℕ → List ℕ → �
   pub mid : List ℕ
   pub each : WritesAll writes old from values mid stop
   pub error : RefusesWriteAt (refuses value) (PastEnd gives) mid stop new e
+
+-- only bytes between the offsets `from` and `to` may differ
+pub record ChangesBetween (from to : ℕ) (old new : List ℕ) : Type 0 where
+  pub forward : from ≤ to
+  pub before : take from new ≡ take from old
+  pub after : drop to new ≡ drop to old
+  pub len : length new ≡ length old
+
+-- the value `v` is read between the offsets `from` and `to` of `new`, and of each buffer with the
+-- same first `to` bytes: whatever is written after it
+abbrev pub KeepsOne : {V : Type 0} → (List ℕ → V → ℕ → Type 0) → List ℕ → ℕ → V → ℕ → Type 0
+KeepsOne reads new from v to = (later : List ℕ) → take to later ≡ take to new → ReadsBetween reads later from to v
+
+-- and so are the values `vs`, one after another
+abbrev pub KeepsAll : {V : Type 0} → (List ℕ → V → ℕ → Type 0) → List ℕ → ℕ → List V → ℕ → Type 0
+KeepsAll reads new from vs to = (later : List ℕ) → take to later ≡ take to new → ReadsAll reads later from vs to
 
 -- the first element is taken: it is made of the first `w` bytes of `old`, and the bytes after these
 -- are left

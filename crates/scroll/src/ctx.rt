@@ -30,7 +30,7 @@
 //!         Ok((data, offset))
 //!     }
 //! ```
-ghost use Rattle.std.specs.Prelude.{◌≡◌, ℕ, ◌+◌, ◌^◌, ◌≤◌, ◌<◌, List, length, drop, IfOk, IfErr};
+ghost use Rattle.std.specs.Prelude.{◌≡◌, ℕ, ◌+◌, ◌^◌, ◌≤◌, ◌<◌, ◌++◌, List, length, take, drop, IfOk, IfErr};
 ghost use Rattle.scroll.specs.Reads.{IsBounded};
 
 mod arrays;
@@ -158,6 +158,27 @@ pub trait TryIntoCtx<Ctx: Copy>: Sized {
     // The bytes after those that were written are unchanged.
     ghost writes_keeps: { (ctx : Ctx) (x : Self) (old new : List ℕ) (n : ℕ) → writes ctx x old new n
         → drop n new ≡ drop n old };
+}
+
+/// A type whose values read back as they were written, whatever follows them.
+///
+/// [`write_kept`](crate::write_kept) and [`write_many_kept`](crate::write_many_kept) say so of what
+/// they write. A struct whose implementations `tools/derive` printed has a lemma for `back`, as in
+/// `clients/zip/src/entry.rt.txt`.
+pub trait Kept<Ctx: Copy>: TryIntoCtx<Ctx> + Copy {
+    // Holds of a context, a source, and each value and size that a read of them may return.
+    ghost reads: { Ctx → List ℕ → Self → ℕ → Type 0 };
+
+    // Holds of each value of the type.
+    ghost fits: { Self → Type 0 };
+
+    /// Does nothing, and says that the value fits.
+    fn fit(self)
+        ensures { fits self };
+
+    // What was written reads back.
+    ghost back: { (ctx : Ctx) (x : Self) (old new rest : List ℕ) (n : ℕ) → fits x
+        → Self.TryIntoCtx.writes ctx x old new n → reads ctx (take n new ++ rest) x n };
 }
 
 /// A type that can be read infallibly from enough bytes in a context.

@@ -1,12 +1,15 @@
 //! Many values, one after another.
-ghost use Rattle.std.specs.Prelude.{◌≡◌, ◌≤◌, ℕ, List, length, IfOk, IfErr, OnOk};
+ghost use Rattle.std.specs.Prelude.{◌≡◌, ◌≤◌, ◌+◌, ℕ, List, length, take, IfOk, IfErr, OnOk, OnErr};
 ghost use Rattle.scroll.specs.Arrays.{WritesAll};
-ghost use Rattle.scroll.specs.Many.{RefusesMany, FailsMany};
-ghost use Rattle.scroll.specs.Reads.{ReadsAll};
+ghost use Rattle.std.specs.List.{All};
+ghost use Rattle.scroll.specs.Many.{RefusesMany, FailsMany, ChangesBetween, KeepsOne, KeepsAll};
+ghost use Rattle.scroll.specs.Reads.{ReadsAll, ReadsBetween};
+ghost use Rattle.scroll.specs.Errors.{PastEnd};
+ghost use Rattle.scroll.specs.Writes.{WritesAt, RefusesWriteAt};
 ghost use Rattle.scroll.specs.Tagged.{WritesTagged, FailsTagged};
 ghost use Rattle.scroll.specs.declared.endian.Endian.{Endian};
 
-use crate::ctx::{Plain, TryFromCtx, TryIntoCtx};
+use crate::ctx::{Kept, Plain, TryFromCtx, TryIntoCtx};
 use crate::endian::Endian;
 use crate::error::{Error, check_room};
 use crate::located::At;
@@ -106,6 +109,66 @@ pub fn write_many<Ctx: Copy, E: From<Error>, T: TryIntoCtx<Ctx, Error = E> + Cop
         }
     }
     Ok(())
+}
+
+/// Writes a value at the cursor `offset`, and advances the cursor past it. The value reads back
+/// there, whatever is written after it.
+///
+/// Returns the error of [`gwrite_with`](slice::gwrite_with), and leaves the cursor, if the value
+/// can't be written.
+pub fn write_kept<Ctx: Copy, E: From<Error>, T: Kept<Ctx> + TryIntoCtx<Ctx, Error = E> + Drop>(
+    dst: &mut [u8],
+    value: T,
+    offset: &mut usize,
+    ctx: Ctx,
+) -> Result<usize, E>
+    ensures wrote { IfOk result
+        (WritesAt (T.TryIntoCtx.writes ctx value) dst.old offset.old dst.new) }
+    ensures again { OnOk result
+        (ReadsBetween (T.Kept.reads ctx) dst.new offset.old offset.new value) }
+    ensures kept { OnOk result
+        (KeepsOne (T.Kept.reads ctx) dst.new offset.old value offset.new) }
+    ensures others { OnOk result (ChangesBetween offset.old offset.new dst.old dst.new) }
+    ensures moves { IfOk result (λ size. offset.new ≡ offset.old + size) }
+    ensures refused { IfErr result (RefusesWriteAt (T.TryIntoCtx.refuses ctx value)
+        (PastEnd E.from_gives) dst.old offset.old dst.new) }
+    ensures stays { OnErr result (offset.new ≡ offset.old) }
+{
+    value.fit();
+    let size = slice::gwrite_with(dst, value, offset, ctx)?;
+    Ok(size)
+}
+
+/// Writes values like [`write_many`]. They read back, whatever is written after them.
+pub fn write_many_kept<
+    Ctx: Copy,
+    E: From<Error>,
+    T: Kept<Ctx> + TryIntoCtx<Ctx, Error = E> + Copy + Drop,
+>(dst: &mut [u8], values: &[T], offset: &mut usize, ctx: Ctx) -> Result<(), At<E>>
+    ensures wrote { OnOk result
+        (WritesAll (T.TryIntoCtx.writes ctx) dst.old offset.old values.now dst.new offset.new) }
+    ensures again { OnOk result
+        (ReadsAll (T.Kept.reads ctx) dst.new offset.old values.now offset.new) }
+    ensures kept { OnOk result
+        (KeepsAll (T.Kept.reads ctx) dst.new offset.old values.now offset.new) }
+    ensures others { OnOk result (ChangesBetween offset.old offset.new dst.old dst.new) }
+    ensures refused { IfErr result (λ located. FailsMany (T.TryIntoCtx.writes ctx)
+        (T.TryIntoCtx.refuses ctx) E.from_gives dst.old offset.old values.now dst.new
+        located.offset located.error) }
+    ensures stays { IfErr result (λ located. offset.new ≡ located.offset) }
+{
+    fit_all(values);
+    write_many(dst, values, offset, ctx)?;
+    Ok(())
+}
+
+// Does nothing, and says that each of the values fits.
+fn fit_all<Ctx: Copy, T: Kept<Ctx>>(values: &[T])
+    ensures { All T.Kept.fits values.now }
+{
+    for value in values {
+        value.fit();
+    }
 }
 
 /// Writes a tag, such as the number of an enum's variant, and the value that follows it to the

@@ -12,7 +12,7 @@ use Rattle.scroll.specs.declared.ctx.str_ctx.StrCtx.{StrCtx}
 use Rattle.scroll.specs.declared.ctx.str_ctx.StrCtx.TheVariants.{Delimiter, DelimiterUntil, Length, Required}
 use Rattle.std.proofs.Math.Nat.{mul-suc}
 use Rattle.std.proofs.lemmas.Grind.{common_steps}
-use Rattle.std.proofs.lemmas.List.{drop-drop}
+use Rattle.std.proofs.lemmas.List.{drop-drop, take_at}
 use Rattle.std.proofs.lemmas.List.FromFn.{length-map-range_with_len}
 use Rattle.scroll.specs.Bytes.{WritesPrefix}
 use Rattle.scroll.specs.Numbers.{number_bytes, signed_bytes}
@@ -93,6 +93,10 @@ drop-written {w} {bytes} {old} {new} len h = rw h.size (drop-prefix w bytes old 
 pub WritesPrefix-keeps : (bytes old new : List ℕ) (n : ℕ)
     → WritesPrefix (length bytes) bytes old new n → drop n new ≡ drop n old
 WritesPrefix-keeps bytes old new n h = drop-written refl h
+
+-- bytes that read as a value, whatever follows them, do so where they were written
+pub WritesPrefix-back : {V : Type 0} (reads : List ℕ → V → ℕ → Type 0) (v : V) (bytes old new rest : List ℕ) (n : ℕ) → reads (bytes ++ rest) v (length bytes) → WritesPrefix (length bytes) bytes old new n → reads (take n new ++ rest) v n
+WritesPrefix-back reads v bytes old new rest n back h = rw (h.after, h.size, take_at bytes (drop (length bytes) old) (length bytes) refl) back
 
 -- lists that are equal from an index on are equal from every later index on
 pub drop-same : {X : Type 0} (n k : ℕ) (xs ys : List X) → n ≤ k → drop n xs ≡ drop n ys

@@ -1,16 +1,19 @@
 -- Lemmas for callers: values that are written one after another by `write_many`, or by a loop of
 -- one's own, and that these read back by `read_many`.
-use Rattle.std.proofs.Common.{◌≡◌, ℕ, ◌+◌, ◌<◌, ◌≤◌, ◌++◌, List, [], ◌∷◌, length, take, drop, sym, ap, subst, append_assoc, arith, ◌∙◌}
-use Rattle.std.proofs.lemmas.List.{drop-take, take-take, take_more, take-append-drop}
+use Rattle.std.proofs.Common.{◌≡◌, ℕ, ◌+◌, ◌<◌, ◌≤◌, ◌++◌, List, [], ◌∷◌, length, take, drop, get_or, refl, sym, ap, subst, append_assoc, length-take, arith, ◌∙◌}
+use Rattle.std.proofs.lemmas.List.{drop-drop, drop-take, take-take, take_more, take-append-drop}
 use Rattle.std.proofs.lemmas.List.Elements.{All-head, All-tail}
-use Rattle.std.specs.List.{All, slice_index_or}
+use Rattle.std.specs.List.{All, AllZip, flat_map, slice_index_or}
 use Rattle.scroll.specs.Arrays.{WritesAll}
+use Rattle.scroll.specs.Bytes.{WritesPrefix}
 use Rattle.scroll.specs.Errors.{PastEnd}
-use Rattle.scroll.specs.Many.{FailsMany}
-use Rattle.scroll.specs.Reads.{ReadsAll}
+use Rattle.scroll.specs.Many.{FailsMany, ChangesBetween, KeepsOne, KeepsAll}
+use Rattle.scroll.specs.Reads.{ReadsAll, Puts}
 use Rattle.scroll.specs.Writes.{WritesAt, RefusesWriteAt}
 use Rattle.scroll.specs.declared.error.Error.{Error}
+use Rattle.scroll.specs.lemmas.Frames.{drop-same}
 use Rattle.scroll.proofs.lemmas.ArrayLemmas.{WritesAll-push}
+use Rattle.scroll.proofs.lemmas.callers.SpanLemmas.{puts-none, puts-next, puts-write}
 
 -- the first values, and the one after them
 more : {V : Type 0} (vs : List V) (i : ℕ) (v : V) → i < length vs → v ≡ slice_index_or vs i v → take (i + 1) vs ≡ take i vs ++ v ∷ []
@@ -35,37 +38,88 @@ FailsMany-item writes refuses gives {old} {from} vs i v {mid} {new} {stop} {e} i
   error = refused;
 }
 
--- the bytes before the first value, and how many bytes there are, are unchanged
-pub record Unmoved (from : ℕ) (old new : List ℕ) : Type 0 where
-  pub before : take from new ≡ take from old
-  pub len : length new ≡ length old
-
-pub WritesAll-keeps : {V : Type 0} (writes : V → List ℕ → List ℕ → ℕ → Type 0) (vs : List V) (old : List ℕ) (from : ℕ) (new : List ℕ) (to : ℕ) → WritesAll writes old from vs new to → Unmoved from old new
-WritesAll-keeps writes [] old from new to h = record { before = ap (take from) h.0; len = ap length h.0 }
-WritesAll-keeps writes (v ∷ vs) old from new to h =
-    let mid = h.0 in
-    let n = h.1 in
-    let later = WritesAll-keeps writes vs mid (from + n) new to h.3 in
-    let inside : from ≤ from + n = omega arith in
-    record {
-      before = sym (take-take from (from + n) new inside) ∙ ap (take from) later.before ∙ take-take from (from + n) mid inside ∙ h.2.before;
-      len = later.len ∙ h.2.len;
-    }
-
--- what was written reads back, if each value does, whatever follows it
-pub WritesAll-reads : {V : Type 0} (reads : List ℕ → V → ℕ → Type 0) (writes : V → List ℕ → List ℕ → ℕ → Type 0) (fits : V → Type 0) → ((v : V) (old new rest : List ℕ) (n : ℕ) → fits v → writes v old new n → reads (take n new ++ rest) v n) → (vs : List V) (old : List ℕ) (from : ℕ) (new : List ℕ) (to : ℕ) → All fits vs → WritesAll writes old from vs new to → ReadsAll reads new from vs to
-WritesAll-reads reads writes fits back [] old from new to fit h = h.1
-WritesAll-reads reads writes fits back (v ∷ vs) old from new to fit h =
-    let mid = h.0 in
-    let n = h.1 in
-    let later = WritesAll-keeps writes vs mid (from + n) new to h.3 in
-    let here : take n (drop from new) ≡ take n (drop from mid) = sym (drop-take from n new) ∙ ap (drop from) later.before ∙ drop-take from n mid in
-    let rest = drop n (drop from new) in
-    let whole : take n (drop from mid) ++ rest ≡ drop from new = ap (λ l. l ++ rest) (sym here) ∙ take-append-drop n (drop from new) in (
+-- one value that was written reads back, whatever is written after it
+pub kept-one : {V : Type 0} (reads : List ℕ → V → ℕ → Type 0) (writes : List ℕ → List ℕ → ℕ → Type 0) (v : V) → ((old new rest : List ℕ) (n : ℕ) → writes old new n → reads (take n new ++ rest) v n) → (old : List ℕ) (from : ℕ) (new : List ℕ) (n to : ℕ) → WritesAt writes old from new n → to ≡ from + n → KeepsOne reads new from v to
+kept-one reads writes v back old from new n to h moves later same =
+    let text = rw moves at same in
+    let here : take n (drop from later) ≡ take n (drop from new) = sym (drop-take from n later) ∙ ap (drop from) text ∙ drop-take from n new in
+    let rest = drop n (drop from later) in
+    let whole : take n (drop from new) ++ rest ≡ drop from later = ap (λ l. l ++ rest) (sym here) ∙ take-append-drop n (drop from later) in (
       n,
+      moves,
       record {
-        inside = omega (arith, h.2.inside, h.2.len, later.len);
-        value = subst (λ s. reads s v n) whole (back v (drop from old) (drop from mid) rest n (All-head fits v vs fit) h.2.after);
+        inside = omega (arith, h.inside, h.len, ap length text, length-take (from + n) later, length-take (from + n) new);
+        value = subst (λ s. reads s v n) whole (back (drop from old) (drop from new) rest n h.after);
       },
-      WritesAll-reads reads writes fits back vs mid (from + n) new to (All-tail fits v vs fit) h.3,
     )
+
+-- and no other bytes are changed
+pub changes-one : {writes : List ℕ → List ℕ → ℕ → Type 0} → ((old new : List ℕ) (n : ℕ) → writes old new n → drop n new ≡ drop n old) → (old : List ℕ) (from : ℕ) (new : List ℕ) (n to : ℕ) → WritesAt writes old from new n → to ≡ from + n → ChangesBetween from to old new
+changes-one keeps old from new n to h moves = record {
+  forward = omega (arith, moves);
+  before = h.before;
+  after = rw (moves, ← drop-drop n from new, ← drop-drop n from old) (keeps (drop from old) (drop from new) n h.after);
+  len = h.len;
+}
+
+-- bytes are changed, and then further ones
+pub changes-next : {a b c : ℕ} {old mid new : List ℕ} → ChangesBetween a b old mid → ChangesBetween b c mid new → ChangesBetween a c old new
+changes-next {a} {b} {c} {old} {mid} {new} x y = record {
+  forward = omega (arith, x.forward, y.forward);
+  before = sym (take-take a b new x.forward) ∙ ap (take a) y.before ∙ take-take a b mid x.forward ∙ x.before;
+  after = y.after ∙ drop-same b c mid old y.forward x.after;
+  len = y.len ∙ x.len;
+}
+
+-- the bytes before those that are changed are the same later on
+pub changes-before : {from to : ℕ} {old new : List ℕ} (later : List ℕ) → ChangesBetween from to old new → take to later ≡ take to new → take from later ≡ take from old
+changes-before {from} {to} {old} {new} later h same = sym (take-take from to later h.forward) ∙ ap (take from) same ∙ take-take from to new h.forward ∙ h.before
+
+changes-none : (at : ℕ) (s : List ℕ) → ChangesBetween at at s s
+changes-none at s = record { forward = omega arith; before = refl; after = refl; len = refl }
+
+-- no bytes but those of the values are changed
+pub changes-many : {V : Type 0} (writes : V → List ℕ → List ℕ → ℕ → Type 0) → ((v : V) (old new : List ℕ) (n : ℕ) → writes v old new n → drop n new ≡ drop n old) → (vs : List V) (old : List ℕ) (from : ℕ) (new : List ℕ) (to : ℕ) → WritesAll writes old from vs new to → ChangesBetween from to old new
+changes-many writes keeps [] old from new to h = rw (h.0, h.1) (changes-none from old)
+changes-many writes keeps (v ∷ vs) old from new to h =
+    changes-next (changes-one (keeps v) old from h.0 h.1 (from + h.1) h.2 refl) (changes-many writes keeps vs h.0 (from + h.1) new to h.3)
+
+AllZip-push : {A B : Type 0} (R : A → B → Type 0) (xs : List A) (ys : List B) (x : A) (y : B) → AllZip R xs ys → R x y → AllZip R (xs ++ x ∷ []) (ys ++ y ∷ [])
+AllZip-push R [] [] x y h r = (r, tt)
+AllZip-push R [] (z ∷ zs) x y h r = absurd h
+AllZip-push R (z ∷ zs) [] x y h r = absurd h
+AllZip-push R (w ∷ ws) (z ∷ zs) x y h r = (h.0, AllZip-push R ws zs x y h.1 r)
+
+-- a relation of two lists, of one more element of the second, which a loop copies
+pub AllZip-next : {A B : Type 0} (R : A → B → Type 0) (xs : List A) (x : A) (ys : List B) (i : ℕ) (d : B) → i < length ys → AllZip R xs (take i ys) → R x (get_or ys i d) → AllZip R (xs ++ x ∷ []) (take (i + 1) ys)
+AllZip-next R xs x ys i d inside h r = rw (take_more ys i d inside) (AllZip-push R xs (take i ys) x (get_or ys i d) h r)
+
+-- the bytes before the first value are unchanged
+forward : {V : Type 0} (writes : V → List ℕ → List ℕ → ℕ → Type 0) (vs : List V) (old : List ℕ) (from : ℕ) (new : List ℕ) (to : ℕ) → WritesAll writes old from vs new to → from ≤ to
+forward writes [] old from new to h = omega (arith, h.1)
+forward writes (v ∷ vs) old from new to h = omega (arith, forward writes vs h.0 (from + h.1) new to h.3)
+
+before : {V : Type 0} (writes : V → List ℕ → List ℕ → ℕ → Type 0) (vs : List V) (old : List ℕ) (from : ℕ) (new : List ℕ) (to : ℕ) → WritesAll writes old from vs new to → take from new ≡ take from old
+before writes [] old from new to h = ap (take from) h.0
+before writes (v ∷ vs) old from new to h =
+    let inside : from ≤ from + h.1 = omega arith in
+    sym (take-take from (from + h.1) new inside) ∙ ap (take from) (before writes vs h.0 (from + h.1) new to h.3) ∙ take-take from (from + h.1) h.0 inside ∙ h.2.before
+
+-- what was written reads back, if each value does, whatever is written after it
+pub WritesAll-kept : {V : Type 0} (reads : List ℕ → V → ℕ → Type 0) (writes : V → List ℕ → List ℕ → ℕ → Type 0) (fits : V → Type 0) → ((v : V) (old new rest : List ℕ) (n : ℕ) → fits v → writes v old new n → reads (take n new ++ rest) v n) → (vs : List V) (old : List ℕ) (from : ℕ) (new : List ℕ) (to : ℕ) → All fits vs → WritesAll writes old from vs new to → KeepsAll reads new from vs to
+WritesAll-kept reads writes fits back [] old from new to fit h later same = h.1
+WritesAll-kept reads writes fits back (v ∷ vs) old from new to fit h later same =
+    let mid = h.0 in
+    let at = from + h.1 in
+    let le = forward writes vs mid at new to h.3 in
+    let early : take at later ≡ take at mid = sym (take-take at to later le) ∙ ap (take at) same ∙ take-take at to new le ∙ before writes vs mid at new to h.3 in
+    let one = kept-one reads (writes v) v (λ old new rest n w. back v old new rest n (All-head fits v vs fit) w) old from mid h.1 at h.2 refl later early in
+    (one.0, one.2, subst (λ k. ReadsAll reads later k vs to) one.1 (WritesAll-kept reads writes fits back vs mid at new to (All-tail fits v vs fit) h.3 later same))
+
+-- values of which each is written as its bytes are written as all of these
+pub puts-many : {V : Type 0} (writes : V → List ℕ → List ℕ → ℕ → Type 0) (bytes : V → List ℕ) → ((v : V) (old new : List ℕ) (n : ℕ) → writes v old new n → WritesPrefix (length (bytes v)) (bytes v) old new n) → (vs : List V) (old : List ℕ) (from : ℕ) (new : List ℕ) (to : ℕ) → from ≤ length old → WritesAll writes old from vs new to → Puts (flat_map bytes vs) old new from to
+puts-many writes bytes each [] old from new to inside h = rw (h.0, h.1) (puts-none inside)
+puts-many writes bytes each (v ∷ vs) old from new to inside h =
+    let w = h.2 in
+    let one : Puts (bytes v) old h.0 from (from + h.1) = puts-write refl (record { inside = w.inside; before = w.before; after = each v (drop from old) (drop from h.0) h.1 w.after; len = w.len }) refl in
+    puts-next one (puts-many writes bytes each vs h.0 (from + h.1) new to (omega (arith, one.inside, w.len)) h.3)
