@@ -30,6 +30,7 @@ unsafe extern "C" {
     fn realloc(place: *mut u8, size: usize) -> *mut u8;
     fn free(place: *mut u8);
     fn rt_sections(file: *const u8, len: usize) -> u64;
+    fn rt_symbols(file: *const u8, len: usize) -> u64;
     fn rt_abbreviations(bytes: *const u8, len: usize) -> u64;
     fn rt_write_tables(bytes: *const u8, len: usize, target: *mut u8, room: usize) -> u64;
     fn rt_index(file: *const u8, len: usize) -> u64;
@@ -200,6 +201,8 @@ fn main() {
     let object = file_of("SECTIONS");
     let sections = u64::from(u16::from_le_bytes([object[0x3c], object[0x3d]]));
     run(bench, "sections of an object file", sections, &mut reading(&object), with(by!(rt_sections), peers::sections()));
+    let symbols = dwarf::section(&object, ".symtab").expect("symbols").len() as u64 / 24;
+    run(bench, "symbols of an object file", symbols, &mut reading(&object), with(by!(rt_symbols), peers::symbols()));
 
     let sample = file_of("SAMPLE");
     let section = dwarf::section(&sample, ".debug_abbrev").expect("abbreviations");
