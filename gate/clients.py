@@ -8,7 +8,7 @@
 NAME is a folder of clients/, or of the folder that the variable CLIENTS names; without one, all that have a file
 src/lib.rt.txt are tried. `--unpack` makes a workspace outside of the repository, in which the clients are crates, to work on
 them by `rt`; `--pack` copies them back. A client's files are copied without their `.txt`; those of its proofs/, each of a few
-lines, stand in one, `proofs.antt.txt`, below lines `-- file: PATH`. The library is proved and built in the
+lines, stand in one, `proofs.antt.txt`, below lines `-- file: PATH`, and specs/Lib.antt is made of the names of the others there. The library is proved and built in the
 tree itself, by `rt lib` over what its out/ keeps, and its build is copied, so it isn't proved again for the clients. As many
 clients are tried in parallel as there are workers (gate/step.py), and they share the jobs.
 
@@ -31,6 +31,7 @@ from step import TOP, Step, Stop, copy_kept, count_workers, run_step
 
 CLIENTS = Path(os.environ.get("CLIENTS") or TOP / "clients").resolve()
 PROOFS = "proofs.antt.txt"
+LIB = "Lib.antt"
 PROOF_FILE = re.compile(r"(?m)^-- file: (\S+)\n")
 PART = re.compile(r"src/.*\.rt\.txt|specs/.*\.antt\.txt|" + re.escape(PROOFS))
 PROOF = re.compile(r"scroll(?:\.|::)proofs(?!(?:\.|::)lemmas(?:\.|::)callers(?:\.|::))")
@@ -75,6 +76,9 @@ def copy_client(client: Path, crate: Path) -> None:
                 write(crate / "proofs" / name, text)
         else:
             write(crate / path[: -len(".txt")], file.read_text(encoding="utf-8"))
+    specs = sorted(it.stem for it in (crate / "specs").glob("*.antt"))
+    if specs:
+        write(crate / "specs" / LIB, "".join(f"pub mod {it}\n" for it in specs))
 
 
 def make_workspace(names: List[str], tree: Path) -> None:
@@ -95,7 +99,7 @@ def pack(names: List[str], tree: Path) -> None:
             raise Stop(f"there is no crate {crate}")
         for part in ("src", "specs"):
             shutil.rmtree(CLIENTS / name / part, ignore_errors=True)
-            for file in [it for it in (crate / part).rglob("*") if it.suffix in (".rt", ".antt")]:
+            for file in [it for it in (crate / part).rglob("*") if it.suffix in (".rt", ".antt") and it.name != LIB]:
                 write(CLIENTS / name / f"{file.relative_to(crate)}.txt", file.read_text(encoding="utf-8"))
         proofs = {str(it.relative_to(crate / "proofs")): it.read_text(encoding="utf-8") for it in (crate / "proofs").rglob("*.antt")}
         (CLIENTS / name / PROOFS).unlink(missing_ok=True)
