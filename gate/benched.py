@@ -1,4 +1,4 @@
-"""Says which public call of the library no set of the bench makes: each has a row but those that PROVIDED and CONSTANT leave out. And
+"""Says which public call of the library no set of the bench makes: each has a row but those that PROVIDED and CONSTANT leave out, or that by which THROUGH goes. And
 compares the summary in docs/SPEED.md with bench/results/speed.csv.
 
 A call is a check, and so is the summary.
@@ -22,6 +22,8 @@ INNER = ("tests", "tests.rt", "laws", "laws.rt", "search", "search.rt", "runner"
 PROVIDED = ("ctx", "ctx.rt", "leb128", "source.rt")
 # What takes the same time for every argument: a constant, a comparison, a field, or one load of those that `uleb_loads` makes.
 CONSTANT = {"array_fits", "as_c_str", "byte", "is_empty", "is_little", "made", "network", "word"}
+# What does nothing but call another one, which has a row.
+THROUGH = {"write_kept": "gwrite_with", "write_many_kept": "write_many"}
 USE = re.compile(r"^use .*?;$", re.M | re.S)
 FUNCTION = re.compile(r"^\s*pub fn (\w+)", re.M)
 TRAIT = re.compile(r"^pub trait \w+.*?^}", re.M | re.S)
@@ -45,9 +47,9 @@ def try_all(step: Step) -> None:
     calls = public_calls()
     timed = USE.sub("", "\n".join(path.read_text(encoding="utf-8") for path in sorted(SETS.glob("*.rt.txt"))))
     for name in sorted(calls - CONSTANT):
-        is_called = re.search(rf"\b{name}(::<[^()]*>)?[(,]", timed)
+        is_called = re.search(rf"\b{THROUGH.get(name, name)}(::<[^()]*>)?[(,]", timed)
         step.count(f"{name}: no set of bench/sets calls it", None if is_called else "")
-    for name in sorted(CONSTANT - calls):
+    for name in sorted((CONSTANT | THROUGH.keys()) - calls):
         step.count(f"{name}: gate/benched.py leaves it out, and there is no such call", "")
     summary = "\n".join(results.summary(results.read_csv(TOP / "bench" / "results" / "speed.csv")))
     is_there = f"\n{summary}\n" in (TOP / "docs" / "SPEED.md").read_text(encoding="utf-8")

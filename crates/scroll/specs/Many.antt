@@ -43,11 +43,13 @@ pub record ChangesBetween (from to : ℕ) (old new : List ℕ) : Type 0 where
 -- the value `v` is read between the offsets `from` and `to` of `new`, and of each buffer with the
 -- same first `to` bytes: whatever is written after it
 abbrev pub KeepsOne : {V : Type 0} → (List ℕ → V → ℕ → Type 0) → List ℕ → ℕ → V → ℕ → Type 0
-KeepsOne reads new from v to = (later : List ℕ) → take to later ≡ take to new → ReadsBetween reads later from to v
+KeepsOne reads new from v to =
+    (later : List ℕ) → take to later ≡ take to new → ReadsBetween reads later from to v
 
 -- and so are the values `vs`, one after another
 abbrev pub KeepsAll : {V : Type 0} → (List ℕ → V → ℕ → Type 0) → List ℕ → ℕ → List V → ℕ → Type 0
-KeepsAll reads new from vs to = (later : List ℕ) → take to later ≡ take to new → ReadsAll reads later from vs to
+KeepsAll reads new from vs to =
+    (later : List ℕ) → take to later ≡ take to new → ReadsAll reads later from vs to
 
 -- the first element is taken: it is made of the first `w` bytes of `old`, and the bytes after these
 -- are left

@@ -8,7 +8,6 @@ mod stops;
 use crate::search::stops::{At, AtOrNotAscii, StopsIn};
 
 /// Returns the offset of the first delimiter, or the length of the source if there is none.
-#[inline(always)]
 pub(crate) fn index_of(delimiter: u8, source: &[u8]) -> usize
     ensures { result ≡ index_of delimiter source.now }
 {
@@ -17,7 +16,6 @@ pub(crate) fn index_of(delimiter: u8, source: &[u8]) -> usize
 
 /// Returns the offset of the first byte that is the delimiter or isn't ASCII, or the length of the
 /// source if there is none.
-#[inline(always)]
 pub(crate) fn first_stop(delimiter: u8, source: &[u8]) -> usize
     ensures index { result ≡ position_or_len (is_stop delimiter) source.now }
     ensures within { result ≤ length source.now }

@@ -95,8 +95,11 @@ pub WritesPrefix-keeps : (bytes old new : List ℕ) (n : ℕ)
 WritesPrefix-keeps bytes old new n h = drop-written refl h
 
 -- bytes that read as a value, whatever follows them, do so where they were written
-pub WritesPrefix-back : {V : Type 0} (reads : List ℕ → V → ℕ → Type 0) (v : V) (bytes old new rest : List ℕ) (n : ℕ) → reads (bytes ++ rest) v (length bytes) → WritesPrefix (length bytes) bytes old new n → reads (take n new ++ rest) v n
-WritesPrefix-back reads v bytes old new rest n back h = rw (h.after, h.size, take_at bytes (drop (length bytes) old) (length bytes) refl) back
+pub WritesPrefix-back : {V : Type 0} (reads : List ℕ → V → ℕ → Type 0) (v : V)
+    (bytes old new rest : List ℕ) (n : ℕ) → reads (bytes ++ rest) v (length bytes)
+    → WritesPrefix (length bytes) bytes old new n → reads (take n new ++ rest) v n
+WritesPrefix-back reads v bytes old new rest n back h =
+    rw (h.after, h.size, take_at bytes (drop (length bytes) old) (length bytes) refl) back
 
 -- lists that are equal from an index on are equal from every later index on
 pub drop-same : {X : Type 0} (n k : ℕ) (xs ys : List X) → n ≤ k → drop n xs ≡ drop n ys
