@@ -1,5 +1,5 @@
-"""Says which public call of the library no set of the bench makes: each has a row but those that PROVIDED and CONSTANT leave out, or that by which THROUGH goes. And
-compares the summary in docs/SPEED.md with bench/results/speed.csv.
+"""Says which public call of the library no set of the bench makes: each has a row but those that PROVIDED and CONSTANT leave
+out, or that by which THROUGH goes. And compares the summary in docs/SPEED.md with bench/results/speed.csv.
 
 A call is a check, and so is the summary.
 """
