@@ -107,6 +107,33 @@ impl<A: Encode> Encode for Padded<A> {
     }
 }
 
+/// Parts of one type, in order.
+#[derive(Clone, Copy, Debug, PartialEq, Eq)]
+pub struct Each<'s, A>(pub &'s [A]);
+
+impl<'s, A: Encode> Encode for Each<'s, A> {
+    ghost bytes = { λ order x. flat_map (A.bytes order) x.0.now };
+
+    #[inline(always)]
+    fn size(self, order: Endian) -> usize {
+        let mut size: usize = 0;
+        for i in 0..self.0.len() {
+            size = size.saturating_add(self.0[i].size(order));
+        }
+        size
+    }
+
+    #[inline(always)]
+    fn put(self, dst: &mut [u8], order: Endian) {
+        let mut offset = 0;
+        for i in 0..self.0.len() {
+            let part = self.0[i];
+            put_behind(part, dst, offset, order);
+            offset += part.size(order);
+        }
+    }
+}
+
 impl<'s> Encode for &'s [u8] {
     ghost bytes = { λ _ slice. slice.now };
 
