@@ -101,12 +101,12 @@ pub fn append_until<
     ensures stays { IfErr result (λ located. offset.new ≡ located.offset) }
 {
     loop {
-        let start = *offset;
+        let begin = *offset;
         let value: T = match from.gread_with(offset, ctx) {
             Ok(value) => value,
             Err(error) => {
                 return Err(At {
-                    offset: start,
+                    offset: begin,
                     error,
                 });
             }
@@ -115,10 +115,11 @@ pub fn append_until<
             return Ok(value);
         }
         if values.push(value).is_err() {
-            *offset = start;
+            *offset = begin;
+            let error = E::from(Error::NoMemory);
             return Err(At {
-                offset: start,
-                error: E::from(Error::NoMemory),
+                offset: begin,
+                error,
             });
         }
     }

@@ -6,7 +6,7 @@ ghost use Rattle.scroll.specs.Bytes.{ReadsFixed, RefusesShort};
 ghost use Rattle.scroll.specs.Errors.{IsBadOffset};
 ghost use Rattle.scroll.specs.Fixed.{exactly};
 ghost use Rattle.scroll.specs.Encoding.{leb_text};
-ghost use Rattle.scroll.specs.Reads.{ReadsAt, RefusesAt};
+ghost use Rattle.scroll.specs.Reads.{ReadsAt, RefusesAt, Puts};
 ghost use Rattle.scroll.specs.Zeros.{padding_len, zeros};
 ghost use Rattle.scroll.specs.declared.endian.Endian.{Endian};
 ghost use Rattle.scroll.specs.declared.error.Error.TheVariants.{NoMemory};
@@ -265,6 +265,38 @@ pub fn read_fixed<P: Fixed>(from: &[u8], offset: &mut usize, order: Endian) -> R
     let value = P::read_at(rest, 0, order);
     *offset += P::width();
     Ok(value)
+}
+
+/// Writes the bytes of a value at an offset, and returns the offset after them.
+///
+/// Returns their number as the error if there is no room for all of them, and `dst` is then
+/// unchanged.
+///
+/// ```rust
+/// let mut file = [0xffu8; 4];
+/// assert_eq!(rt; put_at(&mut file, 1, (Value(1u8), "a"), LE), Ok(3));
+/// assert_eq!(rt; file, [0xff, 1, b'a', 0xff]);
+/// assert_eq!(rt; put_at(&mut file, 3, "ab", LE), Err(2));
+/// ```
+#[inline(always)]
+pub fn put_at<A: Encode>(
+    dst: &mut [u8],
+    offset: usize,
+    value: A,
+    order: Endian,
+) -> std::result::Result<usize, usize>
+    requires { offset ≤ length dst.old }
+    ensures wrote { IfOk result (Puts (A.bytes order value) dst.old dst.new offset) }
+    ensures unchanged { OnErr result (dst.new ≡ dst.old) }
+    ensures refused { IfErr result (λ size. (length dst.old - offset < size)
+        × (size ≡ min (length (A.bytes order value)) (2 ^ 64 - 1))) }
+{
+    let size = value.size(order);
+    if size > dst.len() - offset {
+        return Err(size);
+    }
+    put_behind(value, dst, offset, order);
+    Ok(offset + size)
 }
 
 /// Appends the bytes of a value to a vector, whose size needn't be known before.

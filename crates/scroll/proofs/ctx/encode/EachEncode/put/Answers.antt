@@ -20,5 +20,5 @@ loop-i-preserved g c =
     let room = length-flat_map-take f xs c.loop-i.i c.index-self-i.result c.loop-i-test.true in
     let size : c.size-offset.result ≡ length (f x) = grind (arith, common_steps) in
     let more : flat_map f (take (c.loop-i.i + 1) xs) ≡ flat_map f before ++ f x =
-        ap (flat_map f) (take_at_read xs c.loop-i.i c.index-self-i.result c.loop-i-test.true).1 ∙ sym (flat_map_more f [] before x) in
+    ap (flat_map f) (take_at_read xs c.loop-i.i c.index-self-i.result c.loop-i-test.true).1 ∙ sym (flat_map_more f [] before x) in
     rw (size, more) (grow (f x) c.loop-i.invariant refl c.put_behind.ensures.before c.put_behind.ensures.after)
