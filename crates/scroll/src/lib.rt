@@ -57,7 +57,9 @@ pub use crate::leb128::{
 pub use crate::lesser::{IOread, IOwrite};
 pub use crate::loads::Loads;
 pub use crate::located::{At, LocateError};
-pub use crate::many::{read_many, write_kept, write_many, write_many_kept, write_tagged};
+pub use crate::many::{
+    Ends, append_until, read_many, write_kept, write_many, write_many_kept, write_tagged,
+};
 pub use crate::pread::Pread;
 pub use crate::pwrite::Pwrite;
 pub use crate::small_error::SmallError;

@@ -6,7 +6,7 @@ ghost use Rattle.scroll.specs.Bytes.{ReadsFixed, RefusesShort};
 ghost use Rattle.scroll.specs.Errors.{IsBadOffset};
 ghost use Rattle.scroll.specs.Fixed.{exactly};
 ghost use Rattle.scroll.specs.Encoding.{leb_text};
-ghost use Rattle.scroll.specs.Reads.{ReadsAt, RefusesAt};
+ghost use Rattle.scroll.specs.Reads.{ReadsAt, RefusesAt, Puts};
 ghost use Rattle.scroll.specs.Zeros.{padding_len, zeros};
 ghost use Rattle.scroll.specs.declared.endian.Endian.{Endian};
 ghost use Rattle.scroll.specs.declared.error.Error.TheVariants.{NoMemory};
@@ -104,6 +104,33 @@ impl<A: Encode> Encode for Padded<A> {
     fn put(self, dst: &mut [u8], order: Endian) {
         let gap = Gap(padding(self.0.size(order), self.1));
         (self.0, gap).put(dst, order)
+    }
+}
+
+/// Parts of one type, in order.
+#[derive(Clone, Copy, Debug, PartialEq, Eq)]
+pub struct Each<'s, A>(pub &'s [A]);
+
+impl<'s, A: Encode> Encode for Each<'s, A> {
+    ghost bytes = { λ order x. flat_map (A.bytes order) x.0.now };
+
+    #[inline(always)]
+    fn size(self, order: Endian) -> usize {
+        let mut size: usize = 0;
+        for i in 0..self.0.len() {
+            size = size.saturating_add(self.0[i].size(order));
+        }
+        size
+    }
+
+    #[inline(always)]
+    fn put(self, dst: &mut [u8], order: Endian) {
+        let mut offset = 0;
+        for i in 0..self.0.len() {
+            let part = self.0[i];
+            put_behind(part, dst, offset, order);
+            offset += part.size(order);
+        }
     }
 }
 
@@ -238,6 +265,38 @@ pub fn read_fixed<P: Fixed>(from: &[u8], offset: &mut usize, order: Endian) -> R
     let value = P::read_at(rest, 0, order);
     *offset += P::width();
     Ok(value)
+}
+
+/// Writes the bytes of a value at an offset, and returns the offset after them.
+///
+/// Returns their number as the error if there is no room for all of them, and `dst` is then
+/// unchanged.
+///
+/// ```rust
+/// let mut file = [0xffu8; 4];
+/// assert_eq!(rt; put_at(&mut file, 1, (Value(1u8), "a"), LE), Ok(3));
+/// assert_eq!(rt; file, [0xff, 1, b'a', 0xff]);
+/// assert_eq!(rt; put_at(&mut file, 3, "ab", LE), Err(2));
+/// ```
+#[inline(always)]
+pub fn put_at<A: Encode>(
+    dst: &mut [u8],
+    offset: usize,
+    value: A,
+    order: Endian,
+) -> std::result::Result<usize, usize>
+    requires { offset ≤ length dst.old }
+    ensures wrote { IfOk result (Puts (A.bytes order value) dst.old dst.new offset) }
+    ensures unchanged { OnErr result (dst.new ≡ dst.old) }
+    ensures refused { IfErr result (λ size. (length dst.old - offset < size)
+        × (size ≡ min (length (A.bytes order value)) (2 ^ 64 - 1))) }
+{
+    let size = value.size(order);
+    if size > dst.len() - offset {
+        return Err(size);
+    }
+    put_behind(value, dst, offset, order);
+    Ok(offset + size)
 }
 
 /// Appends the bytes of a value to a vector, whose size needn't be known before.

@@ -1,5 +1,5 @@
 -- Bytes that are read or written one after another.
-use Rattle.std.proofs.Common.{◌≡◌, ℕ, ◌+◌, ◌-◌, ◌<◌, ◌≤◌, ◌↔◌, ◌++◌, ℤ, List, [], ◌∷◌, length, take, drop, get_or, slice_index, Fits, w8, inl, inr, refl, sym, ap, subst, ◌∙◌, arith, append_assoc, length-append, length-drop}
+use Rattle.std.proofs.Common.{◌≡◌, ℕ, ◌+◌, ◌-◌, ◌<◌, ◌≤◌, ◌↔◌, ◌++◌, ℤ, List, [], ◌∷◌, length, take, drop, min, get_or, slice_index, Fits, w8, inl, inr, refl, sym, ap, subst, ◌∙◌, arith, append_assoc, length-append, length-drop}
 use Rattle.std.proofs.lemmas.List.{append-nil, flat_map_more, take-append-drop, length-take-le, take_at, take_more, drop_at, drop-drop, get_or-drop}
 use Rattle.std.proofs.lemmas.List.Elements.{All-from_get_or}
 use Rattle.std.specs.List.{All, flat_map, slice_range}
@@ -13,6 +13,7 @@ use Rattle.scroll.specs.Reads.{ReadsBetween, Stands, Puts, PutsPrefix}
 use Rattle.scroll.specs.Writes.{WritesAt, RefusesWriteAt}
 use Rattle.scroll.specs.declared.endian.Endian.{Endian}
 use Rattle.scroll.specs.declared.error.Error.{Error}
+use Rattle.scroll.specs.declared.error.Error.TheVariants.{TooBig}
 use Rattle.scroll.proofs.lemmas.callers.ByteArrays.{one-byte}
 
 -- nothing is there yet
@@ -30,6 +31,14 @@ stands-next {t} {u} {buffer} {a} {b} {c} p q = record {
 -- the bytes between the two offsets
 pub stands-range : {t buffer : List ℕ} {a b : ℕ} → Stands t buffer a b → slice_range buffer a b ≡ t
 stands-range {t} {buffer} {a} {b} h = ap (take (b - a)) h.is ∙ take_at t (drop b buffer) (b - a) (omega (arith, h.size))
+
+-- bytes at the start of what follows an offset
+pub stands-drop : {t buffer : List ℕ} {at n : ℕ} → at ≤ length buffer → Stands t (drop at buffer) 0 n → Stands t buffer at (at + n)
+stands-drop {t} {buffer} {at} {n} inside h = record {
+  inside = omega (arith, inside, h.inside, length-drop at buffer);
+  size = omega (arith, h.size);
+  is = h.is ∙ ap (λ s. t ++ s) (drop-drop n at buffer);
+}
 
 -- the first n bytes at an offset
 pub prefix-stands : {t buffer : List ℕ} {a b : ℕ} (n : ℕ) → a ≤ length buffer → n ≤ length (drop a buffer) → take n (drop a buffer) ≡ t → b ≡ a + n → Stands t buffer a b
@@ -139,6 +148,22 @@ prefix-write {t} {old} {new} {w} {p} {e} len inside (inr h) =
       put = rw same (puts-none inside);
       short = omega (arith, h.after.short, length-drop p old, inside, len);
       error = rw (len, ← length-drop p old) h.after.error;
+    }
+
+-- there is no room for a text, of which nothing is written by `put_at`
+pub prefix-room : {t old new : List ℕ} {w p : ℕ} {e : Error} (m : ℕ) → new ≡ old → p ≤ length old → length old - p < w → w ≡ min (length t) m → e ≡ TooBig w (length new - p) → PutsPrefix t old new p e
+prefix-room {t} {old} {new} {w} {p} {e} m same inside short size is =
+    let part : w ≤ length t = omega (arith, size) in
+    let len : length (take w t) ≡ w = length-take-le w t part in
+    record {
+      prefix = [];
+      part = take w t;
+      rest = drop w t;
+      parts = sym (take-append-drop w t);
+      to = p;
+      put = rw same (puts-none inside);
+      short = omega (arith, len, short, inside);
+      error = rw (len, ← same) is;
     }
 
 -- a number in LEB128 that was written, and one whose write failed

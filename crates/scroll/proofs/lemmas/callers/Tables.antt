@@ -1,18 +1,21 @@
 -- Lemmas for callers: loops over a table, whose elements follow one another. Each record is the
 -- invariant of such a loop: of elements that are read, of elements of one size that are read, and
 -- of elements that are written.
-use Rattle.std.proofs.Common.{◌≡◌, ℕ, suc, ◌+◌, ◌*◌, ◌<◌, ◌≤◌, ◌++◌, List, [], ◌∷◌, length, take, drop, get_or, Some, inl, inr, sym, ap, subst, ◌∙◌, arith, append_assoc, length-append, length-drop}
+use Rattle.std.proofs.Common.{◌≡◌, ℕ, suc, ◌+◌, ◌*◌, ◌-◌, ◌<◌, ◌≤◌, ◌⊎◌, ◌++◌, List, [], ◌∷◌, length, take, drop, get_or, Some, inl, inr, refl, sym, ap, subst, ◌∙◌, arith, append_assoc, length-append, length-drop}
 use Rattle.std.proofs.Math.Nat.{mul-suc}
 use Rattle.std.proofs.lemmas.Grind.{take_at_read, flat_map-append}
+use Rattle.std.proofs.lemmas.List.Concat.{flat_map-cons}
 use Rattle.std.proofs.lemmas.List.{append-nil, flat_map_more, take_all, take-append-drop}
-use Rattle.std.proofs.lemmas.List.Elements.{All-push}
-use Rattle.std.specs.List.{All, flat_map, slice_get}
+use Rattle.std.proofs.lemmas.List.Elements.{All-push, All-nil, All-cons, All-head, All-tail}
+use Rattle.std.proofs.Math.Seq.{drop-append_seam}
+use Rattle.std.specs.List.{All, flat_map, slice_get, slice_range}
 use Rattle.scroll.specs.Bytes.{ReadsPrefix, RefusesShort}
 use Rattle.scroll.specs.Errors.{IsBadOffset}
+use Rattle.scroll.specs.Many.{AppendsMore}
 use Rattle.scroll.specs.Reads.{ReadsAll, ReadsBetween, RefusesAt, Stands, Puts, PutsPrefix}
 use Rattle.scroll.specs.declared.error.Error.{Error}
 use Rattle.scroll.proofs.lemmas.callers.Cursors.{ReadsAll-next, ReadsAll-at}
-use Rattle.scroll.proofs.lemmas.callers.SpanLemmas.{stands-next, puts-next, prefix-first, prefix-next}
+use Rattle.scroll.proofs.lemmas.callers.SpanLemmas.{stands-none, stands-next, stands-drop, puts-next, prefix-first, prefix-next}
 
 -- the texts of elements, and of one more, after a prefix
 text-more : {X : Type 0} (text : X → List ℕ) (prefix : List ℕ) (xs : List X) (x : X) → prefix ++ flat_map text (xs ++ x ∷ []) ≡ (prefix ++ flat_map text xs) ++ text x
@@ -22,6 +25,13 @@ item-more : {X : Type 0} (text : X → List ℕ) (prefix : List ℕ) (xs : List 
     → prefix ++ flat_map text (take (i + 1) xs) ≡ (prefix ++ flat_map text (take i xs)) ++ text x
 item-more text prefix xs i x inside is =
     ap (λ l. prefix ++ flat_map text l) ((take_at_read xs i x inside).1 ∙ ap (λ y. take i xs ++ y ∷ []) (sym is)) ∙ text-more text prefix (take i xs) x
+
+each-more : {X : Type 0} {text other : X → List ℕ} {P Q : X → Type 0} → ((x : X) → P x → (other x ≡ text x) × Q x) → (xs : List X) → All P xs → (flat_map other xs ≡ flat_map text xs) × All Q xs
+each-more {X} {text} {other} {P} {Q} more [] h = (refl, All-nil Q)
+each-more {X} {text} {other} {P} {Q} more (x ∷ xs) h =
+    let one = more x (All-head P x xs h) in
+    let later = each-more more xs (All-tail P x xs h) in
+    (rw (flat_map-cons other x xs, flat_map-cons text x xs, one.0, later.0) refl, All-cons Q x xs one.1 later.1)
 
 -- elements that were read: their texts follow a prefix in the buffer, and each has a property
 pub record StandsEach {X : Type 0} (text : X → List ℕ) (P : X → Type 0) (prefix buffer : List ℕ) (from to : ℕ) (xs : List X) : Type 0 where
@@ -35,6 +45,59 @@ read-next {X} {text} {P} {prefix} {buffer} {from} {to} {next} {xs} {x} h read is
   stands = rw (text-more text prefix xs x) (stands-next h.stands read);
   each = All-push P xs x h.each is;
 }
+
+-- the same elements, where more is known of each, and its text may be said in another way
+pub stands-each : {X : Type 0} {text other : X → List ℕ} {P Q : X → Type 0} {prefix buffer : List ℕ} {from to : ℕ} {xs : List X}
+    → ((x : X) → P x → (other x ≡ text x) × Q x) → StandsEach text P prefix buffer from to xs → StandsEach other Q prefix buffer from to xs
+stands-each {X} {text} {other} {P} {Q} {prefix} {buffer} {from} {to} {xs} more h =
+    let all = each-more more xs h.each in
+    record { stands = subst (λ t. Stands (prefix ++ t) buffer from to) (sym all.0) h.stands; each = all.1 }
+
+-- values that were read one after another, each as its text
+pub texts-stand : {X : Type 0} {text : X → List ℕ} {P : X → Type 0} {reads : List ℕ → X → ℕ → Type 0} {buffer : List ℕ} → ((s : List ℕ) (x : X) (n : ℕ) → reads s x n → Stands (text x) s 0 n × P x)
+    → (from : ℕ) (xs : List X) (to : ℕ) → from ≤ length buffer → ReadsAll reads buffer from xs to → Stands (flat_map text xs) buffer from to × All P xs
+texts-stand {X} {text} {P} {reads} {buffer} law from [] to inside h = (subst (λ k. Stands [] buffer from k) (sym h) (stands-none inside), All-nil P)
+texts-stand {X} {text} {P} {reads} {buffer} law from (x ∷ xs) to inside h =
+    let one = law (drop from buffer) x h.0 h.1.value in
+    let here = stands-drop inside one.0 in
+    let later = texts-stand law (from + h.0) xs to here.inside h.2 in
+    (stands-next here later.0, All-cons P x xs one.1 later.1)
+
+-- values that `append_until` appended to a vector: the part of it that they are, and their texts
+pub record Appended {X : Type 0} (text : X → List ℕ) (P last : X → Type 0) (buffer : List ℕ) (from to : ℕ) (old new : List X) : Type 0 where
+  pub values : List X
+  pub is : new ≡ old ++ values
+  pub part : slice_range new (length old) (length new) ≡ values
+  pub stands : Stands (flat_map text values) buffer from to
+  pub each : All P values
+  pub more : All (λ x. ¬ last x) values
+
+pub appends-stand : {X : Type 0} {text : X → List ℕ} {P last : X → Type 0} {reads : List ℕ → X → ℕ → Type 0} {buffer : List ℕ} {from to : ℕ} {old new : List X} → ((s : List ℕ) (x : X) (n : ℕ) → reads s x n → Stands (text x) s 0 n × P x)
+    → from ≤ length buffer → AppendsMore reads last buffer from to old new → Appended text P last buffer from to old new
+appends-stand {X} {text} {P} {last} {reads} {buffer} {from} {to} {old} {new} law inside h =
+    let read = texts-stand {text = text} {P = P} {reads = reads} {buffer = buffer} law from h.values to inside h.each in
+    let size = length (old ++ h.values) - length old in
+    record {
+      values = h.values;
+      is = h.appended;
+      part = rw h.appended (ap (take size) (drop-append_seam old h.values) ∙ take_all size h.values (omega (arith, length-append old h.values)));
+      stands = read.0;
+      each = read.1;
+      more = h.more;
+    }
+
+-- the last value after them
+pub last-stands : {X : Type 0} {text : X → List ℕ} {P : X → Type 0} {reads : List ℕ → X → ℕ → Type 0} {buffer : List ℕ} {from to : ℕ} {x : X} → ((s : List ℕ) (x : X) (n : ℕ) → reads s x n → Stands (text x) s 0 n × P x)
+    → ReadsBetween reads buffer from to x → Stands (text x) buffer from to × P x
+last-stands {X} {text} {P} {reads} {buffer} {from} {to} {x} law h =
+    let one = law (drop from buffer) x h.0 h.2.value in
+    (subst (λ k. Stands (text x) buffer from k) (sym h.1) (stands-drop h.2.inside one.0), one.1)
+
+-- the read of the next value fails, where it is not for want of memory
+pub fails-next : {past next full : Type 0} (buffer : List ℕ) (stop : ℕ) → (((length buffer < stop) × past) ⊎ ((stop ≤ length buffer) × next)) ⊎ full → stop ≤ length buffer → ¬ full → next
+fails-next buffer stop (inl (inl past)) inside room = absurd (omega (arith, past.0, inside))
+fails-next buffer stop (inl (inr next)) inside room = next.1
+fails-next buffer stop (inr none) inside room = absurd (room none)
 
 -- elements of w bytes each that were read, and the offset after them
 pub record ReadsTable {X : Type 0} (f : List ℕ → X) (w : ℕ) (buffer : List ℕ) (from to : ℕ) (xs : List X) : Type 0 where
