@@ -15,13 +15,15 @@ import results  # noqa: E402
 
 SOURCES = TOP / "crates" / "scroll" / "src"
 SETS = TOP / "bench" / "sets"
+# A client whose reads and writes are whole jobs of the bench.
+JOBS = TOP / "clients" / "debug_tables" / "src"
 # Files of the sources without calls for others.
 INNER = ("tests", "tests.rt", "laws", "laws.rt", "search", "search.rt", "runner", "runner.rt")
 
 # The traits here are those that a type provides: every call that reads or writes a value of the type calls their methods.
 PROVIDED = ("ctx", "ctx.rt", "leb128", "source.rt")
 # What takes the same time for every argument: a constant, a comparison, a field, or one load of those that `uleb_loads` makes.
-CONSTANT = {"array_fits", "as_c_str", "byte", "is_empty", "is_little", "made", "network", "word"}
+CONSTANT = {"array_fits", "as_c_str", "byte", "is_empty", "is_last", "is_little", "made", "network", "word"}
 # What does nothing but call another one, which has a row.
 THROUGH = {"write_kept": "gwrite_with", "write_many_kept": "write_many"}
 USE = re.compile(r"^use .*?;$", re.M | re.S)
@@ -45,7 +47,8 @@ def public_calls() -> Set[str]:
 
 def try_all(step: Step) -> None:
     calls = public_calls()
-    timed = USE.sub("", "\n".join(path.read_text(encoding="utf-8") for path in sorted(SETS.glob("*.rt.txt"))))
+    files = [*sorted(SETS.glob("*.rt.txt")), JOBS / "read.rt.txt", JOBS / "write.rt.txt"]
+    timed = USE.sub("", "\n".join(path.read_text(encoding="utf-8") for path in files))
     for name in sorted(calls - CONSTANT):
         is_called = re.search(rf"\b{THROUGH.get(name, name)}(::<[^()]*>)?[(,]", timed)
         step.count(f"{name}: no set of bench/sets calls it", None if is_called else "")
