@@ -39,6 +39,8 @@ UNTIMED = {
     "write_many": "a loop of gwrite_with",
     "write_tagged": "a gwrite_with, and the write of a number before it",
     "append": "a put behind what a vector has",
+    "append_checked": "a check and an append",
+    "check": "a comparison of each count with a length",
     "elements": "every read of a number, at the start of what is left",
     "name": "the debug text of a number in LEB128 calls it",
     "array_fits": "a constant",

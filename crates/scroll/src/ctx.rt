@@ -48,7 +48,7 @@ mod tuples;
 mod zeros;
 
 pub use arrays::array_fits;
-pub use encode::{Encode, Gap, Padded, Value, append, read_fixed};
+pub use encode::{Checked, Encode, Gap, InParts, Padded, Value, append, append_checked, read_fixed};
 pub use fixed::{Fixed, Plain, Record, RoundTrip, Written};
 pub use str_ctx::{NULL, RET, SPACE, StrCtx, TAB};
 pub use table::{Elements, Table};
