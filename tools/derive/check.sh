@@ -75,7 +75,7 @@ while IFS='|' read -r file old words; do
     count "$result"
 done <<'END'
 src/end.rt.txt|check_room(22|the implementation for EndRecord is not what tools/derive/derive.sh prints
-src/end.rt.txt|parts.put(dst|the implementation for EndRecord is not what tools/derive/derive.sh prints
+src/end.rt.txt|self.put(dst|the implementation for EndRecord is not what tools/derive/derive.sh prints
 specs/EndRecordFormat.antt.txt|◌≢◌|specs/EndRecordFormat.antt.txt is not what tools/derive/derive.sh prints for EndRecord
 specs/EndRecordFormat.antt.txt|whole|specs/EndRecordFormat.antt.txt is not what tools/derive/derive.sh prints for EndRecord
 specs/EndRecordBack.antt.txt|p7|specs/EndRecordBack.antt.txt is not what tools/derive/derive.sh prints for EndRecord
@@ -315,6 +315,31 @@ struct Small {
     // #[scroll(is = 1)]
     mark: u8,
 }
+struct Holder<'a> { inner: Small, text: CStr<'a> }
+struct Number { code: Uleb128 }
+struct Outer { number: Number }
+struct Given {
+    // #[scroll(ctx = 3)]
+    inner: Small,
+}
+struct Rows<'a> { count: u8, rows: Table<'a, u16> }
+struct Cast<'a> {
+    count: u64,
+    // #[scroll(ctx = count as usize)]
+    rows: Table<'a, u16>,
+}
+struct Lebs<'a> {
+    count: u8,
+    // #[scroll(ctx = count as usize)]
+    rows: Table<'a, Uleb128>,
+}
+struct First<'a> {
+    // #[scroll(ctx = count as usize)]
+    rows: Table<'a, u16>,
+    count: u8,
+}
+struct Round { a: Uleb128, next: Back }
+struct Back { a: Uleb128, next: Round }
 END
 cp "$room/trial/src/bad.rt" "$room/bad.rt"
 cp "$room/bad.rt" "$room/bad.txt"
@@ -378,6 +403,14 @@ trial/src/bad.rt|Pairs|bad.rt:138: the variant A has more than a value
 trial/src/bad.rt|Inside|bad.rt:143: the variant A is an array, which a struct may hold
 trial/src/bad.rt|Mixed|bad.rt:148: the variant A is of the struct Small, which has another error
 trial/src/bad.rt|Lesser|bad.rt:151: the enum Lesser has the error SmallError, and takes that of the library or a variant of one
+trial/src/bad.rt|Holder|bad.rt:160: the field inner is of Small, which has another error
+trial/src/bad.rt|Outer|bad.rt:162: the field number is of Number, which holds a number in LEB128
+trial/src/bad.rt|Given|bad.rt:165: the field inner has the note ctx = 3, which its type Small doesn't take
+trial/src/bad.rt|Rows|bad.rt:167: the field rows has no context: how many elements it has
+trial/src/bad.rt|Cast|bad.rt:171: the context count as usize of the field rows adds to a number of more than 32 bits
+trial/src/bad.rt|Lebs|bad.rt:176: the field rows is of a type whose size depends on its bytes, Uleb128
+trial/src/bad.rt|First|bad.rt:180: the context of the field rows names count, which comes after it
+trial/src/bad.rt|Round|bad.rt:184: the field next is of the struct Round, which holds it
 END
 refuses 'bad.rt:20: the struct Twenty is of a fixed size, and has no definitions of its own' --specs "$room/bad.rt" Twenty
 refuses 'usage: derive.sh \[--check | --specs | --back\] FILE STRUCT' "$room/bad.rt"

@@ -40,7 +40,7 @@ def run(option: str, path: str, name: str) -> int:
         choice = read_choice(source, raw)
         texts = [choice_specs(choice), choice_back(choice)]
         uses, block = choice_uses(choice), choice_blocks(choice)
-    elif is_format(raw):
+    elif is_format(source, raw):
         form = read_format(source, raw)
         texts = [format_specs(form), format_back(form)]
         uses, block = format_uses(form), format_blocks(form)

@@ -15,11 +15,12 @@
 # from which the other traits follow.
 #
 # A struct of any size is in the src/ of a crate. A field is one of a fixed size (but no array of arrays), `Uleb128`, `Sleb128`,
-# `&'a [u8]`, `&'a str`, `CStr<'a>` of std::ffi, or `Zeros`. In a comment before it may stand
+# `&'a [u8]`, `&'a str`, `CStr<'a>` of std::ffi, `Table<'a, T>` of elements of a fixed size, `Zeros`, or a struct of any size or
+# an enum of FILE without numbers in LEB128, whose error is that of the library or the same. In a comment before it may stand
 #
 #     // #[scroll(ctx = len as usize)]     how many bytes a slice has, or zeros: a sum of earlier fields, each of which may be
 #                                          times a number, as in `count as usize * 18`, and of a number; for a text within
-#                                          StrCtx::Length(..)
+#                                          StrCtx::Length(..); for a table how many elements
 #     // #[scroll(ctx = padding(offset, 8))]    of zeros: as many as there are up to a multiple, from the start of the struct
 #     // #[scroll(is = 0x04034b50)]        the constant that a number has to be; with `, else = ZipError::BadSignature` behind it,
 #                                          another number is the error of that variant, which holds it
@@ -38,7 +39,8 @@
 #
 # and before each variant `// #[scroll(is = 1)]`, its number.
 #
-# A struct of any size and an enum get TryFromCtx and TryIntoCtx. What --specs prints is its specs/STRUCTFormat.antt, and what
+# A struct of any size and an enum get TryFromCtx and TryIntoCtx; and for `append` Encode, which a struct has by InParts, and
+# Checked where values may not agree, but no struct with numbers in LEB128. They derive Copy. What --specs prints is its specs/STRUCTFormat.antt, and what
 # --back prints is its specs/STRUCTBack.antt.
 #
 # The first lines printed are the `use` lines that the rest needs, followed by the blocks in the layout of `rt fmt`. They are

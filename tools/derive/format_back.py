@@ -27,7 +27,7 @@ from format_words import (
 )
 from kinds import Array, Number, Struct, Type, width_of
 from layout import Tree, label, nested
-from parts import Format, Part, width
+from parts import Format, Part, snake, width
 
 MODULES = [
     (
@@ -56,14 +56,10 @@ MODULES = [
     ("Rattle.scroll.specs.declared.endian.Endian", ["Endian"]),
     (
         "Rattle.scroll.proofs.lemmas.callers.Sequences",
-        ["Rest", "rest-start", "rest-next", "rest-open", "rest-last", "rest-before", "rest-makes", "rest-reads", "fixed-begins", "array-begins"]
+        ["Rest", "rest-start", "rest-next", "rest-first", "rest-open", "rest-last", "rest-before", "rest-makes", "rest-reads", "fixed-begins", "array-begins"]
         + ["slice-begins", "text-begins", "uleb-begins", "sleb-begins", "c_string-begins", "zeros-begin"],
     ),
 ]
-
-
-def snake(name: str) -> str:
-    return re.sub(r"(?<=[a-z0-9])(?=[A-Z])", "_", name).lower()
 
 
 def fixed_fit(type: Type, value: str) -> str:
@@ -85,6 +81,8 @@ def fit_of(part: Part) -> str:
     value = f"x.{part.label}"
     if part.fixed:
         return fixed_fit(part.fixed, value)
+    if part.inner:
+        return f"Fits{part.inner.name} {value}" if part.inner.fits else ""
     if part.kind == "leb":
         return f"Has{'Signed' if part.type == 'Sleb128' else ''}Encoding {value}.value {value}.count"
     if part.kind == "c_string":
@@ -129,6 +127,8 @@ def length_of(part: Part) -> str:
     value = f"x.{part.label}"
     if part.fixed:
         return f"({fixed_length(part.fixed, value)})"
+    if part.inner:
+        return "refl"
     if part.kind == "leb":
         text = f"{value}.value" if part.type == "Uleb128" else f"(unsigned_form {value}.value {value}.count)"
         return f"(length-encoding {text} {value}.count)"
@@ -149,6 +149,9 @@ def reads_back(form: Format, part: Part, names: Dict[str, str], size: str) -> st
         makes = f"λ s v. {made(part.fixed, 's', 'v')}"
         begins = f"λ r. {fixed_begins(part.fixed, value, 'r', fit)}"
         return f"(fixed-begins ({makes}) {value} {width(part)} ({bytes_of(form, part, names)}) {length_of(part)} ({begins}))"
+    if part.inner:
+        given = [*([f"agrees.{member(part)}"] if part.inner.agrees else []), *([fit] if part.inner.fits else [])]
+        return f"(λ r. {' '.join([f'{part.inner.snake}-back order {value} r', *given])})"
     if part.kind == "leb":
         return f"({part.type[0].lower()}leb-begins {value} {fit})"
     if part.kind == "c_string":
@@ -158,8 +161,8 @@ def reads_back(form: Format, part: Part, names: Dict[str, str], size: str) -> st
         if part.count.multiple:
             return f"(zeros-begin (padding_len (length ({before(form, part)} order x)) {part.count.multiple}) {size} {part.name}-count)"
         return f"(zeros-begin {size} {size} refl)"
-    if part.kind == "slice":
-        return f"(slice-begins {value}.now {size} {length_of(part)})"
+    if part.kind in ("slice", "table"):
+        return f"(slice-begins {value_in(part)} {size} {length_of(part)})"
     return f"(text-begins {value}.now {size} {length_of(part)} {fit})"
 
 
@@ -169,6 +172,8 @@ def argument(term: str) -> str:
 
 def ended_size(part: Part, at: str) -> str:
     """Returns how many bytes a field has that says where it ends, at the offset `at`."""
+    if part.inner:
+        return f"length ({part.inner.snake}_bytes order x.{part.label})"
     if part.is_padding:
         return counted(part, {}, at)[1:-1]
     return f"x.{part.label}.count" if part.kind == "leb" else f"length (c_str_bytes x.{part.label}) + 1"
@@ -213,7 +218,8 @@ def visit(left: List[Tree], lists: List[str], leaf: Callable[[Step], Tuple[List[
                 here = "last"
             more, size, why = leaf(Step(int(first), f"p{step}", here, after, joined_bytes(left, lists), padded.get(first, "")))
             lets += more
-            lets.append(f"    let p{step + 1} = rest-next {size} {own} {after} rest {why} {here} in")
+            next = f"rest-next {size} {own} {after} rest {why} {here}"
+            lets.append(f"    let p{step + 1} = {next if step or size.isdigit() else f'rest-first ({next})'} in")
             step, left = step + 1, others
         elif others:
             inner = list(first)[1:]
@@ -312,6 +318,7 @@ def bounded(form: Format) -> List[str]:
         ends = {
             "leb": [f"{here}.value.0.complete.0", f"{here}.value.0.size"],
             "c_string": [f"{here}.value.found", f"{here}.value.size"],
+            "inner": [f"{part.inner.snake}-bounded order (drop {argument(at)} s) x.{part.label} h.{part.name}-size {here}.value"] if part.inner else [],
         }.get(part.kind, [f"{here}.value.room"])
         facts += [f"{here}.inside", *ends, f"length-drop {argument(at)} s"]
     return [
@@ -325,7 +332,7 @@ def bounded(form: Format) -> List[str]:
 def format_back(form: Format) -> str:
     """Returns the file of the proof."""
     name, snake = form.name, form.snake
-    has_own = any(part.constant or part.is_counted for part in form.parts)
+    has_own = form.has_own
     fits = [(part, fit_of(part)) for part in form.parts if fit_of(part)]
     end = offsets_in(form)[-1]
     lets, values = steps(form)

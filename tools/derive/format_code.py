@@ -6,7 +6,7 @@ import re
 from typing import Dict, List
 
 from kinds import Array
-from layout import MOST, WIDTH, struct_lines, tuple_lines
+from layout import MOST, WIDTH, Generic, Tree, struct_lines, tuple_lines
 from parts import Format, Part, offsets
 
 # Names that the body of a read has.
@@ -63,7 +63,7 @@ def context_of(form: Format, part: Part) -> str:
     if part.count:
         count = part.count.in_code(names)
         return f"StrCtx::Length({count})" if part.kind == "text" else count
-    return "ctx" if part.fixed else "()"
+    return "ctx" if part.fixed or part.inner else "()"
 
 
 def read_lines(form: Format) -> List[str]:
@@ -86,7 +86,10 @@ def read_lines(form: Format) -> List[str]:
         if part.count and part.is_padding:
             lines.append(f"        let {part.name}_len = padding({cursor}, {part.count.multiple});")
         call = f"read_fixed(from, &mut {cursor}, ctx)" if isinstance(part.fixed, Array) else f"from.gread_with(&mut {cursor}, {context_of(form, part)})"
-        lines.append(f"        let {names[part.name]}: {part.type} = {call}?;")
+        type = part.type
+        if part.kind == "table":
+            type, values[part.name] = encoded_type(part), f"Table::new({names[part.name]})"
+        lines.append(f"        let {names[part.name]}: {type} = {call}?;")
         if part.constant:
             lines += constant_test(form, part, names[part.name])
     made = struct_lines(form.name, [(part.name, values[part.name]) for part in form.parts], False, 12)
@@ -96,22 +99,52 @@ def read_lines(form: Format) -> List[str]:
     return [*lines, "        Ok((", *made, f"            {cursor},", "        ))"]
 
 
-def is_taken(part: Part) -> bool:
+def is_taken(form: Format, part: Part) -> bool:
     """Returns whether a field gets a variable before it is written. (The borrow checker's part of a proof doesn't cover an array
-    that is stored straight, nor the borrow of a number in LEB128 in a struct that is borrowed.)"""
-    return isinstance(part.fixed, Array) or part.kind == "leb"
+    that is stored straight, nor a number in LEB128 in a tuple.)"""
+    return isinstance(part.fixed, Array) or (form.has_leb and part.kind == "leb")
 
 
 def encoded(part: Part, names: Dict[str, str]) -> str:
     """Returns a field as it is written."""
-    if isinstance(part.fixed, Array):
-        return part.name
-    if part.fixed:
-        return f"Value({names[part.name]})"
     if part.kind == "zeros":
         assert part.count
         return f"Gap({part.count.in_code(names)})"
-    return f"&{part.name}" if part.kind == "leb" else names[part.name]
+    if part.kind == "table":
+        return f"{names[part.name]}.bytes"
+    return f"Value({names[part.name]})" if part.fixed else names[part.name]
+
+
+def encoded_type(part: Part) -> str:
+    """Returns the type of a field as it is written."""
+    if isinstance(part.fixed, Array):
+        return part.type
+    if part.kind == "zeros":
+        return "Gap"
+    if part.kind == "table":
+        return part.type.replace("Table<", "&").split(",")[0] + " [u8]"
+    return f"Value<{part.type}>" if part.fixed else part.type
+
+
+def in_fours(parts: List[Tree]) -> Tree:
+    """Returns parts in tuples, each of which but the last ends in the next."""
+    if len(parts) == 1:
+        return parts[0]
+    last, rest = tuple(parts[-MOST:]), parts[:-MOST]
+    while rest:
+        last, rest = (*rest[1 - MOST :], last), rest[: 1 - MOST]
+    return last
+
+
+def parts_type(form: Format) -> Tree:
+    """Returns the type of the parts."""
+    types: List[Tree] = []
+    for part in form.parts:
+        if part.is_padding:
+            types = [Generic("Padded", in_fours(types))]
+        else:
+            types.append(encoded_type(part))
+    return in_fours(types)
 
 
 def parts_lines(codes: List[str]) -> List[str]:
@@ -124,8 +157,27 @@ def parts_lines(codes: List[str]) -> List[str]:
     return lines
 
 
-def write_lines(form: Format) -> List[str]:
-    """Returns the body of the write."""
+def encode_lines(form: Format) -> List[str]:
+    """Returns the body of the function that returns the parts."""
+    names = {part.name: f"self.{part.name}" for part in form.parts}
+    lines = [f"        let {part.name} = self.{part.name};" for part in form.parts if is_taken(form, part)]
+    codes: List[str] = []
+    for part in form.parts:
+        if part.count and part.is_padding:
+            lines += parts_lines(codes)
+            codes = [f"Padded({codes[0] if len(codes) == 1 else 'parts'}, {part.count.multiple})"]
+        else:
+            taken = f"&{part.name}" if part.kind == "leb" else part.name
+            codes.append(taken if is_taken(form, part) else encoded(part, names))
+    whole = [*lines, *(parts_lines(codes) or [f"        let parts = {codes[0]};"])]
+    # The last tuple is what is returned.
+    place = max(index for index, line in enumerate(whole) if line.startswith("        let parts = "))
+    whole[place] = whole[place].replace("let parts = ", "")
+    return [*whole[:-1], whole[-1].rstrip(";")]
+
+
+def check_lines(form: Format) -> List[str]:
+    """Returns the body of the function that tests whether the fields agree."""
     names = {part.name: f"self.{part.name}" for part in form.parts}
     lines: List[str] = []
     for part in form.parts:
@@ -133,32 +185,15 @@ def write_lines(form: Format) -> List[str]:
             lines += constant_test(form, part, names[part.name])
         if part.is_counted:
             assert part.count
-            length = f"{names[part.name]}.len()"
+            length = f"{names[part.name]}{'.bytes' if part.kind == 'table' else ''}.len()"
             lines += [
                 f"        if {part.count.in_code(names)} != {length} {{",
                 *refusal(form, length, other_count(part), 12),
                 "        }",
             ]
-    lines += [f"        let {part.name} = self.{part.name};" for part in form.parts if is_taken(part)]
-    codes: List[str] = []
-    for part in form.parts:
-        if part.count and part.is_padding:
-            lines += parts_lines(codes)
-            codes = [f"Padded({codes[0] if len(codes) == 1 else 'parts'}, {part.count.multiple})"]
-        else:
-            codes.append(encoded(part, names))
-    lines += parts_lines(codes)
-    last = "parts" if len(codes) > 1 else codes[0]
-    if last.startswith("Padded"):
-        lines.append(f"        let parts = {last};")
-        last = "parts"
-    return [
-        *lines,
-        f"        let size = {last}.size(ctx);",
-        "        check_room(size, dst.len())?;",
-        f"        {last}.put(dst, ctx);",
-        "        Ok(size)",
-    ]
+        if part.inner and part.inner.agrees:
+            lines.append(f"        {names[part.name]}.check()?;")
+    return [*lines, "        Ok(())"]
 
 
 def result_of(form: Format, value: str) -> str:
@@ -173,52 +208,122 @@ def signature(name: str, parameters: List[str], result: str) -> List[str]:
     return [f"    fn {name}(", *(f"        {it}," for it in parameters), f"    ) -> {result} {{"]
 
 
-def format_blocks(form: Format) -> str:
-    """Returns the implementations."""
-    name, snake = form.name, form.snake
-    lifetime = form.lifetime or "'a"
-    impl = f"impl<{form.lifetime}>" if form.lifetime else "impl"
-    error = form.error.name if form.error else "Error"
-    keeps = f"WritesPrefix-keeps ({snake}_bytes order x) old new n h.wrote"
-    return "\n".join([
+def read_block(form: Format) -> List[str]:
+    name, lifetime = form.name, form.lifetime or "'a"
+    return [
         f"impl<{lifetime}> TryFromCtx<{lifetime}, Endian> for {form.type} {{",
-        f"    type Error = {error};",
+        f"    type Error = {error_name(form)};",
         "",
         f"    ghost reads = {{ Reads{name} }};",
         "",
         f"    ghost refuses = {{ Refuses{name} }};",
         "",
-        f"    ghost reads_bounded = {{ {snake}-bounded }};",
+        f"    ghost reads_bounded = {{ {form.snake}-bounded }};",
         "",
         *signature("try_from_ctx", [f"from: &{lifetime} [u8]", "ctx: Endian"], result_of(form, f"({form.type}, usize)")),
         *read_lines(form),
         "    }",
         "}",
+    ]
+
+
+def parts_block(form: Format) -> List[str]:
+    return [
+        f"{impl_of(form)} InParts for {form.type} {{",
+        *tuple_lines("type Parts = ", parts_type(form), ";", 4),
         "",
-        f"{impl} TryIntoCtx<Endian> for {form.type} {{",
-        f"    type Error = {error};",
+        f"    ghost bytes_of = {{ {form.snake}_bytes }};",
         "",
-        f"    ghost writes = {{ Writes{name} }};",
+        "    #[inline(always)]",
+        "    fn parts(self) -> Self::Parts {",
+        *encode_lines(form),
+        "    }",
+        "}",
+    ]
+
+
+def check_block(form: Format) -> List[str]:
+    return [
         "",
-        f"    ghost refuses = {{ Keeps{name} }};",
+        f"{impl_of(form)} Checked for {form.type} {{",
+        f"    type Error = {error_name(form)};",
+        "",
+        f"    ghost agrees = {{ Agrees{form.name} }};",
+        "",
+        f"    ghost differs = {{ Differs{form.name} }};",
+        "",
+        *signature("check", ["self"], result_of(form, "()")),
+        *check_lines(form),
+        "    }",
+        "}",
+    ]
+
+
+def apart_lines(form: Format) -> List[str]:
+    """Returns the body of the write of a struct that can't be passed whole."""
+    lines = encode_lines(form)
+    start = max(index for index, line in enumerate(lines) if re.match(r" {8}\S", line) and not line.startswith("        )"))
+    lines[start] = f"        let parts = {lines[start].strip()}"
+    lines[-1] += ";"
+    tail = ["        let size = parts.size(ctx);", "        check_room(size, dst.len())?;", "        parts.put(dst, ctx);"]
+    return [*check_lines(form)[:-1], *lines, *tail, "        Ok(size)"]
+
+
+def whole_lines(form: Format) -> List[str]:
+    """Returns the body of the write."""
+    return [
+        *(["        self.check()?;"] if form.has_own else []),
+        "        let size = self.size(ctx);",
+        "        check_room(size, dst.len())?;",
+        "        self.put(dst, ctx);",
+        "        Ok(size)",
+    ]
+
+
+def write_block(form: Format) -> List[str]:
+    keeps = f"WritesPrefix-keeps ({form.snake}_bytes order x) old new n h.wrote"
+    return [
+        f"{impl_of(form)} TryIntoCtx<Endian> for {form.type} {{",
+        f"    type Error = {error_name(form)};",
+        "",
+        f"    ghost writes = {{ Writes{form.name} }};",
+        "",
+        f"    ghost refuses = {{ Keeps{form.name} }};",
         "",
         "    ghost writes_bounded = { λ order x old new n h. Prim.search rules };",
         "",
         f"    ghost writes_keeps = {{ λ order x old new n h. {keeps} }};",
         "",
         *signature("try_into_ctx", ["self", "dst: &mut [u8]", "ctx: Endian"], result_of(form, "usize")),
-        *write_lines(form),
+        *(apart_lines(form) if form.has_leb else whole_lines(form)),
         "    }",
         "}",
-    ])
+    ]
+
+
+def impl_of(form: Format) -> str:
+    """Returns the head of an implementation."""
+    return f"impl<{form.lifetime}>" if form.lifetime else "impl"
+
+
+def error_name(form: Format) -> str:
+    return form.error.name if form.error else "Error"
+
+
+def format_blocks(form: Format) -> str:
+    """Returns the implementations."""
+    parts = [] if form.has_leb else [*parts_block(form), *(check_block(form) if form.has_own else []), ""]
+    return "\n".join([*read_block(form), "", *parts, *write_block(form)])
 
 
 def format_uses(form: Format) -> List[str]:
     """Returns the `use` lines that the implementations need."""
     name, snake = form.name, form.snake
     block = format_blocks(form)
+    ghosts = [f"{it}{name}" for it in ("Reads", "Refuses", "Agrees", "Differs", "Writes", "Keeps") if f"{it}{name} " in block]
     words = set(re.findall(r"\w+", block))
-    contexts = ["Encode", *(it for it in ("Gap", "Padded", "StrCtx", "TryFromCtx", "TryIntoCtx", "Value", "Zeros", "padding", "read_fixed") if it in words)]
+    known = ("Checked", "Encode", "Gap", "InParts", "Padded", "StrCtx", "Table", "TryFromCtx", "TryIntoCtx", "Value", "Zeros", "padding", "read_fixed")
+    contexts = [it for it in known if it in words or it == "Encode" or (it == "Checked" and ".check()" in block)]
     calls = {"Cread": "cread_with", "Pread": "gread_with"}
     ours = ("Cread", "Endian", "Error", "Pread", "Result", "Sleb128", "Uleb128", "check_room")
     ours = [it for it in ours if calls.get(it, it) in words and not (it == "Result" and form.error)]
@@ -230,7 +335,7 @@ def format_uses(form: Format) -> List[str]:
         "ghost use Rattle.std.proofs.Common.{rules};",
         "ghost use Rattle.scroll.specs.lemmas.Frames.{WritesPrefix-keeps};",
         f"ghost use Rattle.{form.crate}.specs.{name}Back.{{{snake}-bounded}};",
-        f"ghost use Rattle.{form.crate}.specs.{name}Format.{{Reads{name}, Refuses{name}, Writes{name}, Keeps{name}, {snake}_bytes}};",
+        f"ghost use Rattle.{form.crate}.specs.{name}Format.{{{', '.join(ghosts)}, {snake}_bytes}};",
         "",
         f"use scroll::ctx::{{{', '.join(contexts)}}};",
         f"use scroll::{{{', '.join(ours)}}};",

@@ -5,7 +5,7 @@ from __future__ import annotations
 from typing import Dict, List, Tuple
 
 from fixed import made
-from format_code import other_constant, other_count
+from format_code import error_name, other_constant, other_count
 from format_words import (
     MODULES,
     before,
@@ -29,8 +29,10 @@ from kinds import Number
 from parts import Format, Part, offsets
 
 
-# The mark of what is said of a small error itself, and not of an error of the library of which it is made.
+# The mark of what is said of a small error itself, and not of an error of the library of which it is made; and of what is said of
+# each error of the error type, and not of one variant.
 SMALL = "SmallError"
+EACH = "each"
 
 IS_SMALL = """-- the small error is `BadInput` with the size `n` and a message of the bytes `text`
 abbrev pub IsSmallBadInput : SmallError → ℕ → List ℕ → Type 0
@@ -88,31 +90,43 @@ def refusal_records(form: Format) -> List[List[str]]:
             records.append(constant_record(form, part, before, found[part.name]))
             before = [*before, f"  pub {part.name}-is : {found[part.name]} ≡ {part.constant}"]
     at = str(form.room)
-    for part in form.tail:
+    for part, follows in zip(form.tail, [*form.tail[1:], None]):
+        ends = part.inner is not None or (follows is not None and follows.inner is not None and part.kind != "zeros")
         name = f"Refuses{form.name}{camel(part.name)}"
         records.append([
             f"-- `{part.name}` is refused",
-            f"pub record {name} (order : Endian) (s : List ℕ) (e : Error) : Type 0 where",
+            f"pub record {name} (order : Endian) (s : List ℕ) (e : {error_name(form) if part.is_own_error else 'Error'}) : Type 0 where",
             *before,
-            f"  pub refused : RefusesAt {refuses_of(part, names, at)} IsBadOffset s {at_argument(at)} e",
+            f"  pub refused : RefusesAt {refuses_of(part, names, at)} {past_end(form, part)} s {at_argument(at)} e",
         ])
-        before = [*before, *read_before(part, names, at)]
+        before = [*before, *read_before(part, names, at, ends)]
         names[part.name] = member(part)
-        at = f"{part.name}-size" if at == "0" else f"{at} + {part.name}-size"
+        at = f"{part.name}-end" if ends else f"{part.name}-size" if at == "0" else f"{at} + {part.name}-size"
         if part.constant:
             records.append(constant_record(form, part, before, member(part)))
             before = [*before, f"  pub {part.name}-is : {member(part)} ≡ {part.constant}"]
     return records
 
 
-def read_before(part: Part, names: Dict[str, str], at: str) -> List[str]:
-    """Returns the parts of a record that say that a field was read. (Zeros have no value that the search finds.)"""
+def read_before(part: Part, names: Dict[str, str], at: str, ends: bool) -> List[str]:
+    """Returns the parts of a record that say that a field was read, and with `ends` where it ends. (Zeros have no value that the
+    search finds, and it finds the refusal of an inner struct only at an offset that has a name.)"""
     size, read = f"{part.name}-size", f"{part.name}-read"
     if part.kind == "zeros":
         zeros = f"ReadsZeros {counted(part, names, at)} (drop {at_argument(at)} s) {size}"
         return [f"  pub {size} : ℕ", f"  pub {part.name}-inside : {at} ≤ length s", f"  pub {read} : {zeros}"]
+    if ends:
+        reads = f"ReadsBetween {reads_of(part, names, at)} s {at_argument(at)} {part.name}-end {member(part)}"
+        return [f"  pub {member(part)} : {type_of(part)}", f"  pub {part.name}-end : ℕ", f"  pub {read} : {reads}"]
     reads = f"ReadsAt {reads_of(part, names, at)} s {at_argument(at)} {member(part)} {size}"
     return [f"  pub {member(part)} : {type_of(part)}", f"  pub {size} : ℕ", f"  pub {read} : {reads}"]
+
+
+def past_end(form: Format, part: Part) -> str:
+    """Returns which error an offset past the end gives."""
+    if not part.is_own_error or not form.error:
+        return "IsBadOffset"
+    return f"(λ at d. d ≡ {form.error.variant} (BadOffset at))"
 
 
 def constant_record(form: Format, part: Part, before: List[str], value: str) -> List[str]:
@@ -137,6 +151,7 @@ def given(form: Format, part: Part) -> str:
 
 
 def error_said(form: Format, part: Part, value: str, argument: str, message: str) -> str:
+    """Returns what the error of another constant or count holds."""
     if part.other:
         return f"  pub found-is : found ≡ {value}"
     return f"  pub error : Is{'Small' if is_small(form) else ''}BadInput e {argument} (codes \"{message}\")"
@@ -146,17 +161,21 @@ def error_lines(form: Format, name: str, parameters: str, cases: List[Tuple[str,
     """Returns a definition of all errors by its cases, each with the variant of the error type that holds what it says."""
     error = form.error
     if not error:
-        return by_cases(f"{name} {parameters} e", [case for _, case in cases])
+        return by_cases(f"{name} {parameters} e", [f"{case} e" for _, case in cases])
     if not error.variant:
-        own = [case for variant, case in cases if variant == SMALL]
-        return by_cases(f"{name} {parameters} e", [f"Shrunk ({name}Cause {parameters}) e", *own])
+        own = [f"{case} e" for variant, case in cases if variant in (SMALL, EACH)]
+        shrunk = [f"Shrunk ({name}Cause {parameters}) e"] if any(variant == "" for variant, _ in cases) else []
+        return by_cases(f"{name} {parameters} e", [*shrunk, *own])
     lines: List[str] = []
-    for variant in dict.fromkeys([error.variant, *(variant for variant, _ in cases if variant)]):
+    each = [case for variant, case in cases if variant == EACH]
+    variants = dict.fromkeys([variant or error.variant for variant, _ in cases if variant != EACH])
+    for variant in variants:
         held = [case for it, case in cases if (it or error.variant) == variant]
         found = "e" if variant == error.variant else "found"
-        lines += by_cases(f"{name} {parameters} ({variant} {found})", held)
-    covered = {error.variant, *(variant for variant, _ in cases)}
-    return [*lines, *([f"{name} {parameters} e = ⊥"] if not covered.issuperset(error.variants) else [])]
+        lines += by_cases(f"{name} {parameters} ({variant} {found})", [*(f"{it} {found}" for it in held), *(f"{it} ({variant} {found})" for it in each)])
+    if not set(variants).issuperset(error.variants):
+        lines += by_cases(f"{name} {parameters} e", [f"{it} e" for it in each]) if each else [f"{name} {parameters} e = ⊥"]
+    return lines
 
 
 def by_cases(head: str, cases: List[str]) -> List[str]:
@@ -172,10 +191,9 @@ def refuses(form: Format) -> List[str]:
     records = refusal_records(form)
     small = SMALL if is_small(form) else ""
     variants = {f"Other{form.name}{camel(part.name)}": part.other or small for part in form.parts if part.constant}
-    cases = [("", f"RefusesShort {form.room} s e")] if form.head else []
-    for record in records:
-        variant = variants.get(name_of(record), "")
-        cases.append((variant, f"{name_of(record)} order s {'found' if variant not in ('', SMALL) else 'e'}"))
+    variants.update({f"Refuses{form.name}{camel(part.name)}": EACH for part in form.parts if part.is_own_error})
+    cases = [("", f"RefusesShort {form.room} s")] if form.head else []
+    cases += [(variants.get(name_of(it), ""), f"{name_of(it)} order s") for it in records]
     lines = [line for record in records for line in ["", *record]]
     says = "the source is too short for its first numbers, or " if form.head else ""
     return [
@@ -188,16 +206,13 @@ def refuses(form: Format) -> List[str]:
     ]
 
 
-def error_name(form: Format) -> str:
-    return form.error.name if form.error else "Error"
-
-
 def cause_lines(form: Format, name: str, types: str, parameters: str, cases: List[Tuple[str, str]]) -> List[str]:
     """Returns the definition of the errors of the library of which a small error is made."""
     if not form.error or form.error.variant:
         return []
-    own = by_cases(f"{name}Cause {parameters} e", [case for variant, case in cases if variant != SMALL])
-    return ["", "-- it fails with an error of the library", f"abbrev pub {name}Cause : {types} → Error → Type 0", *own]
+    causes = [f"{case} e" for variant, case in cases if variant == ""]
+    own = by_cases(f"{name}Cause {parameters} e", causes)
+    return [] if not causes else ["", "-- it fails with an error of the library", f"abbrev pub {name}Cause : {types} → Error → Type 0", *own]
 
 
 def bytes_definition(form: Format) -> List[str]:
@@ -222,67 +237,92 @@ def bytes_lines(form: Format, name: str, says: str, lists: List[str]) -> List[st
 
 
 def agreement(form: Format, part: Part) -> str:
+    """Returns what has to agree, with `{}` for the relation of its sides."""
     names = fields_in(form)
     if part.constant:
         return f"{names[part.name]} {{}} {part.constant}"
     assert part.count
-    return f"{part.count.in_clause(names)} {{}} length x.{part.label}.now"
+    return f"{part.count.in_clause(names)} {{}} length {value_in(part)}"
+
+
+def agrees(form: Format, part: Part) -> str:
+    return f"Agrees{part.inner.name} x.{part.label}" if part.inner else agreement(form, part).format("≡")
+
+
+def differs(form: Format) -> List[str]:
+    """Returns which values agree, and which errors the others give."""
+    name, small = form.name, SMALL if is_small(form) else ""
+    own = [part for part in form.parts if part.has_own]
+    lines = [
+        "",
+        "-- its constants stand in it, and each count is the number of bytes that it counts",
+        f"pub record Agrees{name} (x : {name}) : Type 0 where",
+        *(f"  pub {member(part)} : {agrees(form, part)}" for part in own),
+    ]
+    cases: List[Tuple[str, str]] = []
+    for part in own:
+        if part.inner:
+            cases.append((EACH if part.is_own_error else "", f"Differs{part.inner.name} x.{part.label}"))
+            continue
+        cases.append((part.other or small, f"Differs{name}{camel(part.name)} x"))
+        lines += ["", *differs_record(form, part)]
+    return [
+        *lines,
+        *cause_lines(form, f"Differs{name}", name, "x", cases),
+        "",
+        "-- they don't agree: one of these is the error",
+        f"abbrev pub Differs{name} : {name} → {error_name(form)} → Type 0",
+        *error_lines(form, f"Differs{name}", "x", cases),
+    ]
+
+
+def differs_record(form: Format, part: Part) -> List[str]:
+    """Returns a record for a constant or a count that doesn't agree."""
+    value = f"x.{part.label}" if part.constant else f"(length {value_in(part)})"
+    message = other_constant(part) if part.constant else other_count(part)
+    return [
+        f"-- `{part.name}` doesn't agree",
+        f"pub record Differs{form.name}{camel(part.name)} (x : {form.name}) ({given(form, part)}) : Type 0 where",
+        f"  pub other : {agreement(form, part).format('≢')}",
+        error_said(form, part, value, value, message),
+    ]
 
 
 def writes(form: Format) -> List[str]:
     """Returns what a write leaves, and which errors it gives."""
     name = form.name
-    own = [part for part in form.parts if part.constant or part.is_counted]
     size = f"length ({form.snake}_bytes order x)"
-    lines = []
-    if own:
-        lines += [
-            "",
-            "-- its constants stand in it, and each count is the number of bytes that it counts",
-            f"pub record Agrees{name} (x : {name}) : Type 0 where",
-            *(f"  pub {member(part)} : {agreement(form, part).format('≡')}" for part in own),
-        ]
-    agrees = [f"  pub agrees : Agrees{name} x"] if own else []
-    lines += [
+    agreed = [f"  pub agrees : Agrees{name} x"] if form.has_own else []
+    lines = [
+        *(differs(form) if form.has_own else []),
         "",
         "-- it is written over the start of a target",
         f"pub record Writes{name} (order : Endian) (x : {name}) (old new : List ℕ) (n : ℕ) : Type 0 where",
-        *agrees,
+        *agreed,
         f"  pub wrote : WritesPrefix ({size}) ({form.snake}_bytes order x) old new n",
     ]
-    cases = []
-    for part in own:
-        record = f"Keeps{name}{camel(part.name)}"
-        small = SMALL if is_small(form) else ""
-        cases.append((part.other or small, f"{record} x old new {'found' if part.other else 'e'}"))
-        lines += ["", *keeps_record(form, part, record)]
-    cases.append(("", f"Keeps{name}Short order x old new e"))
-    lines += [
+    cases = [("", f"Keeps{name}Short order x old new")]
+    if form.has_own:
+        cases = [(EACH, f"Keeps{name}Differs x old new"), *cases]
+        lines += [
+            "",
+            "-- its fields don't agree, and the target is unchanged",
+            f"pub record Keeps{name}Differs (x : {name}) (old new : List ℕ) (e : {error_name(form)}) : Type 0 where",
+            f"  pub differs : Differs{name} x e",
+            "  pub same : new ≡ old",
+        ]
+    return [
+        *lines,
         "",
         "-- the target is too short, and is unchanged",
         f"pub record Keeps{name}Short (order : Endian) (x : {name}) (old new : List ℕ) (e : Error) : Type 0 where",
-        *agrees,
+        *agreed,
         f"  pub short : FailsShort (min ({size}) (2 ^ 64 - 1)) old new e",
+        *cause_lines(form, f"Keeps{name}", f"Endian → {name} → List ℕ → List ℕ", "order x old new", cases),
         "",
-        *cause_lines(form, f"Keeps{name}", f"Endian → {name} → List ℕ → List ℕ", "order x old new", cases)[1:],
-        *([""] if form.error and not form.error.variant else []),
         "-- its write fails: one of these is the error",
         f"abbrev pub Keeps{name} : Endian → {name} → List ℕ → List ℕ → {error_name(form)} → Type 0",
         *error_lines(form, f"Keeps{name}", "order x old new", cases),
-    ]
-    return lines
-
-
-def keeps_record(form: Format, part: Part, record: str) -> List[str]:
-    """Returns a record for a constant or a count that doesn't agree."""
-    value = f"x.{part.label}" if part.constant else f"(length x.{part.label}.now)"
-    message = other_constant(part) if part.constant else other_count(part)
-    return [
-        f"-- `{part.name}` doesn't agree, and the target is unchanged",
-        f"pub record {record} (x : {form.name}) (old new : List ℕ) ({given(form, part)}) : Type 0 where",
-        f"  pub other : {agreement(form, part).format('≢')}",
-        "  pub same : new ≡ old",
-        error_said(form, part, value, value, message),
     ]
 
 

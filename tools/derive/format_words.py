@@ -8,8 +8,8 @@ from typing import Dict, List, Optional, Sequence, Set, Tuple
 from fixed import made
 from kinds import Array, Number, Struct, Type, width_of
 from layout import Tree, label, nested
-from parts import Format, OwnError, Part, width
-from source import closing
+from parts import Format, Part, width
+from source import OwnError, closing
 
 # The names that the records below have already.
 TAKEN = {
@@ -28,7 +28,7 @@ MODULES = [
     ("Rattle.scroll.specs.Arrays", ["MakesArray"]),
     ("Rattle.scroll.specs.Bytes", ["ReadsFixed", "RefusesShort", "WritesPrefix", "FailsShort"]),
     ("Rattle.scroll.specs.CStrings", ["ReadsCString", "RefusesCString"]),
-    ("Rattle.scroll.specs.Reads", ["ReadsAt", "RefusesAt"]),
+    ("Rattle.scroll.specs.Reads", ["ReadsAt", "ReadsBetween", "RefusesAt"]),
     ("Rattle.scroll.specs.Errors", ["IsBadOffset", "IsBadInput", "Shrunk"]),
     ("Rattle.scroll.specs.Fixed", ["exactly"]),
     ("Rattle.scroll.specs.Numbers", ["float", "float_bytes", "ReadsFloat"]),
@@ -110,13 +110,15 @@ def bytes_of(form: Format, part: Part, names: Dict[str, str]) -> str:
         return f"zeros (padding_len (length ({before(form, part)} order x)) {part.count.multiple})"
     if part.fixed:
         return fixed_bytes(part.fixed, value)
+    if part.inner:
+        return f"{part.inner.snake}_bytes order {value}"
     if part.kind == "leb":
         return f"{part.type[0].lower()}leb_text {value}"
     if part.kind == "c_string":
         return f"c_str_bytes {value} ++ 0 ∷ []"
     if part.kind == "zeros":
         return f"zeros {counted(part, names, '')}"
-    return f"{value}.now"
+    return f"{value}{'.bytes' if part.kind == 'table' else ''}.now"
 
 
 def before(form: Format, part: Part) -> str:
@@ -140,31 +142,37 @@ def reads_of(part: Part, names: Dict[str, str], at: str) -> str:
         return f"(Reads{'Signed' if part.fixed.kind == 'signed' else 'Number'} {part.fixed.width} order)"
     if part.fixed:
         return f"(ReadsFixed {width(part)} (λ s v. {made(part.fixed, 's', 'v')}))"
+    if part.inner:
+        return f"(Reads{part.inner.name} order)"
     if part.kind == "leb":
         return f"ReadsCounted{part.type[0]}leb"
     if part.kind == "c_string":
         return "ReadsCString"
     if part.kind == "zeros":
         return f"(λ s _. ReadsZeros {counted(part, names, at)} s)"
-    return f"(ReadsSlice {counted(part, names, at)})" if part.kind == "slice" else f"(ReadsText (Length {counted(part, names, at)}))"
+    return f"(ReadsSlice {counted(part, names, at)})" if part.kind != "text" else f"(ReadsText (Length {counted(part, names, at)}))"
 
 
 def refuses_of(part: Part, names: Dict[str, str], at: str) -> str:
     if part.fixed:
         return f"(RefusesShort {width(part)})"
+    if part.inner:
+        return f"(Refuses{part.inner.name} order)"
     if part.kind == "leb":
         return f"Refuses{part.type[0]}leb"
     if part.kind == "c_string":
         return "RefusesCString"
     if part.kind == "zeros":
         return f"(RefusesZeros {counted(part, names, at)})"
-    return f"(RefusesShort {counted(part, names, at)})" if part.kind == "slice" else f"(RefusesText (Length {counted(part, names, at)}))"
+    return f"(RefusesShort {counted(part, names, at)})" if part.kind != "text" else f"(RefusesText (Length {counted(part, names, at)}))"
 
 
 def type_of(part: Part) -> str:
     """Returns the type of what is read, as a clause says it."""
     if part.fixed:
         return fixed_type(part.fixed)
+    if part.inner:
+        return part.inner.name
     if part.kind == "leb":
         return "Counted ℤ" if part.type == "Sleb128" else "Counted ℕ"
     return "List ℕ"
@@ -196,10 +204,26 @@ def structs_in(form: Format) -> List[Struct]:
 def declared_uses(form: Format, text: str) -> List[str]:
     """Returns the `use` lines for the struct and those of its fields."""
     words = set(re.findall(r"\w+", text))
-    inner = [it for it in structs_in(form) if it.name in words]
+    held = [*(it.name for it in structs_in(form)), *(part.inner.name for part in form.parts if part.inner)]
     module = form.declared.rsplit(".", 1)[0]
     own = error_uses(form.error, words) if form.error else []
-    return [*own, *(f"use {module}.{it.name}.{{{it.name}}}" for it in inner), f"use {form.declared}.{{{form.name}}}"]
+    structs = [f"use {module}.{it}.{{{it}}}" for it in dict.fromkeys(held) if it in words]
+    return [*own, *structs, f"use {form.declared}.{{{form.name}}}", *inner_uses(form, text)]
+
+
+def inner_uses(form: Format, text: str) -> List[str]:
+    """Returns the `use` lines for the definitions and lemmas of the structs of any size and the enums that are fields."""
+    words = set(re.findall(r"[\w-]+", text))
+    lines: List[str] = []
+    for inner in dict.fromkeys(part.inner for part in form.parts if part.inner):
+        files = {
+            "Format": [f"{it}{inner.name}" for it in ("Reads", "Refuses", "Agrees", "Differs")] + [f"{inner.snake}_bytes"],
+            "Back": [f"{inner.snake}-bounded", f"Fits{inner.name}", f"{inner.snake}-back"],
+        }
+        for file, names in files.items():
+            used = [it for it in names if it in words]
+            lines += [f"use Rattle.{form.crate}.specs.{inner.name}{file}.{{{', '.join(used)}}}"] if used else []
+    return lines
 
 
 def error_uses(error: OwnError, words: Set[str]) -> List[str]:
@@ -214,6 +238,7 @@ def value_in(part: Part) -> str:
     value = f"x.{part.label}"
     if part.kind == "c_string":
         return f"(c_str_bytes {value})"
+    value = f"{value}.bytes" if part.kind == "table" else value
     return f"{value}.now" if part.is_counted else value
 
 

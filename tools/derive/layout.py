@@ -3,10 +3,20 @@
 from __future__ import annotations
 
 import textwrap
+from dataclasses import dataclass
 from typing import List, Sequence, Tuple, Union
 
 # Parts in nested tuples.
-Tree = Union[str, "Tuple[Tree, ...]"]
+Tree = Union[str, "Tuple[Tree, ...]", "Generic"]
+
+
+@dataclass(frozen=True)
+class Generic:
+    """A generic type and its parameter."""
+
+    name: str
+    inner: Tree
+
 
 # A tuple has at most so many parts.
 MOST = 4
@@ -79,14 +89,19 @@ def in_pairs(tree: Tree) -> Tree:
 
 
 def on_one_line(tree: Tree) -> str:
+    if isinstance(tree, Generic):
+        return f"{tree.name}<{on_one_line(tree.inner)}>"
     return tree if isinstance(tree, str) else f"({', '.join(on_one_line(part) for part in tree)})"
 
 
 def tuple_lines(head: str, tree: Tree, tail: str, indent: int) -> List[str]:
     """Returns nested tuples after `head` and before `tail`, on one line if they are short."""
     line = f"{' ' * indent}{head}{on_one_line(tree)}{tail}"
-    if isinstance(tree, str) or (len(on_one_line(tree)) - 2 <= INSIDE and len(line) <= WIDTH):
+    inner = tree.inner if isinstance(tree, Generic) else tree
+    if isinstance(inner, str) or (len(on_one_line(inner)) - 2 <= INSIDE and len(line) <= WIDTH):
         return [line]
+    if isinstance(tree, Generic):
+        return [f"{' ' * indent}{head}{tree.name}<", *tuple_lines("", inner, ",", indent + 4), f"{' ' * indent}>{tail}"]
     lines = [f"{' ' * indent}{head}("]
     for part in tree:
         lines += tuple_lines("", part, ",", indent + 4)

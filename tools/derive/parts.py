@@ -9,7 +9,7 @@ from typing import Dict, List, Optional, Sequence, Tuple
 
 from kinds import Array, Number, Type, kind_of, read_type, width_of
 from layout import label
-from source import RawField, RawStruct, Source, split_top
+from source import OwnError, RawField, RawStruct, Source, module_of, read_error, split_top
 
 TERM = re.compile(r"(?:(?P<field>[A-Za-z_]\w*)\s+as\s+usize(?:\s*\*\s*(?P<times>\d+))?|(?P<number>\d+))")
 PADDING = re.compile(r"padding\(offset,\s*(\d+)\)")
@@ -45,19 +45,8 @@ class Count:
         return " + ".join([*terms, *([str(self.number)] if self.number or not terms else [])])
 
 
-@dataclass(frozen=True)
-class OwnError:
-    """An error type that isn't the library's: its name, the variant that holds an error of the library (none of `SmallError`), its
-    module in clauses, and all of its variants."""
-
-    name: str
-    variant: str
-    module: str
-    variants: Tuple[str, ...]
-
-    def said(self, variant: str) -> str:
-        """Returns a variant in code."""
-        return f"{self.name}::{variant}"
+def snake(name: str) -> str:
+    return re.sub(r"(?<=[a-z0-9])(?=[A-Z])", "_", name).lower()
 
 
 # The types of fields that say by themselves where they end, and the kind of each.
@@ -65,9 +54,24 @@ ENDED = {"Uleb128": "leb", "Sleb128": "leb", "CStr": "c_string"}
 
 
 @dataclass(frozen=True)
+class Inner:
+    """A struct of any size, or an enum, that is the type of a field: its name, whether it says which of its values agree and what
+    their fields can hold, and its own error type."""
+
+    name: str
+    agrees: bool
+    fits: bool
+    error: Optional[OwnError]
+
+    @property
+    def snake(self) -> str:
+        return snake(self.name)
+
+
+@dataclass(frozen=True)
 class Part:
-    """A field. `kind` is fixed, slice, text, zeros, leb or c_string. One of a fixed size has its type in `fixed`, and a number
-    may have to be a constant; another number is an error of the variant `other`, if it is named."""
+    """A field. `kind` is fixed, slice, text, table, zeros, leb, c_string or inner. One of a fixed size has its type in `fixed`, and a
+    number may have to be a constant; another number is an error of the variant `other`, if it is named."""
 
     name: str
     type: str
@@ -76,6 +80,7 @@ class Part:
     count: Optional[Count] = None
     constant: str = ""
     other: str = ""
+    inner: Optional[Inner] = None
 
     @property
     def label(self) -> str:
@@ -84,7 +89,7 @@ class Part:
     @property
     def is_ended(self) -> bool:
         """Returns whether the field says where it ends, so that no earlier field does."""
-        return self.kind in ENDED.values() or self.is_padding
+        return self.kind in ("leb", "c_string", "inner") or self.is_padding
 
     @property
     def is_padding(self) -> bool:
@@ -94,7 +99,22 @@ class Part:
     @property
     def is_counted(self) -> bool:
         """Returns whether an earlier field says how many bytes the field has."""
-        return self.kind in ("slice", "text")
+        return self.kind in ("slice", "text", "table")
+
+    @property
+    def has_own(self) -> bool:
+        """Returns whether a value of the field may not agree with what the format says of it."""
+        return self.constant != "" or self.is_counted or (self.inner is not None and self.inner.agrees)
+
+    @property
+    def has_fit(self) -> bool:
+        """Returns whether the field's type has values that a field can't hold."""
+        return self.kind in ("fixed", "leb", "c_string", "text") or (self.inner is not None and self.inner.fits)
+
+    @property
+    def is_own_error(self) -> bool:
+        """Returns whether the calls for the field return the struct's own error."""
+        return self.inner is not None and self.inner.error is not None
 
 
 @dataclass(frozen=True)
@@ -114,7 +134,22 @@ class Format:
 
     @property
     def snake(self) -> str:
-        return re.sub(r"(?<=[a-z0-9])(?=[A-Z])", "_", self.name).lower()
+        return snake(self.name)
+
+    @property
+    def has_own(self) -> bool:
+        """Returns whether a value may not agree with what the format says of its fields."""
+        return any(part.has_own for part in self.parts)
+
+    @property
+    def has_fits(self) -> bool:
+        return any(part.has_fit for part in self.parts)
+
+    @property
+    def has_leb(self) -> bool:
+        """Returns whether it holds a number in LEB128. (The borrow checker's part of a proof doesn't cover a call that takes such a
+        struct whole.)"""
+        return any(part.kind == "leb" for part in self.parts)
 
     @property
     def head(self) -> Tuple[Part, ...]:
@@ -154,12 +189,47 @@ def offsets(parts: Sequence[Part]) -> List[int]:
     return found[: len(parts)]
 
 
-def is_format(raw: RawStruct) -> bool:
+def is_format(source: Source, raw: RawStruct, outer: Tuple[str, ...] = ()) -> bool:
     """Returns whether a struct is read field by field: it borrows, or a field has a note or no fixed size."""
-    return raw.lifetime != "" or any(field.notes or field.type in ENDED for field in raw.fields)
+    names = (*outer, raw.name)
+    return raw.lifetime != "" or any(field.notes or field.type in ENDED or find_inner(source, raw, field, names) for field in raw.fields)
 
 
-def read_format(source: Source, raw: RawStruct) -> Format:
+def name_of(raw: RawStruct, field: RawField) -> str:
+    """Returns the type of a field without the struct's lifetime."""
+    return field.type.replace(f"<{raw.lifetime}>", "") if raw.lifetime else field.type
+
+
+def find_inner(source: Source, raw: RawStruct, field: RawField, outer: Tuple[str, ...]) -> Optional[RawStruct]:
+    """Returns the struct of any size, or the enum with a tag, that is the type of a field. `outer` are the structs in which it is."""
+    name = name_of(raw, field)
+    if not re.fullmatch(r"\w+", name) or name in outer or not (source.has_struct(name) or source.has_enum(name)):
+        return None
+    found = source.find_struct(name)
+    return found if found.is_enum or is_format(source, found, outer) else None
+
+
+def read_inner(source: Source, raw: RawStruct, field: RawField, error: Optional[OwnError], outer: Tuple[str, ...]) -> Optional[Inner]:
+    """Returns what is known of a field that is a struct of any size or an enum."""
+    from variants import read_choice  # (which reads structs by this module)
+
+    found = find_inner(source, raw, field, outer)
+    if name_of(raw, field) in outer:
+        source.refuse(field.place, f"the field {field.name} is of the struct {name_of(raw, field)}, which holds it")
+    if not found:
+        return None
+    if field.notes:
+        source.refuse(field.place, f"the field {field.name} has the note {field.notes[0]}, which its type {field.type} doesn't take")
+    form = read_choice(source, found, outer) if found.is_enum else read_format(source, found, outer)
+    if form.error and (form.error != error or not error.variant):
+        source.refuse(field.place, f"the field {field.name} is of {found.name}, which has another error")
+    if form.has_leb:
+        source.refuse(field.place, f"the field {field.name} is of {found.name}, which holds a number in LEB128")
+    return Inner(found.name, form.has_own, form.has_fits, form.error)
+
+
+def read_format(source: Source, raw: RawStruct, outer: Tuple[str, ...] = ()) -> Format:
+    """Returns a struct of any size. `outer` are the structs in which it is."""
     if raw.is_tuple:
         source.refuse(raw.place, f"the struct {raw.name} has fields without names")
     crate, module = crate_of(source, raw)
@@ -167,16 +237,9 @@ def read_format(source: Source, raw: RawStruct) -> Format:
     error = read_error(source, raw, notes["error"]) if "error" in notes else None
     parts: List[Part] = []
     for field in raw.fields:
-        parts.append(read_part(source, raw, field, parts, error))
+        inner = read_inner(source, raw, field, error, (*outer, raw.name))
+        parts.append(Part(field.name, field.type, "inner", inner=inner) if inner else read_part(source, raw, field, parts, error))
     return Format(raw.name, raw.lifetime, crate, module, tuple(parts), error)
-
-
-def module_of(path: Path) -> Tuple[str, Tuple[str, ...]]:
-    """Returns the crate of a file below src/ and its module."""
-    folders = path.resolve().parts
-    place = len(folders) - 1 - folders[::-1].index("src")
-    module = [*folders[place + 1 : -1], folders[-1].split(".")[0]]
-    return folders[place - 1], tuple(module[:-1] if module[-1] in ("lib", "main") else module)
 
 
 def crate_of(source: Source, raw: RawStruct) -> Tuple[str, Tuple[str, ...]]:
@@ -198,23 +261,6 @@ def read_head(source: Source, raw: RawStruct, known: Sequence[str]) -> Dict[str,
     return notes
 
 
-def read_error(source: Source, raw: RawStruct, text: str) -> OwnError:
-    """Returns an error type, from the variant that holds an error of the library."""
-    if text == "SmallError":
-        return OwnError(text, "", "Rattle.scroll.specs.declared.small_error.SmallError", ())
-    name, sign, variant = text.partition("::")
-    folder = next(it for it in Path(source.path).resolve().parents if it.name == "src")
-    for path in sorted(it for it in folder.rglob("*") if it.name.endswith((".rt", ".rt.txt"))):
-        other = Source(str(path))
-        if re.search(rf"\benum\s+{re.escape(name)}\b", other.code):
-            variants = tuple(field.name for field in other.find_struct(name).fields)
-            if not sign or variant not in variants:
-                source.refuse(raw.place, f"the error {text} is no variant of {name}")
-            crate, module = module_of(path)
-            return OwnError(name, variant, ".".join(["Rattle", crate, "specs", "declared", *module, name]), variants)
-    source.refuse(raw.place, f"the error {text} is no `SmallError`, and no variant of an enum of this crate")
-
-
 def read_other(source: Source, field: RawField, error: Optional[OwnError], text: str) -> str:
     """Returns the variant of an error type that holds a number that was found."""
     name, _, variant = text.partition("::")
@@ -231,7 +277,11 @@ def read_part(
     kind = {f"{borrow}[u8]": "slice", f"{borrow}str": "text", "Zeros": "zeros"}.get(field.type, "")
     if "is" not in notes and kind:
         return Part(field.name, field.type, kind, count=read_count(source, raw, field, notes, before))
-    ended = ENDED.get(field.type.replace(f"<{raw.lifetime}>", "") if raw.lifetime else field.type)
+    table = re.fullmatch(rf"Table<{raw.lifetime}, (.+)>", field.type) if raw.lifetime else None
+    if table and "is" not in notes:
+        element = width_of(read_type(source, field, table[1], (raw.name,)))
+        return Part(field.name, field.type, "table", count=read_count(source, raw, field, notes, before, element))
+    ended = ENDED.get(name_of(raw, field))
     if kind or ended:
         if notes:
             source.refuse(field.place, f"the field {field.name} has the note {next(iter(notes))}, which its type {field.type} doesn't take")
@@ -285,12 +335,13 @@ def is_counter(fixed: Optional[Type]) -> bool:
 
 
 def read_count(
-    source: Source, raw: RawStruct, field: RawField, notes: Dict[str, str], before: Sequence[Part]
+    source: Source, raw: RawStruct, field: RawField, notes: Dict[str, str], before: Sequence[Part], element: int = 1
 ) -> Count:
-    """Returns how many bytes a slice, a text or zeros have."""
+    """Returns how many bytes a slice, a text, zeros or a table have, whose context counts elements of so many bytes."""
     text = notes.get("ctx", "")
     if not text:
-        source.refuse(field.place, f"the field {field.name} has no context: how many bytes it has")
+        what = "elements" if field.type.startswith("Table<") else "bytes"
+        source.refuse(field.place, f"the field {field.name} has no context: how many {what} it has")
     if field.type.endswith("str"):
         inner = re.fullmatch(r"StrCtx::Length\((.*)\)", text)
         if not inner:
@@ -306,9 +357,9 @@ def read_count(
         if not found:
             source.refuse(field.place, f"the context {text} of the field {field.name} is no sum of fields `as usize`, each times a number, and of numbers")
         if found["field"]:
-            terms.append((check_counter(source, raw, field, found["field"], before), int(found["times"] or 1)))
+            terms.append((check_counter(source, raw, field, found["field"], before), int(found["times"] or 1) * element))
         else:
-            number += int(found["number"])
+            number += int(found["number"]) * element
     wide = [part for part in before if part.name in dict(terms) and width(part) > 4]
     most = number + sum(256**4 * times for _, times in terms)
     if (wide and (len(terms) > 1 or number or terms[0][1] > 1)) or most >= 2**64:

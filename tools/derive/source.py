@@ -111,6 +111,9 @@ class Source:
     def has_struct(self, name: str) -> bool:
         return re.search(rf"\bstruct\s+{re.escape(name)}\b", self.code) is not None
 
+    def has_enum(self, name: str) -> bool:
+        return re.search(rf"\benum\s+{re.escape(name)}\b", self.code) is not None
+
     def find_constant(self, name: str) -> str:
         """Returns the text of a constant of this file, or the name where there is none."""
         found = re.search(rf"\bconst\s+{re.escape(name)}\s*:\s*usize\s*=\s*([^;]*);", self.code)
@@ -175,3 +178,43 @@ class Source:
         if not NAME.fullmatch(name) or not type:
             self.refuse(place, f"{text} is no field")
         return RawField(name, type, notes, place)
+
+
+@dataclass(frozen=True)
+class OwnError:
+    """An error type that isn't the library's: its name, the variant that holds an error of the library (none of `SmallError`), its
+    module in clauses, and all of its variants."""
+
+    name: str
+    variant: str
+    module: str
+    variants: Tuple[str, ...]
+
+    def said(self, variant: str) -> str:
+        """Returns a variant in code."""
+        return f"{self.name}::{variant}"
+
+
+def module_of(path: Path) -> Tuple[str, Tuple[str, ...]]:
+    """Returns the crate of a file below src/ and its module."""
+    folders = path.resolve().parts
+    place = len(folders) - 1 - folders[::-1].index("src")
+    module = [*folders[place + 1 : -1], folders[-1].split(".")[0]]
+    return folders[place - 1], tuple(module[:-1] if module[-1] in ("lib", "main") else module)
+
+
+def read_error(source: Source, raw: RawStruct, text: str) -> OwnError:
+    """Returns an error type, from the variant that holds an error of the library."""
+    if text == "SmallError":
+        return OwnError(text, "", "Rattle.scroll.specs.declared.small_error.SmallError", ())
+    name, sign, variant = text.partition("::")
+    folder = next(it for it in Path(source.path).resolve().parents if it.name == "src")
+    for path in sorted(it for it in folder.rglob("*") if it.name.endswith((".rt", ".rt.txt"))):
+        other = Source(str(path))
+        if re.search(rf"\benum\s+{re.escape(name)}\b", other.code):
+            variants = tuple(field.name for field in other.find_struct(name).fields)
+            if not sign or variant not in variants:
+                source.refuse(raw.place, f"the error {text} is no variant of {name}")
+            crate, module = module_of(path)
+            return OwnError(name, variant, ".".join(["Rattle", crate, "specs", "declared", *module, name]), variants)
+    source.refuse(raw.place, f"the error {text} is no `SmallError`, and no variant of an enum of this crate")

@@ -10,8 +10,8 @@ from format_back import fixed_fit
 from format_specs import by_cases
 from format_words import MODULES, error_uses, fixed_bytes, reads_of, refuses_of, structs_of, use_lines
 from kinds import NUMBERS, Array, Number, Type, read_type, width_of
-from parts import CONSTANT, Format, OwnError, Part, crate_of, is_counter, is_format, read_error, read_format, read_head, read_notes, read_other
-from source import RawField, RawStruct, Source
+from parts import CONSTANT, Format, Part, crate_of, is_counter, is_format, read_format, read_head, read_notes, read_other, snake
+from source import OwnError, RawField, RawStruct, Source, read_error
 
 
 @dataclass(frozen=True)
@@ -52,7 +52,20 @@ class Choice:
 
     @property
     def snake(self) -> str:
-        return re.sub(r"(?<=[a-z0-9])(?=[A-Z])", "_", self.name).lower()
+        return snake(self.name)
+
+    @property
+    def has_own(self) -> bool:
+        """Returns whether a value may not agree with what the format says of its variant's fields."""
+        return any(has_own(it) for it in self.variants)
+
+    @property
+    def has_fits(self) -> bool:
+        return True
+
+    @property
+    def has_leb(self) -> bool:
+        return any(it.form is not None and it.form.has_leb for it in self.variants)
 
     @property
     def declared(self) -> str:
@@ -63,7 +76,8 @@ class Choice:
         return variant.form is not None and variant.form.error is not None
 
 
-def read_choice(source: Source, raw: RawStruct) -> Choice:
+def read_choice(source: Source, raw: RawStruct, outer: Tuple[str, ...] = ()) -> Choice:
+    """Returns an enum. `outer` are the structs in which it is."""
     crate, module = crate_of(source, raw)
     notes = read_head(source, raw, ("tag", "error", "else"))
     tag = NUMBERS.get(notes.get("tag", ""))
@@ -76,12 +90,18 @@ def read_choice(source: Source, raw: RawStruct) -> Choice:
     other = read_other(source, whole, error, notes["else"]) if "else" in notes else ""
     variants: List[Variant] = []
     for field in raw.fields:
-        variants.append(read_variant(source, raw, field, tag, error, variants))
+        variants.append(read_variant(source, raw, field, tag, error, variants, (*outer, raw.name)))
     return Choice(raw.name, raw.lifetime, crate, module, tag, tuple(variants), error, other)
 
 
 def read_variant(
-    source: Source, raw: RawStruct, field: RawField, tag: Number, error: Optional[OwnError], before: List[Variant]
+    source: Source,
+    raw: RawStruct,
+    field: RawField,
+    tag: Number,
+    error: Optional[OwnError],
+    before: List[Variant],
+    outer: Tuple[str, ...],
 ) -> Variant:
     number = read_notes(source, field).get("is", "")
     if not CONSTANT.fullmatch(number):
@@ -94,12 +114,12 @@ def read_variant(
     if not field.type:
         return Variant(field.name, number, "")
     name = field.type.replace(f"<{raw.lifetime}>", "") if raw.lifetime else field.type
-    if re.fullmatch(r"\w+", name) and source.has_struct(name) and is_format(source.find_struct(name)):
-        form = read_format(source, source.find_struct(name))
+    if name not in outer and re.fullmatch(r"\w+", name) and source.has_struct(name) and is_format(source, source.find_struct(name), outer):
+        form = read_format(source, source.find_struct(name), outer)
         if form.error not in (None, error):
             source.refuse(field.place, f"the variant {field.name} is of the struct {name}, which has another error")
         return Variant(field.name, number, field.type, form=form)
-    fixed = read_type(source, field, field.type, (raw.name,))
+    fixed = read_type(source, field, field.type, outer)
     if isinstance(fixed, Array):
         source.refuse(field.place, f"the variant {field.name} is an array, which a struct may hold")
     return Variant(field.name, number, field.type, fixed=fixed)
@@ -131,13 +151,13 @@ def message(choice: Choice) -> str:
 
 def has_own(variant: Variant) -> bool:
     """Returns whether a variant's struct says which of its values agree."""
-    return variant.form is not None and any(part.constant or part.is_counted for part in variant.form.parts)
+    return variant.form is not None and variant.form.has_own
 
 
 def fit(variant: Variant) -> str:
     """Returns which values a variant's type can hold."""
     if variant.form:
-        return f"Fits{variant.form.name} x"
+        return f"Fits{variant.form.name} x" if variant.form.has_fits else "⊤"
     return fixed_fit(variant.fixed, "x") if variant.fixed else "⊤"
 
 
@@ -233,13 +253,17 @@ def write_lines(choice: Choice) -> List[str]:
         "-- the values of its variants agree",
         f"abbrev pub Agrees{name} : {name} → Type 0",
         *table(f"Agrees{name}", choice, "", agrees),
+        "",
+        "-- they don't agree",
+        f"abbrev pub Differs{name} : {name} → {error.name if error else 'Error'} → Type 0",
+        *differs_lines(choice),
     ]
     return [
         "",
         "-- its bytes",
         f"abbrev pub {choice.snake}_bytes : Endian → {name} → List ℕ",
         *table(f"{choice.snake}_bytes order", choice, "", laid),
-        *(agreement if any(has_own(it) for it in choice.variants) else []),
+        *(agreement if choice.has_own else []),
         "",
         "-- it is written over the start of a target: the tag, and the value after it",
         f"abbrev pub Writes{name} : Endian → {name} → List ℕ → List ℕ → ℕ → Type 0",
@@ -249,6 +273,19 @@ def write_lines(choice: Choice) -> List[str]:
         f"abbrev pub Keeps{name} : Endian → {name} → List ℕ → List ℕ → {error.name if error else 'Error'} → Type 0",
         *kept,
     ]
+
+
+def differs_lines(choice: Choice) -> List[str]:
+    """Returns which errors the values give that don't agree."""
+    lines: List[str] = []
+    for it in choice.variants:
+        head = f"Differs{choice.name} {it.pattern}"
+        held = f"Differs{it.form.name} x e" if it.form and has_own(it) else "⊥"
+        if choice.error and has_own(it) and not choice.is_own(it):
+            lines += [f"{head} ({choice.error.variant} e) = {held}", f"{head} e = ⊥"]
+        else:
+            lines.append(f"{head} e = {held}")
+    return lines
 
 
 def named_uses(choice: Choice, text: str, files: Dict[str, List[str]]) -> List[str]:
@@ -283,7 +320,7 @@ def choice_specs(choice: Choice) -> str:
     text = "\n".join([*read_lines(choice), "", *other_lines(choice), *refusal_lines(choice), *write_lines(choice)])
     forms = [it.form for it in choice.variants if it.form]
     files = {
-        f"{form.name}Format": [f"{it}{form.name}" for it in ("Reads", "Refuses", "Agrees", "Writes", "Keeps")] + [f"{form.snake}_bytes"]
+        f"{form.name}Format": [f"{it}{form.name}" for it in ("Reads", "Refuses", "Agrees", "Differs", "Writes", "Keeps")] + [f"{form.snake}_bytes"]
         for form in forms
     }
     head = f"-- `{choice.name}` as bytes: a tag, and the value that it says. `tools/derive/derive.sh` printed this from the enum."

@@ -8,7 +8,7 @@ from typing import List
 from fixed import made
 from format_back import MODULES as BACK_MODULES
 from format_back import fixed_begins, fixed_length, struct_lemmas
-from format_code import refusal, result_of, signature
+from format_code import error_name, impl_of, refusal, result_of, signature
 from format_words import structs_of
 from kinds import width_of
 from variants import Choice, Variant, bytes_of, choice_imports, fit, has_own, message, named_uses, reads, tag_bytes
@@ -54,22 +54,79 @@ def write_arms(choice: Choice) -> List[str]:
     return lines
 
 
-def choice_blocks(choice: Choice) -> str:
-    """Returns the implementations."""
-    name, snake, width = choice.name, choice.snake, choice.tag.width
+def encode_block(choice: Choice) -> List[str]:
+    """Returns the implementation of `Encode`."""
+    name = choice.name
+
+    def arms(call: str) -> List[str]:
+        lines: List[str] = []
+        for it in choice.variants:
+            value = "value" if it.form else "Value(value)"
+            parts = f"(Value({it.tag}{choice.tag.name}), {value})" if it.type else f"Value({it.tag}{choice.tag.name})"
+            lines.append(f"            {name}::{it.name}{'(value)' if it.type else ''} => {parts}.{call},")
+        return lines
+
+    return [
+        f"{impl_of(choice)} Encode for {choice.type} {{",
+        f"    ghost bytes = {{ {choice.snake}_bytes }};",
+        "",
+        "    fn size(self, order: Endian) -> usize {",
+        "        match self {",
+        *arms("size(order)"),
+        "        }",
+        "    }",
+        "",
+        "    #[inline(always)]",
+        "    fn put(self, dst: &mut [u8], order: Endian) {",
+        "        match self {",
+        *arms("put(dst, order)"),
+        "        }",
+        "    }",
+        "}",
+        "",
+    ]
+
+
+def check_block(choice: Choice) -> List[str]:
+    """Returns the implementation of `Checked`."""
+    name = choice.name
+    arms: List[str] = []
+    for it in choice.variants:
+        call = "value.check()" if has_own(it) else "Ok(())"
+        call = f"Ok({call}?)" if has_own(it) and choice.error and not choice.is_own(it) else call
+        arms.append(f"            {name}::{it.name}{'(value)' if has_own(it) else '(_)' if it.type else ''} => {call},")
+    return [
+        f"{impl_of(choice)} Checked for {choice.type} {{",
+        f"    type Error = {error_name(choice)};",
+        "",
+        f"    ghost agrees = {{ Agrees{name} }};",
+        "",
+        f"    ghost differs = {{ Differs{name} }};",
+        "",
+        *signature("check", ["self"], result_of(choice, "()")),
+        "        match self {",
+        *arms,
+        "        }",
+        "    }",
+        "}",
+        "",
+    ]
+
+
+def read_block(choice: Choice) -> List[str]:
+    """Returns the implementation of `TryFromCtx`."""
+    name, width = choice.name, choice.tag.width
     lifetime = choice.lifetime or "'a"
-    impl = f"impl<{choice.lifetime}>" if choice.lifetime else "impl"
-    error = choice.error.name if choice.error else "Error"
     cursor = ["        let mut offset = " + f"{width};"] if any(it.type for it in choice.variants) else []
-    return "\n".join([
+    return [
         f"impl<{lifetime}> TryFromCtx<{lifetime}, Endian> for {choice.type} {{",
-        f"    type Error = {error};",
+        f"    type Error = {error_name(choice)};",
         "",
         f"    ghost reads = {{ Reads{name} }};",
         "",
         f"    ghost refuses = {{ Refuses{name} }};",
         "",
-        f"    ghost reads_bounded = {{ {snake}-bounded }};",
+        f"    ghost reads_bounded = {{ {choice.snake}-bounded }};",
         "",
         *signature("try_from_ctx", [f"from: &{lifetime} [u8]", "ctx: Endian"], result_of(choice, f"({choice.type}, usize)")),
         f"        check_room({width}, from.len())?;",
@@ -81,8 +138,15 @@ def choice_blocks(choice: Choice) -> str:
         "    }",
         "}",
         "",
-        f"{impl} TryIntoCtx<Endian> for {choice.type} {{",
-        f"    type Error = {error};",
+    ]
+
+
+def write_block(choice: Choice) -> List[str]:
+    """Returns the implementation of `TryIntoCtx`."""
+    name, snake = choice.name, choice.snake
+    return [
+        f"{impl_of(choice)} TryIntoCtx<Endian> for {choice.type} {{",
+        f"    type Error = {error_name(choice)};",
         "",
         f"    ghost writes = {{ Writes{name} }};",
         "",
@@ -98,22 +162,29 @@ def choice_blocks(choice: Choice) -> str:
         "        }",
         "    }",
         "}",
-    ])
+    ]
+
+
+def choice_blocks(choice: Choice) -> str:
+    """Returns the implementations."""
+    check = check_block(choice) if choice.has_own else []
+    return "\n".join([*read_block(choice), *encode_block(choice), *check, *write_block(choice)])
 
 
 def choice_uses(choice: Choice) -> List[str]:
     """Returns the `use` lines that the implementations need."""
     name, snake = choice.name, choice.snake
     block = choice_blocks(choice)
+    ghosts = [f"{it}{name}" for it in ("Reads", "Refuses", *(["Agrees", "Differs"] if choice.has_own else []), "Writes", "Keeps")]
     words = {"Cread": "cread_with", "Pread": "gread_with", "Error": " Error::", "write_tagged": "write_tagged(", "Result": "-> Result<"}
     block = block.replace("(Error::", " Error::")
     ours = [it for it in ("Cread", "Endian", "Error", "Pread", "Result", "SmallError", "check_room", "write_tagged") if words.get(it, it) in block]
     ours += ["Error"] if not choice.error and "Error" not in ours else []
     return [
         f"ghost use Rattle.{choice.crate}.specs.{name}Back.{{{snake}-bounded, {snake}-within, {snake}-keeps}};",
-        f"ghost use Rattle.{choice.crate}.specs.{name}Format.{{Reads{name}, Refuses{name}, Writes{name}, Keeps{name}}};",
+        f"ghost use Rattle.{choice.crate}.specs.{name}Format.{{{', '.join(ghosts)}, {snake}_bytes}};",
         "",
-        "use scroll::ctx::{TryFromCtx, TryIntoCtx};",
+        f"use scroll::ctx::{{{'Checked, ' if choice.has_own else ''}Encode, TryFromCtx, TryIntoCtx, Value}};",
         f"use scroll::{{{', '.join(ours)}}};",
     ]
 
@@ -148,7 +219,7 @@ def back_fact(choice: Choice, it: Variant) -> str:
     if not it.type:
         return f"tag-back order {width} {it.tag} (omega arith) rest"
     if it.form:
-        given = " ".join([*(["agrees"] if has_own(it) else []), "held"])
+        given = " ".join([*(["agrees"] if has_own(it) else []), *(["held"] if it.form.has_fits else [])])
         back = f"(λ r. {it.form.snake}-back order x r {given})"
     else:
         assert it.fixed
@@ -162,7 +233,7 @@ def back_fact(choice: Choice, it: Variant) -> str:
 def choice_back(choice: Choice) -> str:
     """Returns the file of the proof."""
     name, snake = choice.name, choice.snake
-    agrees = any(has_own(it) for it in choice.variants)
+    agrees = choice.has_own
     premises = f"{f'Agrees{name} x → ' if agrees else ''}Fits{name} x → "
     given = "agrees held" if agrees else "held"
     written = f"(order : Endian) (x : {name}) (old new : List ℕ) (n : ℕ) → Writes{name} order x old new n"

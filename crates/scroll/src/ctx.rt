@@ -48,7 +48,9 @@ mod tuples;
 mod zeros;
 
 pub use arrays::array_fits;
-pub use encode::{Each, Encode, Gap, Padded, Value, append, put_at, read_fixed};
+pub use encode::{
+    Checked, Each, Encode, Gap, InParts, Padded, Value, append, append_checked, put_at, read_fixed,
+};
 pub use fixed::{Fixed, Plain, Record, RoundTrip, Written};
 pub use str_ctx::{NULL, RET, SPACE, StrCtx, TAB};
 pub use table::{Elements, Table};

@@ -1,5 +1,5 @@
 // Values that are written one after another, each with a number of bytes of its own.
-ghost use Rattle.std.specs.Prelude.{◌≡◌, ◌≤◌, ◌<◌, ◌+◌, ◌-◌, ◌*◌, ◌^◌, ◌++◌, [], ◌∷◌, ℕ, List, length, take, drop, min, vec_capacity, IfOk, IfErr, IsOk, OnOk, OnErr};
+ghost use Rattle.std.specs.Prelude.{◌≡◌, ◌≤◌, ◌<◌, ◌+◌, ◌-◌, ◌*◌, ◌^◌, ◌++◌, ◌⊎◌, [], ◌∷◌, ℕ, List, length, take, drop, min, vec_capacity, IfOk, IfErr, IsOk, OnOk, OnErr};
 ghost use Rattle.std.specs.CStr.{c_str_bytes};
 ghost use Rattle.std.specs.List.{flat_map};
 ghost use Rattle.scroll.specs.Bytes.{ReadsFixed, RefusesShort};
@@ -173,19 +173,32 @@ impl<'s> Encode for CStr<'s> {
     }
 }
 
-impl<'s, V: LebNumber> Encode for &'s Leb128<V> {
-    ghost bytes = { λ _ x. leb_text V.form x.now };
+impl<V: LebNumber> Encode for Leb128<V> {
+    ghost bytes = { λ _ x. leb_text V.form x };
 
     fn size(self, _order: Endian) -> usize {
-        Leb128::size(self)
+        Leb128::size(&self)
     }
 
     #[inline(always)]
     fn put(self, dst: &mut [u8], _order: Endian) {
-        match (*self).try_into_ctx(dst, ()) {
+        match self.try_into_ctx(dst, ()) {
             Ok(_size) => (),
             Err(_short) => unreachable!(),
         }
+    }
+}
+
+impl<'s, V: LebNumber> Encode for &'s Leb128<V> {
+    ghost bytes = { λ _ x. leb_text V.form x.now };
+
+    fn size(self, order: Endian) -> usize {
+        (*self).size(order)
+    }
+
+    #[inline(always)]
+    fn put(self, dst: &mut [u8], order: Endian) {
+        (*self).put(dst, order)
     }
 }
 
@@ -240,6 +253,51 @@ impl<A: Encode, B: Encode, C: Encode, D: Encode> Encode for (A, B, C, D) {
     fn put(self, dst: &mut [u8], order: Endian) {
         (self.0, (self.1, (self.2, self.3))).put(dst, order)
     }
+}
+
+/// A struct that is encoded as parts, such as its fields in tuples. `tools/derive` prints the
+/// implementation.
+pub trait InParts: Copy {
+    /// The parts.
+    type Parts: Encode;
+
+    // The bytes of a value.
+    ghost bytes_of: { Endian → Self → List ℕ };
+
+    /// Returns the parts.
+    fn parts(self) -> Self::Parts
+        ensures { (order : Endian) → Self.Parts.bytes order result ≡ bytes_of order self };
+}
+
+impl<P: InParts> Encode for P {
+    ghost bytes = { P.bytes_of };
+
+    fn size(self, order: Endian) -> usize {
+        self.parts().size(order)
+    }
+
+    #[inline(always)]
+    fn put(self, dst: &mut [u8], order: Endian) {
+        self.parts().put(dst, order)
+    }
+}
+
+/// A value whose fields may not agree, such as a count with the bytes that it counts.
+/// `tools/derive` prints the implementation.
+pub trait Checked: Copy {
+    /// The error of a value whose fields don't agree.
+    type Error;
+
+    // Holds of the values whose fields agree.
+    ghost agrees: { Self → Type 0 };
+
+    // Holds of the others, each with its error.
+    ghost differs: { Self → Self.Error → Type 0 };
+
+    /// Returns an error where the fields don't agree.
+    fn check(self) -> std::result::Result<(), Self::Error>
+        ensures agrees { OnOk result (agrees self) }
+        ensures differs { IfErr result (differs self) };
 }
 
 /// Reads a value of a fixed size at the cursor `offset`, also an array, and advances the cursor
@@ -325,5 +383,25 @@ pub fn append<A: Encode>(target: &mut Vec<u8>, value: A, order: Endian) -> Resul
         return Err(Error::NoMemory);
     }
     value.put(&mut target.as_mut_slice()[start..], order);
+    Ok(())
+}
+
+/// Appends the bytes of a value to a vector if the fields of the value agree.
+///
+/// Returns the value's own error if they don't, and [`Error::NoMemory`] on an allocation failure,
+/// converted to that error. The vector is then unchanged.
+pub fn append_checked<E: From<Error>, A: Encode + Checked<Error = E>>(
+    target: &mut Vec<u8>,
+    value: A,
+    order: Endian,
+) -> std::result::Result<(), E>
+    ensures appended { OnOk result
+        (target.new.items ≡ target.old.items ++ A.bytes order value) }
+    ensures agrees { OnOk result (A.agrees value) }
+    ensures unchanged { OnErr result (target.new.items ≡ target.old.items) }
+    ensures refused { IfErr result (λ e. A.differs value e ⊎ E.from_gives NoMemory e) }
+{
+    value.check()?;
+    append(target, value, order)?;
     Ok(())
 }

@@ -1,5 +1,5 @@
 -- Lemmas for callers: parts that were written one after another read back, each at its offset.
-use Rattle.std.proofs.Common.{◌≡◌, ◌≢◌, ℕ, ℤ, ◌+◌, ◌*◌, ◌≤◌, ◌++◌, List, [], ◌∷◌, length, take, drop, IsUtf8, refl, sym, ap, append_assoc, length-append, length-drop, arith, ◌∙◌}
+use Rattle.std.proofs.Common.{◌≡◌, ◌≢◌, ℕ, ℤ, ◌+◌, ◌*◌, ◌≤◌, ◌++◌, List, [], ◌∷◌, length, take, drop, IsUtf8, refl, sym, ap, subst, append_assoc, length-append, length-drop, arith, ◌∙◌}
 use Rattle.std.proofs.lemmas.Grind.{common_steps}
 use Rattle.std.proofs.lemmas.List.{append-nil, drop-drop, drop_at, take_at, get_or_append_left, get_or-replicate, length-replicate}
 use Rattle.std.specs.List.{All, flat_map}
@@ -34,6 +34,12 @@ rest-next {at} w b t rest {s} len h =
       inside = omega (arith, h.inside, len, length-drop at s, ap length here, length-append b (t ++ rest));
       is = sym (drop-drop w at s) ∙ ap (drop w) here ∙ drop_at b (t ++ rest) w len;
     }
+
+-- after the first part are the others
+pub rest-first : {w : ℕ} {rest s : List ℕ} → Rest (0 + w) rest s → Rest w rest s
+rest-first {w} {rest} {s} h =
+    let at : 0 + w ≡ w = omega arith in
+    record { inside = omega (arith, h.inside); is = subst (λ k. drop k s ≡ rest) at h.is }
 
 -- where the next is several, so is the first of these
 pub rest-open : {at : ℕ} (b t u rest : List ℕ) {s : List ℕ} → Rest at (((b ++ t) ++ u) ++ rest) s → Rest at ((b ++ (t ++ u)) ++ rest) s

@@ -1,6 +1,0 @@
-use Rattle.std.proofs.Common.{arith}
-use Rattle.scroll.specs.lemmas.Frames.{length-encoding}
-use Rattle.scroll.proofs.ctx.encode.RefLeb128Encode.put.Goals as goal
-
-pub unreachable-requires : goal.unreachable-requires
-unreachable-requires g c = omega (arith, c.in-Err.ensures.refused.short, c.requires, length-encoding (g.V.LebNumber.form c.args.self.now.value c.args.self.now.count) c.args.self.now.count)
