@@ -34,7 +34,6 @@ for file in "$room"/derived/src/*.rt.txt; do
         ! derive --specs "$file" "$name" >"$room/specs" 2>/dev/null || {
             cp "$room/specs" "${specs}Format.antt.txt" && derive --back "$file" "$name" >"${specs}Back.antt.txt" ||
                 stop "nothing is printed for the specs of $name"
-            printf 'pub mod %sFormat\npub mod %sBack\n' "$name" "$name" >>"$room/derived/specs/Lib.antt.txt"
         }
     done <"$room/names"
 done
