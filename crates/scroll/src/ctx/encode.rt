@@ -325,7 +325,8 @@ pub fn read_fixed<P: Fixed>(from: &[u8], offset: &mut usize, order: Endian) -> R
     Ok(value)
 }
 
-/// Writes the bytes of a value at an offset, and returns the offset after them.
+/// Writes the bytes of a value at an offset, and returns the offset after them. The caller ensures
+/// that the offset is at most the length of `dst`.
 ///
 /// Returns their number as the error if there is no room for all of them, and `dst` is then
 /// unchanged.
