@@ -40,11 +40,11 @@ value_line (value.Sleb x) =
 value_line value.U8x0 = codes "numbers\n"
 value_line (value.U16x3 xs) =
     codes "numbers " ++ decimal (slice_index xs 0) ++ codes " " ++ decimal (slice_index xs 1)
-      ++ codes " "
+    ++ codes " "
     ++ decimal (slice_index xs 2) ++ codes "\n"
 value_line (value.Textx2 first second) =
     codes "texts " ++ hex_text (string_bytes first) ++ codes " " ++ hex_text (string_bytes second)
-      ++ codes "\n"
+    ++ codes "\n"
 
 -- `IsAnswerLine answer line`: the printed line of a command's result:
 abbrev pub IsAnswerLine : Answer → List ℕ → Type 0
@@ -65,7 +65,7 @@ pub record Prints (answers : List Answer) (buffer : List ℕ) (cursor : ℕ)
   pub prefix : List ℕ
   pub lines : AreAnswerLines answers prefix
   pub whole : text ≡ prefix ++ codes "buffer " ++ hex_text buffer ++ codes "\n" ++ codes "cursor "
-    ++ decimal cursor ++ codes "\n"
+      ++ decimal cursor ++ codes "\n"
 
 -- the commands are run over the buffer `first` from the cursor `from`, and `text` is what is
 -- printed for them
@@ -127,7 +127,7 @@ pub record IsInput (old new : Option (List ℕ)) (input : List ℕ) : Type 0 whe
 abbrev pub AnswersSession : Type 0 → Option (List ℕ) → Option (List ℕ) → List ℕ → ℕ → Type 0
 AnswersSession refused old new text status =
     (refused × (text ≡ codes "out of memory\n") × (status ≡ 3))
-      ⊎ ((input : List ℕ) × IsInput old new input × AnswersInput input text status)
+    ⊎ ((input : List ℕ) × IsInput old new input × AnswersInput input text status)
 
 -- a session ends with a stream's error: its output is unchanged from `before` to `after`, or has
 -- grown by a prefix of the text of such a session
@@ -136,4 +136,4 @@ abbrev pub BreaksOff : Type 0 → Option (List ℕ) → Option (List ℕ) → Op
 BreaksOff refused old new before after =
     Keeps before after
     ⊎ ((text : List ℕ) × (status : ℕ) × AnswersSession refused old new text status
-      × AppendsPrefix before after text)
+    × AppendsPrefix before after text)

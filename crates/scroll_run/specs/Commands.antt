@@ -17,13 +17,13 @@ use Rattle.scroll_run.specs.declared.commands.CommandLine.TheVariants as line
 abbrev pub SpellsCommand : List (List ℕ) → Command → Type 0
 SpellsCommand words (command.Read (place.At offset) what) =
     (word : List ℕ) × (rest : List (List ℕ)) × (words ≡ codes "pread" ∷ word ∷ rest)
-      × SpellsNumber (2 ^ 64) word offset
+    × SpellsNumber (2 ^ 64) word offset
     × SpellsKind rest what
 SpellsCommand words (command.Read place.Cursor what) =
     (rest : List (List ℕ)) × (words ≡ codes "gread" ∷ rest) × SpellsKind rest what
 SpellsCommand words (command.Write (place.At offset) x) =
     (word : List ℕ) × (rest : List (List ℕ)) × (words ≡ codes "pwrite" ∷ word ∷ rest)
-      × SpellsNumber (2 ^ 64) word offset
+    × SpellsNumber (2 ^ 64) word offset
     × SpellsPut rest x
 SpellsCommand words (command.Write place.Cursor x) =
     (rest : List (List ℕ)) × (words ≡ codes "gwrite" ∷ rest) × SpellsPut rest x

@@ -95,5 +95,5 @@ abbrev pub StopsCommands : Type 0 → List (List ℕ) → Stop → Type 0
 StopsCommands refused lines (BadLine k) =
     (i : ℕ) × (k ≡ i + 3) × (i < length lines)
     × ((j : ℕ) → j < i → IsCommand (slice_index_or lines j []))
-      × (¬ (IsCommand (slice_index_or lines i [])))
+    × (¬ (IsCommand (slice_index_or lines i [])))
 StopsCommands refused lines NoMemory = refused

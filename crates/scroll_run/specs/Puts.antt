@@ -51,7 +51,7 @@ SpellsSleb word x = SpellsSigned (2 ^ 63) word x.value × IsLeast (HasSignedEnco
 abbrev pub SpellsPut : List (List ℕ) → Put → Type 0
 SpellsPut words (put.Number x order) =
     (w : Width) × (word : List ℕ) × (words ≡ width_word w ∷ order_word order ∷ word ∷ [])
-      × SpellsValue w word x
+    × SpellsValue w word x
 SpellsPut words (put.Text text) =
     (word : List ℕ) × (words ≡ codes "str" ∷ word ∷ []) × SpellsText word text.now
 SpellsPut words (put.Bytes bytes) =
@@ -64,11 +64,11 @@ SpellsPut words (put.Sleb x) =
     (word : List ℕ) × (words ≡ codes "sleb" ∷ word ∷ []) × SpellsSleb word x
 SpellsPut words (put.U16x3 xs order) =
     (first second third : List ℕ) ×
-      (words ≡ codes "u16x3" ∷ order_word order ∷ first ∷ second ∷ third ∷ [])
+    (words ≡ codes "u16x3" ∷ order_word order ∷ first ∷ second ∷ third ∷ [])
     × AllZip (SpellsNumber (2 ^ 16)) (first ∷ second ∷ third ∷ []) xs
 SpellsPut words (put.Bytesx2 x y) =
     (first second : List ℕ) × (words ≡ codes "bytesx2" ∷ first ∷ second ∷ [])
-      × SpellsBytes first x.now
+    × SpellsBytes first x.now
     × SpellsBytes second y.now
 
 -- `IsPutOf x p`: `p` is the value to write that borrows from `x`, which holds what a line spells

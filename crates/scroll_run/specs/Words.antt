@@ -44,7 +44,7 @@ abbrev pub SpellsSigned : ℕ → List ℕ → ℤ → Type 0
 SpellsSigned half word x =
     ((n : ℕ) × SpellsNumber half word n × (x ≡ pos n))
     ⊎ ((digits : List ℕ) × (n : ℕ) × (word ≡ codes "-" ++ digits) × SpellsNumber (half + 1) digits n
-      × (x ≡ neg_ℤ (pos n)))
+    × (x ≡ neg_ℤ (pos n)))
 
 -- `-` spells no bytes, and an even number of hexadecimal digits of either case, two or more, spells
 -- a byte for each two
