@@ -172,8 +172,8 @@ pub fn write_many<Ctx: Copy, E: From<Error>, T: TryIntoCtx<Ctx, Error = E> + Cop
 /// Writes a value at the cursor `offset`, and advances the cursor past it. The value reads back
 /// there, whatever is written after it.
 ///
-/// Returns the error of [`gwrite_with`](slice::gwrite_with), and leaves the cursor, if the value
-/// can't be written.
+/// Returns the error of [`gwrite_with`](slice::gwrite_with) if the value can't be written, and the
+/// cursor is then unchanged.
 pub fn write_kept<Ctx: Copy, E: From<Error>, T: Kept<Ctx> + TryIntoCtx<Ctx, Error = E> + Drop>(
     dst: &mut [u8],
     value: T,

@@ -390,7 +390,8 @@ pub fn append<A: Encode>(target: &mut Vec<u8>, value: A, order: Endian) -> Resul
 /// Appends the bytes of a value to a vector if the fields of the value agree.
 ///
 /// Returns the value's own error if they don't, and [`Error::NoMemory`] on an allocation failure,
-/// converted to that error. The vector is then unchanged.
+/// converted to that error, which doesn't occur where the vector has the capacity. The vector is
+/// then unchanged.
 pub fn append_checked<E: From<Error>, A: Encode + Checked<Error = E>>(
     target: &mut Vec<u8>,
     value: A,
@@ -401,6 +402,8 @@ pub fn append_checked<E: From<Error>, A: Encode + Checked<Error = E>>(
     ensures agrees { OnOk result (A.agrees value) }
     ensures unchanged { OnErr result (target.new.items ≡ target.old.items) }
     ensures refused { IfErr result (λ e. A.differs value e ⊎ E.from_gives NoMemory e) }
+    ensures differs { length target.old.items + length (A.bytes order value)
+        ≤ vec_capacity target.old → IfErr result (A.differs value) }
 {
     value.check()?;
     append(target, value, order)?;
