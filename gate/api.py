@@ -17,8 +17,8 @@ SRC = TOP / "crates" / "scroll" / "src"
 PAGE = TOP / "docs" / "API.md"
 HEAD = """# API
 
-Each public item of the library, from its doc comments. Offsets and sizes are in bytes. Behind a signature are the names of the
-contract's clauses, in words of [DEFINITIONS.md](DEFINITIONS.md). A call whose name ends in `_with` takes a context; the one without
+Each public item of the library, from its doc comments. Offsets and sizes are in bytes. Behind a signature are, in parentheses, the
+names of the contract's clauses, in words of [DEFINITIONS.md](DEFINITIONS.md). A call whose name ends in `_with` takes a context; the one without
 takes the default of the context's type, which for numbers is the machine's byte order. The examples are those that show an error; the
 gate runs these and the others, which are in the sources and in [GUIDE.md](GUIDE.md).
 """
@@ -35,11 +35,11 @@ SECTIONS = {
     "Slices": ["slice"],
     "Contexts and types": ["ctx", "ctx/str_ctx", "ctx/text", "ctx/bytes", "ctx/measure", "ctx/zeros", "ctx/arrays", "ctx/c_strings"]
     + ["ctx/std_c_strings", "cstr", "cstr/of_std"],
+    "Many values": ["many", "ctx/table"],
     "Types of a fixed size": ["ctx/fixed", "ctx/fixed/arrays", "ctx/tuples", "ctx/encode"],
     "LEB128": ["leb128", "leb128/counted", "leb128/unsigned", "leb128/signed", "leb128/bytewise", "leb128/block", "leb128/by_loads", "loads"],
     "Runs of commands": ["runner"],
-    "Laws": ["laws", "laws/numbers", "laws/fixed", "laws/reads", "laws/texts", "laws/c_strings", "laws/floats", "laws/required"]
-    + ["laws/leb128", "laws/histories", "laws/runs", "laws/constants"],
+    "Laws": ["laws", "laws/numbers", "laws/fixed", "laws/reads", "laws/texts", "laws/leb128", "laws/histories"],
 }
 ITEM = re.compile(r"(?P<indent>(?:    )?)(?P<open>pub )?(?:final |const |unsafe )*(?P<kind>trait|struct|enum|fn|const|type|impl)\b(?P<rest>.*)")
 VARIANT = re.compile(r"    (?:pub )?(?P<name>[A-Za-z_]\w*)[,({:]?.*")
@@ -217,7 +217,7 @@ def page() -> str:
                 like = UNSIGNED.sub("", text)
                 text = f"As {twins[like]}." if text and like in twins else text
                 twins.setdefault(like, e.title)
-                text = code + (f" (clauses {', '.join(e.clauses)})" if e.clauses else "") + (f": {text}" if text else "")
+                text = code + (f" ({', '.join(e.clauses)})" if e.clauses else "") + (f": {text}" if text else "")
                 if owner and not heads or owner and owner != heads[-1]:
                     text = f"{owner}: {text}" if not owner.isidentifier() else f"`{owner}`: {text}"
                 parts.append(("" if parts[-1].startswith("- ") else "\n") + f"- {text}")
@@ -228,13 +228,23 @@ def page() -> str:
             heads.append(e.title.strip("`").split("`")[0].split("::")[0])
             parts.append(f"\n{'#' * e.depth} {e.title}\n")
             if e.code:
-                parts.append(f"`{e.code}`" + (f" (clauses {', '.join(e.clauses)})" if e.clauses else "") + "\n")
+                parts.append(f"`{e.code}`" + (f" ({', '.join(e.clauses)})" if e.clauses else "") + "\n")
             parts.append(text)
     return re.sub(r"\n{3,}", "\n\n", re.sub(r"(?m)(^- .*)\n\n(?=- )", r"\1\n", "\n".join(parts))) + "\n"
 
 
+def left_out() -> List[str]:
+    """Returns the files with items for the page that no section names, and those that a section names and that aren't there."""
+    files = {path.relative_to(SRC).with_suffix("").as_posix(): path for path in SRC.rglob("*.rt")}
+    named = {it for listed in SECTIONS.values() for it in listed}
+    new = [it for it in files.keys() - named if it != "lib" and not it.startswith("tests") and list(entries(files[it]))]
+    return sorted(new + list(named - files.keys()))
+
+
 def try_all(step: Step, writes: bool) -> None:
     wanted = page()
+    strays = "\n".join(f"    {it}.rt" for it in left_out())
+    step.count("a file's items are not on docs/API.md, or a section names a file that isn't there", strays or None)
     if writes:
         PAGE.write_text(wanted, encoding="utf-8")
     is_same = PAGE.is_file() and PAGE.read_text(encoding="utf-8") == wanted
