@@ -6,7 +6,7 @@
                                   docs/PROVED.md, the code in docs/GUIDE.md, and the clients' columns of lines
 
 The code in docs/GUIDE.md is put there from clients and proofs (gate/guide.py). The names and clauses that the documents cite are
-declared, and their links lead somewhere (gate/cited.py). CONTRIBUTING.md lists the sources (gate/sizes.py). docs/API.md has the library's doc comments (gate/api.py), and
+declared, and their links lead somewhere (gate/cited.py). docs/API.md has the library's doc comments (gate/api.py), and
 docs/DEFINITIONS.md what the comments in specs/ say (gate/definitions.py). docs/PROVED.md has the promises of gate/promises.txt, each
 with its clauses and how many edits there are for it (gate/promises.py). clients/README.md has the lines of each client
 (gate/sizes.py). The bench has a row for each public call, and docs/SPEED.md the summary of its times (gate/benched.py).
