@@ -21,6 +21,7 @@
 #     ROUNDS=N        how often a program runs each loop; the best time counts (200)
 #     ROOM=FOLDER     a folder that keeps the build for the next run
 #     KEEP=1          `jobs` writes nothing into the repository
+#     ONLY=TEXT       `jobs` runs those whose names have this text; with KEEP=1
 #     JOBS=N          the jobs of each check, instead of rt's own choice
 #
 # The exit status is 0 if everything was built and both sides agree on every sum and on every byte that they write.

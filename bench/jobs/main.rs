@@ -33,6 +33,7 @@ unsafe extern "C" {
     fn rt_symbols(file: *const u8, len: usize) -> u64;
     fn rt_abbreviations(bytes: *const u8, len: usize) -> u64;
     fn rt_write_tables(bytes: *const u8, len: usize, target: *mut u8, room: usize) -> u64;
+    fn rt_lines(bytes: *const u8, len: usize) -> u64;
     fn rt_index(file: *const u8, len: usize) -> u64;
     fn rt_archive(archive: *const u8, len: usize) -> u64;
     fn rt_log(log: *const u8, len: usize) -> u64;
@@ -143,6 +144,9 @@ fn first_table(section: &[u8]) -> &[u8] {
 }
 
 fn run(bench: &mut Bench, row: &str, count: u64, job: &mut Job, forms: Vec<Form>) {
+    if std::env::var("ONLY").is_ok_and(|only| !row.contains(&only)) {
+        return;
+    }
     let asked = |form: &Form, job: &mut Job| {
         let before = (ASKED.load(Ordering::Relaxed), BYTES.load(Ordering::Relaxed));
         (form.run)(job);
@@ -221,6 +225,12 @@ fn main() {
         rt_write_tables(job.input.as_ptr(), job.input.len(), job.output.as_mut_ptr(), job.output.len())
     });
     run(bench, "abbreviations written (per byte)", tables.len() as u64, job, with(form, peers::written_abbreviations()));
+
+    let lines = dwarf::section(&sample, ".debug_line").expect("line number programs");
+    for (copies, row) in [(4, "line number programs (per byte)"), (LARGE / lines.len(), "line number programs (per byte) of 64 MiB")] {
+        let many = lines.repeat(copies);
+        run(bench, row, many.len() as u64, &mut reading(&many), with(by!(rt_lines), peers::lines()));
+    }
 
     for (count, row) in [(50_000, "entries of a git index"), (LARGE as u32 / 88, "entries of a git index of 64 MiB")] {
         run(bench, row, u64::from(count), &mut reading(&index(count)), with(by!(rt_index), peers::index()));
