@@ -110,7 +110,8 @@ def try_names(step: Step, out: Path) -> None:
 EDITS = [
     ("scroll_elf_open", "open", "src/elf.rt", "left: u32::from(header.section_count),", "left: u32::from(header.names_index),"),
     ("scroll_elf_next", "next", "src/elf.rt", "sections.next = offset + 64;", "sections.next = offset + 40;"),
-    ("scroll_elf_table", "scroll_elf_table", "src/elf.rt", "if found <= sections.len() {", "if found >= sections.len() {"),
+    ("scroll_elf_table", "scroll_elf_table", "src/elf_table.rt", "*count = found;", "*count = found.min(1);"),
+    ("scroll_elf_table", "read_all", "src/elf_table.rt", "if filled < count {", "if filled < 1 {"),
     ("scroll_elf_fill", "fill", "src/elf_fill.rt", "sections.left -= found as u32;", "sections.left -= 1;"),
     ("scroll_elf_fill", "count_ready", "src/elf_fill.rt", "there.min(room)", "there.min(room.saturating_sub(1))"),
     ("scroll_zip_open", "scroll_zip_open", "src/zip_files.rt", "if record.comment.len() + 22 == back {", "if record.comment.len() + 22 <= back {"),
