@@ -3,46 +3,66 @@
 from __future__ import annotations
 
 import re
-from dataclasses import dataclass
+from dataclasses import dataclass, replace
 from pathlib import Path
-from typing import Dict, List, Optional, Sequence, Tuple
+from typing import Callable, Dict, List, Optional, Sequence, Tuple
 
-from kinds import Array, Number, Type, kind_of, read_type, width_of
+from kinds import Array, Number, Struct, Type, kind_of, read_type, width_of
 from layout import label
 from source import OwnError, RawField, RawStruct, Source, module_of, read_error, split_top
 
-TERM = re.compile(r"(?:(?P<field>[A-Za-z_]\w*)\s+as\s+usize(?:\s*\*\s*(?P<times>\d+))?|(?P<number>\d+))")
+TERM = re.compile(
+    r"(?:(?P<field>[A-Za-z_]\w*(?:\.[A-Za-z_]\w*)?)\s+as\s+usize(?:\s*\*\s*(?P<times>\d+))?|(?P<number>\d+)|(?P<long>[A-Za-z_]\w*)\.len\(\))"
+)
 PADDING = re.compile(r"padding\(offset,\s*(\d+)\)")
 CONSTANT = re.compile(r"(?:0x[0-9a-fA-F_]+|\d[\d_]*)")
 
 
 @dataclass(frozen=True)
 class Count:
-    """A number of bytes: the sum of earlier fields, each times a number, and of a number; or what is left up to a multiple."""
+    """A number of bytes: the sum of earlier fields, each times a number, and of a number, without another such sum, `less`; or what
+    is left up to a multiple. A field may be one of a struct, as in `udp.len`, or the length of a text or a slice, `name.len()`."""
 
     terms: Tuple[Tuple[str, int], ...]
     number: int
     multiple: int = 0
+    less: Optional["Count"] = None
 
     @property
     def fields(self) -> Tuple[str, ...]:
-        return tuple(field for field, _ in self.terms)
+        """Returns the fields of the struct that are named."""
+        return tuple(field.split(".")[0] for field, _ in self.terms) + (self.less.fields if self.less else ())
+
+    @property
+    def whole(self) -> "Count":
+        """Returns it without what is subtracted."""
+        return Count(self.terms, self.number)
 
     @property
     def text(self) -> str:
         """Returns it as a message says it."""
-        return self.in_clause({field: field for field in self.fields})
+        return self.said(lambda field: field)
 
     def in_code(self, names: Dict[str, str]) -> str:
         """Returns it in code, where a field has the name that `names` says."""
-        return self.said({field: f"{names[field]} as usize" for field in self.fields})
+        return self.said(lambda field: in_code(field, names) + ("" if field.endswith(")") else " as usize"))
 
     def in_clause(self, names: Dict[str, str]) -> str:
-        return self.said(names)
+        return self.said(lambda field: names[field])
 
-    def said(self, values: Dict[str, str]) -> str:
-        terms = [values[field] if times == 1 else f"{values[field]} * {times}" for field, times in self.terms]
-        return " + ".join([*terms, *([str(self.number)] if self.number or not terms else [])])
+    def said(self, value: Callable[[str], str]) -> str:
+        terms = [value(field) if times == 1 else f"{value(field)} * {times}" for field, times in self.terms]
+        whole = " + ".join([*terms, *([str(self.number)] if self.number or not terms else [])])
+        if not self.less:
+            return whole
+        less = self.less.said(value)
+        return f"{whole} - ({less})" if " " in less else f"{whole} - {less}"
+
+
+def in_code(field: str, names: Dict[str, str]) -> str:
+    """Returns a field, or one of a struct, or a length, where the field has the name that `names` says."""
+    name, dot, rest = field.partition(".")
+    return names[name] + dot + rest
 
 
 def snake(name: str) -> str:
@@ -70,8 +90,9 @@ class Inner:
 
 @dataclass(frozen=True)
 class Part:
-    """A field. `kind` is fixed, slice, text, table, zeros, leb, c_string or inner. One of a fixed size has its type in `fixed`, and a
-    number may have to be a constant; another number is an error of the variant `other`, if it is named."""
+    """A field. `kind` is fixed, slice, text, delimited, table, zeros, leb, c_string or inner. One of a fixed size has its type in
+    `fixed`, and a number may have to be a constant; another number is an error of the variant `other`, if it is named. So is with
+    `below` a count that subtracts more than there is. A text may end before its `delimiter`."""
 
     name: str
     type: str
@@ -81,6 +102,8 @@ class Part:
     constant: str = ""
     other: str = ""
     inner: Optional[Inner] = None
+    below: str = ""
+    delimiter: str = ""
 
     @property
     def label(self) -> str:
@@ -89,7 +112,7 @@ class Part:
     @property
     def is_ended(self) -> bool:
         """Returns whether the field says where it ends, so that no earlier field does."""
-        return self.kind in ("leb", "c_string", "inner") or self.is_padding
+        return self.kind in ("leb", "c_string", "delimited", "inner") or self.is_padding
 
     @property
     def is_padding(self) -> bool:
@@ -102,14 +125,19 @@ class Part:
         return self.kind in ("slice", "text", "table")
 
     @property
+    def less(self) -> Optional[Count]:
+        """Returns what is subtracted from the count."""
+        return self.count.less if self.count else None
+
+    @property
     def has_own(self) -> bool:
         """Returns whether a value of the field may not agree with what the format says of it."""
-        return self.constant != "" or self.is_counted or (self.inner is not None and self.inner.agrees)
+        return self.constant != "" or self.delimiter != "" or self.is_counted or (self.inner is not None and self.inner.agrees)
 
     @property
     def has_fit(self) -> bool:
         """Returns whether the field's type has values that a field can't hold."""
-        return self.kind in ("fixed", "leb", "c_string", "text") or (self.inner is not None and self.inner.fits)
+        return self.kind in ("fixed", "leb", "c_string", "text", "delimited") or (self.inner is not None and self.inner.fits)
 
     @property
     def is_own_error(self) -> bool:
@@ -276,11 +304,16 @@ def read_part(
     borrow = f"&{raw.lifetime} "
     kind = {f"{borrow}[u8]": "slice", f"{borrow}str": "text", "Zeros": "zeros"}.get(field.type, "")
     if "is" not in notes and kind:
-        return Part(field.name, field.type, kind, count=read_count(source, raw, field, notes, before))
+        delimiter = read_delimiter(source, field, notes) if kind == "text" else ""
+        if delimiter:
+            return Part(field.name, field.type, "delimited", delimiter=delimiter)
+        count = read_count(source, raw, field, notes, before)
+        return Part(field.name, field.type, kind, count=count, below=read_below(source, field, notes, count, error))
     table = re.fullmatch(rf"Table<{raw.lifetime}, (.+)>", field.type) if raw.lifetime else None
     if table and "is" not in notes:
         element = width_of(read_type(source, field, table[1], (raw.name,)))
-        return Part(field.name, field.type, "table", count=read_count(source, raw, field, notes, before, element))
+        count = read_count(source, raw, field, notes, before, element)
+        return Part(field.name, field.type, "table", count=count, below=read_below(source, field, notes, count, error))
     ended = ENDED.get(name_of(raw, field))
     if kind or ended:
         if notes:
@@ -302,9 +335,9 @@ def read_notes(source: Source, field: RawField) -> Dict[str, str]:
     notes: Dict[str, str] = {}
     for note in field.notes:
         for key, value in pairs_of(note):
-            is_known = not notes if key in ("ctx", "is") else key == "else" and "is" in notes and "else" not in notes
+            is_known = not notes if key in ("ctx", "is") else key == "else" and len(notes) == 1
             if not is_known or not value:
-                message = "and one `ctx = ..`, or `is = ..` with `else = ..`, is known"
+                message = "and one `ctx = ..` or `is = ..`, each with `else = ..`, is known"
                 source.refuse(field.place, f"the field {field.name} has the note {note}, {message}")
             notes[key] = value
     return notes
@@ -345,33 +378,108 @@ def read_count(
     if field.type.endswith("str"):
         inner = re.fullmatch(r"StrCtx::Length\((.*)\)", text)
         if not inner:
-            source.refuse(field.place, f"the context {text} of the field {field.name} is no StrCtx::Length(..)")
+            source.refuse(field.place, f"the context {text} of the field {field.name} is no StrCtx::Length(..) or StrCtx::Required(..)")
         text = inner[1].strip()
     padding = PADDING.fullmatch(text)
     if padding and field.type == "Zeros":
         return Count((), 0, int(padding[1]))
+    added, less = sides_of(text)
+    whole = read_sum(source, raw, field, text, added, before, element, False)
+    if less and field.type == "Zeros":
+        source.refuse(field.place, f"the context {text} of the field {field.name} subtracts, which that of zeros doesn't")
+    return replace(whole, less=read_sum(source, raw, field, text, less, before, element, True)) if less else whole
+
+
+def sides_of(text: str) -> Tuple[str, str]:
+    """Returns the sum in a context, and that of what is subtracted: the terms after `-`, one of which may be a sum in brackets."""
+    terms = re.findall(r"([+-]?)\s*(\((?:[^()]|\(\))*\)|(?:[^-+()]|\(\))+)", text.strip())
+    added = [term.strip() for sign, term in terms if sign != "-"]
+    less = [term.strip() for sign, term in terms if sign == "-"]
+    less = [term[1:-1] if term.startswith("(") else term for term in less]
+    is_read = "".join(sign + term for sign, term in terms).replace(" ", "") == text.replace(" ", "")
+    return (" + ".join(added), " + ".join(less)) if less and added and is_read else (text, "")
+
+
+def read_sum(
+    source: Source, raw: RawStruct, field: RawField, text: str, side: str, before: Sequence[Part], element: int, is_less: bool
+) -> Count:
+    """Returns a sum in the context `text`, of fields, of numbers and, if it is subtracted, of lengths."""
     terms: List[Tuple[str, int]] = []
     number = 0
-    for term in text.split("+"):
+    for term in side.split("+"):
         found = TERM.fullmatch(term.strip())
-        if not found:
+        if not found or (found["long"] and not is_less):
             source.refuse(field.place, f"the context {text} of the field {field.name} is no sum of fields `as usize`, each times a number, and of numbers")
         if found["field"]:
             terms.append((check_counter(source, raw, field, found["field"], before), int(found["times"] or 1) * element))
+        elif found["long"]:
+            terms.append((check_long(source, raw, field, found["long"], before), element))
         else:
             number += int(found["number"]) * element
-    wide = [part for part in before if part.name in dict(terms) and width(part) > 4]
-    most = number + sum(256**4 * times for _, times in terms)
-    if (wide and (len(terms) > 1 or number or terms[0][1] > 1)) or most >= 2**64:
+    wide = [name for name, _ in terms if not name.endswith(")") and counter_of(name, before).width > 4]
+    long = [name for name, _ in terms if name.endswith(")")]
+    most = number + sum(2**63 if name in long else 256**4 * times for name, times in terms)
+    if (wide and (len(terms) > 1 or number or terms[0][1] > 1)) or (long and element > 1) or most >= 2**64:
         source.refuse(field.place, f"the context {text} of the field {field.name} adds to a number of more than 32 bits")
     return Count(tuple(terms), number)
 
 
-def check_counter(source: Source, raw: RawStruct, field: RawField, name: str, before: Sequence[Part]) -> str:
+def read_delimiter(source: Source, field: RawField, notes: Dict[str, str]) -> str:
+    """Returns the byte that ends a text, or nothing where a count does."""
+    text = notes.get("ctx", "")
+    if re.match(r"StrCtx::Delimiter", text):
+        source.refuse(field.place, f"the context {text} of the field {field.name} allows a text without its delimiter, which StrCtx::Required(..) doesn't")
+    found = re.fullmatch(r"StrCtx::Required\((.*)\)", text)
+    if not found:
+        return ""
+    byte = found[1].strip()
+    if not CONSTANT.fullmatch(byte) or int(byte.replace("_", ""), 0) > 255:
+        source.refuse(field.place, f"the delimiter {byte} of the field {field.name} is no literal of a byte")
+    if "else" in notes:
+        source.refuse(field.place, f"the field {field.name} has the note else, which only a context that subtracts takes")
+    return byte
+
+
+def read_below(source: Source, field: RawField, notes: Dict[str, str], count: Count, error: Optional[OwnError]) -> str:
+    """Returns the variant of the error type that holds a number from which a context subtracts more than it is."""
+    if "else" not in notes:
+        return ""
+    if not count.less or count.number or len(count.terms) != 1 or count.terms[0][1] != 1:
+        source.refuse(field.place, f"the field {field.name} has the note else, which only a context that subtracts from one field takes")
+    return read_other(source, field, error, notes["else"])
+
+
+def check_long(source: Source, raw: RawStruct, field: RawField, name: str, before: Sequence[Part]) -> str:
+    """Returns the length of a text or a slice before a field."""
     part = next((it for it in before if it.name == name), None)
     if not part:
         where = "comes after it" if any(it.name == name for it in raw.fields) else "is no field"
         source.refuse(field.place, f"the context of the field {field.name} names {name}, which {where}")
-    if not is_counter(part.fixed):
+    if part.kind not in ("slice", "text", "delimited"):
+        source.refuse(field.place, f"the context of the field {field.name} names {name}, which is no text or slice")
+    return f"{name}.len()"
+
+
+def counter_of(name: str, before: Sequence[Part]) -> Number:
+    """Returns the type of a field, or of one of a struct, that counts."""
+    first, dot, inner = name.partition(".")
+    fixed = next(it.fixed for it in before if it.name == first)
+    if dot and isinstance(fixed, Struct):
+        fixed = next(it.type for it in fixed.fields if it.name == inner)
+    assert isinstance(fixed, Number)
+    return fixed
+
+
+def check_counter(source: Source, raw: RawStruct, field: RawField, name: str, before: Sequence[Part]) -> str:
+    first, dot, inner = name.partition(".")
+    part = next((it for it in before if it.name == first), None)
+    if not part:
+        where = "comes after it" if any(it.name == first for it in raw.fields) else "is no field"
+        source.refuse(field.place, f"the context of the field {field.name} names {name}, which {where}")
+    fixed = part.fixed
+    if dot:
+        fields = fixed.fields if isinstance(fixed, Struct) else ()
+        fixed = next((it.type for it in fields if it.name == inner), None)
+    if not is_counter(fixed):
         source.refuse(field.place, f"the context of the field {field.name} names {name}, which is no unsigned number of at most 64 bits")
     return name

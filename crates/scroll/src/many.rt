@@ -260,7 +260,8 @@ pub fn write_kept<Ctx: Copy, E: From<Error>, T: Kept<Ctx> + TryIntoCtx<Ctx, Erro
     Ok(size)
 }
 
-/// Writes values like [`write_many`]. They read back, whatever is written after them.
+/// Writes values like [`write_many`]. They read back, whatever is written after them, and
+/// [`read_to_end`] reads them from the bytes up to the cursor.
 pub fn write_many_kept<
     Ctx: Copy,
     E: From<Error>,
@@ -272,6 +273,9 @@ pub fn write_many_kept<
         (ReadsAll (T.Kept.reads ctx) dst.new offset.old values.now offset.new) }
     ensures kept { OnOk result
         (KeepsAll (T.Kept.reads ctx) dst.new offset.old values.now offset.new) }
+    ensures whole { offset.old ≤ length dst.old → OnOk result
+        (ReadsAll (T.Kept.reads ctx) (take offset.new dst.new) offset.old values.now
+        (length (take offset.new dst.new))) }
     ensures others { OnOk result (ChangesBetween offset.old offset.new dst.old dst.new) }
     ensures refused { IfErr result (λ located. FailsMany (T.TryIntoCtx.writes ctx)
         (T.TryIntoCtx.refuses ctx) E.from_gives dst.old offset.old values.now dst.new

@@ -1,5 +1,5 @@
 -- Lemmas for callers: round trips. What was read is written back, and what was written reads back.
-use Rattle.std.proofs.Common.{◌≡◌, ◌≢◌, ℕ, ◌+◌, ◌^◌, ◌<◌, ◌≤◌, ◌++◌, ◌==◌, true, List, [], ◌∷◌, length, take, drop, get_or, slice_index, Fits, w8, refl, sym, ap, subst, ◌∙◌, arith, IsUtf8, append_assoc, length-append, length-take, length-drop}
+use Rattle.std.proofs.Common.{◌≡◌, ◌≢◌, ℕ, ℤ, ◌+◌, ◌^◌, ◌<◌, ◌≤◌, ◌++◌, ◌==◌, true, List, [], ◌∷◌, length, take, drop, get_or, slice_index, Fits, w8, refl, sym, ap, subst, ◌∙◌, arith, IsUtf8, append_assoc, length-append, length-take, length-drop}
 use Rattle.std.proofs.Math.Seq.{take-add}
 use Rattle.std.proofs.lemmas.Grind.{flat_map-append}
 use Rattle.std.proofs.lemmas.List.{append-nil, drop-drop, drop_at, take_at, take_all, take_more, take-append-drop, length-take-le}
@@ -8,6 +8,7 @@ use Rattle.std.proofs.lemmas.List.Sums.{passes_at_first}
 use Rattle.std.specs.List.{All, flat_map}
 use Rattle.scroll.specs.lemmas.NumberLemmas.{bytes-fit}
 use Rattle.scroll.proofs.lemmas.callers.Cursors.{Begins, grow}
+use Rattle.scroll.proofs.lemmas.callers.SpanLemmas.{bytes-below}
 use Rattle.scroll.specs.lemmas.Frames.{length-number_bytes}
 use Rattle.scroll.specs.Numbers.{number, number_bytes, signed_number, signed_bytes}
 use Rattle.scroll.specs.Reads.{ReadsAt, ReadsAll}
@@ -156,3 +157,20 @@ number-only order w s h len = sym (number-back order w 0 s (bytes-fit s h) (omeg
 
 pub signed-only : (order : Endian) (w : ℕ) (s : List ℕ) → All (λ b. b < 256) s → length s ≡ w → s ≡ signed_bytes order w (signed_number order w s)
 signed-only order w s h len = sym (signed-back order w 0 s (bytes-fit s h) (omega (arith, len)) ∙ take_all w s (omega (arith, len)))
+
+-- the bytes of a slice from an offset on are bytes
+pub fits-from : (at : ℕ) (s : List ℕ) → ((i : ℕ) → Fits w8 (slice_index s i)) → (i : ℕ) → Fits w8 (slice_index (drop at s) i)
+fits-from at s h = bytes-fit (drop at s) (bytes-below at s h)
+
+-- the bytes of a number that was read at an offset are those there
+pub number-there : (order : Endian) (w at : ℕ) (s : List ℕ) {x : ℕ} → ((i : ℕ) → Fits w8 (slice_index s i)) → at + w ≤ length s → x ≡ number order w (drop at s) → number_bytes order w x ≡ take w (drop at s)
+number-there order w at s h room is = ap (number_bytes order w) is ∙ number-back order w at s h room
+
+pub signed-there : (order : Endian) (w at : ℕ) (s : List ℕ) {x : ℤ} → ((i : ℕ) → Fits w8 (slice_index s i)) → at + w ≤ length s → x ≡ signed_number order w (drop at s) → signed_bytes order w x ≡ take w (drop at s)
+signed-there order w at s h room is = ap (signed_bytes order w) is ∙ signed-back order w at s h room
+
+-- bytes that are those at an offset, and those after them
+pub there-next : (at w m : ℕ) (s : List ℕ) {b rest : List ℕ} → b ≡ take w (drop at s) → rest ≡ take m (drop (at + w) s) → b ++ rest ≡ take (w + m) (drop at s)
+there-next at w m s {b} {rest} first others =
+    ap (λ l. l ++ rest) first ∙ ap (λ l. take w (drop at s) ++ l) (others ∙ ap (take m) (sym (drop-drop w at s)))
+    ∙ sym (take-add w m (drop at s))
