@@ -6,7 +6,7 @@ import re
 from typing import Dict, List
 
 from kinds import Array
-from layout import MOST, WIDTH, Generic, Tree, struct_lines, tuple_lines
+from layout import INSIDE, MOST, WIDTH, Generic, Tree, struct_lines, tuple_lines
 from parts import Format, Part, in_code, offsets
 
 # Names that the body of a read has.
@@ -112,7 +112,7 @@ def read_lines(form: Format) -> List[str]:
             type, values[part.name] = encoded_type(part), f"Table::new({names[part.name]})"
         if part.less:
             lines += below_test(form, part, names)
-        lines += broken(f"        let {names[part.name]}: {type} =", f"{call}?;")
+        lines += broken(f"        let {names[part.name]}: {type} =", call)
         if part.constant:
             lines += constant_test(form, part, names[part.name])
     made = struct_lines(form.name, [(part.name, values[part.name]) for part in form.parts], False, 12)
@@ -122,10 +122,13 @@ def read_lines(form: Format) -> List[str]:
     return [*lines, "        Ok((", *made, f"            {cursor},", "        ))"]
 
 
-def broken(head: str, tail: str) -> List[str]:
-    """Returns a line, or two where it is too long."""
-    line = f"{head} {tail}"
-    return [line] if len(line) <= WIDTH else [head, f"            {tail}"]
+def broken(head: str, call: str) -> List[str]:
+    """Returns the line that calls a read, or lines where it is too long."""
+    name, _, inside = call[:-1].partition("(")
+    if len(inside) > INSIDE:
+        return [f"{head} {name}(", *(f"            {it}," for it in inside.split(", ")), "        )?;"]
+    line = f"{head} {call}?;"
+    return [line] if len(line) <= WIDTH else [head, f"            {call}?;"]
 
 
 def is_taken(form: Format, part: Part) -> bool:
@@ -240,7 +243,9 @@ def if_lines(conditions: List[str]) -> List[str]:
     line = f"        if {' || '.join(conditions)} {{"
     if len(line) <= WIDTH or len(conditions) == 1:
         return [line]
-    return [f"        if {conditions[0]}", *(f"            || {it}" for it in conditions[1:]), "        {"]
+    lines = [f"        if {conditions[0]}", *(f"            || {it}" for it in conditions[1:])]
+    broken = [it if len(it) <= WIDTH else it.replace(" != ", "\n                != ") for it in lines]
+    return [*"\n".join(broken).split("\n"), "        {"]
 
 
 def result_of(form: Format, value: str) -> str:

@@ -165,13 +165,14 @@ def constant_record(form: Format, part: Part, before: List[str], value: str) -> 
 def below_record(form: Format, part: Part, before: List[str], names: Dict[str, str]) -> List[str]:
     assert part.count and part.less
     whole, less = part.count.whole.in_clause(names), part.less.in_clause(names)
+    found = names[part.count.terms[0][0]] if part.below else whole
     said = replace(part, other=part.below)
     return [
         f"-- the count of `{part.name}` subtracts more than there is",
         f"pub record Refuses{form.name}{camel(part.name)}Count (order : Endian) (s : List ℕ) ({given(form, said)}) : Type 0 where",
         *before,
         f"  pub below : {whole} < {less}",
-        error_said(form, said, whole, within(whole), below_count(part)),
+        error_said(form, said, found, within(whole), below_count(part)),
     ]
 
 

@@ -33,9 +33,9 @@ def number_there(type: Type, at: str, room: str, fact: str) -> str:
     """Returns why the bytes of a value of a fixed size at an offset are those there. `fact` says that it is made of them."""
     room = f"(omega (arith, {room}))"
     if isinstance(type, Struct):
-        return f"{snake(type.name)}_written_back order (drop {at} s) (fits-from {at} s fits) _ {room} {fact}"
+        return f"{snake(type.name)}_written_back order (drop {at} s) (fits-from {at} s bytes) _ {room} {fact}"
     assert isinstance(type, Number)
-    return f"{'number' if type.kind == 'unsigned' else 'signed'}-there order {type.width} {at} s fits {room} {fact}"
+    return f"{'number' if type.kind == 'unsigned' else 'signed'}-there order {type.width} {at} s bytes {room} {fact}"
 
 
 def part_there(part: Part, at: str) -> str:
@@ -76,7 +76,7 @@ def struct_whole(struct: Struct) -> List[str]:
         f"-- a `{struct.name}` that was read is written back byte for byte",
         f"{name}_written_back : (order : Endian) (s : List ℕ) → {BYTES} → (v : {struct.name}) → {size} ≤ length s"
         f" → {made(struct, 's', 'v')} → {fixed_bytes(struct, 'v')} ≡ take {size} s",
-        f"{name}_written_back order s fits v room h =",
+        f"{name}_written_back order s bytes v room h =",
         f"    {term}",
         "",
     ]
@@ -100,14 +100,14 @@ def whole_lines(form: Format) -> List[str]:
         "-- what was read is written back byte for byte",
         f"pub {snaked}_written_back : (order : Endian) (s : List ℕ) → {BYTES} → (x : {name}) (n : ℕ) → Reads{name} order s x n"
         f" → {snaked}_bytes order x ≡ take n s",
-        f"{snaked}_written_back order s fits x n h =",
+        f"{snaked}_written_back order s bytes x n h =",
         f"    let size : {size} ≡ n = omega (arith, h.whole) in",
         f"    {term} ∙ ap (λ k. take k s) size",
         "",
         "-- and so is a list that was read up to the end",
         f"pub {snaked}_list_written_back : (order : Endian) (s : List ℕ) → {BYTES} → (xs : List {name})"
         f" → ReadsAll (Reads{name} order) s 0 xs (length s) → flat_map ({snaked}_bytes order) xs ≡ s",
-        f"{snaked}_list_written_back order s fits xs h =",
-        f"    all-back (Reads{name} order) ({snaked}_bytes order) s xs (λ at x n one. {snaked}_written_back order (drop at s) (fits-from at s fits) x n one.value) h refl",
+        f"{snaked}_list_written_back order s bytes xs h =",
+        f"    all-back (Reads{name} order) ({snaked}_bytes order) s xs (λ at x n one. {snaked}_written_back order (drop at s) (fits-from at s bytes) x n one.value) h refl",
         "",
     ]

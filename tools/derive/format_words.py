@@ -287,7 +287,8 @@ def use_lines(text: str, modules: Sequence[Tuple[str, List[str]]]) -> List[str]:
     words = set(re.findall(r"[\w_-]+|[^\w\s]", text))
     lines = []
     for module, names in modules:
-        used = [name for name in names if name in words or (name[0] == "◌" and name.strip("◌") in text) or (name == "[]" and "[]" in text)]
+        signs = {name: " - " if name == "◌-◌" else name.strip("◌") for name in names if name[0] == "◌"}
+        used = [name for name in names if name in words or (name in signs and signs[name] in text) or (name == "[]" and "[]" in text)]
         if used:
             lines.append(f"use {module}.{{{', '.join(used)}}}")
     return lines

@@ -308,12 +308,12 @@ def read_part(
         if delimiter:
             return Part(field.name, field.type, "delimited", delimiter=delimiter)
         count = read_count(source, raw, field, notes, before)
-        return Part(field.name, field.type, kind, count=count, below=read_below(source, field, notes, count, error))
+        return Part(field.name, field.type, kind, count=count, below=read_below(source, field, notes, count, error, 1))
     table = re.fullmatch(rf"Table<{raw.lifetime}, (.+)>", field.type) if raw.lifetime else None
     if table and "is" not in notes:
         element = width_of(read_type(source, field, table[1], (raw.name,)))
         count = read_count(source, raw, field, notes, before, element)
-        return Part(field.name, field.type, "table", count=count, below=read_below(source, field, notes, count, error))
+        return Part(field.name, field.type, "table", count=count, below=read_below(source, field, notes, count, error, element))
     ended = ENDED.get(name_of(raw, field))
     if kind or ended:
         if notes:
@@ -440,11 +440,13 @@ def read_delimiter(source: Source, field: RawField, notes: Dict[str, str]) -> st
     return byte
 
 
-def read_below(source: Source, field: RawField, notes: Dict[str, str], count: Count, error: Optional[OwnError]) -> str:
+def read_below(
+    source: Source, field: RawField, notes: Dict[str, str], count: Count, error: Optional[OwnError], element: int
+) -> str:
     """Returns the variant of the error type that holds a number from which a context subtracts more than it is."""
     if "else" not in notes:
         return ""
-    if not count.less or count.number or len(count.terms) != 1 or count.terms[0][1] != 1:
+    if not count.less or count.number or [times for _, times in count.terms] != [element]:
         source.refuse(field.place, f"the field {field.name} has the note else, which only a context that subtracts from one field takes")
     return read_other(source, field, error, notes["else"])
 
