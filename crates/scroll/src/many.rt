@@ -70,12 +70,12 @@ pub fn read_many<'a, Ctx: Copy, E: From<Error>, T: TryFromCtx<'a, Ctx, Error = E
     Ok(values)
 }
 
-/// Reads values, one after another from the cursor `offset` up to the end of the bytes, and advances
-/// the cursor to the end.
+/// Reads values, one after another from the cursor `offset` up to the end of the bytes, and
+/// advances the cursor to the end.
 ///
 /// Returns the error of the first value that can't be read, with the offset at which that value
-/// starts. A value of no bytes, or one whose size goes past the end, is [`Error::BadInput`] with its
-/// size, and an allocation failure [`Error::NoMemory`]. On an error the cursor is unchanged.
+/// starts. A value of no bytes, or one whose size goes past the end, is [`Error::BadInput`] with
+/// its size, and an allocation failure [`Error::NoMemory`]. On an error the cursor is unchanged.
 ///
 /// ```rust
 /// let file: &[u8] = &[0xff, 1, 0, 2, 0];
