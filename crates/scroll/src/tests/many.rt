@@ -1,6 +1,6 @@
 // Many values, and bytes that are appended to a vector. The bytes are those of Python's
 // `struct.pack`.
-use crate::ctx::{Table, Value, append};
+use crate::ctx::{Delimited, Table, Value, append};
 use crate::tests::results::{check_bad_input, check_eq, check_too_big, check_value, expect_value};
 use crate::{BE, Error, LE, Result, read_many, read_to_end, write_many, write_tagged};
 
@@ -70,7 +70,8 @@ fn a_vector_grows(rt: HostRuntime) {
     let mut file: Vec<u8> = Vec::new(alloc);
     check_value(rt, append(&mut file, Value(1u8), LE), ());
     check_value(rt, append(&mut file, (Value(0x0302u16), "é"), LE), ());
-    check_eq(rt, file.as_slice(), [1, 2, 3, 0xc3, 0xa9].as_slice());
+    check_value(rt, append(&mut file, Delimited("a", 10), LE), ());
+    check_eq(rt, file.as_slice(), [1, 2, 3, 0xc3, 0xa9, b'a', 10].as_slice());
 }
 
 #[test]
