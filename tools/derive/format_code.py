@@ -5,9 +5,10 @@ from __future__ import annotations
 import re
 from typing import Dict, List
 
+from counts import in_code
 from kinds import Array
 from layout import INSIDE, MOST, WIDTH, Generic, Tree, struct_lines, tuple_lines
-from parts import Format, Part, in_code, offsets
+from parts import Format, Part, offsets
 
 # Names that the body of a read has.
 TAKEN = ("from", "ctx", "self", "dst")
