@@ -17,6 +17,7 @@ unsafe extern "C" {
     fn rt_sizes(source: *const u8, len: usize) -> u64;
     fn rt_padding(source: *const u8, len: usize) -> u64;
     fn rt_many(source: *const u8, len: usize) -> u64;
+    fn rt_to_end(source: *const u8, len: usize) -> u64;
     fn rt_append(source: *const u8, len: usize) -> u64;
     fn rt_read_fixed(source: *const u8, len: usize) -> u64;
     fn rt_elements(source: *const u8, len: usize) -> u64;
@@ -229,6 +230,7 @@ pub fn all(bench: &mut Bench) {
     bench.row("calls", "nested arrays of 12 u16 BE", len / 24, &mut job, &[source!(rt_nested_be), rust("while", |job| nested(job.input, BE))]);
     bench.row("calls", "check_room and cread in a function", len, &mut job, &[source!(rt_check_room), rust("for", |job| pairs(job.input))]);
     bench.row("calls", "read_many of u32", len / 4, &mut job, &[source!(rt_many), rust("for", |job| many(job.input))]);
+    bench.row("calls", "read_to_end of u32", len / 4, &mut job, &[source!(rt_to_end), rust("for", |job| many(job.input))]);
     bench.row("calls", "append of u32 and u16", len, &mut job, &[source!(rt_append), rust("for", |job| append(job.input))]);
     bench.row("calls", "read_fixed of four u16", len / 8, &mut job, &[source!(rt_read_fixed), rust("while", |job| fixed(job.input))]);
     bench.row("calls", "elements of a table of u32", len / 4, &mut job, &[source!(rt_elements), rust("while", |job| elements(job.input))]);

@@ -37,8 +37,10 @@ clients/examples/src/stream.rt.txt Foo
 clients/examples/src/arrays.rt.txt Point
 clients/examples/src/arrays.rt.txt Triangle
 clients/object_files/src/sections.rt.txt Section
-clients/packets/src/headers.rt.txt DnsHeader
-clients/packets/src/headers.rt.txt UdpHeader
+clients/packets/src/packet.rt.txt DnsHeader
+clients/packets/src/packet.rt.txt UdpHeader
+clients/packets/src/packet.rt.txt Packet
+clients/packets/src/log.rt.txt Record
 clients/zip/src/file.rt.txt StoredFile
 clients/zip/src/end.rt.txt EndRecord
 clients/git_index/src/entry.rt.txt Stat
@@ -201,8 +203,8 @@ struct Words<'a> {
 }
 struct Less<'a> {
     len: u8,
-    // #[scroll(ctx = len as usize - 1)]
-    text: &'a [u8],
+    // #[scroll(ctx = 1 - len as usize)]
+    text: Zeros,
 }
 struct Wide<'a> {
     len: u64,
@@ -340,6 +342,76 @@ struct First<'a> {
 }
 struct Round { a: Uleb128, next: Back }
 struct Back { a: Uleb128, next: Round }
+struct Loose<'a> {
+    // #[scroll(ctx = StrCtx::Delimiter(0))]
+    name: &'a str,
+}
+struct Until<'a> {
+    // #[scroll(ctx = StrCtx::DelimiterUntil(0, 8))]
+    name: &'a str,
+}
+struct Mute<'a> {
+    // #[scroll(ctx = StrCtx::Required(NULL))]
+    name: &'a str,
+}
+struct Bytes<'a> {
+    // #[scroll(ctx = StrCtx::Required(0x100))]
+    name: &'a str,
+}
+struct Stopped<'a> {
+    // #[scroll(ctx = StrCtx::Required(0), else = Failure::BadMark)]
+    name: &'a str,
+}
+struct Ahead<'a> {
+    len: u8,
+    // #[scroll(ctx = len as usize - name.len())]
+    body: &'a [u8],
+    // #[scroll(ctx = StrCtx::Required(0))]
+    name: &'a str,
+}
+struct Length<'a> {
+    len: u8,
+    // #[scroll(ctx = len as usize - len.len())]
+    body: &'a [u8],
+}
+struct Added<'a> {
+    // #[scroll(ctx = StrCtx::Required(0))]
+    name: &'a str,
+    // #[scroll(ctx = name.len() - 1)]
+    body: &'a [u8],
+}
+struct Twofold<'a> {
+    len: u8,
+    // #[scroll(ctx = StrCtx::Required(0))]
+    name: &'a str,
+    // #[scroll(ctx = StrCtx::Required(0))]
+    title: &'a str,
+    // #[scroll(ctx = len as usize - name.len() - title.len())]
+    body: &'a [u8],
+}
+struct Point { x: u16, y: i16 }
+struct Placed<'a> {
+    point: Point,
+    // #[scroll(ctx = point.z as usize)]
+    body: &'a [u8],
+}
+struct Below<'a> {
+    point: Point,
+    // #[scroll(ctx = point.y as usize - 2)]
+    body: &'a [u8],
+}
+// #[scroll(error = Failure::Short)]
+struct Either<'a> {
+    point: Point,
+    // #[scroll(ctx = point.x as usize + 1, else = Failure::BadMark)]
+    body: &'a [u8],
+}
+// #[scroll(error = Failure::Short)]
+struct Neither<'a> {
+    point: Point,
+    // #[scroll(ctx = point.x as usize - 1, else = Failure::Long)]
+    body: &'a [u8],
+}
 END
 cp "$room/trial/src/bad.rt" "$room/bad.rt"
 cp "$room/bad.rt" "$room/bad.txt"
@@ -373,13 +445,13 @@ trial/src/bad.rt|Bare|bad.rt:24: the field text has no context: how many bytes i
 trial/src/bad.rt|Later|bad.rt:27: the context of the field text names len, which comes after it
 trial/src/bad.rt|Other|bad.rt:32: the context of the field text names width, which is no field
 trial/src/bad.rt|Signed|bad.rt:37: the context of the field text names len, which is no unsigned number of at most 64 bits
-trial/src/bad.rt|Words|bad.rt:42: the context len as usize of the field text is no StrCtx::Length(..)
-trial/src/bad.rt|Less|bad.rt:47: the context len as usize - 1 of the field text is no sum of fields `as usize`, each times a number, and of numbers
+trial/src/bad.rt|Words|bad.rt:42: the context len as usize of the field text is no StrCtx::Length(..) or StrCtx::Required(..)
+trial/src/bad.rt|Less|bad.rt:47: the context 1 - len as usize of the field text subtracts, which that of zeros doesn't
 trial/src/bad.rt|Wide|bad.rt:52: the context len as usize + 1 of the field text adds to a number of more than 32 bits
 trial/src/bad.rt|Mark|bad.rt:56: the constant 0x100 of the field mark doesn't fit its type
 trial/src/bad.rt|Sign|bad.rt:60: the field mark has a constant, and is no unsigned number of at most 64 bits
 trial/src/bad.rt|Name|bad.rt:64: the constant MAGIC of the field mark is no literal
-trial/src/bad.rt|Note|bad.rt:68: the field mark has the note count = 1, and one `ctx = ..`, or `is = ..` with `else = ..`, is known
+trial/src/bad.rt|Note|bad.rt:68: the field mark has the note count = 1, and one `ctx = ..` or `is = ..`, each with `else = ..`, is known
 trial/src/bad.rt|Idle|bad.rt:72: the field mark has a context that its type u8 doesn't take
 trial/src/bad.rt|Pair|bad.rt:74: the struct Pair has fields without names
 trial/src/bad.rt|Owner|bad.rt:78: the context of the field text names len, which is no unsigned number of at most 64 bits
@@ -411,6 +483,19 @@ trial/src/bad.rt|Cast|bad.rt:171: the context count as usize of the field rows a
 trial/src/bad.rt|Lebs|bad.rt:176: the field rows is of a type whose size depends on its bytes, Uleb128
 trial/src/bad.rt|First|bad.rt:180: the context of the field rows names count, which comes after it
 trial/src/bad.rt|Round|bad.rt:184: the field next is of the struct Round, which holds it
+trial/src/bad.rt|Loose|bad.rt:187: the context StrCtx::Delimiter(0) of the field name allows a text without its delimiter, which StrCtx::Required(..) doesn't
+trial/src/bad.rt|Until|bad.rt:191: the context StrCtx::DelimiterUntil(0, 8) of the field name allows a text without its delimiter, which StrCtx::Required(..) doesn't
+trial/src/bad.rt|Mute|bad.rt:195: the delimiter NULL of the field name is no literal of a byte
+trial/src/bad.rt|Bytes|bad.rt:199: the delimiter 0x100 of the field name is no literal of a byte
+trial/src/bad.rt|Stopped|bad.rt:203: the field name has the note else, which only a context that subtracts takes
+trial/src/bad.rt|Ahead|bad.rt:208: the context of the field body names name, which comes after it
+trial/src/bad.rt|Length|bad.rt:215: the context of the field body names len, which is no text or slice
+trial/src/bad.rt|Added|bad.rt:221: the context name.len() - 1 of the field body is no sum of fields `as usize`, each times a number, and of numbers
+trial/src/bad.rt|Twofold|bad.rt:230: the context len as usize - name.len() - title.len() of the field body adds to a number of more than 32 bits
+trial/src/bad.rt|Placed|bad.rt:236: the context of the field body names point.z, which is no unsigned number of at most 64 bits
+trial/src/bad.rt|Below|bad.rt:241: the context of the field body names point.y, which is no unsigned number of at most 64 bits
+trial/src/bad.rt|Either|bad.rt:247: the field body has the note else, which only a context that subtracts from one field takes
+trial/src/bad.rt|Neither|bad.rt:253: the error Failure::Long of body is no variant of the error type
 END
 refuses 'bad.rt:20: the struct Twenty is of a fixed size, and has no definitions of its own' --specs "$room/bad.rt" Twenty
 refuses 'usage: derive.sh \[--check | --specs | --back\] FILE STRUCT' "$room/bad.rt"

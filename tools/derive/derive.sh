@@ -5,7 +5,7 @@
 #     sh tools/derive/derive.sh --check FILE STRUCT     compares them with FILE, and prints nothing where they are in it; that
 #                                                       for references, `Written`, may be left out
 #     sh tools/derive/derive.sh --specs FILE STRUCT     the definitions of a struct of any size
-#     sh tools/derive/derive.sh --back FILE STRUCT      the proof that what was written of it reads back
+#     sh tools/derive/derive.sh --back FILE STRUCT      the proofs of its round trips
 #
 # (It needs Python 3.8.) FILE is a .rt file (or the .rt.txt of a client), and STRUCT a struct in it. The fields follow one
 # another in the order of the struct, with nothing between them.
@@ -20,7 +20,12 @@
 #
 #     // #[scroll(ctx = len as usize)]     how many bytes a slice has, or zeros: a sum of earlier fields, each of which may be
 #                                          times a number, as in `count as usize * 18`, and of a number; for a text within
-#                                          StrCtx::Length(..); for a table how many elements
+#                                          StrCtx::Length(..); for a table how many elements. A field may be one of a struct,
+#                                          `udp.len as usize`. From the sum may be subtracted another such, also with the length
+#                                          of a text or a slice before, as in `len as usize - name.len() - 1`; below zero it is
+#                                          `BadInput`, or with `, else = PacketError::NoMessage` the error of that variant, which
+#                                          holds the field
+#     // #[scroll(ctx = StrCtx::Required(0))]   of a text: the byte that ends it
 #     // #[scroll(ctx = padding(offset, 8))]    of zeros: as many as there are up to a multiple, from the start of the struct
 #     // #[scroll(is = 0x04034b50)]        the constant that a number has to be; with `, else = ZipError::BadSignature` behind it,
 #                                          another number is the error of that variant, which holds it
@@ -41,7 +46,8 @@
 #
 # A struct of any size and an enum get TryFromCtx and TryIntoCtx; and for `append` Encode, which a struct has by InParts, and
 # Checked where values may not agree, but no struct with numbers in LEB128. They derive Copy. What --specs prints is its specs/STRUCTFormat.antt, and what
-# --back prints is its specs/STRUCTBack.antt.
+# --back prints is its specs/STRUCTBack.antt: that what was written reads back, and, where each field is a number that is no float, a
+# struct of such, a slice, a text or a table, that what was read is written back.
 #
 # The first lines printed are the `use` lines that the rest needs, followed by the blocks in the layout of `rt fmt`. They are
 # proved with no proof file.

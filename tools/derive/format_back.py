@@ -25,6 +25,7 @@ from format_words import (
     value_of,
     within,
 )
+from format_whole import whole_lines
 from kinds import Array, Number, Struct, Type, width_of
 from layout import Tree, label, nested
 from parts import Format, Part, snake, width
@@ -32,8 +33,8 @@ from parts import Format, Part, snake, width
 MODULES = [
     (
         "Rattle.std.proofs.Common",
-        ["◌≡◌", "◌≢◌", "◌+◌", "◌*◌", "◌^◌", "◌<◌", "◌≤◌", "◌≤ℤ◌", "◌<ℤ◌", "◌*ℤ◌", "◌++◌", "[]", "◌∷◌", "◌∙◌", "ℕ", "ℤ", "pos", "neg_ℤ"]
-        + ["List", "T", "IsUtf8", "length", "drop", "to_bits", "refl", "sym", "ap", "subst", "length-append", "length-drop", "arith"],
+        ["◌≡◌", "◌≢◌", "◌+◌", "◌-◌", "◌*◌", "◌^◌", "◌<◌", "◌≤◌", "◌≤ℤ◌", "◌<ℤ◌", "◌*ℤ◌", "◌++◌", "[]", "◌∷◌", "◌∙◌", "ℕ", "ℤ", "pos", "neg_ℤ"]
+        + ["List", "Fits", "w8", "slice_index", "T", "IsUtf8", "length", "take", "drop", "to_bits", "refl", "sym", "ap", "subst", "length-append", "length-drop", "arith"],
     ),
     ("Rattle.std.specs.CStr", ["c_str_bytes"]),
     ("Rattle.std.specs.Float", ["binary32", "binary64"]),
@@ -46,18 +47,23 @@ MODULES = [
     ("Rattle.scroll.specs.Encoding", ["HasEncoding", "HasSignedEncoding", "unsigned_form", "uleb_text", "sleb_text"]),
     ("Rattle.scroll.specs.Fixed", ["exactly"]),
     ("Rattle.scroll.specs.Numbers", ["float", "float_bytes", "ReadsFloat", "number", "number_bytes", "signed_number", "signed_bytes", "ReadsNumber", "ReadsSigned"]),
+    ("Rattle.scroll.specs.Reads", ["ReadsAll"]),
     ("Rattle.scroll.specs.Leb128", ["ReadsCountedUleb", "ReadsCountedSleb"]),
     ("Rattle.scroll.specs.Texts", ["ReadsSlice", "ReadsText"]),
     ("Rattle.scroll.specs.Zeros", ["padding_len", "zeros", "ReadsZeros"]),
     ("Rattle.scroll.specs.lemmas.FixedLemmas", ["length-exactly"]),
     ("Rattle.scroll.specs.lemmas.Frames", ["length-number_bytes", "length-signed_bytes", "length-encoding", "ReadsCString-bounded"]),
     ("Rattle.scroll.specs.lemmas.NumberLemmas", ["number-begins", "signed-begins", "float-begins"]),
-    ("Rattle.scroll.specs.declared.ctx.str_ctx.StrCtx.TheVariants", ["Length"]),
+    ("Rattle.scroll.specs.declared.ctx.str_ctx.StrCtx.TheVariants", ["Length", "Required"]),
     ("Rattle.scroll.specs.declared.endian.Endian", ["Endian"]),
+    (
+        "Rattle.scroll.proofs.lemmas.callers.RoundTrips",
+        ["all-back", "fits-from", "number-there", "signed-there", "there-next", "required-back"],
+    ),
     (
         "Rattle.scroll.proofs.lemmas.callers.Sequences",
         ["Rest", "rest-start", "rest-next", "rest-first", "rest-open", "rest-last", "rest-before", "rest-makes", "rest-reads", "fixed-begins", "array-begins"]
-        + ["slice-begins", "text-begins", "uleb-begins", "sleb-begins", "c_string-begins", "zeros-begin"],
+        + ["slice-begins", "text-begins", "uleb-begins", "sleb-begins", "c_string-begins", "required-begins", "zeros-begin"],
     ),
 ]
 
@@ -87,7 +93,7 @@ def fit_of(part: Part) -> str:
         return f"Has{'Signed' if part.type == 'Sleb128' else ''}Encoding {value}.value {value}.count"
     if part.kind == "c_string":
         return f"All (λ b. b ≢ 0) (c_str_bytes {value})"
-    return f"IsUtf8 {value}.now" if part.kind == "text" else ""
+    return f"IsUtf8 {value}.now" if part.kind in ("text", "delimited") else ""
 
 
 def fixed_begins(type: Type, value: str, rest: str, fit: str) -> str:
@@ -134,12 +140,14 @@ def length_of(part: Part) -> str:
         return f"(length-encoding {text} {value}.count)"
     if part.kind == "c_string":
         return f"(length-append (c_str_bytes {value}) (0 ∷ []))"
+    if part.delimiter:
+        return f"(length-append {value}.now ({part.delimiter} ∷ []))"
     if part.is_padding:
         return f"(length-replicate {{A = ℕ}} _ 0 ∙ {part.name}-count)"
     if part.kind == "zeros":
         assert part.count
-        return f"(length-replicate {{A = ℕ}} {within(part.count.in_clause({name: f'x.{name}' for name in part.count.fields}))} 0)"
-    return f"(sym agrees.{member(part)})"
+        return f"(length-replicate {{A = ℕ}} {within(part.count.in_clause({name: f'x.{name}' for name, _ in part.count.terms}))} 0)"
+    return f"(omega (arith, agrees.{member(part)}))" if part.less else f"(sym agrees.{member(part)})"
 
 
 def reads_back(form: Format, part: Part, names: Dict[str, str], size: str) -> str:
@@ -156,6 +164,8 @@ def reads_back(form: Format, part: Part, names: Dict[str, str], size: str) -> st
         return f"({part.type[0].lower()}leb-begins {value} {fit})"
     if part.kind == "c_string":
         return f"(λ r. c_string-begins (c_str_bytes {value}) r {fit})"
+    if part.delimiter:
+        return f"(λ r. required-begins {part.delimiter} {value}.now r agrees.{member(part)} {fit})"
     if part.kind == "zeros":
         assert part.count
         if part.count.multiple:
@@ -176,6 +186,8 @@ def ended_size(part: Part, at: str) -> str:
         return f"length ({part.inner.snake}_bytes order x.{part.label})"
     if part.is_padding:
         return counted(part, {}, at)[1:-1]
+    if part.delimiter:
+        return f"length x.{part.label}.now + 1"
     return f"x.{part.label}.count" if part.kind == "leb" else f"length (c_str_bytes x.{part.label}) + 1"
 
 
@@ -264,6 +276,8 @@ def steps(form: Format) -> Tuple[List[str], List[str]]:
             if part.constant:
                 values.append(f"{part.name}-is = sym {part.name}-made ∙ agrees.{member(part)};")
         else:
+            if part.less:
+                values.append(f"{part.name}-count = omega (arith, agrees.{member(part)});")
             read = f"rest-reads {reads_of(part, names, at)} {value_in(part)} {size}"
             values.append(f"{member(part)} = {read} {lists[index]} {after} rest {reads_back(form, part, names, size)} {here};")
             if part.constant:
@@ -318,6 +332,7 @@ def bounded(form: Format) -> List[str]:
         ends = {
             "leb": [f"{here}.value.0.complete.0", f"{here}.value.0.size"],
             "c_string": [f"{here}.value.found", f"{here}.value.size"],
+            "delimited": [f"{here}.value.there", f"{here}.value.size"],
             "inner": [f"{part.inner.snake}-bounded order (drop {argument(at)} s) x.{part.label} h.{part.name}-size {here}.value"] if part.inner else [],
         }.get(part.kind, [f"{here}.value.room"])
         facts += [f"{here}.inside", *ends, f"length-drop {argument(at)} s"]
@@ -360,7 +375,8 @@ def format_back(form: Format) -> str:
         "",
     ]
     inner = [line for struct in structs_in(form) for line in struct_lemmas(struct)]
-    text = "\n".join([*bounded(form), *(fit_record if fits else []), *inner, "-- what was written reads back, whatever follows it", *body])
+    says = "-- what was written reads back, whatever follows it"
+    text = "\n".join([*bounded(form), *whole_lines(form), *(fit_record if fits else []), *inner, says, *body])
     own = [f"Reads{name}", *([f"Agrees{name}"] if has_own else []), f"{snake}_bytes"]
     own += [before(form, form.parts[index]) for index in form.paddings]
     return "\n".join([

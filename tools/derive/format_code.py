@@ -5,8 +5,9 @@ from __future__ import annotations
 import re
 from typing import Dict, List
 
+from counts import in_code
 from kinds import Array
-from layout import MOST, WIDTH, Generic, Tree, struct_lines, tuple_lines
+from layout import INSIDE, MOST, WIDTH, Generic, Tree, struct_lines, tuple_lines
 from parts import Format, Part, offsets
 
 # Names that the body of a read has.
@@ -46,6 +47,25 @@ def other_count(part: Part) -> str:
     return f"{part.name} has another length than {part.count.text}"
 
 
+def other_text(part: Part) -> str:
+    return f"{part.name} contains its delimiter"
+
+
+def below_count(part: Part) -> str:
+    assert part.count and part.count.less
+    return f"{part.count.whole.text} is less than {part.count.less.text}"
+
+
+def below_test(form: Format, part: Part, names: Dict[str, str]) -> List[str]:
+    """Returns the test that a count doesn't subtract more than there is."""
+    assert part.count and part.count.less
+    whole, own = part.count.whole, form.error.said(part.below) if form.error and part.below else ""
+    refused = refusal(form, whole.in_code(names), below_count(part), 12)
+    if own:
+        refused = [f"            return Err({own}({in_code(whole.terms[0][0], names)}));"]
+    return [f"        if {part.count.less.in_code(names)} > {whole.in_code(names)} {{", *refused, "        }"]
+
+
 def as_usize(part: Part, value: str) -> str:
     return value if part.type == "usize" else f"{value} as usize"
 
@@ -60,6 +80,8 @@ def context_of(form: Format, part: Part) -> str:
     names = locals_of(form)
     if part.is_padding:
         return f"{part.name}_len"
+    if part.delimiter:
+        return f"StrCtx::Required({part.delimiter})"
     if part.count:
         count = part.count.in_code(names)
         return f"StrCtx::Length({count})" if part.kind == "text" else count
@@ -89,7 +111,9 @@ def read_lines(form: Format) -> List[str]:
         type = part.type
         if part.kind == "table":
             type, values[part.name] = encoded_type(part), f"Table::new({names[part.name]})"
-        lines.append(f"        let {names[part.name]}: {type} = {call}?;")
+        if part.less:
+            lines += below_test(form, part, names)
+        lines += broken(f"        let {names[part.name]}: {type} =", call)
         if part.constant:
             lines += constant_test(form, part, names[part.name])
     made = struct_lines(form.name, [(part.name, values[part.name]) for part in form.parts], False, 12)
@@ -97,6 +121,15 @@ def read_lines(form: Format) -> List[str]:
         return [*lines, f"        Ok(({made[0].strip()}, {cursor}))"]
     made[-1] += ","
     return [*lines, "        Ok((", *made, f"            {cursor},", "        ))"]
+
+
+def broken(head: str, call: str) -> List[str]:
+    """Returns the line that calls a read, or lines where it is too long."""
+    name, _, inside = call[:-1].partition("(")
+    if len(inside) > INSIDE:
+        return [f"{head} {name}(", *(f"            {it}," for it in inside.split(", ")), "        )?;"]
+    line = f"{head} {call}?;"
+    return [line] if len(line) <= WIDTH else [head, f"            {call}?;"]
 
 
 def is_taken(form: Format, part: Part) -> bool:
@@ -112,6 +145,8 @@ def encoded(part: Part, names: Dict[str, str]) -> str:
         return f"Gap({part.count.in_code(names)})"
     if part.kind == "table":
         return f"{names[part.name]}.bytes"
+    if part.delimiter:
+        return f"Delimited({names[part.name]}, {part.delimiter})"
     return f"Value({names[part.name]})" if part.fixed else names[part.name]
 
 
@@ -121,6 +156,8 @@ def encoded_type(part: Part) -> str:
         return part.type
     if part.kind == "zeros":
         return "Gap"
+    if part.delimiter:
+        return part.type.replace("&", "Delimited<").replace(" str", ">")
     if part.kind == "table":
         return part.type.replace("Table<", "&").split(",")[0] + " [u8]"
     return f"Value<{part.type}>" if part.fixed else part.type
@@ -183,17 +220,33 @@ def check_lines(form: Format) -> List[str]:
     for part in form.parts:
         if part.constant:
             lines += constant_test(form, part, names[part.name])
+        if part.delimiter:
+            value = names[part.name]
+            test = f"        if {value}.as_bytes().contains(&{part.delimiter}) {{"
+            lines += [test, *refusal(form, f"{value}.len()", other_text(part), 12), "        }"]
         if part.is_counted:
             assert part.count
             length = f"{names[part.name]}{'.bytes' if part.kind == 'table' else ''}.len()"
+            other = f"{part.count.in_code(names)} != {length}"
+            less = f"{part.less.in_code(names)} > {part.count.whole.in_code(names)}" if part.less else ""
             lines += [
-                f"        if {part.count.in_code(names)} != {length} {{",
+                *if_lines([less, other] if less else [other]),
                 *refusal(form, length, other_count(part), 12),
                 "        }",
             ]
         if part.inner and part.inner.agrees:
             lines.append(f"        {names[part.name]}.check()?;")
     return [*lines, "        Ok(())"]
+
+
+def if_lines(conditions: List[str]) -> List[str]:
+    """Returns the head of a test whether one of these is so."""
+    line = f"        if {' || '.join(conditions)} {{"
+    if len(line) <= WIDTH or len(conditions) == 1:
+        return [line]
+    lines = [f"        if {conditions[0]}", *(f"            || {it}" for it in conditions[1:])]
+    broken = [it if len(it) <= WIDTH else it.replace(" != ", "\n                != ") for it in lines]
+    return [*"\n".join(broken).split("\n"), "        {"]
 
 
 def result_of(form: Format, value: str) -> str:
@@ -322,7 +375,7 @@ def format_uses(form: Format) -> List[str]:
     block = format_blocks(form)
     ghosts = [f"{it}{name}" for it in ("Reads", "Refuses", "Agrees", "Differs", "Writes", "Keeps") if f"{it}{name} " in block]
     words = set(re.findall(r"\w+", block))
-    known = ("Checked", "Encode", "Gap", "InParts", "Padded", "StrCtx", "Table", "TryFromCtx", "TryIntoCtx", "Value", "Zeros", "padding", "read_fixed")
+    known = ("Checked", "Delimited", "Encode", "Gap", "InParts", "Padded", "StrCtx", "Table", "TryFromCtx", "TryIntoCtx", "Value", "Zeros", "padding", "read_fixed")
     contexts = [it for it in known if it in words or it == "Encode" or (it == "Checked" and ".check()" in block)]
     calls = {"Cread": "cread_with", "Pread": "gread_with"}
     ours = ("Cread", "Endian", "Error", "Pread", "Result", "Sleb128", "Uleb128", "check_room")

@@ -2,10 +2,11 @@
 
 from __future__ import annotations
 
+from dataclasses import replace
 from typing import Dict, List, Tuple
 
 from fixed import made
-from format_code import error_name, other_constant, other_count
+from format_code import below_count, error_name, other_constant, other_count, other_text
 from format_words import (
     MODULES,
     before,
@@ -16,6 +17,8 @@ from format_words import (
     drop,
     fields_in,
     member,
+    names_of,
+    number_of,
     offsets_in,
     reads_of,
     refuses_of,
@@ -24,8 +27,9 @@ from format_words import (
     use_lines,
     value_in,
     value_of,
+    within,
 )
-from kinds import Number
+from kinds import Number, Struct, width_of
 from parts import Format, Part, offsets
 
 
@@ -42,9 +46,16 @@ IsSmallBadInput e n text = ⊥
 
 
 def head_values(form: Format) -> Dict[str, str]:
-    """Returns the numbers of the head in a source."""
-    found = zip(form.head, offsets(form.head))
-    return {part.name: f"{value_of(part)} {drop(at, 's')}" for part, at in found if isinstance(part.fixed, Number)}
+    """Returns the numbers of the head in a source, and those of its structs."""
+    values: Dict[str, str] = {}
+    for part, at in zip(form.head, offsets(form.head)):
+        if isinstance(part.fixed, Number):
+            values[part.name] = f"{value_of(part)} {drop(at, 's')}"
+        for field in part.fixed.fields if isinstance(part.fixed, Struct) else ():
+            if isinstance(field.type, Number):
+                values[f"{part.name}.{field.name}"] = f"{number_of(field.type)} {drop(at, 's')}"
+            at += width_of(field.type)
+    return values
 
 
 def room_lines(form: Format) -> List[str]:
@@ -69,10 +80,18 @@ def reads_record(form: Format) -> List[str]:
         size = at_argument(size_in(part, names))
         if part.is_ended:
             lines.append(f"  pub {part.name}-size : ℕ")
+        if part.less:
+            lines.append(count_line(part, names))
         lines.append(f"  pub {member(part)} : ReadsAt {reads_of(part, names, at)} s {at_argument(at)} {value_in(part)} {size}")
         if part.constant:
             lines.append(f"  pub {part.name}-is : x.{part.label} ≡ {part.constant}")
     return [*lines, f"  pub whole : n ≡ {offsets_in(form)[-1]}"]
+
+
+def count_line(part: Part, names: Dict[str, str]) -> str:
+    """Returns the part of a record that says that a count subtracts no more than there is."""
+    assert part.count and part.less
+    return f"  pub {part.name}-count : {part.less.in_clause(names)} ≤ {part.count.whole.in_clause(names)}"
 
 
 def at_argument(term: str) -> str:
@@ -93,6 +112,9 @@ def refusal_records(form: Format) -> List[List[str]]:
     for part, follows in zip(form.tail, [*form.tail[1:], None]):
         ends = part.inner is not None or (follows is not None and follows.inner is not None and part.kind != "zeros")
         name = f"Refuses{form.name}{camel(part.name)}"
+        if part.less:
+            records.append(below_record(form, part, before, names))
+            before = [*before, count_line(part, names)]
         records.append([
             f"-- `{part.name}` is refused",
             f"pub record {name} (order : Endian) (s : List ℕ) (e : {error_name(form) if part.is_own_error else 'Error'}) : Type 0 where",
@@ -100,7 +122,7 @@ def refusal_records(form: Format) -> List[List[str]]:
             f"  pub refused : RefusesAt {refuses_of(part, names, at)} {past_end(form, part)} s {at_argument(at)} e",
         ])
         before = [*before, *read_before(part, names, at, ends)]
-        names[part.name] = member(part)
+        names.update(names_of(part, member(part)))
         at = f"{part.name}-end" if ends else f"{part.name}-size" if at == "0" else f"{at} + {part.name}-size"
         if part.constant:
             records.append(constant_record(form, part, before, member(part)))
@@ -137,6 +159,20 @@ def constant_record(form: Format, part: Part, before: List[str], value: str) -> 
         *before,
         f"  pub other : {value} ≢ {part.constant}",
         error_said(form, part, value, argument, other_constant(part)),
+    ]
+
+
+def below_record(form: Format, part: Part, before: List[str], names: Dict[str, str]) -> List[str]:
+    assert part.count and part.less
+    whole, less = part.count.whole.in_clause(names), part.less.in_clause(names)
+    found = names[part.count.terms[0][0]] if part.below else whole
+    said = replace(part, other=part.below)
+    return [
+        f"-- the count of `{part.name}` subtracts more than there is",
+        f"pub record Refuses{form.name}{camel(part.name)}Count (order : Endian) (s : List ℕ) ({given(form, said)}) : Type 0 where",
+        *before,
+        f"  pub below : {whole} < {less}",
+        error_said(form, said, found, within(whole), below_count(part)),
     ]
 
 
@@ -191,6 +227,7 @@ def refuses(form: Format) -> List[str]:
     records = refusal_records(form)
     small = SMALL if is_small(form) else ""
     variants = {f"Other{form.name}{camel(part.name)}": part.other or small for part in form.parts if part.constant}
+    variants.update({f"Refuses{form.name}{camel(part.name)}Count": part.below or small for part in form.parts if part.less})
     variants.update({f"Refuses{form.name}{camel(part.name)}": EACH for part in form.parts if part.is_own_error})
     cases = [("", f"RefusesShort {form.room} s")] if form.head else []
     cases += [(variants.get(name_of(it), ""), f"{name_of(it)} order s") for it in records]
@@ -242,10 +279,13 @@ def agreement(form: Format, part: Part) -> str:
     if part.constant:
         return f"{names[part.name]} {{}} {part.constant}"
     assert part.count
-    return f"{part.count.in_clause(names)} {{}} length {value_in(part)}"
+    less = f"{part.less.in_clause(names)} + " if part.less else ""
+    return f"{part.count.whole.in_clause(names)} {{}} {less}length {value_in(part)}"
 
 
 def agrees(form: Format, part: Part) -> str:
+    if part.delimiter:
+        return f"All (λ b. b ≢ {part.delimiter}) {value_in(part)}"
     return f"Agrees{part.inner.name} x.{part.label}" if part.inner else agreement(form, part).format("≡")
 
 
@@ -253,9 +293,10 @@ def differs(form: Format) -> List[str]:
     """Returns which values agree, and which errors the others give."""
     name, small = form.name, SMALL if is_small(form) else ""
     own = [part for part in form.parts if part.has_own]
+    texts = "no text contains its delimiter, " if any(part.delimiter for part in own) else ""
     lines = [
         "",
-        "-- its constants stand in it, and each count is the number of bytes that it counts",
+        f"-- its constants stand in it, {texts}and each count is the number of bytes that it counts",
         f"pub record Agrees{name} (x : {name}) : Type 0 where",
         *(f"  pub {member(part)} : {agrees(form, part)}" for part in own),
     ]
@@ -279,11 +320,12 @@ def differs(form: Format) -> List[str]:
 def differs_record(form: Format, part: Part) -> List[str]:
     """Returns a record for a constant or a count that doesn't agree."""
     value = f"x.{part.label}" if part.constant else f"(length {value_in(part)})"
-    message = other_constant(part) if part.constant else other_count(part)
+    message = other_text(part) if part.delimiter else other_constant(part) if part.constant else other_count(part)
+    other = f"¬ ({agrees(form, part)})" if part.delimiter else agreement(form, part).format("≢")
     return [
         f"-- `{part.name}` doesn't agree",
         f"pub record Differs{form.name}{camel(part.name)} (x : {form.name}) ({given(form, part)}) : Type 0 where",
-        f"  pub other : {agreement(form, part).format('≢')}",
+        f"  pub other : {other}",
         error_said(form, part, value, value, message),
     ]
 

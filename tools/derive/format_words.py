@@ -24,7 +24,7 @@ MODULES = [
     ),
     ("Rattle.std.specs.CStr", ["c_str_bytes"]),
     ("Rattle.std.specs.Float", ["Float", "binary32", "binary64"]),
-    ("Rattle.std.specs.List", ["flat_map"]),
+    ("Rattle.std.specs.List", ["All", "flat_map"]),
     ("Rattle.scroll.specs.Arrays", ["MakesArray"]),
     ("Rattle.scroll.specs.Bytes", ["ReadsFixed", "RefusesShort", "WritesPrefix", "FailsShort"]),
     ("Rattle.scroll.specs.CStrings", ["ReadsCString", "RefusesCString"]),
@@ -41,7 +41,7 @@ MODULES = [
         "Rattle.scroll.specs.Numbers",
         ["number", "number_bytes", "signed_number", "signed_bytes", "ReadsNumber", "ReadsSigned"],
     ),
-    ("Rattle.scroll.specs.declared.ctx.str_ctx.StrCtx.TheVariants", ["Length"]),
+    ("Rattle.scroll.specs.declared.ctx.str_ctx.StrCtx.TheVariants", ["Length", "Required"]),
     ("Rattle.scroll.specs.declared.endian.Endian", ["Endian"]),
     ("Rattle.scroll.specs.declared.error.Error", ["Error"]),
     ("Rattle.scroll.specs.declared.error.Error.TheVariants", ["BadOffset"]),
@@ -118,6 +118,8 @@ def bytes_of(form: Format, part: Part, names: Dict[str, str]) -> str:
         return f"c_str_bytes {value} ++ 0 ∷ []"
     if part.kind == "zeros":
         return f"zeros {counted(part, names, '')}"
+    if part.delimiter:
+        return f"{value}.now ++ {part.delimiter} ∷ []"
     return f"{value}{'.bytes' if part.kind == 'table' else ''}.now"
 
 
@@ -150,6 +152,8 @@ def reads_of(part: Part, names: Dict[str, str], at: str) -> str:
         return "ReadsCString"
     if part.kind == "zeros":
         return f"(λ s _. ReadsZeros {counted(part, names, at)} s)"
+    if part.delimiter:
+        return f"(ReadsText (Required {part.delimiter}))"
     return f"(ReadsSlice {counted(part, names, at)})" if part.kind != "text" else f"(ReadsText (Length {counted(part, names, at)}))"
 
 
@@ -164,6 +168,8 @@ def refuses_of(part: Part, names: Dict[str, str], at: str) -> str:
         return "RefusesCString"
     if part.kind == "zeros":
         return f"(RefusesZeros {counted(part, names, at)})"
+    if part.delimiter:
+        return f"(RefusesText (Required {part.delimiter}))"
     return f"(RefusesShort {counted(part, names, at)})" if part.kind != "text" else f"(RefusesText (Length {counted(part, names, at)}))"
 
 
@@ -239,7 +245,7 @@ def value_in(part: Part) -> str:
     if part.kind == "c_string":
         return f"(c_str_bytes {value})"
     value = f"{value}.bytes" if part.kind == "table" else value
-    return f"{value}.now" if part.is_counted else value
+    return f"{value}.now" if part.is_counted or part.delimiter else value
 
 
 def size_in(part: Part, names: Dict[str, str]) -> str:
@@ -252,7 +258,18 @@ def size_in(part: Part, names: Dict[str, str]) -> str:
 
 
 def fields_in(form: Format) -> Dict[str, str]:
-    return {part.name: f"x.{part.label}" for part in form.parts}
+    """Returns the fields of the struct `x`, as those of a count."""
+    names: Dict[str, str] = {}
+    for part in form.parts:
+        names.update({**names_of(part, f"x.{part.label}"), f"{part.name}.len()": f"length {value_in(part)}"})
+    return names
+
+
+def names_of(part: Part, value: str) -> Dict[str, str]:
+    """Returns the value of a field, its fields where it is a struct, and its length."""
+    fields = part.fixed.fields if isinstance(part.fixed, Struct) else ()
+    inner = {f"{part.name}.{field.name}": f"{value}.{label(field.name)}" for field in fields}
+    return {part.name: value, **inner, f"{part.name}.len()": f"length {value}"}
 
 
 def offsets_in(form: Format) -> List[str]:
@@ -270,7 +287,8 @@ def use_lines(text: str, modules: Sequence[Tuple[str, List[str]]]) -> List[str]:
     words = set(re.findall(r"[\w_-]+|[^\w\s]", text))
     lines = []
     for module, names in modules:
-        used = [name for name in names if name in words or (name[0] == "◌" and name.strip("◌") in text) or (name == "[]" and "[]" in text)]
+        signs = {name: " - " if name == "◌-◌" else name.strip("◌") for name in names if name[0] == "◌"}
+        used = [name for name in names if name in words or (name in signs and signs[name] in text) or (name == "[]" and "[]" in text)]
         if used:
             lines.append(f"use {module}.{{{', '.join(used)}}}")
     return lines

@@ -7,42 +7,12 @@ from dataclasses import dataclass
 from pathlib import Path
 from typing import Dict, List, Optional, Sequence, Tuple
 
-from kinds import Array, Number, Type, kind_of, read_type, width_of
+from counts import Count, is_counter, read_count
+from kinds import Array, Type, kind_of, read_type, width_of
 from layout import label
 from source import OwnError, RawField, RawStruct, Source, module_of, read_error, split_top
 
-TERM = re.compile(r"(?:(?P<field>[A-Za-z_]\w*)\s+as\s+usize(?:\s*\*\s*(?P<times>\d+))?|(?P<number>\d+))")
-PADDING = re.compile(r"padding\(offset,\s*(\d+)\)")
 CONSTANT = re.compile(r"(?:0x[0-9a-fA-F_]+|\d[\d_]*)")
-
-
-@dataclass(frozen=True)
-class Count:
-    """A number of bytes: the sum of earlier fields, each times a number, and of a number; or what is left up to a multiple."""
-
-    terms: Tuple[Tuple[str, int], ...]
-    number: int
-    multiple: int = 0
-
-    @property
-    def fields(self) -> Tuple[str, ...]:
-        return tuple(field for field, _ in self.terms)
-
-    @property
-    def text(self) -> str:
-        """Returns it as a message says it."""
-        return self.in_clause({field: field for field in self.fields})
-
-    def in_code(self, names: Dict[str, str]) -> str:
-        """Returns it in code, where a field has the name that `names` says."""
-        return self.said({field: f"{names[field]} as usize" for field in self.fields})
-
-    def in_clause(self, names: Dict[str, str]) -> str:
-        return self.said(names)
-
-    def said(self, values: Dict[str, str]) -> str:
-        terms = [values[field] if times == 1 else f"{values[field]} * {times}" for field, times in self.terms]
-        return " + ".join([*terms, *([str(self.number)] if self.number or not terms else [])])
 
 
 def snake(name: str) -> str:
@@ -70,8 +40,9 @@ class Inner:
 
 @dataclass(frozen=True)
 class Part:
-    """A field. `kind` is fixed, slice, text, table, zeros, leb, c_string or inner. One of a fixed size has its type in `fixed`, and a
-    number may have to be a constant; another number is an error of the variant `other`, if it is named."""
+    """A field. `kind` is fixed, slice, text, delimited, table, zeros, leb, c_string or inner. One of a fixed size has its type in
+    `fixed`, and a number may have to be a constant; another number is an error of the variant `other`, if it is named. So is with
+    `below` a count that subtracts more than there is. A text may end before its `delimiter`."""
 
     name: str
     type: str
@@ -81,6 +52,8 @@ class Part:
     constant: str = ""
     other: str = ""
     inner: Optional[Inner] = None
+    below: str = ""
+    delimiter: str = ""
 
     @property
     def label(self) -> str:
@@ -89,7 +62,7 @@ class Part:
     @property
     def is_ended(self) -> bool:
         """Returns whether the field says where it ends, so that no earlier field does."""
-        return self.kind in ("leb", "c_string", "inner") or self.is_padding
+        return self.kind in ("leb", "c_string", "delimited", "inner") or self.is_padding
 
     @property
     def is_padding(self) -> bool:
@@ -102,14 +75,19 @@ class Part:
         return self.kind in ("slice", "text", "table")
 
     @property
+    def less(self) -> Optional[Count]:
+        """Returns what is subtracted from the count."""
+        return self.count.less if self.count else None
+
+    @property
     def has_own(self) -> bool:
         """Returns whether a value of the field may not agree with what the format says of it."""
-        return self.constant != "" or self.is_counted or (self.inner is not None and self.inner.agrees)
+        return self.constant != "" or self.delimiter != "" or self.is_counted or (self.inner is not None and self.inner.agrees)
 
     @property
     def has_fit(self) -> bool:
         """Returns whether the field's type has values that a field can't hold."""
-        return self.kind in ("fixed", "leb", "c_string", "text") or (self.inner is not None and self.inner.fits)
+        return self.kind in ("fixed", "leb", "c_string", "text", "delimited") or (self.inner is not None and self.inner.fits)
 
     @property
     def is_own_error(self) -> bool:
@@ -276,11 +254,16 @@ def read_part(
     borrow = f"&{raw.lifetime} "
     kind = {f"{borrow}[u8]": "slice", f"{borrow}str": "text", "Zeros": "zeros"}.get(field.type, "")
     if "is" not in notes and kind:
-        return Part(field.name, field.type, kind, count=read_count(source, raw, field, notes, before))
+        delimiter = read_delimiter(source, field, notes) if kind == "text" else ""
+        if delimiter:
+            return Part(field.name, field.type, "delimited", delimiter=delimiter)
+        count = read_count(source, raw, field, notes, before)
+        return Part(field.name, field.type, kind, count=count, below=read_below(source, field, notes, count, error, 1))
     table = re.fullmatch(rf"Table<{raw.lifetime}, (.+)>", field.type) if raw.lifetime else None
     if table and "is" not in notes:
         element = width_of(read_type(source, field, table[1], (raw.name,)))
-        return Part(field.name, field.type, "table", count=read_count(source, raw, field, notes, before, element))
+        count = read_count(source, raw, field, notes, before, element)
+        return Part(field.name, field.type, "table", count=count, below=read_below(source, field, notes, count, error, element))
     ended = ENDED.get(name_of(raw, field))
     if kind or ended:
         if notes:
@@ -302,9 +285,9 @@ def read_notes(source: Source, field: RawField) -> Dict[str, str]:
     notes: Dict[str, str] = {}
     for note in field.notes:
         for key, value in pairs_of(note):
-            is_known = not notes if key in ("ctx", "is") else key == "else" and "is" in notes and "else" not in notes
+            is_known = not notes if key in ("ctx", "is") else key == "else" and len(notes) == 1
             if not is_known or not value:
-                message = "and one `ctx = ..`, or `is = ..` with `else = ..`, is known"
+                message = "and one `ctx = ..` or `is = ..`, each with `else = ..`, is known"
                 source.refuse(field.place, f"the field {field.name} has the note {note}, {message}")
             notes[key] = value
     return notes
@@ -329,49 +312,28 @@ def read_fixed(
     return Part(field.name, field.type, "fixed", fixed=fixed, constant=constant, other=other)
 
 
-def is_counter(fixed: Optional[Type]) -> bool:
-    """Returns whether a field can count, or be a constant."""
-    return isinstance(fixed, Number) and fixed.kind == "unsigned" and fixed.width <= 8
-
-
-def read_count(
-    source: Source, raw: RawStruct, field: RawField, notes: Dict[str, str], before: Sequence[Part], element: int = 1
-) -> Count:
-    """Returns how many bytes a slice, a text, zeros or a table have, whose context counts elements of so many bytes."""
+def read_delimiter(source: Source, field: RawField, notes: Dict[str, str]) -> str:
+    """Returns the byte that ends a text, or nothing where a count does."""
     text = notes.get("ctx", "")
-    if not text:
-        what = "elements" if field.type.startswith("Table<") else "bytes"
-        source.refuse(field.place, f"the field {field.name} has no context: how many {what} it has")
-    if field.type.endswith("str"):
-        inner = re.fullmatch(r"StrCtx::Length\((.*)\)", text)
-        if not inner:
-            source.refuse(field.place, f"the context {text} of the field {field.name} is no StrCtx::Length(..)")
-        text = inner[1].strip()
-    padding = PADDING.fullmatch(text)
-    if padding and field.type == "Zeros":
-        return Count((), 0, int(padding[1]))
-    terms: List[Tuple[str, int]] = []
-    number = 0
-    for term in text.split("+"):
-        found = TERM.fullmatch(term.strip())
-        if not found:
-            source.refuse(field.place, f"the context {text} of the field {field.name} is no sum of fields `as usize`, each times a number, and of numbers")
-        if found["field"]:
-            terms.append((check_counter(source, raw, field, found["field"], before), int(found["times"] or 1) * element))
-        else:
-            number += int(found["number"]) * element
-    wide = [part for part in before if part.name in dict(terms) and width(part) > 4]
-    most = number + sum(256**4 * times for _, times in terms)
-    if (wide and (len(terms) > 1 or number or terms[0][1] > 1)) or most >= 2**64:
-        source.refuse(field.place, f"the context {text} of the field {field.name} adds to a number of more than 32 bits")
-    return Count(tuple(terms), number)
+    if re.match(r"StrCtx::Delimiter", text):
+        source.refuse(field.place, f"the context {text} of the field {field.name} allows a text without its delimiter, which StrCtx::Required(..) doesn't")
+    found = re.fullmatch(r"StrCtx::Required\((.*)\)", text)
+    if not found:
+        return ""
+    byte = found[1].strip()
+    if not CONSTANT.fullmatch(byte) or int(byte.replace("_", ""), 0) > 255:
+        source.refuse(field.place, f"the delimiter {byte} of the field {field.name} is no literal of a byte")
+    if "else" in notes:
+        source.refuse(field.place, f"the field {field.name} has the note else, which only a context that subtracts takes")
+    return byte
 
 
-def check_counter(source: Source, raw: RawStruct, field: RawField, name: str, before: Sequence[Part]) -> str:
-    part = next((it for it in before if it.name == name), None)
-    if not part:
-        where = "comes after it" if any(it.name == name for it in raw.fields) else "is no field"
-        source.refuse(field.place, f"the context of the field {field.name} names {name}, which {where}")
-    if not is_counter(part.fixed):
-        source.refuse(field.place, f"the context of the field {field.name} names {name}, which is no unsigned number of at most 64 bits")
-    return name
+def read_below(
+    source: Source, field: RawField, notes: Dict[str, str], count: Count, error: Optional[OwnError], element: int
+) -> str:
+    """Returns the variant of the error type that holds a number from which a context subtracts more than it is."""
+    if "else" not in notes:
+        return ""
+    if not count.less or count.number or [times for _, times in count.terms] != [element]:
+        source.refuse(field.place, f"the field {field.name} has the note else, which only a context that subtracts from one field takes")
+    return read_other(source, field, error, notes["else"])

@@ -1,10 +1,10 @@
 -- Many values, read one after another into memory, and written one after another; and the elements
 -- of a table, each of the same size.
-use Rattle.std.specs.Prelude.{◌≡◌, ◌<◌, ◌≤◌, ◌++◌, ◌/◌, ◌∷◌, ℕ, List, length, take, drop, ◌⊎◌, Option, MatchOption, All}
+use Rattle.std.specs.Prelude.{◌≡◌, ◌≢◌, ◌<◌, ◌≤◌, ◌+◌, ◌++◌, ◌/◌, ◌∷◌, ℕ, List, length, take, drop, ◌⊎◌, Option, MatchOption, All, codes}
 use Rattle.scroll.specs.Arrays.{WritesAll}
-use Rattle.scroll.specs.Reads.{ReadsAll, ReadsBetween, RefusesAt}
+use Rattle.scroll.specs.Reads.{ReadsAt, ReadsAll, ReadsBetween, RefusesAt}
 use Rattle.scroll.specs.Writes.{RefusesWriteAt}
-use Rattle.scroll.specs.Errors.{PastEnd}
+use Rattle.scroll.specs.Errors.{IsBadInput, PastEnd}
 use Rattle.scroll.specs.declared.error.Error.{Error}
 use Rattle.scroll.specs.declared.error.Error.TheVariants.{NoMemory}
 
@@ -18,6 +18,30 @@ pub record RefusesMany {V E : Type 0} (reads : List ℕ → V → ℕ → Type 0
   pub fewer : length values < count
   pub each : ReadsAll reads buffer from values stop
   pub error : RefusesAt refuses (PastEnd gives) buffer stop e ⊎ gives NoMemory e
+
+-- the value at an offset has no bytes, or its size goes past the end, for which `BadInput` is made
+-- the error `e`
+pub record RefusesSize {V E : Type 0} (reads : List ℕ → V → ℕ → Type 0)
+    (gives : Error → E → Type 0) (buffer : List ℕ) (stop : ℕ) (e : E) : Type 0 where
+  pub value : V
+  pub size : ℕ
+  pub read : ReadsAt reads buffer stop value size
+  pub wrong : (size ≡ 0) ⊎ (length buffer < stop + size)
+  pub error : Error
+  pub is : IsBadInput error size (codes "a value of no bytes, or past the end")
+  pub made : gives error e
+
+-- a read of values up to the end stops at the error `e`: some are read one after another from the
+-- offset `from`, none of them ends at the end, and the next, at the offset `stop`, fails with `e`,
+-- has such a size, or there is no memory for it
+pub record RefusesToEnd {V E : Type 0} (reads : List ℕ → V → ℕ → Type 0)
+    (refuses : List ℕ → E → Type 0) (gives : Error → E → Type 0) (buffer : List ℕ)
+    (from stop : ℕ) (e : E) : Type 0 where
+  pub values : List V
+  pub each : ReadsAll reads buffer from values stop
+  pub more : stop ≢ length buffer
+  pub error : RefusesAt refuses (PastEnd gives) buffer stop e ⊎ gives NoMemory e
+      ⊎ RefusesSize reads gives buffer stop e
 
 -- values of which none is the last of a list are read one after another between two offsets, and
 -- appended to `old`

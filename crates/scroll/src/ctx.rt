@@ -49,7 +49,8 @@ mod zeros;
 
 pub use arrays::array_fits;
 pub use encode::{
-    Checked, Each, Encode, Gap, InParts, Padded, Value, append, append_checked, put_at, read_fixed,
+    Checked, Delimited, Each, Encode, Gap, InParts, Padded, Value, append, append_checked, put_at,
+    read_fixed,
 };
 pub use fixed::{Fixed, Plain, Record, RoundTrip, Written};
 pub use str_ctx::{NULL, RET, SPACE, StrCtx, TAB};

@@ -2,7 +2,7 @@
 ghost use Rattle.std.specs.Prelude.{◌≡◌, ◌≤◌, ◌+◌, ℕ, List, length, take, IfOk, IfErr, OnOk, OnErr, ◌↔◌, ◌++◌, IsTrue};
 ghost use Rattle.scroll.specs.Arrays.{WritesAll};
 ghost use Rattle.std.specs.List.{All};
-ghost use Rattle.scroll.specs.Many.{RefusesMany, FailsMany, ChangesBetween, KeepsOne, KeepsAll, AppendsUntil, RefusesUntil};
+ghost use Rattle.scroll.specs.Many.{RefusesMany, RefusesToEnd, FailsMany, ChangesBetween, KeepsOne, KeepsAll, AppendsUntil, RefusesUntil};
 ghost use Rattle.scroll.specs.Reads.{ReadsAll, ReadsBetween};
 ghost use Rattle.scroll.specs.Errors.{PastEnd};
 ghost use Rattle.scroll.specs.Writes.{WritesAt, RefusesWriteAt};
@@ -67,6 +67,69 @@ pub fn read_many<'a, Ctx: Copy, E: From<Error>, T: TryFromCtx<'a, Ctx, Error = E
             });
         }
     }
+    Ok(values)
+}
+
+/// Reads values, one after another from the cursor `offset` up to the end of the bytes, and
+/// advances the cursor to the end.
+///
+/// Returns the error of the first value that can't be read, with the offset at which that value
+/// starts. A value of no bytes, or one whose size goes past the end, is [`Error::BadInput`] with
+/// its size, and an allocation failure [`Error::NoMemory`]. On an error the cursor is unchanged.
+///
+/// ```rust
+/// let file: &[u8] = &[0xff, 1, 0, 2, 0];
+/// let mut offset = 1;
+/// let numbers: Vec<u16> = read_to_end(rt.alloc(), file, &mut offset, LE)?;
+/// assert_eq!(rt; numbers.as_slice(), [1, 2].as_slice());
+/// assert_eq!(rt; offset, 5);
+/// ```
+pub fn read_to_end<'a, Ctx: Copy, E: From<Error>, T: TryFromCtx<'a, Ctx, Error = E> + Drop>(
+    alloc: Global,
+    from: &'a [u8],
+    offset: &mut usize,
+    ctx: Ctx,
+) -> Result<Vec<T>, At<E>>
+    ensures read { IfOk result (λ values.
+        ReadsAll (T.reads ctx) from.now offset.old values.items (length from.now)) }
+    ensures moves { OnOk result (offset.new ≡ length from.now) }
+    ensures refused { IfErr result (λ located.
+        RefusesToEnd (T.reads ctx) (T.refuses ctx) E.from_gives from.now offset.old
+        located.offset located.error) }
+    ensures stays { OnErr result (offset.new ≡ offset.old) }
+{
+    let mut values = Vec::new(alloc);
+    let mut end = *offset;
+    while end != from.len() {
+        let start = end;
+        let value: T = match from.gread_with(&mut end, ctx) {
+            Ok(value) => value,
+            Err(error) => {
+                return Err(At {
+                    offset: start,
+                    error,
+                });
+            }
+        };
+        if end == start || end > from.len() {
+            let error = E::from(Error::BadInput {
+                size: end - start,
+                msg: "a value of no bytes, or past the end",
+            });
+            return Err(At {
+                offset: start,
+                error,
+            });
+        }
+        if values.push(value).is_err() {
+            let error = E::from(Error::NoMemory);
+            return Err(At {
+                offset: start,
+                error,
+            });
+        }
+    }
+    *offset = end;
     Ok(values)
 }
 
@@ -197,7 +260,8 @@ pub fn write_kept<Ctx: Copy, E: From<Error>, T: Kept<Ctx> + TryIntoCtx<Ctx, Erro
     Ok(size)
 }
 
-/// Writes values like [`write_many`]. They read back, whatever is written after them.
+/// Writes values like [`write_many`]. They read back, whatever is written after them, and
+/// [`read_to_end`] reads them from the bytes up to the cursor.
 pub fn write_many_kept<
     Ctx: Copy,
     E: From<Error>,
@@ -209,6 +273,9 @@ pub fn write_many_kept<
         (ReadsAll (T.Kept.reads ctx) dst.new offset.old values.now offset.new) }
     ensures kept { OnOk result
         (KeepsAll (T.Kept.reads ctx) dst.new offset.old values.now offset.new) }
+    ensures whole { offset.old ≤ length dst.old → OnOk result
+        (ReadsAll (T.Kept.reads ctx) (take offset.new dst.new) offset.old values.now
+        (length (take offset.new dst.new))) }
     ensures others { OnOk result (ChangesBetween offset.old offset.new dst.old dst.new) }
     ensures refused { IfErr result (λ located. FailsMany (T.TryIntoCtx.writes ctx)
         (T.TryIntoCtx.refuses ctx) E.from_gives dst.old offset.old values.now dst.new

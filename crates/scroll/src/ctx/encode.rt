@@ -69,6 +69,26 @@ impl<P: Plain, const N: usize> Encode for [P; N] {
     }
 }
 
+/// A text and the delimiter after it, which [`StrCtx::Required`](crate::ctx::StrCtx::Required)
+/// reads.
+#[derive(Clone, Copy, Debug, PartialEq, Eq)]
+pub struct Delimited<'s>(pub &'s str, pub u8);
+
+impl<'s> Encode for Delimited<'s> {
+    ghost bytes = { λ _ x. x.0.now ++ x.1 ∷ [] };
+
+    fn size(self, _order: Endian) -> usize {
+        self.0.len() + 1
+    }
+
+    #[inline(always)]
+    fn put(self, dst: &mut [u8], order: Endian) {
+        let len = self.0.len();
+        self.0.put(dst, order);
+        dst[len] = self.1;
+    }
+}
+
 /// As many zero bytes as it says, such as padding.
 #[derive(Clone, Copy, Debug, PartialEq, Eq)]
 pub struct Gap(pub usize);

@@ -1,8 +1,8 @@
 // Many values, and bytes that are appended to a vector. The bytes are those of Python's
 // `struct.pack`.
-use crate::ctx::{Table, Value, append};
-use crate::tests::results::{check_eq, check_too_big, check_value, expect_value};
-use crate::{BE, Error, LE, Result, read_many, write_many, write_tagged};
+use crate::ctx::{Delimited, Table, Value, append};
+use crate::tests::results::{check_bad_input, check_eq, check_too_big, check_value, expect_value};
+use crate::{BE, Error, LE, Result, read_many, read_to_end, write_many, write_tagged};
 
 const NUMBERS: [u16; 3] = [258, 772, 9];
 
@@ -18,6 +18,26 @@ fn many_values_are_written_and_read(rt: HostRuntime) {
     check_eq(rt, file, BYTES);
     let values: Result<Vec<u16>> = read_many(alloc, &file, &mut 1, 3, BE).map_err(Error::from);
     check_eq(rt, expect_value(rt, values).as_slice(), NUMBERS.as_slice());
+}
+
+#[test]
+fn many_values_up_to_the_end(rt: HostRuntime) {
+    let (alloc, rt) = (rt.alloc(), &rt);
+    let offset = &mut 1;
+    let values: Result<Vec<u16>> = read_to_end(alloc, &BYTES[..7], offset, BE).map_err(Error::from);
+    check_eq(rt, expect_value(rt, values).as_slice(), NUMBERS.as_slice());
+    check_eq(rt, *offset, 7);
+    let offset = &mut 3;
+    let cut: Result<Vec<u16>> = read_to_end(alloc, &BYTES, offset, BE).map_err(Error::from);
+    check_too_big(rt, cut.map(drop), 2, 1);
+    check_eq(rt, *offset, 3);
+    let empty: Result<Vec<&[u8]>> = read_to_end(alloc, &BYTES, offset, 0).map_err(Error::from);
+    check_bad_input(
+        rt,
+        empty.map(drop),
+        0,
+        "a value of no bytes, or past the end",
+    );
 }
 
 #[test]
@@ -50,7 +70,8 @@ fn a_vector_grows(rt: HostRuntime) {
     let mut file: Vec<u8> = Vec::new(alloc);
     check_value(rt, append(&mut file, Value(1u8), LE), ());
     check_value(rt, append(&mut file, (Value(0x0302u16), "é"), LE), ());
-    check_eq(rt, file.as_slice(), [1, 2, 3, 0xc3, 0xa9].as_slice());
+    check_value(rt, append(&mut file, Delimited("a", 10), LE), ());
+    check_eq(rt, file.as_slice(), [1, 2, 3, 0xc3, 0xa9, b'a', 10].as_slice());
 }
 
 #[test]

@@ -1,7 +1,7 @@
 -- Lemmas for callers: values that are written one after another by `write_many`, or by a loop of
 -- one's own, and that these read back by `read_many`.
-use Rattle.std.proofs.Common.{◌≡◌, ℕ, ◌+◌, ◌<◌, ◌≤◌, ◌++◌, List, [], ◌∷◌, length, take, drop, get_or, refl, sym, ap, subst, append_assoc, length-take, arith, ◌∙◌}
-use Rattle.std.proofs.lemmas.List.{drop-drop, drop-take, take-take, take_more, take-append-drop}
+use Rattle.std.proofs.Common.{◌≡◌, ℕ, ◌+◌, ◌<◌, ◌≤◌, ◌++◌, List, [], ◌∷◌, length, take, drop, get_or, refl, sym, ap, subst, append_assoc, length-drop, length-take, arith, ◌∙◌}
+use Rattle.std.proofs.lemmas.List.{drop-drop, drop-take, length-take-le, take-take, take_more, take-append-drop}
 use Rattle.std.proofs.lemmas.List.Elements.{All-head, All-tail}
 use Rattle.std.specs.List.{All, AllZip, flat_map, slice_index_or}
 use Rattle.scroll.specs.Arrays.{WritesAll}
@@ -123,3 +123,16 @@ puts-many writes bytes each (v ∷ vs) old from new to inside h =
     let w = h.2 in
     let one : Puts (bytes v) old h.0 from (from + h.1) = puts-write refl (record { inside = w.inside; before = w.before; after = each v (drop from old) (drop from h.0) h.1 w.after; len = w.len }) refl in
     puts-next one (puts-many writes bytes each vs h.0 (from + h.1) new to (omega (arith, one.inside, w.len)) h.3)
+
+-- they end inside the target
+pub WritesAll-inside : {V : Type 0} (writes : V → List ℕ → List ℕ → ℕ → Type 0) → ((v : V) (old new : List ℕ) (n : ℕ) → writes v old new n → n ≤ length old) → (vs : List V) (old : List ℕ) (from : ℕ) (new : List ℕ) (to : ℕ) → from ≤ length old → WritesAll writes old from vs new to → to ≤ length new
+WritesAll-inside writes bounded [] old from new to inside h = rw (h.0, h.1) inside
+WritesAll-inside writes bounded (v ∷ vs) old from new to inside h =
+    let w = h.2 in
+    let size = bounded v (drop from old) (drop from h.0) h.1 w.after in
+    WritesAll-inside writes bounded vs h.0 (from + h.1) new to (omega (arith, w.inside, w.len, size, length-drop from old)) h.3
+
+-- and these read up to the end of the bytes that are written
+pub kept-whole : {V : Type 0} (reads : List ℕ → V → ℕ → Type 0) (vs : List V) (new : List ℕ) (from to : ℕ) → to ≤ length new → KeepsAll reads new from vs to → ReadsAll reads (take to new) from vs (length (take to new))
+kept-whole reads vs new from to inside kept =
+    subst (λ k. ReadsAll reads (take to new) from vs k) (sym (length-take-le to new inside)) (kept (take to new) (take-take to to new (omega arith)))

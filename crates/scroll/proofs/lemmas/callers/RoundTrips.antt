@@ -1,14 +1,14 @@
 -- Lemmas for callers: round trips. What was read is written back, and what was written reads back.
-use Rattle.std.proofs.Common.{◌≡◌, ◌≢◌, ℕ, ◌+◌, ◌^◌, ◌<◌, ◌≤◌, ◌++◌, ◌==◌, true, List, [], ◌∷◌, length, take, drop, get_or, slice_index, Fits, w8, refl, sym, ap, subst, ◌∙◌, arith, IsUtf8, append_assoc, length-append, length-take, length-drop}
+use Rattle.std.proofs.Common.{◌≡◌, ◌≢◌, ℕ, ℤ, ◌+◌, ◌<◌, ◌≤◌, ◌++◌, ◌==◌, true, List, [], ◌∷◌, length, take, drop, get_or, slice_index, Fits, w8, refl, sym, ap, subst, ◌∙◌, arith, IsUtf8, append_assoc, length-append, length-take}
 use Rattle.std.proofs.Math.Seq.{take-add}
 use Rattle.std.proofs.lemmas.Grind.{flat_map-append}
-use Rattle.std.proofs.lemmas.List.{append-nil, drop-drop, drop_at, take_at, take_all, take_more, take-append-drop, length-take-le}
-use Rattle.std.proofs.lemmas.List.Elements.{All-head, All-tail, All-weaker}
+use Rattle.std.proofs.lemmas.List.{append-nil, drop-drop, drop_at, take_at, take_all, take_more, length-take-le}
+use Rattle.std.proofs.lemmas.List.Elements.{All-head, All-tail}
 use Rattle.std.proofs.lemmas.List.Sums.{passes_at_first}
 use Rattle.std.specs.List.{All, flat_map}
 use Rattle.scroll.specs.lemmas.NumberLemmas.{bytes-fit}
 use Rattle.scroll.proofs.lemmas.callers.Cursors.{Begins, grow}
-use Rattle.scroll.specs.lemmas.Frames.{length-number_bytes}
+use Rattle.scroll.proofs.lemmas.callers.SpanLemmas.{bytes-below}
 use Rattle.scroll.specs.Numbers.{number, number_bytes, signed_number, signed_bytes}
 use Rattle.scroll.specs.Reads.{ReadsAt, ReadsAll}
 use Rattle.scroll.specs.Texts.{index_of, ReadsText}
@@ -40,15 +40,6 @@ required-back d s text n r =
     let byte : get_or s (index_of d s) 0 ≡ d = is-byte (get_or s (index_of d s) 0) d (passes_at_first (λ b. b == d) s 0 r.there) in
     ap (λ m. take m s) r.size ∙ take_more s (index_of d s) 0 r.there
     ∙ ap (λ b. take (index_of d s) s ++ b ∷ []) byte ∙ ap (λ t. t ++ d ∷ []) (sym r.prefix)
-
--- the text, the delimiter and what follows are the source
-pub required-whole : {d n : ℕ} {s text : List ℕ} → ReadsText (Required d) s text n → text ++ d ∷ drop n s ≡ s
-required-whole {d} {n} {s} {text} r =
-    sym (append_assoc text (d ∷ []) (drop n s)) ∙ ap (λ l. l ++ drop n s) (sym (required-back d s text n r)) ∙ take-append-drop n s
-
--- what follows a text and its delimiter
-pub required-rest : (d : ℕ) (text rest : List ℕ) → drop (length text + 1) (text ++ d ∷ rest) ≡ rest
-required-rest d text rest = ap (drop (length text + 1)) (sym (append_assoc text (d ∷ []) rest)) ∙ drop_at (text ++ d ∷ []) rest (length text + 1) (length-append text (d ∷ []))
 
 -- where the first delimiter is, after bytes that are not the delimiter
 pub offset-behind : (d : ℕ) (t rest : List ℕ) → All (λ b. b ≢ d) t → index_of d (t ++ d ∷ rest) ≡ length t
@@ -109,16 +100,6 @@ grow-next bytes vs i d {offset} {w} {first} {a} {b} h inside size before after =
 pub all-back : {V : Type 0} (reads : List ℕ → V → ℕ → Type 0) (bytes : V → List ℕ) (buffer : List ℕ) (vs : List V) {to : ℕ} → ((offset : ℕ) (v : V) (n : ℕ) → ReadsAt reads buffer offset v n → bytes v ≡ take n (drop offset buffer)) → ReadsAll reads buffer 0 vs to → to ≡ length buffer → flat_map bytes vs ≡ buffer
 all-back reads bytes buffer vs {to} back h end = ReadsAll-back reads bytes buffer back 0 vs to h ∙ take_all to buffer (omega (arith, end))
 
--- values that a loop has written to their end read back, if each value of which P holds does
-pub all-again : {V : Type 0} (reads : List ℕ → V → ℕ → Type 0) (bytes : V → List ℕ) (P : V → Type 0) → ((v : V) → P v → (rest : List ℕ) → reads (bytes v ++ rest) v (length (bytes v))) → (vs : List V) (i : ℕ) {s : List ℕ} → length vs ≤ i → All P (take i vs) → s ≡ flat_map bytes (take i vs) → ReadsAll reads s 0 vs (length s)
-all-again {V} reads bytes P again vs i {s} end each is =
-    let all : All P vs = subst (All P) (take_all i vs end) each in
-    let whole : s ≡ flat_map bytes vs ++ [] = is ∙ ap (flat_map bytes) (take_all i vs end) ∙ sym (append-nil (flat_map bytes vs)) in
-    let text : flat_map bytes vs ≡ s = sym (whole ∙ append-nil (flat_map bytes vs)) in
-    subst (λ l. ReadsAll reads l 0 vs (length s)) (sym whole)
-    (subst (λ l. ReadsAll reads (flat_map bytes vs ++ []) 0 vs (length l)) text
-    (ReadsAll-again reads bytes vs (All-weaker P (λ v. (rest : List ℕ) → reads (bytes v ++ rest) v (length (bytes v))) again vs all) [] []))
-
 -- bytes that were written from an offset on: those before it are unchanged, and these are there
 pub grown-at : {to offset : ℕ} (n : ℕ) (bytes : List ℕ) {first now : List ℕ} → Begins to (take offset first ++ bytes) first now → offset ≤ length first → to ≡ offset + n → (take offset now ≡ take offset first) × (drop offset now ≡ bytes ++ drop n (drop offset first))
 grown-at {to} {offset} n bytes {first} {now} h room is =
@@ -134,25 +115,26 @@ grown-at {to} {offset} n bytes {first} {now} h room is =
 pub signed-grow : (order : Endian) (w offset : ℕ) (s prefix : List ℕ) → ((i : ℕ) → Fits w8 (slice_index s i)) → offset + w ≤ length s → prefix ≡ take offset s → prefix ++ signed_bytes order w (signed_number order w (drop offset s)) ≡ take (offset + w) s
 signed-grow order w offset s prefix h room is = back-next offset w s is (signed-back order w offset s h room)
 
--- bytes after a number of w bytes that counts them: what was read is written back
-pub counted-back : (order : Endian) (w offset : ℕ) (s text : List ℕ) (n : ℕ) → ((i : ℕ) → Fits w8 (slice_index s i)) → offset ≤ length s → w + number order w (drop offset s) ≤ length (drop offset s) → text ≡ take (number order w (drop offset s)) (drop w (drop offset s)) → n ≡ length text → number_bytes order w n ++ text ≡ take (w + number order w (drop offset s)) (drop offset s)
-counted-back order w offset s text n fits inside room is size =
-    let t = drop offset s in
-    let len : length text ≡ number order w t = ap length is ∙ length-take-le (number order w t) (drop w t) (omega (arith, room, length-drop w t)) in
-    ap (λ m. number_bytes order w m ++ text) (size ∙ len)
-    ∙ back-next w (number order w t) t (number-back order w offset s fits (omega (arith, inside, room, length-drop offset s))) is
-
--- and what was written reads back
-pub counted-again : (order : Endian) (w : ℕ) (text rest : List ℕ) (n : ℕ) → n < 256 ^ w → n ≡ length text → (number order w ((number_bytes order w n ++ text) ++ rest) ≡ n) × (take n (drop w ((number_bytes order w n ++ text) ++ rest)) ≡ text)
-counted-again order w text rest n fit size =
-    let split = append_assoc (number_bytes order w n) text rest in (
-      ap (number order w) split ∙ number-begins order w n (text ++ rest) fit,
-      ap (λ l. take n (drop w l)) split ∙ ap (take n) (drop_at (number_bytes order w n) (text ++ rest) w (length-number_bytes order w n)) ∙ take_at text rest n (sym size),
-    )
-
 -- bytes as many as the width are those of the number that they read as
 pub number-only : (order : Endian) (w : ℕ) (s : List ℕ) → All (λ b. b < 256) s → length s ≡ w → s ≡ number_bytes order w (number order w s)
 number-only order w s h len = sym (number-back order w 0 s (bytes-fit s h) (omega (arith, len)) ∙ take_all w s (omega (arith, len)))
 
 pub signed-only : (order : Endian) (w : ℕ) (s : List ℕ) → All (λ b. b < 256) s → length s ≡ w → s ≡ signed_bytes order w (signed_number order w s)
 signed-only order w s h len = sym (signed-back order w 0 s (bytes-fit s h) (omega (arith, len)) ∙ take_all w s (omega (arith, len)))
+
+-- the bytes of a slice from an offset on are bytes
+pub fits-from : (at : ℕ) (s : List ℕ) → ((i : ℕ) → Fits w8 (slice_index s i)) → (i : ℕ) → Fits w8 (slice_index (drop at s) i)
+fits-from at s h = bytes-fit (drop at s) (bytes-below at s h)
+
+-- the bytes of a number that was read at an offset are those there
+pub number-there : (order : Endian) (w at : ℕ) (s : List ℕ) {x : ℕ} → ((i : ℕ) → Fits w8 (slice_index s i)) → at + w ≤ length s → x ≡ number order w (drop at s) → number_bytes order w x ≡ take w (drop at s)
+number-there order w at s h room is = ap (number_bytes order w) is ∙ number-back order w at s h room
+
+pub signed-there : (order : Endian) (w at : ℕ) (s : List ℕ) {x : ℤ} → ((i : ℕ) → Fits w8 (slice_index s i)) → at + w ≤ length s → x ≡ signed_number order w (drop at s) → signed_bytes order w x ≡ take w (drop at s)
+signed-there order w at s h room is = ap (signed_bytes order w) is ∙ signed-back order w at s h room
+
+-- bytes that are those at an offset, and those after them
+pub there-next : (at w m : ℕ) (s : List ℕ) {b rest : List ℕ} → b ≡ take w (drop at s) → rest ≡ take m (drop (at + w) s) → b ++ rest ≡ take (w + m) (drop at s)
+there-next at w m s {b} {rest} first others =
+    ap (λ l. l ++ rest) first ∙ ap (λ l. take w (drop at s) ++ l) (others ∙ ap (take m) (sym (drop-drop w at s)))
+    ∙ sym (take-add w m (drop at s))

@@ -13,8 +13,8 @@ use Rattle.scroll.specs.Reads.{ReadsAt}
 use Rattle.scroll.specs.Texts.{index_of, ReadsSlice, ReadsText}
 use Rattle.scroll.specs.Zeros.{zeros, ReadsZeros}
 use Rattle.scroll.specs.lemmas.FixedLemmas.{array-back}
-use Rattle.scroll.proofs.lemmas.callers.RoundTrips.{offset-behind}
-use Rattle.scroll.specs.declared.ctx.str_ctx.StrCtx.TheVariants.{Length}
+use Rattle.scroll.proofs.lemmas.callers.RoundTrips.{offset-behind, required-again}
+use Rattle.scroll.specs.declared.ctx.str_ctx.StrCtx.TheVariants.{Length, Required}
 use Rattle.scroll.proofs.lemmas.EncodingLemmas.{written_reads, unsigned-form, signed-form}
 
 -- from the offset `at` on, the bytes of `s` are `rest`
@@ -128,3 +128,7 @@ zeros-begin-all n rest = record {
 -- zeros
 pub zeros-begin : (n m : ℕ) → n ≡ m → (rest : List ℕ) → ReadsZeros m (zeros n ++ rest) m
 zeros-begin n m is rest = rw (← is) (zeros-begin-all n rest)
+
+-- a text and the delimiter that ends it
+pub required-begins : (d : ℕ) (text rest : List ℕ) → All (λ b. b ≢ d) text → IsUtf8 text → ReadsText (Required d) ((text ++ d ∷ []) ++ rest) text (length text + 1)
+required-begins d text rest none utf8 = rw (append_assoc text (d ∷ []) rest) (required-again d text rest none utf8)
