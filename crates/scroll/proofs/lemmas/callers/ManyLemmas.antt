@@ -1,13 +1,13 @@
 -- Lemmas for callers: values that are written one after another by `write_many`, or by a loop of
 -- one's own, and that these read back by `read_many`.
-use Rattle.std.proofs.Common.{◌≡◌, ℕ, ◌+◌, ◌<◌, ◌≤◌, ◌++◌, List, [], ◌∷◌, length, take, drop, get_or, refl, sym, ap, subst, append_assoc, length-take, arith, ◌∙◌}
+use Rattle.std.proofs.Common.{◌≡◌, ℕ, ◌+◌, ◌<◌, ◌≤◌, ◌++◌, List, [], ◌∷◌, length, take, drop, refl, sym, ap, subst, append_assoc, length-take, length-drop, arith, ◌∙◌}
 use Rattle.std.proofs.lemmas.List.{drop-drop, drop-take, take-take, take_more, take-append-drop}
 use Rattle.std.proofs.lemmas.List.Elements.{All-head, All-tail}
 use Rattle.std.specs.List.{All, AllZip, flat_map, slice_index_or}
 use Rattle.scroll.specs.Arrays.{WritesAll}
 use Rattle.scroll.specs.Bytes.{WritesPrefix}
 use Rattle.scroll.specs.Errors.{PastEnd}
-use Rattle.scroll.specs.Many.{FailsMany, ChangesBetween, KeepsOne, KeepsAll}
+use Rattle.scroll.specs.Many.{FailsMany, StopsBefore, ChangesBetween, KeepsOne, KeepsAll}
 use Rattle.scroll.specs.Reads.{ReadsAll, Puts}
 use Rattle.scroll.specs.Writes.{WritesAt, RefusesWriteAt}
 use Rattle.scroll.specs.declared.error.Error.{Error}
@@ -91,8 +91,19 @@ AllZip-push R (z ∷ zs) [] x y h r = absurd h
 AllZip-push R (w ∷ ws) (z ∷ zs) x y h r = (h.0, AllZip-push R ws zs x y h.1 r)
 
 -- a relation of two lists, of one more element of the second, which a loop copies
-pub AllZip-next : {A B : Type 0} (R : A → B → Type 0) (xs : List A) (x : A) (ys : List B) (i : ℕ) (d : B) → i < length ys → AllZip R xs (take i ys) → R x (get_or ys i d) → AllZip R (xs ++ x ∷ []) (take (i + 1) ys)
-AllZip-next R xs x ys i d inside h r = rw (take_more ys i d inside) (AllZip-push R xs (take i ys) x (get_or ys i d) h r)
+pub AllZip-item : {A B : Type 0} (R : A → B → Type 0) (xs : List A) (x : A) (ys : List B) (i : ℕ) (y : B) → i < length ys → y ≡ slice_index_or ys i y → AllZip R xs (take i ys) → R x y → AllZip R (xs ++ x ∷ []) (take (i + 1) ys)
+AllZip-item R xs x ys i y inside is h r = rw (more ys i y inside is) (AllZip-push R xs (take i ys) x y h r)
+
+-- the write of a list stops before one of its values
+pub StopsBefore-item : {V E : Type 0} (writes : V → List ℕ → List ℕ → ℕ → Type 0) (refuses : ℕ → E → Type 0) {old : List ℕ} {from : ℕ} (vs : List V) (i : ℕ) {new : List ℕ} {stop : ℕ} {e : E} → i < length vs → WritesAll writes old from (take i vs) new stop → refuses stop e → StopsBefore writes refuses old from vs new stop e
+StopsBefore-item writes refuses vs i inside h error = record {
+  values = take i vs;
+  others = drop i vs;
+  split = sym (take-append-drop i vs);
+  more = omega (arith, inside, length-drop i vs);
+  each = h;
+  error = error;
+}
 
 -- the bytes before the first value are unchanged
 forward : {V : Type 0} (writes : V → List ℕ → List ℕ → ℕ → Type 0) (vs : List V) (old : List ℕ) (from : ℕ) (new : List ℕ) (to : ℕ) → WritesAll writes old from vs new to → from ≤ to
