@@ -183,6 +183,8 @@ pub fn write_kept<Ctx: Copy, E: From<Error>, T: Kept<Ctx> + TryIntoCtx<Ctx, Erro
 ) -> Result<usize, E>
     ensures wrote { IfOk result
         (WritesAt (T.TryIntoCtx.writes ctx value) dst.old offset.old dst.new) }
+    ensures again { OnOk result
+        (ReadsBetween (T.Kept.reads ctx) dst.new offset.old offset.new value) }
     ensures kept { OnOk result
         (KeepsOne (T.Kept.reads ctx) dst.new offset.old value offset.new) }
     ensures others { OnOk result (ChangesBetween offset.old offset.new dst.old dst.new) }
@@ -204,6 +206,8 @@ pub fn write_many_kept<
 >(dst: &mut [u8], values: &[T], offset: &mut usize, ctx: Ctx) -> Result<(), At<E>>
     ensures wrote { OnOk result
         (WritesAll (T.TryIntoCtx.writes ctx) dst.old offset.old values.now dst.new offset.new) }
+    ensures again { OnOk result
+        (ReadsAll (T.Kept.reads ctx) dst.new offset.old values.now offset.new) }
     ensures kept { OnOk result
         (KeepsAll (T.Kept.reads ctx) dst.new offset.old values.now offset.new) }
     ensures others { OnOk result (ChangesBetween offset.old offset.new dst.old dst.new) }

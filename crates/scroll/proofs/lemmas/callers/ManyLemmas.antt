@@ -75,7 +75,8 @@ changes-next {a} {b} {c} {old} {mid} {new} x y = record {
 pub changes-before : {from to : ℕ} {old new : List ℕ} (later : List ℕ) → ChangesBetween from to old new → take to later ≡ take to new → take from later ≡ take from old
 changes-before {from} {to} {old} {new} later h same = sym (take-take from to later h.forward) ∙ ap (take from) same ∙ take-take from to new h.forward ∙ h.before
 
-changes-none : (at : ℕ) (s : List ℕ) → ChangesBetween at at s s
+-- no bytes are changed
+pub changes-none : (at : ℕ) (s : List ℕ) → ChangesBetween at at s s
 changes-none at s = record { forward = omega arith; before = refl; after = refl; len = refl }
 
 -- no bytes but those of the values are changed
@@ -83,6 +84,10 @@ pub changes-many : {V : Type 0} (writes : V → List ℕ → List ℕ → ℕ �
 changes-many writes keeps [] old from new to h = rw (h.0, h.1) (changes-none from old)
 changes-many writes keeps (v ∷ vs) old from new to h =
     changes-next (changes-one (keeps v) old from h.0 h.1 (from + h.1) h.2 refl) (changes-many writes keeps vs h.0 (from + h.1) new to h.3)
+
+-- bytes are changed up to `size`: in the first `size` of them those before are unchanged
+pub changes-within : {from size : ℕ} {old new : List ℕ} → ChangesBetween from size old new → take from (take size new) ≡ take from old
+changes-within {from} {size} {old} {new} h = take-take from size new h.forward ∙ h.before
 
 AllZip-push : {A B : Type 0} (R : A → B → Type 0) (xs : List A) (ys : List B) (x : A) (y : B) → AllZip R xs ys → R x y → AllZip R (xs ++ x ∷ []) (ys ++ y ∷ [])
 AllZip-push R [] [] x y h r = (r, tt)

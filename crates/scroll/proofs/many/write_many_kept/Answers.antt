@@ -1,10 +1,14 @@
 -- The values read back by their type's law.
+use Rattle.std.proofs.Common.{refl}
 use Rattle.scroll.proofs.lemmas.callers.ManyLemmas.{WritesAll-kept, changes-many}
 use Rattle.scroll.proofs.many.write_many_kept.Goals as goal
 
 pub returns-clause-kept : goal.returns-clause-kept
 returns-clause-kept g c =
     WritesAll-kept _ _ g.T.Kept.fits (g.met.T.Kept.back c.args.ctx) c.args.values.now _ _ _ _ c.fit_all.ensures c.in_ok-write_many.ensures.wrote
+
+pub returns-clause-again : goal.returns-clause-again
+returns-clause-again g c = returns-clause-kept g c _ refl
 
 pub returns-clause-others : goal.returns-clause-others
 returns-clause-others g c =
