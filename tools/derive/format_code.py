@@ -6,7 +6,7 @@ import re
 from typing import Dict, List
 
 from counts import in_code
-from kinds import Array
+from kinds import Array, Number
 from layout import INSIDE, MOST, WIDTH, Generic, Tree, struct_lines, tuple_lines
 from parts import Format, Part, offsets
 
@@ -354,6 +354,34 @@ def write_block(form: Format) -> List[str]:
     ]
 
 
+def is_kept(form: Format) -> bool:
+    """Returns whether `Kept` is printed: whether the prover finds that the fields' types hold the values. (It doesn't for those of
+    a struct in a struct, or of a long array.)"""
+    inner = [part for part in form.parts if (part.inner and part.inner.fits) or not isinstance(part.fixed, (Number, type(None)))]
+    return not (form.has_leb or inner)
+
+
+def kept_block(form: Format) -> List[str]:
+    """Returns the law that a value reads back as it was written."""
+    name, bytes = form.name, f"{form.snake}_bytes order x"
+    fits = any(part.has_fit for part in form.parts)
+    again = " ".join([f"{form.snake}-back order x rest", *(["h.agrees"] if form.has_own else []), *(["fits"] if fits else [])])
+    return [
+        "",
+        f"{impl_of(form)} Kept<Endian> for {form.type} {{",
+        f"    ghost reads = {{ Reads{name} }};",
+        "",
+        f"    ghost fits = {{ {f'Fits{name}' if fits else 'λ _. ⊤'} }};",
+        "",
+        "    fn fit(self) {}",
+        "",
+        "    ghost back = { λ order x old new rest n fits h.",
+        f"        WritesPrefix-back (Reads{name} order) x ({bytes}) old new rest n",
+        f"        ({again}) h.wrote }};",
+        "}",
+    ]
+
+
 def impl_of(form: Format) -> str:
     """Returns the head of an implementation."""
     return f"impl<{form.lifetime}>" if form.lifetime else "impl"
@@ -366,7 +394,7 @@ def error_name(form: Format) -> str:
 def format_blocks(form: Format) -> str:
     """Returns the implementations."""
     parts = [] if form.has_leb else [*parts_block(form), *(check_block(form) if form.has_own else []), ""]
-    return "\n".join([*read_block(form), "", *parts, *write_block(form)])
+    return "\n".join([*read_block(form), "", *parts, *write_block(form), *(kept_block(form) if is_kept(form) else [])])
 
 
 def format_uses(form: Format) -> List[str]:
@@ -374,8 +402,10 @@ def format_uses(form: Format) -> List[str]:
     name, snake = form.name, form.snake
     block = format_blocks(form)
     ghosts = [f"{it}{name}" for it in ("Reads", "Refuses", "Agrees", "Differs", "Writes", "Keeps") if f"{it}{name} " in block]
+    frames = [it for it in ("WritesPrefix-keeps", "WritesPrefix-back") if it in block]
+    backs = [it for it in (f"Fits{name}", f"{snake}-bounded", f"{snake}-back") if it in block]
     words = set(re.findall(r"\w+", block))
-    known = ("Checked", "Delimited", "Encode", "Gap", "InParts", "Padded", "StrCtx", "Table", "TryFromCtx", "TryIntoCtx", "Value", "Zeros", "padding", "read_fixed")
+    known = ("Checked", "Delimited", "Encode", "Gap", "InParts", "Kept", "Padded", "StrCtx", "Table", "TryFromCtx", "TryIntoCtx", "Value", "Zeros", "padding", "read_fixed")
     contexts = [it for it in known if it in words or it == "Encode" or (it == "Checked" and ".check()" in block)]
     calls = {"Cread": "cread_with", "Pread": "gread_with"}
     ours = ("Cread", "Endian", "Error", "Pread", "Result", "Sleb128", "Uleb128", "check_room")
@@ -385,9 +415,10 @@ def format_uses(form: Format) -> List[str]:
     if form.error and not form.error.variant:
         ours = sorted([*ours, "SmallError"], key=lambda it: (it.islower(), it))
     return [
+        *(["ghost use Rattle.std.specs.Prelude.{⊤};"] if "⊤" in block else []),
         "ghost use Rattle.std.proofs.Common.{rules};",
-        "ghost use Rattle.scroll.specs.lemmas.Frames.{WritesPrefix-keeps};",
-        f"ghost use Rattle.{form.crate}.specs.{name}Back.{{{snake}-bounded}};",
+        f"ghost use Rattle.scroll.specs.lemmas.Frames.{{{', '.join(frames)}}};",
+        f"ghost use Rattle.{form.crate}.specs.{name}Back.{{{', '.join(backs)}}};",
         f"ghost use Rattle.{form.crate}.specs.{name}Format.{{{', '.join(ghosts)}, {snake}_bytes}};",
         "",
         f"use scroll::ctx::{{{', '.join(contexts)}}};",

@@ -2,7 +2,8 @@
 -- of a table, each of the same size.
 use Rattle.std.specs.Prelude.{◌≡◌, ◌≢◌, ◌<◌, ◌≤◌, ◌+◌, ◌++◌, ◌/◌, ◌∷◌, ℕ, List, length, take, drop, ◌⊎◌, Option, MatchOption, All, codes}
 use Rattle.scroll.specs.Arrays.{WritesAll}
-use Rattle.scroll.specs.Reads.{ReadsAt, ReadsAll, ReadsBetween, RefusesAt}
+use Rattle.scroll.specs.Reads.{ReadsAt, ReadsAll, ReadsBetween, RefusesAt, ReadsSome}
+use Rattle.std.specs.List.{AllZip}
 use Rattle.scroll.specs.Writes.{RefusesWriteAt}
 use Rattle.scroll.specs.Errors.{IsBadInput, PastEnd}
 use Rattle.scroll.specs.declared.error.Error.{Error}
@@ -81,6 +82,18 @@ pub record FailsMany {V E : Type 0} (writes : V → List ℕ → List ℕ → �
   pub each : WritesAll writes old from values mid stop
   pub error : RefusesWriteAt (refuses value) (PastEnd gives) mid stop new e
 
+-- such a write stops before one of them: those before it are written, and `refuses` holds of the
+-- offset `stop` and `e`
+pub record StopsBefore {V E : Type 0} (writes : V → List ℕ → List ℕ → ℕ → Type 0)
+    (refuses : ℕ → E → Type 0) (old : List ℕ) (from : ℕ) (all : List V) (new : List ℕ) (stop : ℕ)
+    (e : E) : Type 0 where
+  pub values : List V
+  pub others : List V
+  pub split : all ≡ values ++ others
+  pub more : 1 ≤ length others
+  pub each : WritesAll writes old from values new stop
+  pub error : refuses stop e
+
 -- only bytes between the offsets `from` and `to` may differ
 pub record ChangesBetween (from to : ℕ) (old new : List ℕ) : Type 0 where
   pub forward : from ≤ to
@@ -98,6 +111,20 @@ KeepsOne reads new from v to =
 abbrev pub KeepsAll : {V : Type 0} → (List ℕ → V → ℕ → Type 0) → List ℕ → ℕ → List V → ℕ → Type 0
 KeepsAll reads new from vs to =
     (later : List ℕ) → take to later ≡ take to new → ReadsAll reads later from vs to
+
+-- the value `v` is read at the place that the entry `entry` says, and is one that it describes
+pub record StandsAs {P V : Type 0} (reads : List ℕ → V → ℕ → Type 0) (place : P → ℕ)
+    (describes : P → V → Type 0) (buffer : List ℕ) (entry : P) (v : V) : Type 0 where
+  pub there : ReadsSome reads buffer (place entry) v
+  pub is : describes entry v
+
+-- the values `vs` are where their entries say, in `new` and in each buffer with the same first `to`
+-- bytes: whatever is written after them
+abbrev pub KeepsPlaced : {P V : Type 0} → (List ℕ → V → ℕ → Type 0) → (P → ℕ) → (P → V → Type 0)
+    → List ℕ → List P → List V → ℕ → Type 0
+KeepsPlaced reads place describes new entries vs to =
+    (later : List ℕ) → take to later ≡ take to new
+    → AllZip (StandsAs reads place describes later) entries vs
 
 -- the first element is taken: it is made of the first `w` bytes of `old`, and the bytes after these
 -- are left

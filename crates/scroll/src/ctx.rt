@@ -165,9 +165,9 @@ pub trait TryIntoCtx<Ctx: Copy>: Sized {
 
 /// A type whose values read back as they were written, whatever follows them.
 ///
-/// [`write_kept`](crate::write_kept) and [`write_many_kept`](crate::write_many_kept) say so of what
-/// they write. A struct whose implementations `tools/derive` printed has a lemma for `back`, as in
-/// `clients/zip/src/entry.rt.txt`.
+/// [`write_kept`](crate::write_kept), [`write_many_kept`](crate::write_many_kept) and
+/// [`write_placed`](crate::write_placed) say so of what they write. `tools/derive` prints the
+/// implementation for most structs, as in `clients/zip/src/entry.rt.txt`.
 pub trait Kept<Ctx: Copy>: TryIntoCtx<Ctx> + Copy {
     // Holds of a context, a source, and each value and size that a read of them may return.
     ghost reads: { Ctx → List ℕ → Self → ℕ → Type 0 };

@@ -58,8 +58,8 @@ pub use crate::lesser::{IOread, IOwrite};
 pub use crate::loads::Loads;
 pub use crate::located::{At, LocateError};
 pub use crate::many::{
-    Ends, append_until, read_many, read_to_end, write_kept, write_many, write_many_kept,
-    write_tagged,
+    Ends, EntryOf, append_until, read_many, read_to_end, write_kept, write_many, write_many_kept,
+    write_placed, write_tagged,
 };
 pub use crate::pread::Pread;
 pub use crate::pwrite::Pwrite;

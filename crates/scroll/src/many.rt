@@ -1,13 +1,14 @@
 //! Many values, one after another.
-ghost use Rattle.std.specs.Prelude.{◌≡◌, ◌≤◌, ◌+◌, ℕ, List, length, take, IfOk, IfErr, OnOk, OnErr, ◌↔◌, ◌++◌, IsTrue};
+ghost use Rattle.std.specs.Prelude.{◌≡◌, ◌≤◌, ◌+◌, ℕ, List, length, take, IfOk, IfErr, OnOk, OnErr, ◌↔◌, ◌++◌, ◌⊎◌, IsTrue};
 ghost use Rattle.scroll.specs.Arrays.{WritesAll};
 ghost use Rattle.std.specs.List.{All};
-ghost use Rattle.scroll.specs.Many.{RefusesMany, RefusesToEnd, FailsMany, ChangesBetween, KeepsOne, KeepsAll, AppendsUntil, RefusesUntil};
+ghost use Rattle.scroll.specs.Many.{RefusesMany, RefusesToEnd, FailsMany, ChangesBetween, KeepsOne, KeepsAll, AppendsUntil, RefusesUntil, StopsBefore, KeepsPlaced};
 ghost use Rattle.scroll.specs.Reads.{ReadsAll, ReadsBetween};
 ghost use Rattle.scroll.specs.Errors.{PastEnd};
 ghost use Rattle.scroll.specs.Writes.{WritesAt, RefusesWriteAt};
 ghost use Rattle.scroll.specs.Tagged.{WritesTagged, FailsTagged};
 ghost use Rattle.scroll.specs.declared.endian.Endian.{Endian};
+ghost use Rattle.scroll.specs.declared.error.Error.TheVariants.{NoMemory};
 
 use crate::ctx::{Kept, Plain, TryFromCtx, TryIntoCtx};
 use crate::endian::Endian;
@@ -285,6 +286,93 @@ pub fn write_many_kept<
     fit_all(values);
     write_many(dst, values, offset, ctx)?;
     Ok(())
+}
+
+/// An entry that says where a value of the type `T` stands, such as one of a directory.
+pub trait EntryOf<T>: Sized {
+    /// The error of an offset that doesn't fit the entry.
+    type Error;
+
+    // The offset that an entry says.
+    ghost place: { Self → ℕ };
+
+    // Holds of an entry and each value that it describes.
+    ghost describes: { Self → T → Type 0 };
+
+    // Holds of an offset that doesn't fit, and its error.
+    ghost misplaced: { ℕ → Self.Error → Type 0 };
+
+    /// Returns the entry of a value that stands at `offset`.
+    ///
+    /// Returns the type's error if the offset doesn't fit the entry.
+    fn entry_of(value: &T, offset: usize) -> Result<Self, Self::Error>
+        ensures place { IfOk result (λ entry. place entry ≡ offset) }
+        ensures describes { IfOk result (λ entry. describes entry value.now) }
+        ensures misplaced { IfErr result (misplaced offset) };
+}
+
+/// Writes values like [`write_many_kept`], and returns an entry for each, which says where the
+/// value stands. It reads back there, whatever is written after the values.
+///
+/// Returns the error of the first value that can't be written or whose offset doesn't fit its
+/// entry, with that offset, and leaves the cursor there. An allocation failure is the error
+/// [`Error::NoMemory`] of the value for whose entry there was no memory. The values before it are
+/// then written.
+pub fn write_placed<
+    Ctx: Copy,
+    E: From<Error>,
+    T: Kept<Ctx> + TryIntoCtx<Ctx, Error = E> + Copy + Drop,
+    P: EntryOf<T, Error = E> + Drop,
+>(
+    alloc: Global,
+    dst: &mut [u8],
+    values: &[T],
+    offset: &mut usize,
+    ctx: Ctx,
+) -> Result<Vec<P>, At<E>>
+    ensures wrote { OnOk result
+        (WritesAll (T.TryIntoCtx.writes ctx) dst.old offset.old values.now dst.new offset.new) }
+    ensures kept { IfOk result (λ entries. KeepsPlaced (T.Kept.reads ctx) P.place P.describes
+        dst.new entries.items values.now offset.new) }
+    ensures others { OnOk result (ChangesBetween offset.old offset.new dst.old dst.new) }
+    ensures count { IfOk result (λ entries. length entries.items ≡ length values.now) }
+    ensures refused { IfErr result (λ located. FailsMany (T.TryIntoCtx.writes ctx)
+        (T.TryIntoCtx.refuses ctx) E.from_gives dst.old offset.old values.now dst.new
+        located.offset located.error
+        ⊎ StopsBefore (T.TryIntoCtx.writes ctx) (λ at e. P.misplaced at e ⊎ E.from_gives NoMemory e)
+        dst.old offset.old values.now dst.new located.offset located.error) }
+    ensures stays { IfErr result (λ located. offset.new ≡ located.offset) }
+{
+    let mut entries = Vec::new(alloc);
+    for i in 0..values.len() {
+        let start = *offset;
+        let value = values[i];
+        let entry = match P::entry_of(&value, start) {
+            Ok(entry) => entry,
+            Err(error) => {
+                return Err(At {
+                    offset: start,
+                    error,
+                });
+            }
+        };
+        if entries.push(entry).is_err() {
+            return Err(At {
+                offset: start,
+                error: E::from(Error::NoMemory),
+            });
+        }
+        match write_kept(dst, value, offset, ctx) {
+            Ok(_size) => (),
+            Err(error) => {
+                return Err(At {
+                    offset: start,
+                    error,
+                });
+            }
+        }
+    }
+    Ok(entries)
 }
 
 // Does nothing, and says that each of the values fits.

@@ -7,7 +7,7 @@ use Rattle.std.specs.List.{All, AllZip, flat_map, slice_index_or}
 use Rattle.scroll.specs.Arrays.{WritesAll}
 use Rattle.scroll.specs.Bytes.{WritesPrefix}
 use Rattle.scroll.specs.Errors.{PastEnd}
-use Rattle.scroll.specs.Many.{FailsMany, ChangesBetween, KeepsOne, KeepsAll}
+use Rattle.scroll.specs.Many.{FailsMany, StopsBefore, ChangesBetween, KeepsOne, KeepsAll}
 use Rattle.scroll.specs.Reads.{ReadsAll, Puts}
 use Rattle.scroll.specs.Writes.{WritesAt, RefusesWriteAt}
 use Rattle.scroll.specs.declared.error.Error.{Error}
@@ -75,7 +75,8 @@ changes-next {a} {b} {c} {old} {mid} {new} x y = record {
 pub changes-before : {from to : ℕ} {old new : List ℕ} (later : List ℕ) → ChangesBetween from to old new → take to later ≡ take to new → take from later ≡ take from old
 changes-before {from} {to} {old} {new} later h same = sym (take-take from to later h.forward) ∙ ap (take from) same ∙ take-take from to new h.forward ∙ h.before
 
-changes-none : (at : ℕ) (s : List ℕ) → ChangesBetween at at s s
+-- no bytes are changed
+pub changes-none : (at : ℕ) (s : List ℕ) → ChangesBetween at at s s
 changes-none at s = record { forward = omega arith; before = refl; after = refl; len = refl }
 
 -- no bytes but those of the values are changed
@@ -84,6 +85,10 @@ changes-many writes keeps [] old from new to h = rw (h.0, h.1) (changes-none fro
 changes-many writes keeps (v ∷ vs) old from new to h =
     changes-next (changes-one (keeps v) old from h.0 h.1 (from + h.1) h.2 refl) (changes-many writes keeps vs h.0 (from + h.1) new to h.3)
 
+-- bytes are changed up to `size`: in the first `size` of them those before are unchanged
+pub changes-within : {from size : ℕ} {old new : List ℕ} → ChangesBetween from size old new → take from (take size new) ≡ take from old
+changes-within {from} {size} {old} {new} h = take-take from size new h.forward ∙ h.before
+
 AllZip-push : {A B : Type 0} (R : A → B → Type 0) (xs : List A) (ys : List B) (x : A) (y : B) → AllZip R xs ys → R x y → AllZip R (xs ++ x ∷ []) (ys ++ y ∷ [])
 AllZip-push R [] [] x y h r = (r, tt)
 AllZip-push R [] (z ∷ zs) x y h r = absurd h
@@ -91,8 +96,19 @@ AllZip-push R (z ∷ zs) [] x y h r = absurd h
 AllZip-push R (w ∷ ws) (z ∷ zs) x y h r = (h.0, AllZip-push R ws zs x y h.1 r)
 
 -- a relation of two lists, of one more element of the second, which a loop copies
-pub AllZip-next : {A B : Type 0} (R : A → B → Type 0) (xs : List A) (x : A) (ys : List B) (i : ℕ) (d : B) → i < length ys → AllZip R xs (take i ys) → R x (get_or ys i d) → AllZip R (xs ++ x ∷ []) (take (i + 1) ys)
-AllZip-next R xs x ys i d inside h r = rw (take_more ys i d inside) (AllZip-push R xs (take i ys) x (get_or ys i d) h r)
+pub AllZip-item : {A B : Type 0} (R : A → B → Type 0) (xs : List A) (x : A) (ys : List B) (i : ℕ) (y : B) → i < length ys → y ≡ slice_index_or ys i y → AllZip R xs (take i ys) → R x y → AllZip R (xs ++ x ∷ []) (take (i + 1) ys)
+AllZip-item R xs x ys i y inside is h r = rw (more ys i y inside is) (AllZip-push R xs (take i ys) x y h r)
+
+-- the write of a list stops before one of its values
+pub StopsBefore-item : {V E : Type 0} (writes : V → List ℕ → List ℕ → ℕ → Type 0) (refuses : ℕ → E → Type 0) {old : List ℕ} {from : ℕ} (vs : List V) (i : ℕ) {new : List ℕ} {stop : ℕ} {e : E} → i < length vs → WritesAll writes old from (take i vs) new stop → refuses stop e → StopsBefore writes refuses old from vs new stop e
+StopsBefore-item writes refuses vs i inside h error = record {
+  values = take i vs;
+  others = drop i vs;
+  split = sym (take-append-drop i vs);
+  more = omega (arith, inside, length-drop i vs);
+  each = h;
+  error = error;
+}
 
 -- the bytes before the first value are unchanged
 forward : {V : Type 0} (writes : V → List ℕ → List ℕ → ℕ → Type 0) (vs : List V) (old : List ℕ) (from : ℕ) (new : List ℕ) (to : ℕ) → WritesAll writes old from vs new to → from ≤ to
