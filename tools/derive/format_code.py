@@ -46,6 +46,11 @@ def other_count(part: Part) -> str:
     return f"{part.name} has another length than {part.count.text}"
 
 
+def other_there(part: Part) -> str:
+    assert part.condition
+    return f"{part.name} is not there just where {part.condition.field} is {part.condition.number}"
+
+
 def as_usize(part: Part, value: str) -> str:
     return value if part.type == "usize" else f"{value} as usize"
 
@@ -63,7 +68,9 @@ def context_of(form: Format, part: Part) -> str:
     if part.count:
         count = part.count.in_code(names)
         return f"StrCtx::Length({count})" if part.kind == "text" else count
-    return "ctx" if part.fixed or part.inner else "()"
+    if part.condition:
+        return f"When({part.name}_there, ())"
+    return "ctx" if part.fixed or part.inner or part.listed else "()"
 
 
 def read_lines(form: Format) -> List[str]:
@@ -71,6 +78,7 @@ def read_lines(form: Format) -> List[str]:
     names = locals_of(form)
     cursor = cursor_of(form)
     counters = {name for part in form.parts if part.count for name in part.count.fields}
+    counters |= {part.condition.field for part in form.parts if part.condition}
     lines: List[str] = [f"        check_room({form.room}, from.len())?;"] if form.head else []
     values: Dict[str, str] = {}
     for part, at in zip(form.head, offsets(form.head)):
@@ -85,6 +93,8 @@ def read_lines(form: Format) -> List[str]:
         values[part.name] = names[part.name]
         if part.count and part.is_padding:
             lines.append(f"        let {part.name}_len = padding({cursor}, {part.count.multiple});")
+        if part.condition:
+            lines.append(f"        let {part.name}_there = {part.condition.in_code(names)};")
         call = f"read_fixed(from, &mut {cursor}, ctx)" if isinstance(part.fixed, Array) else f"from.gread_with(&mut {cursor}, {context_of(form, part)})"
         type = part.type
         if part.kind == "table":
@@ -102,7 +112,7 @@ def read_lines(form: Format) -> List[str]:
 def is_taken(form: Format, part: Part) -> bool:
     """Returns whether a field gets a variable before it is written. (The borrow checker's part of a proof doesn't cover an array
     that is stored straight, nor a number in LEB128 in a tuple.)"""
-    return isinstance(part.fixed, Array) or (form.has_leb and part.kind == "leb")
+    return isinstance(part.fixed, Array) or part.kind in ("leb", "optional")
 
 
 def encoded(part: Part, names: Dict[str, str]) -> str:
@@ -110,7 +120,7 @@ def encoded(part: Part, names: Dict[str, str]) -> str:
     if part.kind == "zeros":
         assert part.count
         return f"Gap({part.count.in_code(names)})"
-    if part.kind == "table":
+    if part.kind in ("table", "until"):
         return f"{names[part.name]}.bytes"
     return f"Value({names[part.name]})" if part.fixed else names[part.name]
 
@@ -121,8 +131,8 @@ def encoded_type(part: Part) -> str:
         return part.type
     if part.kind == "zeros":
         return "Gap"
-    if part.kind == "table":
-        return part.type.replace("Table<", "&").split(",")[0] + " [u8]"
+    if part.kind in ("table", "until"):
+        return "&" + part.type.split("<")[1].split(",")[0] + " [u8]"
     return f"Value<{part.type}>" if part.fixed else part.type
 
 
@@ -167,7 +177,7 @@ def encode_lines(form: Format) -> List[str]:
             lines += parts_lines(codes)
             codes = [f"Padded({codes[0] if len(codes) == 1 else 'parts'}, {part.count.multiple})"]
         else:
-            taken = f"&{part.name}" if part.kind == "leb" else part.name
+            taken = f"&{part.name}" if part.kind in ("leb", "optional") else part.name
             codes.append(taken if is_taken(form, part) else encoded(part, names))
     whole = [*lines, *(parts_lines(codes) or [f"        let parts = {codes[0]};"])]
     # The last tuple is what is returned.
@@ -183,6 +193,9 @@ def check_lines(form: Format) -> List[str]:
     for part in form.parts:
         if part.constant:
             lines += constant_test(form, part, names[part.name])
+        if part.condition:
+            there = f"{names[part.name]}.is_some() != ({part.condition.in_code(names)})"
+            lines += [f"        if {there} {{", *refusal(form, "0", other_there(part), 12), "        }"]
         if part.is_counted:
             assert part.count
             length = f"{names[part.name]}{'.bytes' if part.kind == 'table' else ''}.len()"
@@ -224,6 +237,28 @@ def read_block(form: Format) -> List[str]:
         *read_lines(form),
         "    }",
         "}",
+    ]
+
+
+def ends_block(form: Format) -> List[str]:
+    """Returns the implementation of `Ends` for the values of a list."""
+    if not form.mark:
+        return []
+    lifetime = form.lifetime or "'a"
+    return [
+        f"impl<{lifetime}> Ends<{lifetime}, Endian> for {form.type} {{",
+        f"    ghost mark = {{ {form.mark} }};",
+        "",
+        f"    ghost mark_inside = {{ {form.mark}-inside }};",
+        "",
+        f"    ghost reads_some = {{ {form.snake}-some }};",
+        "",
+        "    #[inline(always)]",
+        "    fn mark_size(from: &[u8]) -> Option<usize> {",
+        f"        {form.mark}(from)",
+        "    }",
+        "}",
+        "",
     ]
 
 
@@ -313,7 +348,7 @@ def error_name(form: Format) -> str:
 def format_blocks(form: Format) -> str:
     """Returns the implementations."""
     parts = [] if form.has_leb else [*parts_block(form), *(check_block(form) if form.has_own else []), ""]
-    return "\n".join([*read_block(form), "", *parts, *write_block(form)])
+    return "\n".join([*read_block(form), "", *ends_block(form), *parts, *write_block(form)])
 
 
 def format_uses(form: Format) -> List[str]:
@@ -322,10 +357,10 @@ def format_uses(form: Format) -> List[str]:
     block = format_blocks(form)
     ghosts = [f"{it}{name}" for it in ("Reads", "Refuses", "Agrees", "Differs", "Writes", "Keeps") if f"{it}{name} " in block]
     words = set(re.findall(r"\w+", block))
-    known = ("Checked", "Encode", "Gap", "InParts", "Padded", "StrCtx", "Table", "TryFromCtx", "TryIntoCtx", "Value", "Zeros", "padding", "read_fixed")
+    known = ("Checked", "Encode", "Gap", "InParts", "Padded", "StrCtx", "Table", "TryFromCtx", "TryIntoCtx", "Until", "Value", "When", "Zeros", "padding", "read_fixed")
     contexts = [it for it in known if it in words or it == "Encode" or (it == "Checked" and ".check()" in block)]
     calls = {"Cread": "cread_with", "Pread": "gread_with"}
-    ours = ("Cread", "Endian", "Error", "Pread", "Result", "Sleb128", "Uleb128", "check_room")
+    ours = ("Cread", "Endian", "Ends", "Error", "Pread", "Result", "Sleb128", "Uleb128", "check_room", "two_zeros_size", "zero_size")
     ours = [it for it in ours if calls.get(it, it) in words and not (it == "Result" and form.error)]
     if form.error and not re.search(r"\bError::", block):
         ours.remove("Error")
@@ -334,7 +369,9 @@ def format_uses(form: Format) -> List[str]:
     return [
         "ghost use Rattle.std.proofs.Common.{rules};",
         "ghost use Rattle.scroll.specs.lemmas.Frames.{WritesPrefix-keeps};",
-        f"ghost use Rattle.{form.crate}.specs.{name}Back.{{{snake}-bounded}};",
+        *([f"ghost use Rattle.scroll.specs.Lists.{{{form.mark}}};"] if form.mark else []),
+        *([f"ghost use Rattle.scroll.specs.lemmas.Frames.{{{form.mark}-inside}};"] if form.mark else []),
+        f"ghost use Rattle.{form.crate}.specs.{name}Back.{{{snake}-bounded{f', {snake}-some' if form.mark else ''}}};",
         f"ghost use Rattle.{form.crate}.specs.{name}Format.{{{', '.join(ghosts)}, {snake}_bytes}};",
         "",
         f"use scroll::ctx::{{{', '.join(contexts)}}};",

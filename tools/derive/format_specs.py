@@ -5,7 +5,7 @@ from __future__ import annotations
 from typing import Dict, List, Tuple
 
 from fixed import made
-from format_code import error_name, other_constant, other_count
+from format_code import error_name, other_constant, other_count, other_there
 from format_words import (
     MODULES,
     before,
@@ -241,6 +241,8 @@ def agreement(form: Format, part: Part) -> str:
     names = fields_in(form)
     if part.constant:
         return f"{names[part.name]} {{}} {part.constant}"
+    if part.condition:
+        return f"is_some {names[part.name]} {{}} {part.condition.in_clause(names)}"
     assert part.count
     return f"{part.count.in_clause(names)} {{}} length {value_in(part)}"
 
@@ -278,8 +280,8 @@ def differs(form: Format) -> List[str]:
 
 def differs_record(form: Format, part: Part) -> List[str]:
     """Returns a record for a constant or a count that doesn't agree."""
-    value = f"x.{part.label}" if part.constant else f"(length {value_in(part)})"
-    message = other_constant(part) if part.constant else other_count(part)
+    value = f"x.{part.label}" if part.constant else "0" if part.condition else f"(length {value_in(part)})"
+    message = other_constant(part) if part.constant else other_there(part) if part.condition else other_count(part)
     return [
         f"-- `{part.name}` doesn't agree",
         f"pub record Differs{form.name}{camel(part.name)} (x : {form.name}) ({given(form, part)}) : Type 0 where",

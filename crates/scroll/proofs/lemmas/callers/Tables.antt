@@ -11,7 +11,6 @@ use Rattle.std.proofs.Math.Seq.{drop-append_seam}
 use Rattle.std.specs.List.{All, flat_map, slice_get, slice_range}
 use Rattle.scroll.specs.Bytes.{ReadsPrefix, RefusesShort}
 use Rattle.scroll.specs.Errors.{IsBadOffset}
-use Rattle.scroll.specs.Many.{AppendsMore}
 use Rattle.scroll.specs.Reads.{ReadsAll, ReadsBetween, RefusesAt, Stands, Puts, PutsPrefix}
 use Rattle.scroll.specs.declared.error.Error.{Error}
 use Rattle.scroll.proofs.lemmas.callers.Cursors.{ReadsAll-next, ReadsAll-at}
@@ -62,42 +61,6 @@ texts-stand {X} {text} {P} {reads} {buffer} law from (x ∷ xs) to inside h =
     let here = stands-drop inside one.0 in
     let later = texts-stand law (from + h.0) xs to here.inside h.2 in
     (stands-next here later.0, All-cons P x xs one.1 later.1)
-
--- values that `append_until` appended to a vector: the part of it that they are, and their texts
-pub record Appended {X : Type 0} (text : X → List ℕ) (P last : X → Type 0) (buffer : List ℕ) (from to : ℕ) (old new : List X) : Type 0 where
-  pub values : List X
-  pub is : new ≡ old ++ values
-  pub part : slice_range new (length old) (length new) ≡ values
-  pub stands : Stands (flat_map text values) buffer from to
-  pub each : All P values
-  pub more : All (λ x. ¬ last x) values
-
-pub appends-stand : {X : Type 0} {text : X → List ℕ} {P last : X → Type 0} {reads : List ℕ → X → ℕ → Type 0} {buffer : List ℕ} {from to : ℕ} {old new : List X} → ((s : List ℕ) (x : X) (n : ℕ) → reads s x n → Stands (text x) s 0 n × P x)
-    → from ≤ length buffer → AppendsMore reads last buffer from to old new → Appended text P last buffer from to old new
-appends-stand {X} {text} {P} {last} {reads} {buffer} {from} {to} {old} {new} law inside h =
-    let read = texts-stand {text = text} {P = P} {reads = reads} {buffer = buffer} law from h.values to inside h.each in
-    let size = length (old ++ h.values) - length old in
-    record {
-      values = h.values;
-      is = h.appended;
-      part = rw h.appended (ap (take size) (drop-append_seam old h.values) ∙ take_all size h.values (omega (arith, length-append old h.values)));
-      stands = read.0;
-      each = read.1;
-      more = h.more;
-    }
-
--- the last value after them
-pub last-stands : {X : Type 0} {text : X → List ℕ} {P : X → Type 0} {reads : List ℕ → X → ℕ → Type 0} {buffer : List ℕ} {from to : ℕ} {x : X} → ((s : List ℕ) (x : X) (n : ℕ) → reads s x n → Stands (text x) s 0 n × P x)
-    → ReadsBetween reads buffer from to x → Stands (text x) buffer from to × P x
-last-stands {X} {text} {P} {reads} {buffer} {from} {to} {x} law h =
-    let one = law (drop from buffer) x h.0 h.2.value in
-    (subst (λ k. Stands (text x) buffer from k) (sym h.1) (stands-drop h.2.inside one.0), one.1)
-
--- the read of the next value fails, where it is not for want of memory
-pub fails-next : {past next full : Type 0} (buffer : List ℕ) (stop : ℕ) → (((length buffer < stop) × past) ⊎ ((stop ≤ length buffer) × next)) ⊎ full → stop ≤ length buffer → ¬ full → next
-fails-next buffer stop (inl (inl past)) inside room = absurd (omega (arith, past.0, inside))
-fails-next buffer stop (inl (inr next)) inside room = next.1
-fails-next buffer stop (inr none) inside room = absurd (room none)
 
 -- elements of w bytes each that were read, and the offset after them
 pub record ReadsTable {X : Type 0} (f : List ℕ → X) (w : ℕ) (buffer : List ℕ) (from to : ℕ) (xs : List X) : Type 0 where
