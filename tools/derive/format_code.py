@@ -254,7 +254,9 @@ def ends_block(form: Format) -> List[str]:
         f"    ghost reads_some = {{ {form.snake}-some }};",
         "",
         "    #[inline(always)]",
-        "    fn mark_size(from: &[u8]) -> Option<usize> {",
+        "    fn mark_size(from: &[u8]) -> Option<usize>",
+        f"        ensures {{ result ≡ {form.mark} from.now }}",
+        "    {",
         f"        {form.mark}(from)",
         "    }",
         "}",
@@ -295,8 +297,14 @@ def check_block(form: Format) -> List[str]:
 
 
 def apart_lines(form: Format) -> List[str]:
-    """Returns the body of the write of a struct that can't be passed whole."""
+    """Returns the body of the write of a struct that can't be passed whole. (The borrow checker's part of a proof doesn't cover a
+    list in it either, and so it is taken apart.)"""
     lines = encode_lines(form)
+    if any(part.listed for part in form.parts):
+        taken = [f"        let {part.name} = self.{part.name};" for part in form.parts if is_taken(form, part)]
+        apart = struct_lines(form.name, [(part.name, part.name) for part in form.parts], False, 8)
+        apart = ["        let " + apart[0].strip(), *apart[1:]]
+        lines = [*apart[:-1], f"{apart[-1]} = self;", *(it.replace("self.", "") for it in lines if it not in taken)]
     start = max(index for index, line in enumerate(lines) if re.match(r" {8}\S", line) and not line.startswith("        )"))
     lines[start] = f"        let parts = {lines[start].strip()}"
     lines[-1] += ";"

@@ -92,6 +92,7 @@ def refusal_records(form: Format) -> List[List[str]]:
     at = str(form.room)
     for part, follows in zip(form.tail, [*form.tail[1:], None]):
         ends = part.inner is not None or (follows is not None and follows.inner is not None and part.kind != "zeros")
+        ends = ends or (form.has_leb and part.kind != "zeros" and any(it.is_own_error for it in form.tail))
         name = f"Refuses{form.name}{camel(part.name)}"
         records.append([
             f"-- `{part.name}` is refused",

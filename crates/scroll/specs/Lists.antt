@@ -53,13 +53,13 @@ pub record ReadsUntil {V : Type 0} (reads : List ℕ → V → ℕ → Type 0) (
   pub room : n ≤ length s
   pub is : bytes ≡ take n s
 
--- the values of a list are appended to `old`, and its mark has the bytes `bytes`
+-- the values of a list are appended to `old`; its bytes, with the mark, are `bytes`
 pub record AppendsUntil {V : Type 0} (reads : List ℕ → V → ℕ → Type 0) (mark : List ℕ → Option ℕ)
     (buffer : List ℕ) (from to : ℕ) (old new : List V) (bytes : List ℕ) : Type 0 where
   pub end : ℕ
   pub values : AppendsListed reads mark buffer from end old new
   pub ends : EndsAt mark buffer end to
-  pub is : Stands bytes buffer end to
+  pub is : Stands bytes buffer from to
 
 -- the read of a list fails: after some values, at the offset `stop`, there is no mark, and the next
 -- value is refused with `e`

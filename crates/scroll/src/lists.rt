@@ -79,7 +79,8 @@ pub(crate) fn end_at<'a, Ctx: Copy, T: Ends<'a, Ctx>>(from: &[u8], at: usize) ->
 }
 
 /// Reads values, one after another from the cursor `offset`, up to the mark that ends them, and
-/// advances the cursor past it. Appends the values to `values`, and returns the bytes of the mark.
+/// advances the cursor past it. Appends the values to `values`, and returns the bytes of all, with
+/// the mark.
 ///
 /// Returns the error of the first value that can't be read, with the offset at which that value
 /// starts, and leaves the cursor there. An allocation failure is the error [`Error::NoMemory`] of
@@ -97,11 +98,12 @@ pub fn append_until<
         values.old.items values.new.items located.offset located.error) }
     ensures stays { IfErr result (λ located. offset.new ≡ located.offset) }
 {
+    let start = *offset;
     loop {
         let begin = *offset;
         if let Some(end) = end_at::<Ctx, T>(from, begin) {
             *offset = end;
-            return Ok(&from[begin..end]);
+            return Ok(&from[start..end]);
         }
         let value: T = match from.gread_with(offset, ctx) {
             Ok(value) => value,

@@ -99,8 +99,7 @@ pub struct Values<'a, T, Ctx> {
 }
 
 impl<'a, Ctx: Copy, E: Drop, T: TryFromCtx<'a, Ctx, Error = E> + Ends<'a, Ctx> + Drop> Iterator
-    for Values<'a, T, Ctx>
-{
+    for Values<'a, T, Ctx> {
     type Item = T;
 
     ghost next_gives = { λ old found new. (new.ctx ≡ old.ctx)
