@@ -233,6 +233,7 @@ def read_block(form: Format) -> List[str]:
         "",
         f"    ghost reads_bounded = {{ {form.snake}-bounded }};",
         "",
+        *(["    #[inline(always)]"] if form.mark else []),
         *signature("try_from_ctx", [f"from: &{lifetime} [u8]", "ctx: Endian"], result_of(form, f"({form.type}, usize)")),
         *read_lines(form),
         "    }",

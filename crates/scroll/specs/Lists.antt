@@ -94,8 +94,8 @@ pub record TakesListed {V : Type 0} (reads : List ℕ → V → ℕ → Type 0) 
   pub room : size ≤ length old
   pub rest : new ≡ drop size old
 
--- a call of an iterator's `next`: it takes the next value of a list, or there is none, and the bytes
--- are unchanged
+-- a call of an iterator's `next`: it takes the next value of a list, or there is none, and the
+-- bytes are unchanged
 abbrev pub YieldsListed : {V E : Type 0} → (List ℕ → V → ℕ → Type 0) → (List ℕ → Option ℕ)
     → (List ℕ → E → Type 0) → List ℕ → Option V → List ℕ → Type 0
 YieldsListed reads mark refuses old r new =
@@ -111,7 +111,7 @@ ReadsOptional there reads s x n =
 abbrev pub RefusesOptional : {E : Type 0} → Bool → (List ℕ → E → Type 0) → List ℕ → E → Type 0
 RefusesOptional there refuses s e = (there ≡ true) × refuses s e
 
--- its bytes, of which there are none without a value
+-- `optional_bytes bytes x`: the bytes of such a value, of which there are none where `x` has none
 abbrev pub optional_bytes : {V : Type 0} → (V → List ℕ) → Option V → List ℕ
 optional_bytes bytes None = []
 optional_bytes bytes (Some v) = bytes v

@@ -69,7 +69,8 @@ impl<
 > TryFromCtx<'a, Ctx> for Until<'a, T> {
     type Error = E;
 
-    ghost reads = { λ ctx source x. ReadsUntil (T.TryFromCtx.reads ctx) T.Ends.mark source x.bytes.now };
+    ghost reads = { λ ctx source x.
+        ReadsUntil (T.TryFromCtx.reads ctx) T.Ends.mark source x.bytes.now };
 
     ghost refuses = { λ ctx. RefusesUntil (T.TryFromCtx.reads ctx) T.Ends.mark
         (T.TryFromCtx.refuses ctx) E.from_gives };
