@@ -47,7 +47,7 @@ impl<'a, T> Until<'a, T> {
     }
 
     /// Returns the values in a context, in order: those before the mark, and none after one that
-    /// can't be read in this context.
+    /// can't be read in this context. There are at most as many as the bytes.
     #[inline(always)]
     pub fn values<Ctx: Copy>(&self, ctx: Ctx) -> Values<'a, T, Ctx>
         ensures bytes { result.bytes.now ≡ self.now.bytes.now }
