@@ -23,7 +23,7 @@ INNER = ("tests", "tests.rt", "laws", "laws.rt", "search", "search.rt", "runner"
 # The traits here are those that a type provides: every call that reads or writes a value of the type calls their methods.
 PROVIDED = ("ctx", "ctx.rt", "leb128", "source.rt")
 # What takes the same time for every argument: a constant, a comparison, a field, or one load of those that `uleb_loads` makes.
-CONSTANT = {"array_fits", "as_c_str", "byte", "entry_of", "is_empty", "is_last", "is_little", "made", "network", "word"}
+CONSTANT = {"array_fits", "as_c_str", "byte", "entry_of", "is_empty", "is_little", "made", "network", "word"}
 # What does little but call another one, which has a row.
 THROUGH = {"append_checked": "append", "write_kept": "gwrite_with", "write_many_kept": "write_many", "write_placed": "gwrite_with"}
 USE = re.compile(r"^use .*?;$", re.M | re.S)
@@ -47,7 +47,7 @@ def public_calls() -> Set[str]:
 
 def try_all(step: Step) -> None:
     calls = public_calls()
-    files = [*sorted(SETS.glob("*.rt.txt")), JOBS / "read.rt.txt", JOBS / "write.rt.txt"]
+    files = [*sorted(SETS.glob("*.rt.txt")), TOP / "bench" / "jobs" / "jobs.rt.txt", JOBS / "lib.rt.txt", JOBS / "declaration.rt.txt"]
     timed = USE.sub("", "\n".join(path.read_text(encoding="utf-8") for path in files))
     for name in sorted(calls - CONSTANT):
         is_called = re.search(rf"\b{THROUGH.get(name, name)}(::<[^()]*>)?[(,]", timed)

@@ -451,7 +451,7 @@ trial/src/bad.rt|Wide|bad.rt:52: the context len as usize + 1 of the field text 
 trial/src/bad.rt|Mark|bad.rt:56: the constant 0x100 of the field mark doesn't fit its type
 trial/src/bad.rt|Sign|bad.rt:60: the field mark has a constant, and is no unsigned number of at most 64 bits
 trial/src/bad.rt|Name|bad.rt:64: the constant MAGIC of the field mark is no literal
-trial/src/bad.rt|Note|bad.rt:68: the field mark has the note count = 1, and one `ctx = ..` or `is = ..`, each with `else = ..`, is known
+trial/src/bad.rt|Note|bad.rt:68: the field mark has the note count = 1, and one `ctx = ..`, `if = ..`, or `is = ..`, each with `else = ..`, is known
 trial/src/bad.rt|Idle|bad.rt:72: the field mark has a context that its type u8 doesn't take
 trial/src/bad.rt|Pair|bad.rt:74: the struct Pair has fields without names
 trial/src/bad.rt|Owner|bad.rt:78: the context of the field text names len, which is no unsigned number of at most 64 bits
@@ -463,7 +463,7 @@ trial/src/bad.rt|Many|bad.rt:101: the context len as usize \* 184467440737095516
 trial/src/bad.rt|Kind|bad.rt:105: the field kind is of the type char, which is no number of a fixed width, no array and no struct of this file
 trial/src/bad.rt|Failing|bad.rt:109: the error Failure::Long is no variant of Failure
 trial/src/bad.rt|Faulty|bad.rt:111: the error Fault::Short is no `SmallError`, and no variant of an enum of this crate
-trial/src/bad.rt|Noted|bad.rt:113: Noted has the note fault = Failure::Short, and one `error = ..` is known
+trial/src/bad.rt|Noted|bad.rt:113: Noted has the note fault = Failure::Short, and one `error = ..` and one `ends = ..` is known
 trial/src/bad.rt|Marked|bad.rt:116: the error Failure::BadMark of mark is no variant of the error type
 trial/src/bad.rt|Bared|bad.rt:118: the enum Bared has no note `tag = ..` with an unsigned number of at most 64 bits
 trial/src/bad.rt|Signs|bad.rt:120: the enum Signs has no note `tag = ..` with an unsigned number of at most 64 bits

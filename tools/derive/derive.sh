@@ -15,8 +15,8 @@
 # from which the other traits follow.
 #
 # A struct of any size is in the src/ of a crate. A field is one of a fixed size (but no array of arrays), `Uleb128`, `Sleb128`,
-# `&'a [u8]`, `&'a str`, `CStr<'a>` of std::ffi, `Table<'a, T>` of elements of a fixed size, `Zeros`, or a struct of any size or
-# an enum of FILE without numbers in LEB128, whose error is that of the library or the same. In a comment before it may stand
+# `&'a [u8]`, `&'a str`, `CStr<'a>` of std::ffi, `Table<'a, T>` of elements of a fixed size, `Until<'a, T>` of a struct with
+# an end, `Option<Uleb128>`, `Option<Sleb128>`, `Zeros`, or a struct of any size or an enum of FILE without numbers in LEB128, whose error is that of the library or the same. In a comment before it may stand
 #
 #     // #[scroll(ctx = len as usize)]     how many bytes a slice has, or zeros: a sum of earlier fields, each of which may be
 #                                          times a number, as in `count as usize * 18`, and of a number; for a text within
@@ -30,11 +30,17 @@
 #     // #[scroll(is = 0x04034b50)]        the constant that a number has to be; with `, else = ZipError::BadSignature` behind it,
 #                                          another number is the error of that variant, which holds it
 #
+#     // #[scroll(if = form == 0x21)]     of an Option: that it is there just where an earlier unsigned number is this one
+#
 # In a comment before the struct may stand the type of its errors, which otherwise is scroll::Error:
 #
 #     // #[scroll(error = ZipError::Short)] a variant of an enum of the crate, which holds an error of the library; its
 #                                          `From<Error>` has `ghost from_gives = { λ error e. e ≡ Short error }`
 #     // #[scroll(error = SmallError)]
+#
+# and what ends a list of it, `Until<'a, Entry>` or `append_until`: a zero in LEB128, or two of them
+#
+#     // #[scroll(ends = zero_size)]       with an error: `error = .., ends = two_zeros_size`
 #
 # An enum is a number and then the value of the variant that it says: a struct of any size, a number, a struct of a fixed size, or
 # none. Before it stands
@@ -44,11 +50,11 @@
 #
 # and before each variant `// #[scroll(is = 1)]`, its number.
 #
-# A struct of any size and an enum get TryFromCtx and TryIntoCtx; and for `append` Encode, which a struct has by InParts, and
-# Checked where values may not agree, but no struct with numbers in LEB128. A struct of any size without those, arrays, structs and
-# enums also gets Kept, for `write_kept`. They derive Copy. What --specs prints is its specs/STRUCTFormat.antt, and what --back
-# prints is its specs/STRUCTBack.antt: that what was written reads back, and, where each field is a number that is no float, a struct
-# of such, a slice, a text or a table, that what was read is written back.
+# A struct of any size and an enum get TryFromCtx and TryIntoCtx, and Ends with `ends`; and for `append` Encode, which a struct has by
+# InParts, and Checked where values may not agree, but no struct with numbers in LEB128. A struct of any size without those, arrays,
+# structs and enums also gets Kept, for `write_kept`. They derive Copy. What --specs prints is its specs/STRUCTFormat.antt, and what
+# --back prints is its specs/STRUCTBack.antt: that what was written reads back, and, where each field is a number that is no float, a
+# struct of such, a slice, a text or a table, that what was read is written back.
 #
 # The first lines printed are the `use` lines that the rest needs, followed by the blocks in the layout of `rt fmt`. They are
 # proved with no proof file.

@@ -28,6 +28,7 @@ from format_words import (
 from format_whole import whole_lines
 from kinds import Array, Number, Struct, Type, width_of
 from layout import Tree, label, nested
+from optional import leb_fit, leb_word
 from parts import Format, Part, snake, width
 
 MODULES = [
@@ -46,6 +47,8 @@ MODULES = [
     ("Rattle.scroll.specs.CStrings", ["ReadsCString"]),
     ("Rattle.scroll.specs.Encoding", ["HasEncoding", "HasSignedEncoding", "unsigned_form", "uleb_text", "sleb_text"]),
     ("Rattle.scroll.specs.Fixed", ["exactly"]),
+    ("Rattle.std.specs.Prelude", ["⊤", "◌==◌", "is_some", "MatchOption"]),
+    ("Rattle.scroll.specs.Lists", ["zero_size", "two_zeros_size", "ReadsUntil", "ReadsOptional", "optional_bytes"]),
     ("Rattle.scroll.specs.Numbers", ["float", "float_bytes", "ReadsFloat", "number", "number_bytes", "signed_number", "signed_bytes", "ReadsNumber", "ReadsSigned"]),
     ("Rattle.scroll.specs.Reads", ["ReadsAll"]),
     ("Rattle.scroll.specs.Leb128", ["ReadsCountedUleb", "ReadsCountedSleb"]),
@@ -63,7 +66,8 @@ MODULES = [
     (
         "Rattle.scroll.proofs.lemmas.callers.Sequences",
         ["Rest", "rest-start", "rest-next", "rest-first", "rest-open", "rest-last", "rest-before", "rest-makes", "rest-reads", "fixed-begins", "array-begins"]
-        + ["slice-begins", "text-begins", "uleb-begins", "sleb-begins", "c_string-begins", "required-begins", "zeros-begin"],
+        + ["slice-begins", "text-begins", "uleb-begins", "sleb-begins", "c_string-begins", "required-begins", "zeros-begin"]
+        + ["optional-begins", "optional-inside", "uleb-text-begins", "sleb-text-begins", "uleb-inside", "sleb-inside"],
     ),
 ]
 
@@ -90,7 +94,12 @@ def fit_of(part: Part) -> str:
     if part.inner:
         return f"Fits{part.inner.name} {value}" if part.inner.fits else ""
     if part.kind == "leb":
-        return f"Has{'Signed' if part.type == 'Sleb128' else ''}Encoding {value}.value {value}.count"
+        return leb_fit(part.type, value)
+    if part.condition:
+        return f"MatchOption {value} ⊤ (λ v. {leb_fit(part.type, 'v')})"
+    if part.listed:
+        bytes = f"{value}.bytes.now"
+        return f"(order : Endian) (rest : List ℕ) → {part.listed.reads[1:-1]} ({bytes} ++ rest) {bytes} (length {bytes})"
     if part.kind == "c_string":
         return f"All (λ b. b ≢ 0) (c_str_bytes {value})"
     return f"IsUtf8 {value}.now" if part.kind in ("text", "delimited") else ""
@@ -133,7 +142,7 @@ def length_of(part: Part) -> str:
     value = f"x.{part.label}"
     if part.fixed:
         return f"({fixed_length(part.fixed, value)})"
-    if part.inner:
+    if part.inner or part.condition or part.listed:
         return "refl"
     if part.kind == "leb":
         text = f"{value}.value" if part.type == "Uleb128" else f"(unsigned_form {value}.value {value}.count)"
@@ -162,6 +171,13 @@ def reads_back(form: Format, part: Part, names: Dict[str, str], size: str) -> st
         return f"(λ r. {' '.join([f'{part.inner.snake}-back order {value} r', *given])})"
     if part.kind == "leb":
         return f"({part.type[0].lower()}leb-begins {value} {fit})"
+    if part.condition:
+        word = leb_word(part.type)
+        there = part.condition.in_clause({part.condition.field: f"x.{label(part.condition.field)}"})
+        given = f"{value} {there} agrees.{member(part)} {fit}"
+        return f"(optional-begins {word}leb_text ReadsCounted{word.upper()}leb (λ v. {leb_fit(part.type, 'v')}) {word}leb-text-begins {given})"
+    if part.listed:
+        return f"({fit} order)"
     if part.kind == "c_string":
         return f"(λ r. c_string-begins (c_str_bytes {value}) r {fit})"
     if part.delimiter:
@@ -188,6 +204,10 @@ def ended_size(part: Part, at: str) -> str:
         return counted(part, {}, at)[1:-1]
     if part.delimiter:
         return f"length x.{part.label}.now + 1"
+    if part.condition:
+        return f"length (optional_bytes {leb_word(part.type)}leb_text x.{part.label})"
+    if part.listed:
+        return f"length {value_in(part)}"
     return f"x.{part.label}.count" if part.kind == "leb" else f"length (c_str_bytes x.{part.label}) + 1"
 
 
@@ -331,6 +351,7 @@ def bounded(form: Format) -> List[str]:
         here = f"h.{member(part)}"
         ends = {
             "leb": [f"{here}.value.0.complete.0", f"{here}.value.0.size"],
+            "optional": [f"optional-inside {leb_word(part.type)}leb-inside _ _ _ _ {here}.value"],
             "c_string": [f"{here}.value.found", f"{here}.value.size"],
             "delimited": [f"{here}.value.there", f"{here}.value.size"],
             "inner": [f"{part.inner.snake}-bounded order (drop {argument(at)} s) x.{part.label} h.{part.name}-size {here}.value"] if part.inner else [],
@@ -340,6 +361,19 @@ def bounded(form: Format) -> List[str]:
         "-- its bytes are in the source",
         f"pub {form.snake}-bounded : (order : Endian) (s : List ℕ) (x : {form.name}) (n : ℕ) → Reads{form.name} order s x n → n ≤ length s + 1",
         f"{form.snake}-bounded order s x n h = omega (arith, {', '.join(facts)})",
+        "",
+        *(some(form) if form.mark else []),
+    ]
+
+
+def some(form: Format) -> List[str]:
+    """Returns the lemma that it has at least one byte."""
+    first = form.parts[0]
+    facts = ["h.whole", *([f"h.{member(first)}.value.0.size"] if first.kind == "leb" else [])]
+    return [
+        "-- it has at least one byte",
+        f"pub {form.snake}-some : (order : Endian) (s : List ℕ) (x : {form.name}) (n : ℕ) → Reads{form.name} order s x n → 1 ≤ n",
+        f"{form.snake}-some order s x n h = omega (arith, {', '.join(facts)})",
         "",
     ]
 

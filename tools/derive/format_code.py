@@ -66,6 +66,11 @@ def below_test(form: Format, part: Part, names: Dict[str, str]) -> List[str]:
     return [f"        if {part.count.less.in_code(names)} > {whole.in_code(names)} {{", *refused, "        }"]
 
 
+def other_there(part: Part) -> str:
+    assert part.condition
+    return f"{part.name} is not there just where {part.condition.field} is {part.condition.number}"
+
+
 def as_usize(part: Part, value: str) -> str:
     return value if part.type == "usize" else f"{value} as usize"
 
@@ -85,7 +90,9 @@ def context_of(form: Format, part: Part) -> str:
     if part.count:
         count = part.count.in_code(names)
         return f"StrCtx::Length({count})" if part.kind == "text" else count
-    return "ctx" if part.fixed or part.inner else "()"
+    if part.condition:
+        return f"When({part.name}_there, ())"
+    return "ctx" if part.fixed or part.inner or part.listed else "()"
 
 
 def read_lines(form: Format) -> List[str]:
@@ -93,6 +100,7 @@ def read_lines(form: Format) -> List[str]:
     names = locals_of(form)
     cursor = cursor_of(form)
     counters = {name for part in form.parts if part.count for name in part.count.fields}
+    counters |= {part.condition.field for part in form.parts if part.condition}
     lines: List[str] = [f"        check_room({form.room}, from.len())?;"] if form.head else []
     values: Dict[str, str] = {}
     for part, at in zip(form.head, offsets(form.head)):
@@ -107,6 +115,8 @@ def read_lines(form: Format) -> List[str]:
         values[part.name] = names[part.name]
         if part.count and part.is_padding:
             lines.append(f"        let {part.name}_len = padding({cursor}, {part.count.multiple});")
+        if part.condition:
+            lines.append(f"        let {part.name}_there = {part.condition.in_code(names)};")
         call = f"read_fixed(from, &mut {cursor}, ctx)" if isinstance(part.fixed, Array) else f"from.gread_with(&mut {cursor}, {context_of(form, part)})"
         type = part.type
         if part.kind == "table":
@@ -135,7 +145,7 @@ def broken(head: str, call: str) -> List[str]:
 def is_taken(form: Format, part: Part) -> bool:
     """Returns whether a field gets a variable before it is written. (The borrow checker's part of a proof doesn't cover an array
     that is stored straight, nor a number in LEB128 in a tuple.)"""
-    return isinstance(part.fixed, Array) or (form.has_leb and part.kind == "leb")
+    return isinstance(part.fixed, Array) or part.kind in ("leb", "optional")
 
 
 def encoded(part: Part, names: Dict[str, str]) -> str:
@@ -143,7 +153,7 @@ def encoded(part: Part, names: Dict[str, str]) -> str:
     if part.kind == "zeros":
         assert part.count
         return f"Gap({part.count.in_code(names)})"
-    if part.kind == "table":
+    if part.kind in ("table", "until"):
         return f"{names[part.name]}.bytes"
     if part.delimiter:
         return f"Delimited({names[part.name]}, {part.delimiter})"
@@ -158,8 +168,8 @@ def encoded_type(part: Part) -> str:
         return "Gap"
     if part.delimiter:
         return part.type.replace("&", "Delimited<").replace(" str", ">")
-    if part.kind == "table":
-        return part.type.replace("Table<", "&").split(",")[0] + " [u8]"
+    if part.kind in ("table", "until"):
+        return "&" + part.type.split("<")[1].split(",")[0] + " [u8]"
     return f"Value<{part.type}>" if part.fixed else part.type
 
 
@@ -204,7 +214,7 @@ def encode_lines(form: Format) -> List[str]:
             lines += parts_lines(codes)
             codes = [f"Padded({codes[0] if len(codes) == 1 else 'parts'}, {part.count.multiple})"]
         else:
-            taken = f"&{part.name}" if part.kind == "leb" else part.name
+            taken = f"&{part.name}" if part.kind in ("leb", "optional") else part.name
             codes.append(taken if is_taken(form, part) else encoded(part, names))
     whole = [*lines, *(parts_lines(codes) or [f"        let parts = {codes[0]};"])]
     # The last tuple is what is returned.
@@ -224,6 +234,9 @@ def check_lines(form: Format) -> List[str]:
             value = names[part.name]
             test = f"        if {value}.as_bytes().contains(&{part.delimiter}) {{"
             lines += [test, *refusal(form, f"{value}.len()", other_text(part), 12), "        }"]
+        if part.condition:
+            there = f"{names[part.name]}.is_some() != ({part.condition.in_code(names)})"
+            lines += [f"        if {there} {{", *refusal(form, "0", other_there(part), 12), "        }"]
         if part.is_counted:
             assert part.count
             length = f"{names[part.name]}{'.bytes' if part.kind == 'table' else ''}.len()"
@@ -273,10 +286,35 @@ def read_block(form: Format) -> List[str]:
         "",
         f"    ghost reads_bounded = {{ {form.snake}-bounded }};",
         "",
+        *(["    #[inline(always)]"] if form.mark else []),
         *signature("try_from_ctx", [f"from: &{lifetime} [u8]", "ctx: Endian"], result_of(form, f"({form.type}, usize)")),
         *read_lines(form),
         "    }",
         "}",
+    ]
+
+
+def ends_block(form: Format) -> List[str]:
+    """Returns the implementation of `Ends` for the values of a list."""
+    if not form.mark:
+        return []
+    lifetime = form.lifetime or "'a"
+    return [
+        f"impl<{lifetime}> Ends<{lifetime}, Endian> for {form.type} {{",
+        f"    ghost mark = {{ {form.mark} }};",
+        "",
+        f"    ghost mark_inside = {{ {form.mark}-inside }};",
+        "",
+        f"    ghost reads_some = {{ {form.snake}-some }};",
+        "",
+        "    #[inline(always)]",
+        "    fn mark_size(from: &[u8]) -> Option<usize>",
+        f"        ensures {{ result ≡ {form.mark} from.now }}",
+        "    {",
+        f"        {form.mark}(from)",
+        "    }",
+        "}",
+        "",
     ]
 
 
@@ -313,8 +351,14 @@ def check_block(form: Format) -> List[str]:
 
 
 def apart_lines(form: Format) -> List[str]:
-    """Returns the body of the write of a struct that can't be passed whole."""
+    """Returns the body of the write of a struct that can't be passed whole. (The borrow checker's part of a proof doesn't cover a
+    list in it either, and so it is taken apart.)"""
     lines = encode_lines(form)
+    if any(part.listed for part in form.parts):
+        taken = [f"        let {part.name} = self.{part.name};" for part in form.parts if is_taken(form, part)]
+        apart = struct_lines(form.name, [(part.name, part.name) for part in form.parts], False, 8)
+        apart = ["        let " + apart[0].strip(), *apart[1:]]
+        lines = [*apart[:-1], f"{apart[-1]} = self;", *(it.replace("self.", "") for it in lines if it not in taken)]
     start = max(index for index, line in enumerate(lines) if re.match(r" {8}\S", line) and not line.startswith("        )"))
     lines[start] = f"        let parts = {lines[start].strip()}"
     lines[-1] += ";"
@@ -394,7 +438,7 @@ def error_name(form: Format) -> str:
 def format_blocks(form: Format) -> str:
     """Returns the implementations."""
     parts = [] if form.has_leb else [*parts_block(form), *(check_block(form) if form.has_own else []), ""]
-    return "\n".join([*read_block(form), "", *parts, *write_block(form), *(kept_block(form) if is_kept(form) else [])])
+    return "\n".join([*read_block(form), "", *ends_block(form), *parts, *write_block(form), *(kept_block(form) if is_kept(form) else [])])
 
 
 def format_uses(form: Format) -> List[str]:
@@ -402,13 +446,14 @@ def format_uses(form: Format) -> List[str]:
     name, snake = form.name, form.snake
     block = format_blocks(form)
     ghosts = [f"{it}{name}" for it in ("Reads", "Refuses", "Agrees", "Differs", "Writes", "Keeps") if f"{it}{name} " in block]
-    frames = [it for it in ("WritesPrefix-keeps", "WritesPrefix-back") if it in block]
-    backs = [it for it in (f"Fits{name}", f"{snake}-bounded", f"{snake}-back") if it in block]
+    frames = [it for it in ("WritesPrefix-keeps", "WritesPrefix-back", f"{form.mark}-inside") if it in block]
+    backs = [it for it in (f"Fits{name}", f"{snake}-bounded", f"{snake}-back", f"{snake}-some") if it in block]
     words = set(re.findall(r"\w+", block))
-    known = ("Checked", "Delimited", "Encode", "Gap", "InParts", "Kept", "Padded", "StrCtx", "Table", "TryFromCtx", "TryIntoCtx", "Value", "Zeros", "padding", "read_fixed")
+    known = ("Checked", "Delimited", "Encode", "Gap", "InParts", "Kept", "Padded", "StrCtx", "Table", "TryFromCtx", "TryIntoCtx")
+    known += ("Until", "Value", "When", "Zeros", "padding", "read_fixed")
     contexts = [it for it in known if it in words or it == "Encode" or (it == "Checked" and ".check()" in block)]
     calls = {"Cread": "cread_with", "Pread": "gread_with"}
-    ours = ("Cread", "Endian", "Error", "Pread", "Result", "Sleb128", "Uleb128", "check_room")
+    ours = ("Cread", "Endian", "Ends", "Error", "Pread", "Result", "Sleb128", "Uleb128", "check_room", "two_zeros_size", "zero_size")
     ours = [it for it in ours if calls.get(it, it) in words and not (it == "Result" and form.error)]
     if form.error and not re.search(r"\bError::", block):
         ours.remove("Error")
@@ -418,6 +463,7 @@ def format_uses(form: Format) -> List[str]:
         *(["ghost use Rattle.std.specs.Prelude.{⊤};"] if "⊤" in block else []),
         "ghost use Rattle.std.proofs.Common.{rules};",
         f"ghost use Rattle.scroll.specs.lemmas.Frames.{{{', '.join(frames)}}};",
+        *([f"ghost use Rattle.scroll.specs.Lists.{{{form.mark}}};"] if form.mark else []),
         f"ghost use Rattle.{form.crate}.specs.{name}Back.{{{', '.join(backs)}}};",
         f"ghost use Rattle.{form.crate}.specs.{name}Format.{{{', '.join(ghosts)}, {snake}_bytes}};",
         "",

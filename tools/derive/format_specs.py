@@ -6,7 +6,7 @@ from dataclasses import replace
 from typing import Dict, List, Tuple
 
 from fixed import made
-from format_code import below_count, error_name, other_constant, other_count, other_text
+from format_code import below_count, error_name, other_constant, other_count, other_text, other_there
 from format_words import (
     MODULES,
     before,
@@ -111,6 +111,7 @@ def refusal_records(form: Format) -> List[List[str]]:
     at = str(form.room)
     for part, follows in zip(form.tail, [*form.tail[1:], None]):
         ends = part.inner is not None or (follows is not None and follows.inner is not None and part.kind != "zeros")
+        ends = ends or (form.has_leb and part.kind != "zeros" and any(it.is_own_error for it in form.tail))
         name = f"Refuses{form.name}{camel(part.name)}"
         if part.less:
             records.append(below_record(form, part, before, names))
@@ -278,6 +279,8 @@ def agreement(form: Format, part: Part) -> str:
     names = fields_in(form)
     if part.constant:
         return f"{names[part.name]} {{}} {part.constant}"
+    if part.condition:
+        return f"is_some {names[part.name]} {{}} {part.condition.in_clause(names)}"
     assert part.count
     less = f"{part.less.in_clause(names)} + " if part.less else ""
     return f"{part.count.whole.in_clause(names)} {{}} {less}length {value_in(part)}"
@@ -319,8 +322,8 @@ def differs(form: Format) -> List[str]:
 
 def differs_record(form: Format, part: Part) -> List[str]:
     """Returns a record for a constant or a count that doesn't agree."""
-    value = f"x.{part.label}" if part.constant else f"(length {value_in(part)})"
-    message = other_text(part) if part.delimiter else other_constant(part) if part.constant else other_count(part)
+    value = f"x.{part.label}" if part.constant else "0" if part.condition else f"(length {value_in(part)})"
+    message = other_text(part) if part.delimiter else other_constant(part) if part.constant else other_there(part) if part.condition else other_count(part)
     other = f"¬ ({agrees(form, part)})" if part.delimiter else agreement(form, part).format("≢")
     return [
         f"-- `{part.name}` doesn't agree",

@@ -8,7 +8,8 @@ from typing import Dict, List, Optional, Sequence, Set, Tuple
 from fixed import made
 from kinds import Array, Number, Struct, Type, width_of
 from layout import Tree, label, nested
-from parts import Format, Part, width
+from optional import leb_type, leb_word
+from parts import Format, Part, snake, width
 from source import OwnError, closing
 
 # The names that the records below have already.
@@ -20,7 +21,7 @@ TAKEN = {
 MODULES = [
     (
         "Rattle.std.specs.Prelude",
-        ["◌≡◌", "◌≢◌", "◌≤◌", "◌<◌", "◌+◌", "◌-◌", "◌*◌", "◌^◌", "◌++◌", "[]", "◌∷◌", "◌⊎◌", "ℕ", "ℤ", "List", "length", "drop", "min", "codes", "⊤"],
+        ["◌≡◌", "◌≢◌", "◌≤◌", "◌<◌", "◌+◌", "◌-◌", "◌*◌", "◌^◌", "◌++◌", "[]", "◌∷◌", "◌⊎◌", "◌==◌", "ℕ", "ℤ", "List", "Option", "length", "drop", "min", "is_some", "codes", "⊤"],
     ),
     ("Rattle.std.specs.CStr", ["c_str_bytes"]),
     ("Rattle.std.specs.Float", ["Float", "binary32", "binary64"]),
@@ -34,6 +35,7 @@ MODULES = [
     ("Rattle.scroll.specs.Numbers", ["float", "float_bytes", "ReadsFloat"]),
     ("Rattle.scroll.specs.Leb128", ["Counted", "ReadsCountedUleb", "ReadsCountedSleb", "RefusesUleb", "RefusesSleb"]),
     ("Rattle.scroll.specs.Encoding", ["uleb_text", "sleb_text"]),
+    ("Rattle.scroll.specs.Lists", ["zero_size", "two_zeros_size", "ReadsUntil", "RefusesUntil", "ReadsOptional", "RefusesOptional", "optional_bytes"]),
     ("Rattle.scroll.specs.Texts", ["ReadsSlice", "ReadsText", "RefusesText"]),
     ("Rattle.scroll.specs.Tagged", ["ReadsTag", "ReadsTagged", "RefusesTagged", "WritesTagged", "FailsTagged"]),
     ("Rattle.scroll.specs.Zeros", ["padding_len", "zeros", "ReadsZeros", "RefusesZeros"]),
@@ -113,14 +115,16 @@ def bytes_of(form: Format, part: Part, names: Dict[str, str]) -> str:
     if part.inner:
         return f"{part.inner.snake}_bytes order {value}"
     if part.kind == "leb":
-        return f"{part.type[0].lower()}leb_text {value}"
+        return f"{leb_word(part.type)}leb_text {value}"
+    if part.condition:
+        return f"optional_bytes {leb_word(part.type)}leb_text {value}"
     if part.kind == "c_string":
         return f"c_str_bytes {value} ++ 0 ∷ []"
     if part.kind == "zeros":
         return f"zeros {counted(part, names, '')}"
     if part.delimiter:
         return f"{value}.now ++ {part.delimiter} ∷ []"
-    return f"{value}{'.bytes' if part.kind == 'table' else ''}.now"
+    return f"{value}{'.bytes' if part.kind in ('table', 'until') else ''}.now"
 
 
 def before(form: Format, part: Part) -> str:
@@ -148,6 +152,10 @@ def reads_of(part: Part, names: Dict[str, str], at: str) -> str:
         return f"(Reads{part.inner.name} order)"
     if part.kind == "leb":
         return f"ReadsCounted{part.type[0]}leb"
+    if part.condition:
+        return f"(ReadsOptional {part.condition.in_clause(names)} ReadsCounted{leb_word(part.type).upper()}leb)"
+    if part.listed:
+        return part.listed.reads
     if part.kind == "c_string":
         return "ReadsCString"
     if part.kind == "zeros":
@@ -164,6 +172,10 @@ def refuses_of(part: Part, names: Dict[str, str], at: str) -> str:
         return f"(Refuses{part.inner.name} order)"
     if part.kind == "leb":
         return f"Refuses{part.type[0]}leb"
+    if part.condition:
+        return f"(RefusesOptional {part.condition.in_clause(names)} Refuses{leb_word(part.type).upper()}leb)"
+    if part.listed:
+        return part.listed.refuses
     if part.kind == "c_string":
         return "RefusesCString"
     if part.kind == "zeros":
@@ -180,7 +192,9 @@ def type_of(part: Part) -> str:
     if part.inner:
         return part.inner.name
     if part.kind == "leb":
-        return "Counted ℤ" if part.type == "Sleb128" else "Counted ℕ"
+        return leb_type(part.type)
+    if part.condition:
+        return f"Option ({leb_type(part.type)})"
     return "List ℕ"
 
 
@@ -221,14 +235,15 @@ def inner_uses(form: Format, text: str) -> List[str]:
     """Returns the `use` lines for the definitions and lemmas of the structs of any size and the enums that are fields."""
     words = set(re.findall(r"[\w-]+", text))
     lines: List[str] = []
-    for inner in dict.fromkeys(part.inner for part in form.parts if part.inner):
+    held = [(part.inner or part.listed).name for part in form.parts if part.inner or part.listed]
+    for name in dict.fromkeys(held):
         files = {
-            "Format": [f"{it}{inner.name}" for it in ("Reads", "Refuses", "Agrees", "Differs")] + [f"{inner.snake}_bytes"],
-            "Back": [f"{inner.snake}-bounded", f"Fits{inner.name}", f"{inner.snake}-back"],
+            "Format": [f"{it}{name}" for it in ("Reads", "Refuses", "Agrees", "Differs")] + [f"{snake(name)}_bytes"],
+            "Back": [f"{snake(name)}-bounded", f"Fits{name}", f"{snake(name)}-back"],
         }
         for file, names in files.items():
             used = [it for it in names if it in words]
-            lines += [f"use Rattle.{form.crate}.specs.{inner.name}{file}.{{{', '.join(used)}}}"] if used else []
+            lines += [f"use Rattle.{form.crate}.specs.{name}{file}.{{{', '.join(used)}}}"] if used else []
     return lines
 
 
@@ -244,8 +259,8 @@ def value_in(part: Part) -> str:
     value = f"x.{part.label}"
     if part.kind == "c_string":
         return f"(c_str_bytes {value})"
-    value = f"{value}.bytes" if part.kind == "table" else value
-    return f"{value}.now" if part.is_counted or part.delimiter else value
+    value = f"{value}.bytes" if part.kind in ("table", "until") else value
+    return f"{value}.now" if part.is_counted or part.listed or part.delimiter else value
 
 
 def size_in(part: Part, names: Dict[str, str]) -> str:

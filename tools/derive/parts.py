@@ -10,6 +10,7 @@ from typing import Dict, List, Optional, Sequence, Tuple
 from counts import Count, is_counter, read_count
 from kinds import Array, Type, kind_of, read_type, width_of
 from layout import label
+from optional import CONDITION, MARKS, Condition, Listed
 from source import OwnError, RawField, RawStruct, Source, module_of, read_error, split_top
 
 CONSTANT = re.compile(r"(?:0x[0-9a-fA-F_]+|\d[\d_]*)")
@@ -20,7 +21,7 @@ def snake(name: str) -> str:
 
 
 # The types of fields that say by themselves where they end, and the kind of each.
-ENDED = {"Uleb128": "leb", "Sleb128": "leb", "CStr": "c_string"}
+ENDED = {"Uleb128": "leb", "Sleb128": "leb", "CStr": "c_string", "Option<Uleb128>": "optional", "Option<Sleb128>": "optional"}
 
 
 @dataclass(frozen=True)
@@ -40,9 +41,9 @@ class Inner:
 
 @dataclass(frozen=True)
 class Part:
-    """A field. `kind` is fixed, slice, text, delimited, table, zeros, leb, c_string or inner. One of a fixed size has its type in
-    `fixed`, and a number may have to be a constant; another number is an error of the variant `other`, if it is named. So is with
-    `below` a count that subtracts more than there is. A text may end before its `delimiter`."""
+    """A field. `kind` is fixed, slice, text, delimited, table, zeros, leb, optional, until, c_string or inner. One of a fixed size has
+    its type in `fixed`, and a number may have to be a constant; another number is an error of the variant `other`, if it is named. So
+    is with `below` a count that subtracts more than there is. A text may end before its `delimiter`."""
 
     name: str
     type: str
@@ -54,6 +55,9 @@ class Part:
     inner: Optional[Inner] = None
     below: str = ""
     delimiter: str = ""
+    condition: Optional[Condition] = None
+    listed: Optional[Listed] = None
+    is_own: bool = False
 
     @property
     def label(self) -> str:
@@ -62,7 +66,7 @@ class Part:
     @property
     def is_ended(self) -> bool:
         """Returns whether the field says where it ends, so that no earlier field does."""
-        return self.kind in ("leb", "c_string", "delimited", "inner") or self.is_padding
+        return self.kind in ("leb", "optional", "until", "c_string", "delimited", "inner") or self.is_padding
 
     @property
     def is_padding(self) -> bool:
@@ -82,17 +86,19 @@ class Part:
     @property
     def has_own(self) -> bool:
         """Returns whether a value of the field may not agree with what the format says of it."""
-        return self.constant != "" or self.delimiter != "" or self.is_counted or (self.inner is not None and self.inner.agrees)
+        is_tested = self.constant != "" or self.delimiter != "" or self.condition is not None
+        return is_tested or self.is_counted or (self.inner is not None and self.inner.agrees)
 
     @property
     def has_fit(self) -> bool:
         """Returns whether the field's type has values that a field can't hold."""
-        return self.kind in ("fixed", "leb", "c_string", "text", "delimited") or (self.inner is not None and self.inner.fits)
+        found = ("fixed", "leb", "optional", "until", "c_string", "text", "delimited")
+        return self.kind in found or (self.inner is not None and self.inner.fits)
 
     @property
     def is_own_error(self) -> bool:
         """Returns whether the calls for the field return the struct's own error."""
-        return self.inner is not None and self.inner.error is not None
+        return self.is_own or (self.inner is not None and self.inner.error is not None)
 
 
 @dataclass(frozen=True)
@@ -105,6 +111,7 @@ class Format:
     module: Tuple[str, ...]
     parts: Tuple[Part, ...]
     error: Optional[OwnError] = None
+    mark: str = ""
 
     @property
     def type(self) -> str:
@@ -127,7 +134,7 @@ class Format:
     def has_leb(self) -> bool:
         """Returns whether it holds a number in LEB128. (The borrow checker's part of a proof doesn't cover a call that takes such a
         struct whole.)"""
-        return any(part.kind == "leb" for part in self.parts)
+        return any(part.kind in ("leb", "optional") for part in self.parts)
 
     @property
     def head(self) -> Tuple[Part, ...]:
@@ -211,13 +218,38 @@ def read_format(source: Source, raw: RawStruct, outer: Tuple[str, ...] = ()) -> 
     if raw.is_tuple:
         source.refuse(raw.place, f"the struct {raw.name} has fields without names")
     crate, module = crate_of(source, raw)
-    notes = read_head(source, raw, ("error",))
+    notes = read_head(source, raw, ("error", "ends"))
     error = read_error(source, raw, notes["error"]) if "error" in notes else None
+    mark = notes.get("ends", "")
+    if mark and mark not in MARKS:
+        source.refuse(raw.place, f"the end {mark} of a list of {raw.name} is none of {', '.join(MARKS)}")
     parts: List[Part] = []
     for field in raw.fields:
         inner = read_inner(source, raw, field, error, (*outer, raw.name))
         parts.append(Part(field.name, field.type, "inner", inner=inner) if inner else read_part(source, raw, field, parts, error))
-    return Format(raw.name, raw.lifetime, crate, module, tuple(parts), error)
+    if mark and not (parts[0].fixed or parts[0].kind == "leb"):
+        source.refuse(raw.place, f"the struct {raw.name} is in a list, and begins with no number")
+    return Format(raw.name, raw.lifetime, crate, module, tuple(parts), error, mark)
+
+
+def read_until(source: Source, raw: RawStruct, field: RawField, error: Optional[OwnError], name: str) -> Part:
+    """Returns a field that is a list up to a mark."""
+    if not source.has_struct(name) or name == raw.name:
+        source.refuse(field.place, f"the field {field.name} is a list of {name}, which is no other struct of this file")
+    form = read_format(source, source.find_struct(name), (raw.name,))
+    if not form.mark or form.error != error or (error and not error.variant):
+        source.refuse(field.place, f"the field {field.name} is a list of {name}, which has no `ends = ..` before it, or another error")
+    gives = f"(λ error e. e ≡ {error.variant} error)" if error else "(λ error e. e ≡ error)"
+    return Part(field.name, field.type, "until", listed=Listed(name, form.mark, gives), is_own=error is not None)
+
+
+def read_condition(source: Source, field: RawField, text: str, before: Sequence[Part]) -> Condition:
+    """Returns when an optional field is there."""
+    found = CONDITION.fullmatch(text)
+    part = next((it for it in before if found and it.name == found[1]), None)
+    if not found or not part or not (part.type == "Uleb128" or is_counter(part.fixed)):
+        source.refuse(field.place, f"the condition {text} of the field {field.name} is no `FIELD == NUMBER` of an earlier unsigned number")
+    return Condition(found[1], found[2], part.type == "Uleb128")
 
 
 def crate_of(source: Source, raw: RawStruct) -> Tuple[str, Tuple[str, ...]]:
@@ -264,7 +296,14 @@ def read_part(
         element = width_of(read_type(source, field, table[1], (raw.name,)))
         count = read_count(source, raw, field, notes, before, element)
         return Part(field.name, field.type, "table", count=count, below=read_below(source, field, notes, count, error, element))
+    until = re.fullmatch(r"Until<'\w+, (\w+)(?:<'\w+>)?>", field.type)
+    if until and not notes:
+        return read_until(source, raw, field, error, until[1])
     ended = ENDED.get(name_of(raw, field))
+    if ended == "optional" and "if" in notes:
+        return Part(field.name, field.type, ended, condition=read_condition(source, field, notes["if"], before))
+    if ended == "optional":
+        source.refuse(field.place, f"the field {field.name} has no `if = ..`, which says when it is there")
     if kind or ended:
         if notes:
             source.refuse(field.place, f"the field {field.name} has the note {next(iter(notes))}, which its type {field.type} doesn't take")
@@ -285,9 +324,9 @@ def read_notes(source: Source, field: RawField) -> Dict[str, str]:
     notes: Dict[str, str] = {}
     for note in field.notes:
         for key, value in pairs_of(note):
-            is_known = not notes if key in ("ctx", "is") else key == "else" and len(notes) == 1
+            is_known = not notes if key in ("ctx", "is", "if") else key == "else" and len(notes) == 1 and "if" not in notes
             if not is_known or not value:
-                message = "and one `ctx = ..` or `is = ..`, each with `else = ..`, is known"
+                message = "and one `ctx = ..`, `if = ..`, or `is = ..`, each with `else = ..`, is known"
                 source.refuse(field.place, f"the field {field.name} has the note {note}, {message}")
             notes[key] = value
     return notes

@@ -15,7 +15,7 @@ from variants import Choice, Variant, bytes_of, choice_imports, fit, has_own, me
 
 MODULES = [
     ("Rattle.std.specs.Prelude", ["⊤"]),
-    *BACK_MODULES,
+    *(it for it in BACK_MODULES if it[0] != "Rattle.std.specs.Prelude"),
     ("Rattle.scroll.specs.Bytes", ["WritesPrefix"]),
     ("Rattle.scroll.specs.lemmas.Frames", ["WritesPrefix-keeps"]),
     ("Rattle.scroll.proofs.lemmas.callers.TaggedLemmas", ["tagged-wrote", "tag-back", "tagged-back"]),

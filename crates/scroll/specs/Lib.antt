@@ -23,6 +23,7 @@ pub mod History
 pub mod Streams
 pub mod Tagged
 pub mod Leb128
+pub mod Lists
 pub mod Encoding
 pub mod Many
 pub mod Runs

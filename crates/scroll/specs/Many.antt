@@ -44,30 +44,6 @@ pub record RefusesToEnd {V E : Type 0} (reads : List ℕ → V → ℕ → Type 
   pub error : RefusesAt refuses (PastEnd gives) buffer stop e ⊎ gives NoMemory e
       ⊎ RefusesSize reads gives buffer stop e
 
--- values of which none is the last of a list are read one after another between two offsets, and
--- appended to `old`
-pub record AppendsMore {V : Type 0} (reads : List ℕ → V → ℕ → Type 0) (last : V → Type 0)
-    (buffer : List ℕ) (from to : ℕ) (old new : List V) : Type 0 where
-  pub values : List V
-  pub each : ReadsAll reads buffer from values to
-  pub more : All (λ x. ¬ last x) values
-  pub appended : new ≡ old ++ values
-
--- such values, and the last of a list after them
-pub record AppendsUntil {V : Type 0} (reads : List ℕ → V → ℕ → Type 0) (last : V → Type 0)
-    (buffer : List ℕ) (from to : ℕ) (old new : List V) (v : V) : Type 0 where
-  pub mid : ℕ
-  pub before : AppendsMore reads last buffer from mid old new
-  pub value : ReadsBetween reads buffer mid to v
-  pub is : last v
-
--- such values, and the next, at the offset `stop`, fails with `e`, or there is no memory for it
-pub record RefusesUntil {V E : Type 0} (reads : List ℕ → V → ℕ → Type 0) (last : V → Type 0)
-    (refuses : List ℕ → E → Type 0) (gives : Error → E → Type 0) (buffer : List ℕ) (from : ℕ)
-    (old new : List V) (stop : ℕ) (e : E) : Type 0 where
-  pub before : AppendsMore reads last buffer from stop old new
-  pub error : RefusesAt refuses (PastEnd gives) buffer stop e ⊎ gives NoMemory e
-
 -- a write of the values `all` stops at the error `e`: those before some value are written one after
 -- another from the offset `from`, and the write of that one, at the offset `stop`, fails with `e`
 -- and leaves `new`

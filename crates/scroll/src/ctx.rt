@@ -40,11 +40,13 @@ mod encode;
 mod fixed;
 mod measure;
 mod numbers;
+mod optional;
 mod std_c_strings;
 mod str_ctx;
 mod table;
 mod text;
 mod tuples;
+mod until;
 mod zeros;
 
 pub use arrays::array_fits;
@@ -53,8 +55,10 @@ pub use encode::{
     read_fixed,
 };
 pub use fixed::{Fixed, Plain, Record, RoundTrip, Written};
+pub use optional::When;
 pub use str_ctx::{NULL, RET, SPACE, StrCtx, TAB};
 pub use table::{Elements, Table};
+pub use until::{Until, Values};
 pub use zeros::{Zeros, padding};
 
 /// A type that can be read from bytes in a context.

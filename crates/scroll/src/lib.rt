@@ -35,6 +35,7 @@ mod greater;
 pub mod laws;
 mod leb128;
 mod lesser;
+mod lists;
 mod loads;
 mod located;
 mod many;
@@ -55,11 +56,12 @@ pub use crate::leb128::{
     Sleb128, Uleb128, plain_sleb, plain_uleb, sleb_block, sleb_loads, uleb_block, uleb_loads,
 };
 pub use crate::lesser::{IOread, IOwrite};
+pub use crate::lists::{Ends, append_until, two_zeros_size, zero_size};
 pub use crate::loads::Loads;
 pub use crate::located::{At, LocateError};
 pub use crate::many::{
-    Ends, EntryOf, append_until, read_many, read_to_end, write_kept, write_many, write_many_kept,
-    write_placed, write_tagged,
+    EntryOf, read_many, read_to_end, write_kept, write_many, write_many_kept, write_placed,
+    write_tagged,
 };
 pub use crate::pread::Pread;
 pub use crate::pwrite::Pwrite;

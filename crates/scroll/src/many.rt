@@ -2,7 +2,7 @@
 ghost use Rattle.std.specs.Prelude.{◌≡◌, ◌≤◌, ◌+◌, ℕ, List, length, take, IfOk, IfErr, OnOk, OnErr, ◌↔◌, ◌++◌, ◌⊎◌, IsTrue};
 ghost use Rattle.scroll.specs.Arrays.{WritesAll};
 ghost use Rattle.std.specs.List.{All};
-ghost use Rattle.scroll.specs.Many.{RefusesMany, RefusesToEnd, FailsMany, ChangesBetween, KeepsOne, KeepsAll, AppendsUntil, RefusesUntil, StopsBefore, KeepsPlaced};
+ghost use Rattle.scroll.specs.Many.{RefusesMany, RefusesToEnd, FailsMany, ChangesBetween, KeepsOne, KeepsAll, StopsBefore, KeepsPlaced};
 ghost use Rattle.scroll.specs.Reads.{ReadsAll, ReadsBetween};
 ghost use Rattle.scroll.specs.Errors.{PastEnd};
 ghost use Rattle.scroll.specs.Writes.{WritesAt, RefusesWriteAt};
@@ -132,64 +132,6 @@ pub fn read_to_end<'a, Ctx: Copy, E: From<Error>, T: TryFromCtx<'a, Ctx, Error =
     }
     *offset = end;
     Ok(values)
-}
-
-/// A value of a list that says of itself whether it ends the list, such as a pair of zeros.
-pub trait Ends<'a, Ctx: Copy>: TryFromCtx<'a, Ctx> {
-    // Whether a value ends a list.
-    ghost last: { Self → Type 0 };
-
-    /// Returns whether this value ends a list.
-    fn is_last(&self) -> bool
-        ensures { IsTrue result ↔ last self.now };
-
-    // A value has at least one byte.
-    ghost reads_some: { (ctx : Ctx) (source : List ℕ) (x : Self) (n : ℕ)
-        → Self.TryFromCtx.reads ctx source x n → 1 ≤ n };
-}
-
-/// Reads values, one after another from the cursor `offset`, up to the first that ends them, and
-/// advances the cursor past it. Appends those before it to `values`, and returns it.
-///
-/// Returns the error of the first value that can't be read, with the offset at which that value
-/// starts, and leaves the cursor there. An allocation failure is the error [`Error::NoMemory`] of
-/// the value for which there was no memory. The values before it are then appended.
-pub fn append_until<
-    'a,
-    Ctx: Copy,
-    E: From<Error>,
-    T: TryFromCtx<'a, Ctx, Error = E> + Ends<'a, Ctx> + Drop,
->(values: &mut Vec<T>, from: &'a [u8], offset: &mut usize, ctx: Ctx) -> Result<T, At<E>>
-    ensures read { IfOk result (AppendsUntil (T.reads ctx) T.last from.now offset.old offset.new
-        values.old.items values.new.items) }
-    ensures refused { IfErr result (λ located.
-        RefusesUntil (T.reads ctx) T.last (T.refuses ctx) E.from_gives from.now offset.old
-        values.old.items values.new.items located.offset located.error) }
-    ensures stays { IfErr result (λ located. offset.new ≡ located.offset) }
-{
-    loop {
-        let begin = *offset;
-        let value: T = match from.gread_with(offset, ctx) {
-            Ok(value) => value,
-            Err(error) => {
-                return Err(At {
-                    offset: begin,
-                    error,
-                });
-            }
-        };
-        if value.is_last() {
-            return Ok(value);
-        }
-        if values.push(value).is_err() {
-            *offset = begin;
-            let error = E::from(Error::NoMemory);
-            return Err(At {
-                offset: begin,
-                error,
-            });
-        }
-    }
 }
 
 /// Writes values, one after another from the cursor `offset`, and advances the cursor past the last

@@ -5,6 +5,5 @@ pub mod OneAnswer
 pub mod RoundTrips
 pub mod Sequences
 pub mod SpanLemmas
-pub mod Tables
 pub mod ManyLemmas
 pub mod TaggedLemmas

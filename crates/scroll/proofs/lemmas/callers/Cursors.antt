@@ -1,6 +1,6 @@
 -- Lemmas for callers: what was read at an offset and where the cursor then is, lists of reads,
 -- bytes that are written one after another, a number and its bytes, and an error that `?` returns.
-use Rattle.std.proofs.Common.{◌≡◌, ℕ, zero, suc, ◌+◌, ◌*◌, ◌<◌, ◌≤◌, ◌++◌, List, [], ◌∷◌, length, take, drop, slice_index, Some, refl, sym, ap, ◌∙◌, arith, append_assoc, Result, Err, IfErr, OnErr}
+use Rattle.std.proofs.Common.{◌≡◌, ℕ, zero, suc, ◌+◌, ◌*◌, ◌<◌, ◌≤◌, ◌++◌, List, [], ◌∷◌, length, take, drop, slice_index, Some, None, Option, refl, sym, ap, ◌∙◌, arith, append_assoc, Result, Err, IfErr, OnErr}
 use Rattle.std.proofs.Math.Nat.{mul-suc}
 use Rattle.std.proofs.lemmas.Grind.{common_steps}
 use Rattle.std.proofs.lemmas.List.{take-append-drop, drop_at, take_at, drop-drop, length-append, get_or-take, get_or_append_left, length-take-le, take_all}
@@ -9,6 +9,7 @@ use Rattle.std.specs.List.{slice_get}
 use Rattle.std.specs.Result.{IsErrAnd}
 use borrow.Rule.Slice.PartMut.{put_mid}
 use Rattle.scroll.specs.Bytes.{ReadsPrefix, WritesPrefix}
+use Rattle.scroll.specs.Lists.{ReadsListed}
 use Rattle.scroll.specs.Numbers.{number}
 use Rattle.scroll.specs.Reads.{ReadsAt, ReadsBetween, ReadsAll}
 use Rattle.scroll.specs.Writes.{WritesAt}
@@ -42,6 +43,13 @@ ReadsAll-next reads buffer from vs mid to v h read = ReadsAll-push reads buffer 
 -- the same if the list is given by an equation, as after `push` in a loop over a table
 pub ReadsAll-pushed : {V : Type 0} {reads : List ℕ → V → ℕ → Type 0} {buffer : List ℕ} (from : ℕ) {mid to : ℕ} (vs : List V) {xs : List V} {v : V} → ReadsAll reads buffer from vs mid → ReadsBetween reads buffer mid to v → xs ≡ vs ++ v ∷ [] → ReadsAll reads buffer from xs to
 ReadsAll-pushed {V} {reads} {buffer} from {mid} {to} vs {xs} {v} h read is = rw is (ReadsAll-next reads buffer from vs mid to v h read)
+
+-- one more value of a list, where there is no mark
+pub listed-next : {V : Type 0} {reads : List ℕ → V → ℕ → Type 0} (mark : List ℕ → Option ℕ) {buffer : List ℕ} (from : ℕ) {mid to : ℕ} (vs : List V) {v : V}
+    → ReadsAll (ReadsListed reads mark) buffer from vs mid → ReadsBetween reads buffer mid to v → (mid ≤ length buffer → mark (drop mid buffer) ≡ None)
+    → ReadsAll (ReadsListed reads mark) buffer from (vs ++ v ∷ []) to
+listed-next {V} {reads} mark {buffer} from {mid} {to} vs {v} h read more =
+    ReadsAll-next (ReadsListed reads mark) buffer from vs mid to v h (read.0, read.1, record { inside = read.2.inside; value = record { more = more read.2.inside; value = read.2.value } })
 
 -- a call with a cursor failed, and `at` added the offset to its error: the offset is the cursor,
 -- and what holds of the call's error holds of the one in the `At`

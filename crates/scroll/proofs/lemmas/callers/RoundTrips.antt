@@ -10,7 +10,6 @@ use Rattle.scroll.specs.lemmas.NumberLemmas.{bytes-fit}
 use Rattle.scroll.proofs.lemmas.callers.Cursors.{Begins, grow}
 use Rattle.scroll.proofs.lemmas.callers.SpanLemmas.{bytes-below, puts-stands}
 use Rattle.scroll.specs.lemmas.Frames.{length-number_bytes}
-use Rattle.scroll.specs.Many.{AppendsUntil}
 use Rattle.scroll.specs.Numbers.{number, number_bytes, signed_number, signed_bytes}
 use Rattle.scroll.specs.Reads.{ReadsAt, ReadsAll, Puts}
 use Rattle.scroll.specs.Texts.{index_of, ReadsText}
@@ -103,21 +102,6 @@ pub appended-again : {V : Type 0} (reads : List ℕ → V → ℕ → Type 0) (b
 appended-again reads bytes v again old {new} is =
     let rest : drop (length old) new ≡ bytes v ++ [] = ap (drop (length old)) is ∙ drop_at old (bytes v) (length old) refl ∙ sym (append-nil (bytes v)) in
     record { inside = omega (arith, ap length is, length-append old (bytes v)); value = rw rest (again []) }
-
--- values of which none ends a list, and one that does: they read back up to it
-pub until-again : {V : Type 0} (reads : List ℕ → V → ℕ → Type 0) (bytes : V → List ℕ) (last : V → Type 0) (vs : List V) (v : V) → All (λ x. (rest : List ℕ) → reads (bytes x ++ rest) x (length (bytes x))) vs → ((rest : List ℕ) → reads (bytes v ++ rest) v (length (bytes v))) → All (λ x. ¬ last x) vs → last v → (old : List V) (rest : List ℕ) → AppendsUntil reads last (flat_map bytes vs ++ (bytes v ++ rest)) 0 (length (flat_map bytes vs) + length (bytes v)) old (old ++ vs) v
-until-again reads bytes last vs v each end more is old rest =
-    let before = flat_map bytes vs in
-    record {
-      mid = length before;
-      before = record { values = vs; each = ReadsAll-again reads bytes vs each [] (bytes v ++ rest); more = more; appended = refl };
-      value = (
-        length (bytes v),
-        refl,
-        record { inside = omega (arith, length-append before (bytes v ++ rest)); value = rw (drop_at before (bytes v ++ rest) (length before) refl) (end rest) },
-      );
-      is = is;
-    }
 
 -- values that are written one after another: one more
 pub grow-next : {V : Type 0} (bytes : V → List ℕ) (vs : List V) (i : ℕ) (d : V) {offset w : ℕ} {first a b : List ℕ} → Begins offset (flat_map bytes (take i vs)) first a → i < length vs → length (bytes (get_or vs i d)) ≡ w → take offset b ≡ take offset a → drop offset b ≡ bytes (get_or vs i d) ++ drop w (drop offset a) → Begins (offset + w) (flat_map bytes (take (i + 1) vs)) first b

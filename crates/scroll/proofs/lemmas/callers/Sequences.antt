@@ -7,8 +7,11 @@ use Rattle.scroll.specs.Arrays.{MakesArray}
 use Rattle.scroll.specs.Bytes.{ReadsFixed, ReadsPrefix, WritesPrefix}
 use Rattle.scroll.specs.CStrings.{ReadsCString}
 use Rattle.scroll.specs.Fixed.{exactly}
+use Rattle.std.specs.Prelude.{⊤, Bool, Option, Some, None, is_some, MatchOption}
+use Rattle.scroll.specs.Lists.{ReadsOptional, optional_bytes}
+use Rattle.scroll.specs.lemmas.Frames.{length-encoding}
 use Rattle.scroll.specs.Leb128.{Counted, ReadsCountedUleb, ReadsCountedSleb}
-use Rattle.scroll.specs.Encoding.{uleb_text, sleb_text, HasEncoding, HasSignedEncoding}
+use Rattle.scroll.specs.Encoding.{uleb_text, sleb_text, HasEncoding, HasSignedEncoding, unsigned_form}
 use Rattle.scroll.specs.Reads.{ReadsAt}
 use Rattle.scroll.specs.Texts.{index_of, ReadsSlice, ReadsText}
 use Rattle.scroll.specs.Zeros.{zeros, ReadsZeros}
@@ -96,6 +99,31 @@ uleb-begins x has rest = (written_reads unsigned-form x.value x.count (uleb_text
 
 pub sleb-begins : (x : Counted ℤ) → HasSignedEncoding x.value x.count → (rest : List ℕ) → ReadsCountedSleb (sleb_text x ++ rest) x x.count
 sleb-begins x has rest = (written_reads signed-form x.value x.count (sleb_text x ++ rest) rest has refl, refl)
+
+-- an optional value, which is there if `there` says so
+pub optional-begins : {V : Type 0} (text : V → List ℕ) (reads : List ℕ → V → ℕ → Type 0) (fits : V → Type 0) → ((v : V) → fits v → (rest : List ℕ) → reads (text v ++ rest) v (length (text v)))
+    → (x : Option V) (there : Bool) → is_some x ≡ there → MatchOption x ⊤ fits → (rest : List ℕ) → ReadsOptional there reads (optional_bytes text x ++ rest) x (length (optional_bytes text x))
+optional-begins text reads fits begins None there is fit rest = (sym is, refl)
+optional-begins text reads fits begins (Some v) there is fit rest = (sym is, begins v fit rest)
+
+-- it is in the source
+pub optional-inside : {V : Type 0} {reads : List ℕ → V → ℕ → Type 0} → ((s : List ℕ) (v : V) (n : ℕ) → reads s v n → n ≤ length s)
+    → (there : Bool) (s : List ℕ) (x : Option V) (n : ℕ) → ReadsOptional there reads s x n → n ≤ length s
+optional-inside inside there s None n h = omega (arith, h.1)
+optional-inside inside there s (Some v) n h = inside s v n h.1
+
+pub uleb-inside : (s : List ℕ) (x : Counted ℕ) (n : ℕ) → ReadsCountedUleb s x n → n ≤ length s
+uleb-inside s x n h = omega (arith, h.0.complete.0, h.0.size)
+
+pub sleb-inside : (s : List ℕ) (x : Counted ℤ) (n : ℕ) → ReadsCountedSleb s x n → n ≤ length s
+sleb-inside s x n h = omega (arith, h.0.complete.0, h.0.size)
+
+-- a number in LEB128 by the length of its bytes
+pub uleb-text-begins : (x : Counted ℕ) → HasEncoding x.value x.count → (rest : List ℕ) → ReadsCountedUleb (uleb_text x ++ rest) x (length (uleb_text x))
+uleb-text-begins x has rest = rw (length-encoding x.value x.count) (uleb-begins x has rest)
+
+pub sleb-text-begins : (x : Counted ℤ) → HasSignedEncoding x.value x.count → (rest : List ℕ) → ReadsCountedSleb (sleb_text x ++ rest) x (length (sleb_text x))
+sleb-text-begins x has rest = rw (length-encoding (unsigned_form x.value x.count) x.count) (sleb-begins x has rest)
 
 -- a value of a fixed size that is made of whatever begins with its bytes
 pub fixed-begins : {X : Type 0} (makes : List ℕ → X → Type 0) (x : X) (w : ℕ) (bytes : List ℕ) → length bytes ≡ w → ((rest : List ℕ) → makes (bytes ++ rest) x) → (rest : List ℕ) → ReadsFixed w makes (bytes ++ rest) x w
