@@ -44,12 +44,11 @@ pub by_first : (words : List (Bor (List ℕ))) (n : ℕ) (a : List ℕ) → leng
     → texts_of words ≡ a ∷ words_from words 1 n
 by_first words n a k m h = by_index words (suc n) k ∙ ap (λ w. w ∷ words_from words 1 n) (text_from_reads _ a m h)
 
--- the first one, of which each byte has been read, and the others
-pub first_word : (words : List (Bor (List ℕ))) (a : List ℕ) → 0 < length words → length (get_or words 0 no_word).now ≡ length a → HasBytesAt (get_or words 0 no_word).now 0 a
+-- the first one, and the others
+pub first_word : (words : List (Bor (List ℕ))) (a : List ℕ) → 0 < length words → (get_or words 0 no_word).now ≡ a
     → texts_of words ≡ a ∷ texts_of (take (length words - 1) (drop 1 words))
-first_word [] a lt n h = absurd (omega arith)
-first_word (u ∷ more) a lt n h =
-    ap (λ w. w ∷ texts_of more) (text_from_reads u.now a n h) ∙ ap (λ ws. a ∷ texts_of ws) (sym (take_rest (u ∷ more) 1))
+first_word [] a lt e = absurd (omega arith)
+first_word (u ∷ more) a lt e = ap (λ w. w ∷ texts_of more) e ∙ ap (λ ws. a ∷ texts_of ws) (sym (take_rest (u ∷ more) 1))
 
 -- the line at i has its command too
 pub commands_next : (lines : List CommandLine) (i : ℕ) (cs : List Command) (x : CommandLine) (c : Command) → AreCommandsOf (take i lines) cs → i < length lines → x ≡ get_or lines i x → IsCommandOf x c → AreCommandsOf (take (i + 1) lines) (cs ++ c ∷ [])

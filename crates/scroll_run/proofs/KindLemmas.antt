@@ -1,5 +1,5 @@
 -- Lemmas on the words of what is read, by the first of them.
-use Rattle.std.proofs.Common.{◌≡◌, ◌≢◌, ◌≤◌, ◌^◌, Bor, ℕ, List, [], ◌∷◌, codes, length, arith, ap, subst}
+use Rattle.std.proofs.Common.{◌≡◌, ◌≢◌, ◌≤◌, ◌<◌, ◌^◌, Bor, ℕ, List, [], ◌∷◌, codes, get_or, length, arith, ap, subst}
 use Rattle.scroll.specs.declared.ctx.str_ctx.StrCtx.{StrCtx}
 use Rattle.scroll.specs.declared.ctx.str_ctx.StrCtx.TheVariants as context
 use Rattle.scroll.specs.declared.runner.Kind.{Kind}
@@ -8,7 +8,7 @@ use Rattle.scroll.specs.declared.runner.Width.{Width}
 use Rattle.scroll.specs.declared.runner.Width.TheVariants as width
 use Rattle.scroll_run.specs.Kinds.{SpellsEnd, SpellsKind}
 use Rattle.scroll_run.specs.Words.{SpellsByte, SpellsNumber, texts_of, width_word}
-use Rattle.scroll_run.proofs.CommandLemmas.{counted, first_letter}
+use Rattle.scroll_run.proofs.CommandLemmas.{counted, first_letter, no_word}
 
 -- lists with the same words
 same_second : (a b c : List ℕ) → a ∷ b ∷ [] ≡ a ∷ c ∷ [] → c ≡ b
@@ -79,3 +79,17 @@ by_strx2 end (kind.Textx2 ctx) s =
     let e = s.1 in
     let same : s.0 ≡ end = cc in
     (ctx, subst (λ ws. SpellsEnd ws ctx) same s.2)
+
+-- three words or more spell texts alone
+pub no_kind : (words : List (Bor (List ℕ))) → 2 < length words → (get_or words 0 no_word).now ≢ codes "str" → (get_or words 0 no_word).now ≢ codes "strx2" → (what : Kind) → ¬ (SpellsKind (texts_of words) what)
+no_kind [] long text texts what = absurd (omega (arith, long))
+no_kind (u ∷ more) long text texts (kind.Number w order) = λ s. let n = counted (u ∷ more) _ s in omega (arith, n, long)
+no_kind (u ∷ more) long text texts (kind.Text ctx) = λ s. let e = s.1 in text cc
+no_kind (u ∷ more) long text texts (kind.Bytes len) = λ s. let n = counted (u ∷ more) _ s.1 in omega (arith, n, long)
+no_kind (u ∷ more) long text texts kind.CStr = λ s. let n = counted (u ∷ more) _ s in omega (arith, n, long)
+no_kind (u ∷ more) long text texts kind.CString = λ s. let n = counted (u ∷ more) _ s in omega (arith, n, long)
+no_kind (u ∷ more) long text texts kind.Uleb = λ s. let n = counted (u ∷ more) _ s in omega (arith, n, long)
+no_kind (u ∷ more) long text texts kind.Sleb = λ s. let n = counted (u ∷ more) _ s in omega (arith, n, long)
+no_kind (u ∷ more) long text texts (kind.U8x0 order) = λ s. let n = counted (u ∷ more) _ s in omega (arith, n, long)
+no_kind (u ∷ more) long text texts (kind.U16x3 order) = λ s. let n = counted (u ∷ more) _ s in omega (arith, n, long)
+no_kind (u ∷ more) long text texts (kind.Textx2 ctx) = λ s. let e = s.1 in texts cc

@@ -14,8 +14,8 @@ pub fn parse_kind(words: &[&[u8]]) -> Option<Kind>
     match words {
         [name] => parse_kind_of_one(name),
         [name, word] => parse_kind_of_two(name, word),
-        [b"str", end @ ..] => Some(Kind::Text(parse_end(end)?)),
-        [b"strx2", end @ ..] => Some(Kind::Textx2(parse_end(end)?)),
+        [name, end @ ..] if *name == b"str".as_slice() => Some(Kind::Text(parse_end(end)?)),
+        [name, end @ ..] if *name == b"strx2".as_slice() => Some(Kind::Textx2(parse_end(end)?)),
         _ => None,
     }
 }
