@@ -35,7 +35,7 @@ SECTIONS = {
     "Slices": ["slice"],
     "Contexts and types": ["ctx", "ctx/str_ctx", "ctx/text", "ctx/bytes", "ctx/measure", "ctx/zeros", "ctx/arrays", "ctx/c_strings"]
     + ["ctx/std_c_strings", "cstr", "cstr/of_std"],
-    "Many values": ["many", "ctx/table"],
+    "Many values": ["many", "lists", "ctx/until", "ctx/optional", "ctx/table"],
     "Types of a fixed size": ["ctx/fixed", "ctx/fixed/arrays", "ctx/tuples", "ctx/encode"],
     "LEB128": ["leb128", "leb128/counted", "leb128/unsigned", "leb128/signed", "leb128/bytewise", "leb128/block", "leb128/by_loads", "loads"],
     "Runs of commands": ["runner"],

@@ -299,9 +299,10 @@ pub fn write_placed<
             }
         };
         if entries.push(entry).is_err() {
+            let error = E::from(Error::NoMemory);
             return Err(At {
                 offset: start,
-                error: E::from(Error::NoMemory),
+                error,
             });
         }
         match write_kept(dst, value, offset, ctx) {

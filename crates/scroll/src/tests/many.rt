@@ -71,7 +71,11 @@ fn a_vector_grows(rt: HostRuntime) {
     check_value(rt, append(&mut file, Value(1u8), LE), ());
     check_value(rt, append(&mut file, (Value(0x0302u16), "é"), LE), ());
     check_value(rt, append(&mut file, Delimited("a", 10), LE), ());
-    check_eq(rt, file.as_slice(), [1, 2, 3, 0xc3, 0xa9, b'a', 10].as_slice());
+    check_eq(
+        rt,
+        file.as_slice(),
+        [1, 2, 3, 0xc3, 0xa9, b'a', 10].as_slice(),
+    );
 }
 
 #[test]

@@ -9,5 +9,5 @@ invariant-loop-i g l = record {
   wrote : WritesAll (g.T.TryIntoCtx.writes l.ctx) l.initial.dst l.initial.offset (take l.i l.values) l.dst l.offset;
   others : ChangesBetween l.initial.offset l.offset l.initial.dst l.dst;
   kept : KeepsPlaced (g.T.Kept.reads l.ctx) g.P.EntryOf.place g.P.EntryOf.describes l.dst l.entries.items (take l.i l.values) l.offset;
-  count : length l.entries.items ≡ l.i
+  count : length l.entries.items ≡ l.i;
 }
