@@ -229,6 +229,19 @@ IsPartWritten-next writes all left left' old new new' count offset n x was next 
   inside = inside;
 }
 
+-- the next value fails
+pub IsPartWritten-fails : {V E : Type 0} (writes : V → List ℕ → List ℕ → ℕ → Type 0) (refuses : V → List ℕ → List ℕ → E → Type 0) (all left left' : List V) (old mid new : List ℕ) (count offset : ℕ) (x : V) (e : E) → IsPartWritten writes all left old mid count offset → left ≡ x ∷ left' → FailsAt (refuses x) mid offset new e → FailsArray writes refuses all old new e
+IsPartWritten-fails writes refuses all left left' old mid new count offset x e was next failed = record {
+  prefix = was.done;
+  value = x;
+  back = left';
+  mid = mid;
+  stop = offset;
+  split = was.split ∙ ap (λ l. was.done ++ l) next;
+  written = was.written;
+  refused = failed;
+}
+
 -- leaves after leaves that fit
 pieces-append : (n o : ℕ) (ls ks : List (List ℕ)) → left_over n o ls ≡ None → pieces n o (ls ++ ks) ≡ pieces n o ls ++ pieces n (o + sum_by length ls) ks
 pieces-append n o [] ks h = ap (λ m. pieces n m ks) (omega arith)

@@ -1,6 +1,8 @@
-use Rattle.std.proofs.Common.{◌≡◌, true, refl, rules}
+use Rattle.std.proofs.Common.{◌≡◌, true, refl, arith, rules}
+use Rattle.std.proofs.lemmas.Grind.{common_steps}
+use Rattle.std.proofs.lemmas.Result.{err_from_is_err_and}
 use Rattle.std.specs.Array.Iter.{array_into_iter_items}
-use Rattle.scroll.proofs.lemmas.ArrayLemmas.{IsPartWritten-none, IsPartWritten-next}
+use Rattle.scroll.proofs.lemmas.ArrayLemmas.{IsPartWritten-none, IsPartWritten-next, IsPartWritten-fails}
 use Rattle.scroll.proofs.ctx.arrays.ArrayTryIntoCtx.try_into_ctx.Goals as goal
 
 pub loop-i-init : goal.loop-i-init
@@ -28,3 +30,22 @@ drop-values-requires-2 g c = c.if-not-fits.ensures.fits refl
 
 pub next-requires : goal.next-requires
 next-requires g c = (c.if-not-fits.ensures.fits refl, search rules)
+
+pub returns-in_err-offset-in-Some-clause-refused : goal.returns-in_err-offset-in-Some-clause-refused
+returns-in_err-offset-in-Some-clause-refused g c =
+    let failed = IsPartWritten-fails (g.T.TryIntoCtx.writes c.args.ctx) (g.T.TryIntoCtx.refuses c.args.ctx) c.args.self _ _ c.args.dst.now _ _ _ _ c.in-Some.value _
+    c.loop-i.invariant c.in-Some.ensures.steps c.in_err-offset-in-Some.ensures.refused in
+    let p = err_from_is_err_and c.from_residual.result c.from_residual.ensures.1 in
+    rw (p.1, p.2) (λ _. failed)
+
+pub unreachable-requires : goal.unreachable-requires
+unreachable-requires g c = grind (arith, common_steps)
+
+pub unreachable-unreachable : goal.unreachable-unreachable
+unreachable-unreachable g c = grind (arith, common_steps)
+
+pub returns-clause-wrote : goal.returns-clause-wrote
+returns-clause-wrote g c = grind (arith, common_steps)
+
+pub returns-clause-refused : goal.returns-clause-refused
+returns-clause-refused g c = grind (arith, common_steps)
