@@ -286,9 +286,9 @@ pub fn write_placed<
     ensures stays { IfErr result (λ located. offset.new ≡ located.offset) }
 {
     let mut entries = Vec::new(alloc);
-    for i in 0..values.len() {
+    for k in 0..values.len() {
         let start = *offset;
-        let value = values[i];
+        let value = values[k];
         let entry = match P::entry_of(&value, start) {
             Ok(entry) => entry,
             Err(error) => {

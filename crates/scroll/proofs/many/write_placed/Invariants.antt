@@ -4,10 +4,10 @@ use Rattle.scroll.specs.Arrays.{WritesAll}
 use Rattle.scroll.specs.Many.{ChangesBetween, KeepsPlaced}
 use Rattle.scroll.proofs.many.write_placed.Given as goal
 
-abbrev pub invariant-loop-i : goal.invariant-loop-i
-invariant-loop-i g l = record {
-  wrote : WritesAll (g.T.TryIntoCtx.writes l.ctx) l.initial.dst l.initial.offset (take l.i l.values) l.dst l.offset;
+abbrev pub invariant-loop-k : goal.invariant-loop-k
+invariant-loop-k g l = record {
+  wrote : WritesAll (g.T.TryIntoCtx.writes l.ctx) l.initial.dst l.initial.offset (take l.k l.values) l.dst l.offset;
   others : ChangesBetween l.initial.offset l.offset l.initial.dst l.dst;
-  kept : KeepsPlaced (g.T.Kept.reads l.ctx) g.P.EntryOf.place g.P.EntryOf.describes l.dst l.entries.items (take l.i l.values) l.offset;
-  count : length l.entries.items ≡ l.i;
+  kept : KeepsPlaced (g.T.Kept.reads l.ctx) g.P.EntryOf.place g.P.EntryOf.describes l.dst l.entries.items (take l.k l.values) l.offset;
+  count : length l.entries.items ≡ l.k;
 }
