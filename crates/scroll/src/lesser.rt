@@ -30,8 +30,7 @@ const SMALL: usize = 16;
 ///     ensures bar { IfOk result (λ x. x.bar ≡ number order 4 (drop 8 (take 12 source.old.now))) }
 ///     ensures rest { OnOk result (source.new.now ≡ drop 12 source.old.now) }
 /// {
-///     let foo = source.ioread_with(order)?;
-///     Ok(foo)
+///     source.ioread_with(order)
 /// }
 /// ```
 pub trait IOread<Ctx: Copy>: Read {
