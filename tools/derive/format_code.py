@@ -378,6 +378,7 @@ def format_uses(form: Format) -> List[str]:
     return [
         "ghost use Rattle.std.proofs.Common.{rules};",
         "ghost use Rattle.scroll.specs.lemmas.Frames.{WritesPrefix-keeps};",
+        *(["ghost use Rattle.std.specs.Prelude.{◌≡◌};"] if form.mark else []),
         *([f"ghost use Rattle.scroll.specs.Lists.{{{form.mark}}};"] if form.mark else []),
         *([f"ghost use Rattle.scroll.specs.lemmas.Frames.{{{form.mark}-inside}};"] if form.mark else []),
         f"ghost use Rattle.{form.crate}.specs.{name}Back.{{{snake}-bounded{f', {snake}-some' if form.mark else ''}}};",
