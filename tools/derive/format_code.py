@@ -448,6 +448,7 @@ def format_uses(form: Format) -> List[str]:
     ghosts = [f"{it}{name}" for it in ("Reads", "Refuses", "Agrees", "Differs", "Writes", "Keeps") if f"{it}{name} " in block]
     frames = [it for it in ("WritesPrefix-keeps", "WritesPrefix-back", f"{form.mark}-inside") if it in block]
     backs = [it for it in (f"Fits{name}", f"{snake}-bounded", f"{snake}-back", f"{snake}-some") if it in block]
+    prelude = ["◌≡◌"] * bool(form.mark) + ["⊤"] * ("⊤" in block)
     words = set(re.findall(r"\w+", block))
     known = ("Checked", "Delimited", "Encode", "Gap", "InParts", "Kept", "Padded", "StrCtx", "Table", "TryFromCtx", "TryIntoCtx")
     known += ("Until", "Value", "When", "Zeros", "padding", "read_fixed")
@@ -460,7 +461,7 @@ def format_uses(form: Format) -> List[str]:
     if form.error and not form.error.variant:
         ours = sorted([*ours, "SmallError"], key=lambda it: (it.islower(), it))
     return [
-        *(["ghost use Rattle.std.specs.Prelude.{⊤};"] if "⊤" in block else []),
+        *([f"ghost use Rattle.std.specs.Prelude.{{{', '.join(prelude)}}};"] if prelude else []),
         "ghost use Rattle.std.proofs.Common.{rules};",
         f"ghost use Rattle.scroll.specs.lemmas.Frames.{{{', '.join(frames)}}};",
         *([f"ghost use Rattle.scroll.specs.Lists.{{{form.mark}}};"] if form.mark else []),
