@@ -412,6 +412,32 @@ struct Neither<'a> {
     // #[scroll(ctx = point.x as usize - 1, else = Failure::Long)]
     body: &'a [u8],
 }
+// #[scroll(ends = three_zeros_size)]
+struct Unending { a: Uleb128 }
+// #[scroll(ends = zero_size)]
+struct Nameless<'a> {
+    // #[scroll(ctx = StrCtx::Required(0))]
+    name: &'a str,
+}
+struct Listing<'a> { items: Until<'a, Endless> }
+struct Endless { a: Uleb128 }
+struct Strange<'a> { items: Until<'a, Elsewhere> }
+struct Unsaid { kind: u8, value: Option<Uleb128> }
+struct Forward {
+    // #[scroll(if = kind == 1)]
+    value: Option<Uleb128>,
+    kind: u8,
+}
+struct Unequal {
+    kind: u8,
+    // #[scroll(if = kind > 1)]
+    value: Option<Uleb128>,
+}
+struct Always {
+    kind: u8,
+    // #[scroll(if = kind == 1)]
+    value: Uleb128,
+}
 END
 cp "$room/trial/src/bad.rt" "$room/bad.rt"
 cp "$room/bad.rt" "$room/bad.txt"
@@ -496,6 +522,14 @@ trial/src/bad.rt|Placed|bad.rt:236: the context of the field body names point.z,
 trial/src/bad.rt|Below|bad.rt:241: the context of the field body names point.y, which is no unsigned number of at most 64 bits
 trial/src/bad.rt|Either|bad.rt:247: the field body has the note else, which only a context that subtracts from one field takes
 trial/src/bad.rt|Neither|bad.rt:253: the error Failure::Long of body is no variant of the error type
+trial/src/bad.rt|Unending|bad.rt:256: the end three_zeros_size of a list of Unending is none of zero_size, two_zeros_size
+trial/src/bad.rt|Nameless|bad.rt:258: the struct Nameless is in a list, and begins with no number
+trial/src/bad.rt|Listing|bad.rt:262: the field items is a list of Endless, which has no `ends = ..` before it, or another error
+trial/src/bad.rt|Strange|bad.rt:264: the field items is a list of Elsewhere, which is no other struct of this file
+trial/src/bad.rt|Unsaid|bad.rt:265: the field value has no `if = ..`, which says when it is there
+trial/src/bad.rt|Forward|bad.rt:268: the condition kind == 1 of the field value is no `FIELD == NUMBER` of an earlier unsigned number
+trial/src/bad.rt|Unequal|bad.rt:274: the condition kind > 1 of the field value is no `FIELD == NUMBER` of an earlier unsigned number
+trial/src/bad.rt|Always|bad.rt:279: the field value has the note if, which its type Uleb128 doesn't take
 END
 refuses 'bad.rt:20: the struct Twenty is of a fixed size, and has no definitions of its own' --specs "$room/bad.rt" Twenty
 refuses 'usage: derive.sh \[--check | --specs | --back\] FILE STRUCT' "$room/bad.rt"
