@@ -438,6 +438,11 @@ struct Always {
     // #[scroll(if = kind == 1)]
     value: Uleb128,
 }
+struct Never {
+    kind: u8,
+    // #[scroll(if = kind == 0x100)]
+    value: Option<Uleb128>,
+}
 END
 cp "$room/trial/src/bad.rt" "$room/bad.rt"
 cp "$room/bad.rt" "$room/bad.txt"
@@ -530,6 +535,7 @@ trial/src/bad.rt|Unsaid|bad.rt:265: the field value has no `if = ..`, which says
 trial/src/bad.rt|Forward|bad.rt:268: the condition kind == 1 of the field value is no `FIELD == NUMBER` of an earlier unsigned number
 trial/src/bad.rt|Unequal|bad.rt:274: the condition kind > 1 of the field value is no `FIELD == NUMBER` of an earlier unsigned number
 trial/src/bad.rt|Always|bad.rt:279: the field value has the note if, which its type Uleb128 doesn't take
+trial/src/bad.rt|Never|bad.rt:284: the condition kind == 0x100 of the field value has a number that doesn't fit kind
 END
 refuses 'bad.rt:20: the struct Twenty is of a fixed size, and has no definitions of its own' --specs "$room/bad.rt" Twenty
 refuses 'usage: derive.sh \[--check | --specs | --back\] FILE STRUCT' "$room/bad.rt"

@@ -249,6 +249,8 @@ def read_condition(source: Source, field: RawField, text: str, before: Sequence[
     part = next((it for it in before if found and it.name == found[1]), None)
     if not found or not part or not (part.type == "Uleb128" or is_counter(part.fixed)):
         source.refuse(field.place, f"the condition {text} of the field {field.name} is no `FIELD == NUMBER` of an earlier unsigned number")
+    if int(found[2].replace("_", ""), 0) >= 256 ** (width_of(part.fixed) if part.fixed else 8):
+        source.refuse(field.place, f"the condition {text} of the field {field.name} has a number that doesn't fit {found[1]}")
     return Condition(found[1], found[2], part.type == "Uleb128")
 
 
