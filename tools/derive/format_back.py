@@ -25,6 +25,7 @@ from format_words import (
     value_of,
     within,
 )
+from format_reads import is_needed, reads_lemma
 from format_whole import whole_lines
 from kinds import Array, Number, Struct, Type, width_of
 from layout import Tree, label, nested
@@ -50,7 +51,7 @@ MODULES = [
     ("Rattle.std.specs.Prelude", ["⊤", "◌==◌", "is_some", "MatchOption"]),
     ("Rattle.scroll.specs.Lists", ["zero_size", "two_zeros_size", "ReadsUntil", "ReadsOptional", "optional_bytes"]),
     ("Rattle.scroll.specs.Numbers", ["float", "float_bytes", "ReadsFloat", "number", "number_bytes", "signed_number", "signed_bytes", "ReadsNumber", "ReadsSigned"]),
-    ("Rattle.scroll.specs.Reads", ["ReadsAll"]),
+    ("Rattle.scroll.specs.Reads", ["ReadsAt", "ReadsBetween", "ReadsAll"]),
     ("Rattle.scroll.specs.Leb128", ["ReadsCountedUleb", "ReadsCountedSleb"]),
     ("Rattle.scroll.specs.Texts", ["ReadsSlice", "ReadsText"]),
     ("Rattle.scroll.specs.Zeros", ["padding_len", "zeros", "ReadsZeros"]),
@@ -410,7 +411,7 @@ def format_back(form: Format) -> str:
     ]
     inner = [line for struct in structs_in(form) for line in struct_lemmas(struct)]
     says = "-- what was written reads back, whatever follows it"
-    text = "\n".join([*bounded(form), *whole_lines(form), *(fit_record if fits else []), *inner, says, *body])
+    text = "\n".join([*bounded(form), *(reads_lemma(form) if is_needed(form) else []), *whole_lines(form), *(fit_record if fits else []), *inner, says, *body])
     own = [f"Reads{name}", *([f"Agrees{name}"] if has_own else []), f"{snake}_bytes"]
     own += [before(form, form.parts[index]) for index in form.paddings]
     return "\n".join([

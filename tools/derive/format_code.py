@@ -6,6 +6,7 @@ import re
 from typing import Dict, List
 
 from counts import in_code
+from format_reads import is_needed
 from kinds import Array, Number
 from layout import INSIDE, MOST, WIDTH, Generic, Tree, struct_lines, tuple_lines
 from parts import Format, Part, offsets
@@ -286,6 +287,7 @@ def read_block(form: Format) -> List[str]:
         "",
         f"    ghost reads_bounded = {{ {form.snake}-bounded }};",
         "",
+        *([f"    #[tactic(auto, using(crate::specs::{name}Back::{form.snake}_reads))]"] if is_needed(form) else []),
         *(["    #[inline(always)]"] if form.mark else []),
         *signature("try_from_ctx", [f"from: &{lifetime} [u8]", "ctx: Endian"], result_of(form, f"({form.type}, usize)")),
         *read_lines(form),
