@@ -438,6 +438,7 @@ struct Always {
     // #[scroll(if = kind == 1)]
     value: Uleb128,
 }
+struct Slice { a: Uleb128 }
 struct Never {
     kind: u8,
     // #[scroll(if = kind == 0x100)]
@@ -535,7 +536,8 @@ trial/src/bad.rt|Unsaid|bad.rt:265: the field value has no `if = ..`, which says
 trial/src/bad.rt|Forward|bad.rt:268: the condition kind == 1 of the field value is no `FIELD == NUMBER` of an earlier unsigned number
 trial/src/bad.rt|Unequal|bad.rt:274: the condition kind > 1 of the field value is no `FIELD == NUMBER` of an earlier unsigned number
 trial/src/bad.rt|Always|bad.rt:279: the field value has the note if, which its type Uleb128 doesn't take
-trial/src/bad.rt|Never|bad.rt:284: the condition kind == 0x100 of the field value has a number that doesn't fit kind
+trial/src/bad.rt|Slice|bad.rt:281: the struct Slice would have the library's name ReadsSlice, RefusesSlice or WritesSlice
+trial/src/bad.rt|Never|bad.rt:285: the condition kind == 0x100 of the field value has a number that doesn't fit kind
 END
 refuses 'bad.rt:20: the struct Twenty is of a fixed size, and has no definitions of its own' --specs "$room/bad.rt" Twenty
 refuses 'usage: derive.sh \[--check | --specs | --back\] FILE STRUCT' "$room/bad.rt"

@@ -24,6 +24,10 @@ def snake(name: str) -> str:
 ENDED = {"Uleb128": "leb", "Sleb128": "leb", "CStr": "c_string", "Option<Uleb128>": "optional", "Option<Sleb128>": "optional"}
 
 
+# The names behind `Reads`, `Refuses` and `Writes` in the library's definitions that are cited.
+TAKEN = {*"All Array At Between CString CountedSleb CountedUleb Fixed Float Number Optional Prefix Short Signed Sleb Slice Text Uleb Until Zeros".split()}
+
+
 @dataclass(frozen=True)
 class Inner:
     """A struct of any size, or an enum, that is the type of a field: its name, whether it says which of its values agree and what
@@ -213,6 +217,13 @@ def read_inner(source: Source, raw: RawStruct, field: RawField, error: Optional[
     return Inner(found.name, form.has_own, form.has_fits, form.error)
 
 
+def check_name(source: Source, raw: RawStruct) -> None:
+    """Refuses a name by which the printed definitions would have the names of the library's that they cite."""
+    if raw.name in TAKEN:
+        kind = "enum" if raw.is_enum else "struct"
+        source.refuse(raw.place, f"the {kind} {raw.name} would have the library's name Reads{raw.name}, Refuses{raw.name} or Writes{raw.name}")
+
+
 def read_format(source: Source, raw: RawStruct, outer: Tuple[str, ...] = ()) -> Format:
     """Returns a struct of any size. `outer` are the structs in which it is."""
     if raw.is_tuple:
@@ -229,6 +240,7 @@ def read_format(source: Source, raw: RawStruct, outer: Tuple[str, ...] = ()) -> 
         parts.append(Part(field.name, field.type, "inner", inner=inner) if inner else read_part(source, raw, field, parts, error))
     if mark and not (parts[0].fixed or parts[0].kind == "leb"):
         source.refuse(raw.place, f"the struct {raw.name} is in a list, and begins with no number")
+    check_name(source, raw)
     return Format(raw.name, raw.lifetime, crate, module, tuple(parts), error, mark)
 
 

@@ -10,7 +10,7 @@ from format_back import fixed_fit
 from format_specs import by_cases
 from format_words import MODULES, error_uses, fixed_bytes, reads_of, refuses_of, structs_of, use_lines
 from kinds import NUMBERS, Array, Number, Type, read_type, width_of
-from parts import CONSTANT, Format, Part, crate_of, is_counter, is_format, read_format, read_head, read_notes, read_other, snake
+from parts import CONSTANT, Format, Part, check_name, crate_of, is_counter, is_format, read_format, read_head, read_notes, read_other, snake
 from source import OwnError, RawField, RawStruct, Source, read_error
 
 
@@ -91,6 +91,7 @@ def read_choice(source: Source, raw: RawStruct, outer: Tuple[str, ...] = ()) -> 
     variants: List[Variant] = []
     for field in raw.fields:
         variants.append(read_variant(source, raw, field, tag, error, variants, (*outer, raw.name)))
+    check_name(source, raw)
     return Choice(raw.name, raw.lifetime, crate, module, tag, tuple(variants), error, other)
 
 
