@@ -318,8 +318,8 @@ struct Small {
     mark: u8,
 }
 struct Holder<'a> { inner: Small, text: CStr<'a> }
-struct Number { code: Uleb128 }
-struct Outer { number: Number }
+struct Weight { code: Uleb128 }
+struct Outer { number: Weight }
 struct Given {
     // #[scroll(ctx = 3)]
     inner: Small,
@@ -508,7 +508,7 @@ trial/src/bad.rt|Inside|bad.rt:143: the variant A is an array, which a struct ma
 trial/src/bad.rt|Mixed|bad.rt:148: the variant A is of the struct Small, which has another error
 trial/src/bad.rt|Lesser|bad.rt:151: the enum Lesser has the error SmallError, and takes that of the library or a variant of one
 trial/src/bad.rt|Holder|bad.rt:160: the field inner is of Small, which has another error
-trial/src/bad.rt|Outer|bad.rt:162: the field number is of Number, which holds a number in LEB128
+trial/src/bad.rt|Outer|bad.rt:162: the field number is of Weight, which holds a number in LEB128
 trial/src/bad.rt|Given|bad.rt:165: the field inner has the note ctx = 3, which its type Small doesn't take
 trial/src/bad.rt|Rows|bad.rt:167: the field rows has no context: how many elements it has
 trial/src/bad.rt|Cast|bad.rt:171: the context count as usize of the field rows adds to a number of more than 32 bits
