@@ -37,7 +37,7 @@ abbrev pub ReadsSomeListed : {V : Type 0} → (List ℕ → V → ℕ → Type 0
 ReadsSomeListed {V} reads mark buffer from to =
     (values : List V) × ReadsAll (ReadsListed reads mark) buffer from values to
 
--- and appended to `old`
+-- values of a list are read one after another between two offsets, and appended to `old`
 pub record AppendsListed {V : Type 0} (reads : List ℕ → V → ℕ → Type 0)
     (mark : List ℕ → Option ℕ) (buffer : List ℕ) (from to : ℕ) (old new : List V) : Type 0 where
   pub values : List V

@@ -20,8 +20,8 @@ pub record RefusesMany {V E : Type 0} (reads : List ℕ → V → ℕ → Type 0
   pub each : ReadsAll reads buffer from values stop
   pub error : RefusesAt refuses (PastEnd gives) buffer stop e ⊎ gives NoMemory e
 
--- the value at an offset has no bytes, or its size goes past the end, for which `BadInput` is made
--- the error `e`
+-- the value at the offset `stop` has no bytes, or its size goes past the end; the error `e` is made
+-- of a `BadInput` with that size
 pub record RefusesSize {V E : Type 0} (reads : List ℕ → V → ℕ → Type 0)
     (gives : Error → E → Type 0) (buffer : List ℕ) (stop : ℕ) (e : E) : Type 0 where
   pub value : V

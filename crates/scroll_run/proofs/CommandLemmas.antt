@@ -3,7 +3,6 @@ use Rattle.std.proofs.Common.{◌≡◌, ◌<◌, ◌^◌, Bor, ◌+◌, ◌-◌
 use Rattle.std.proofs.lemmas.List.{length-map, take_more, take_rest}
 use Rattle.std.proofs.lemmas.Slice.Zip.{all_zipped_more}
 use Rattle.std.proofs.lemmas.Grind.{common_steps}
-use Rattle.std.proofs.lemmas.Slice.Eq.{HasBytesAt, text_from_reads}
 use Rattle.scroll.specs.declared.runner.Command.{Command}
 use Rattle.scroll.specs.declared.runner.Command.TheVariants as command
 use Rattle.scroll.specs.declared.runner.Kind.{Kind}
@@ -38,11 +37,6 @@ by_index [] zero k = refl
 by_index [] (suc n) k = absurd (omega arith)
 by_index (w ∷ words) zero k = absurd (omega arith)
 by_index (w ∷ words) (suc n) k = ap (λ ts. w.now ∷ ts) (by_index words n (omega arith) ∙ sym (later w words 0 n))
-
--- the same where each byte of the first one has been read
-pub by_first : (words : List (Bor (List ℕ))) (n : ℕ) (a : List ℕ) → length words ≡ suc n → length (get_or words 0 no_word).now ≡ length a → HasBytesAt (get_or words 0 no_word).now 0 a
-    → texts_of words ≡ a ∷ words_from words 1 n
-by_first words n a k m h = by_index words (suc n) k ∙ ap (λ w. w ∷ words_from words 1 n) (text_from_reads _ a m h)
 
 -- the first one, and the others
 pub first_word : (words : List (Bor (List ℕ))) (a : List ℕ) → 0 < length words → (get_or words 0 no_word).now ≡ a
