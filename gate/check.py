@@ -16,7 +16,7 @@ Several of these words may be given; .ci/run gives `all verdict`. The steps are:
     clients.py      each client of the library, proved and tested as a crate of its own
     prove.sh        what tools/derive/derive.sh prints for the structs of tools/derive/shapes/, proved and tested likewise
     embed.py        the library of embed/ in C and Python, and in Rust where cargo is, on real files and on damaged ones
-    depending.py    a repository that depends on the library, made by README's lines
+    depending.py    README's first command, and a repository that depends on the library, made by README's lines
     misuse.py       what must not compile
     sessions.py     the stored sessions, whole and with their buffers cut, by the program that was proved
     limits.py       long inputs, at which that program must not run out of memory
@@ -194,8 +194,8 @@ def list_steps(groups: Sequence[str], workers: int, anew: str) -> List[Step]:
         ]
         steps += [Step(f"python3 gate/clients.py {it}", 1, (library,)) for it in list_clients()]
         steps.append(Step("sh tools/derive/prove.sh", 1, (library,)))
-        steps += [Step(f"python3 gate/{it}.py", 1, (library,)) for it in ("embed", "depending", "misuse")]
-        steps += [Step(f"python3 gate/{it}.py", 1, (program,)) for it in ("sessions", "limits")]
+        steps += [Step(f"python3 gate/{it}.py", 1, (library,)) for it in ("embed", "misuse")]
+        steps += [Step(f"python3 gate/{it}.py", 1, (program,)) for it in ("depending", "sessions", "limits")]
         steps.append(Step("sh compare/run.sh --gate", 1, (program,)))
     if "edits" in groups:
         steps.append(Step("python3 gate/edits.py", workers, tuple(it.command for it in steps if it.jobs)))

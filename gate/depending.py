@@ -1,6 +1,6 @@
 #!/usr/bin/env python3
-"""Does what README says in an empty folder: copies the library, pastes the first file, derives a format, and proves it all; and
-runs the examples of the library's documentation.
+"""Does what README says: runs the program by its first command; in an empty folder copies the library, pastes the first file,
+derives a format, and proves it all; and runs the examples of the library's documentation.
 
     python3 gate/depending.py
 
@@ -8,11 +8,13 @@ The commands and the files are README's own blocks. What `rt test` prints last m
 documentation are the tests of the crate `documented`, which gate/documented.py makes and `rt try` runs without a proof.
 
 The library is proved in this repository first, by `rt lib` over what its out/ keeps, and its build is then copied too, so that
-it isn't proved twice; with FROM_NOTHING=1 it is proved only in the new repository. Each of these is a check.
+it isn't proved twice; with FROM_NOTHING=1 it is proved only in the new repository. The first command likewise goes on with what
+both crates' out/ keeps, where its own has nothing. Each of these is a check.
 """
 
 import os
 import re
+import subprocess
 import sys
 from typing import List
 
@@ -22,6 +24,7 @@ from step import TOP, Ran, Step, Stop, copy_kept, run_step
 
 FIRST = "One file to paste"
 OWN = "A format of your own"
+COMMANDS = "Two commands"
 # What the commands must not copy.
 LEFT_OUT = ("must-fail", "bugs", "out")
 
@@ -41,7 +44,22 @@ def count(step: Step, what: str, is_well: bool, ran: Ran = Ran(0, "")) -> None:
         step.tell(f"{what}: passed")
 
 
+def run_program(step: Step) -> None:
+    """README's first command prints what the stored run must, of a program that is proved."""
+    copy = TOP / "out" / "session"
+    for crate in ("scroll", "scroll_run"):
+        kept = TOP / "crates" / crate / "out" / "incremental"
+        to = copy / "crates" / crate / "out" / "incremental"
+        if kept.is_dir() and not to.exists() and os.environ.get("FROM_NOTHING") != "1":
+            copy_kept(kept, to)
+    status, said = step.call("sh", "-euc", blocks_of("sh", COMMANDS)[0].splitlines()[0], cwd=TOP, stderr=subprocess.DEVNULL)
+    ran = Ran(status, (copy / "said.txt").read_text(encoding="utf-8"))
+    is_well = not status and said == (TOP / "crates" / "scroll_run" / "stdout").read_bytes()
+    count(step, "run the first command", is_well and len(re.findall(r"(?m)^logic=proved ", ran.said)) == 2, ran)
+
+
 def work(step: Step) -> None:
+    run_program(step)
     own = step.room / "own"
     own.mkdir()
     scroll, first = own / "crates" / "scroll", own / "crates" / "first"

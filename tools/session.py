@@ -1,0 +1,128 @@
+#!/usr/bin/env python3
+"""Proves the program with what it uses of the library, and runs it on standard input.
+
+    python3 tools/session.py < crates/scroll_run/stdin
+
+All that runs is proved. The library's modules of which the program uses nothing, UNUSED, are left out of the copy that is proved,
+in out/session/, as are the tests; gate/check.py proves these too. What was proved once is kept there, so that a second run only
+runs the program.
+
+Standard output is the program's. On standard error stands how far the proof is and how long it may still take. The exit status is
+the program's, or 1 where it isn't proved; out/session/said.txt then says why.
+"""
+
+import os
+import re
+import subprocess
+import sys
+import threading
+import time
+from pathlib import Path
+from typing import Dict
+
+TOP = Path(__file__).resolve().parents[1]
+COPY = TOP / "out" / "session"
+SAID = COPY / "said.txt"
+UNUSED = """
+    cstr/of_std ctx/encode ctx/fixed/arrays ctx/measure ctx/numbers/floats ctx/optional ctx/std_c_strings ctx/table ctx/tuples ctx/until
+    greater laws lesser lists many pwrite/owned tests
+""".split()
+# The processor seconds of each proof, and of what goes before it on one processor, as a first estimate of the time.
+WORK = {"scroll": 280, "scroll_run": 220}
+ALONE = 20
+FAR = re.compile(r"so far: (\d+) of (\d+) functions checked")
+PAUSE = 10
+
+
+def without(text: str, module: str) -> str:
+    """The text of a file without the declaration of a module and what it exports of it."""
+    text = re.sub(rf"(?m)^(?:#\[cfg\(test\)\]\n)?(?:pub )?mod {module};\n", "", text)
+    return re.sub(rf"(?m)^pub use (?:crate::|self::)?{module}::(?:\w+|\{{[^}}]*\}});\n", "", text)
+
+
+def wanted_files() -> Dict[Path, str]:
+    """The texts of the copy's files."""
+    files = {Path(it): (TOP / it).read_text(encoding="utf-8") for it in ("crates.txt", "HANDLES")}
+    for crate in WORK:
+        for part in ("src", "specs", "proofs"):
+            for file in (TOP / "crates" / crate / part).rglob("*.*t*"):
+                path = file.relative_to(TOP / "crates" / crate / part)
+                if not any(f"{path.with_suffix('')}/".startswith(f"{it}/") for it in UNUSED) or part == "specs":
+                    files[file.relative_to(TOP)] = file.read_text(encoding="utf-8")
+        for module in UNUSED:
+            above, _, name = f"/{module}".rpartition("/")
+            for root in (f"{above[1:]}.rt",) if above else ("lib.rt", "main.rt"):
+                path = Path("crates") / crate / "src" / root
+                if path in files:
+                    files[path] = without(files[path], name)
+    return files
+
+
+def bring_up_to_date() -> None:
+    """Writes the files of the copy that differ, and removes those that it no longer has."""
+    files = wanted_files()
+    for path, text in files.items():
+        file = COPY / path
+        if not file.is_file() or file.read_text(encoding="utf-8") != text:
+            file.parent.mkdir(parents=True, exist_ok=True)
+            file.write_text(text, encoding="utf-8")
+    for file in [it for crate in WORK for part in ("src", "specs", "proofs") for it in (COPY / "crates" / crate / part).rglob("*.*t*")]:
+        if file.relative_to(COPY) not in files:
+            file.unlink()
+
+
+class Clock:
+    """Says every few seconds how far the proofs are, and how long they may still take."""
+
+    def __init__(self) -> None:
+        self.begun = time.time()
+        self.done = 0.0
+        self.ended = threading.Event()
+        threading.Thread(target=self.tell, daemon=True).start()
+
+    def tell(self) -> None:
+        guess = sum(WORK.values()) / (os.cpu_count() or 1) + ALONE * len(WORK)
+        pause = 1
+        while not self.ended.wait(pause):
+            pause = PAUSE
+            gone = time.time() - self.begun
+            left = gone * (1 - self.done) / self.done if self.done > 0.2 else max(guess - gone, 10)
+            print(f"session: {self.done:.0%} is proved, about {left:.0f} s are left", file=sys.stderr, flush=True)
+
+    def read(self, crate: str, line: str) -> None:
+        """Reads off a line how far the proof of a crate is."""
+        found = FAR.search(line)
+        if found:
+            before = sum(WORK[it] for it in list(WORK)[: list(WORK).index(crate)])
+            self.done = (before + WORK[crate] * int(found[1]) / int(found[2])) / sum(WORK.values())
+        if line.startswith("rt: running"):
+            self.ended.set()
+
+
+def run(clock: Clock, crate: str, command: str, **pipes: object) -> int:
+    """Runs a command of rt in a crate of the copy, and returns its status. What it says goes to a file."""
+    with subprocess.Popen(["rt", command], cwd=COPY / "crates" / crate, text=True, errors="replace", **pipes) as ran:
+        with SAID.open("a", encoding="utf-8") as said:
+            for line in ran.stdout or ran.stderr or ():
+                said.write(line)
+                said.flush()
+                clock.read(crate, line)
+    return ran.returncode
+
+
+def main() -> int:
+    bring_up_to_date()
+    SAID.unlink(missing_ok=True)
+    clock = Clock()
+    # (`rt run` alone would first read all of the sources to say what is wrong before any proof.)
+    status = run(clock, "scroll", "lib", stdin=subprocess.DEVNULL, stdout=subprocess.PIPE, stderr=subprocess.STDOUT)
+    if not status:
+        status = run(clock, "scroll_run", "run", stderr=subprocess.PIPE)
+    if clock.ended.is_set():
+        return status
+    print(f"session: it isn't proved, see {SAID}", file=sys.stderr)
+    return 1
+
+
+if __name__ == "__main__":
+    sys.exit(main())
