@@ -13,6 +13,7 @@ the program's, or 1 where it isn't proved; out/session/said.txt then says why.
 
 import os
 import re
+import shutil
 import subprocess
 import sys
 import threading
@@ -111,6 +112,9 @@ def run(clock: Clock, crate: str, command: str, **pipes: object) -> int:
 
 
 def main() -> int:
+    if not shutil.which("rt"):
+        print("session: `rt` of the Rattle kit is not there", file=sys.stderr)
+        return 1
     bring_up_to_date()
     SAID.unlink(missing_ok=True)
     clock = Clock()
