@@ -50,8 +50,7 @@ impl StrCtx {
         }
     }
 
-    /// Returns whether the size of a string counts no byte after the text, which holds of `Length`
-    /// alone.
+    /// Returns whether it counts none: of `Length` alone.
     pub fn is_empty(&self) -> bool
         ensures { IsTrue result ↔ (delimiter_len self.now ≡ 0) }
     {
