@@ -42,6 +42,9 @@ DEFINED = re.compile(
 )
 # A function and the clauses after it; clauses, and the function after them.
 AFTER = re.compile(rf"`({NAME})`(?:\]\([^()\s]+\))?(?: of (?:`[^`]+`|\w+))?,? (`[a-z_]+`(?:(?:, | and )`[a-z_]+`)*)")
+# A call at the head of an item, and its clauses in it.
+ITEM = re.compile(rf"- `({NAME})`: (.*)")
+CLAUSE = re.compile(r"`([a-z_]+)`(?=[:,;]|$)")
 BEFORE = re.compile(rf"clauses? (`[a-z_]+`(?:(?:, | and )`[a-z_]+`)*) of (?:the )?`({NAME})`")
 
 
@@ -120,7 +123,9 @@ def wrong_clauses(line: str, declared: Declarations, is_list: bool) -> List[str]
     after = [(it, it[0][: it.start(2) - it.start()].rstrip()) for it in AFTER.finditer(line)]
     pairs = [(it[1], it[2]) for it, before in after if not (is_list and before.endswith(","))]
     pairs += [(name, clauses) for clauses, name in BEFORE.findall(line)]
-    wrong = []
+    item = ITEM.fullmatch(line)
+    known = declared.clauses(item[1]) - {""} if item else set()
+    wrong = [f"`{item[1]}` has no clause `{it}`" for it in CLAUSE.findall(item[2]) if it not in known] if item and known else []
     for name, clauses in pairs:
         if not declared.found(name) or not declared.clauses(name) - {""}:
             continue
