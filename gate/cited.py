@@ -1,10 +1,12 @@
 """Looks up the names that the documents cite in the sources, and follows their links, so that none is out of date.
 
-A name is a word between backticks, or words joined by `::`, such as `Pread::gread_with`. A name with `::` must lead to a
+A name is a word between backticks, or words joined by `::`, such as `Pread::gread_with`; of code between backticks, such as
+`file.pread_with::<u32>(4, LE)?`, it is what is called, and each word with a `_`, a `-` or a capital. A name with `::` must lead to a
 declaration (gate/declared.py), from member to owner. A single word must be declared, be an identifier of code, a word of a
 session's lines, the name of a file, an edit, a session or a lemma, or one of the words below, of Rust or of a tool. Clauses
 that are cited after a function, as in "`slice::pwrite_with` `refused`", or before one, as in "clause `refused` of
-`slice::pwrite_with`", must be that function's. So must those of the line `breaks:` of an edit. A link to a file of the repository
+`slice::pwrite_with`", must be that function's. So must those of the line `breaks:` of an edit, and those of an item of a list that
+begins with a function. A path of the repository must be there, in a block of commands too. A link to a file of the repository
 must lead to one, and its part after `#` to a heading there, or to a line. A document, or a file of edits, is a check.
 """
 
@@ -21,10 +23,10 @@ FOREIGN = set("""
 BoxedSlice CowSlice I Self::Units array::try_from_fn array::from_fn cause collect c3 core::mem core::result f64 memchr scroll_derive
 x86-64-v2
 HEX HH ORD SESSION crates/first crates/first/src crates/first/src/lib.rt export description AsRef This RangeFrom memmove Proof Lts Tie
-SCROLL byteorder pandoc gimli goblin object zerocopy grind rw
+SCROLL byteorder pandoc gimli goblin object zerocopy grind rw debug_line libscroll_formats in_ok-entry fence
 """.split())
 # Paths into std begin so.
-STD = re.compile(r"(?:std|core|io|fmt|str|array|ffi)::[\w:]+")
+STD = re.compile(r"(?:std|core|io|fmt|str|array|ffi|result)::[\w:]+")
 
 SPAN = re.compile(r"(?<!`)`([^`\n]+)`(?!`)")
 NAME = r"(?:r#)?[A-Za-z_][\w-]*(?:<[\w:<>]*>)?(?:::(?:[A-Za-z_]\w*|\*))*"
@@ -32,6 +34,16 @@ CITED = re.compile(NAME)
 WORD = re.compile(r"[^\W\d][\w-]*")
 CODE = re.compile(r"^(?!bug:|breaks:|promise:).*$", re.M)
 FILE = re.compile(r"[a-z.][\w.-]*(?:/[\w.-]+)+/?")
+# In code between backticks a word, with what is before and after it, and the look of one that names something. Commands have none.
+TOKEN = re.compile(r"(?:(?<=[\w)])(\.)|(?<![\w'/\\-]))([A-Za-z_][\w-]*(?:::[A-Za-z_]\w*)*)(::<|\()?")
+FILE_NAME = re.compile(r"[\w-]+(?:\.(?:py|sh|antt|rt|so|a|txt))+\b")
+SHAPE = re.compile(r"_|::|[a-z]-[a-z]|[a-z][A-Z]|^[A-Z][a-z]")
+COMMAND = re.compile(r"\(?(?:cd|rt|python3|sh|cargo|git|cc) ")
+# A path from the top of the repository, which may be that of README's `SCROLL`; a file by its name.
+PATH = re.compile(
+    r"(?<![\w/.-])(?:\$SCROLL/|\.\./)*((?:gate|tools|crates|clients|embed|bench|compare|docs|sessions)/[\w./-]*[\w/])"
+    r"|(?<![\w/.-])([a-z][\w-]*\.(?:py|sh|txt|md|c|rs|csv|svg|edits))\b(?!\.)"
+)
 LINK = re.compile(r"\]\(([^()\s]+)\)")
 STRING = re.compile(r'b?"(?:[^"\\\n]|\\.)*"')
 # What a file defines: functions and types (of Python none), constants, the shell's variables, definitions and lemmas with their
@@ -59,8 +71,25 @@ def read_prose(path: Path) -> List[str]:
     return CODE.sub("", path.read_text(encoding="utf-8")).split("\n") if is_edits else markdown.read(path).prose
 
 
+def names_in(span: str) -> List[str]:
+    """Returns the names that stand between backticks."""
+    if CITED.fullmatch(span):
+        return [span]
+    if FILE.fullmatch(span) or COMMAND.match(span):
+        return []
+    tokens = [(dot, re.sub(r"^(?:Self|[A-Z])::|-\d+$", "", name), call) for dot, name, call in TOKEN.findall(FILE_NAME.sub("", span))]
+    return [name for dot, name, call in tokens if not name.isupper() and (dot or call or SHAPE.search(name))]
+
+
+def commands(document: Path) -> Iterator[Tuple[int, str]]:
+    """Returns the lines of a document that may name files: its prose without links, and its blocks of commands."""
+    page = markdown.read(document)
+    yield from ((number, LINK.sub("", line)) for number, line in enumerate(page.prose, 1))
+    yield from ((block.line + at, line) for block in page.blocks if block.language in ("sh", "") for at, line in enumerate(block.code, 1))
+
+
 def is_gone(path: str, document: Path) -> bool:
-    if path in FOREIGN or re.search(r"\b[A-Z]{2,}\b(?!\.md)", path) or "out" in path.split("/"):
+    if path in FOREIGN or path.startswith("crates/first/") or re.search(r"\b[A-Z]{2,}\b(?!\.md)", path) or "out" in path.split("/"):
         return False
     return not any((folder / path).exists() for folder in (TOP, document.parent, *TOP.glob("crates/*"), *TOP.glob("crates/*/src"), *TOP.glob("clients/*")))
 
@@ -147,7 +176,7 @@ def faults(document: Path, known: Set[str], declared: Declarations) -> Tuple[int
     gone = []
     for number, line in enumerate(read_prose(document), 1):
         place = f"{document.relative_to(TOP)}:{number}"
-        names = [it for it in SPAN.findall(line) if CITED.fullmatch(it)]
+        names = [name for it in SPAN.findall(line) for name in names_in(it)]
         links = [it for it in LINK.findall(line) if "://" not in it]
         paths = [it for it in SPAN.findall(line) if FILE.fullmatch(it)]
         count += len(names) + len(links) + len(paths)
@@ -155,6 +184,11 @@ def faults(document: Path, known: Set[str], declared: Declarations) -> Tuple[int
         gone += [f"{place}: {it}" for it in wrong_clauses(line, declared, document.suffix == ".md")]
         gone += [f"{place}: `{it}` is not there" for it in paths if is_gone(it, document)]
         gone += [f"{place}: the link to {it} leads nowhere" for it in links if leads_nowhere(it, document)]
+    for number, line in commands(document) if document.suffix == ".md" else ():
+        place = f"{document.relative_to(TOP)}:{number}"
+        for path, name in PATH.findall(line):
+            if is_gone(path, document) if path else name not in known:
+                gone.append(f"{place}: `{path or name}` is not there")
     return count, gone
 
 
