@@ -1,7 +1,8 @@
 """Looks up the names that the documents cite in the sources, and follows their links, so that none is out of date.
 
 A name is a word between backticks, or words joined by `::`, such as `Pread::gread_with`; of code between backticks, such as
-`file.pread_with::<u32>(4, LE)?`, it is what is called, and each word with a `_`, a `-` or a capital. A name with `::` must lead to a
+`file.pread_with::<u32>(4, LE)?`, it is what is called, and each word with a `_`, a `-` or a capital. In `TooBig { size: 8, len: 4 }`
+the fields must be those of such a value. A name with `::` must lead to a
 declaration (gate/declared.py), from member to owner. A single word must be declared, be an identifier of code, a word of a
 session's lines, the name of a file, an edit, a session or a lemma, or one of the words below, of Rust or of a tool. Clauses
 that are cited after a function, as in "`slice::pwrite_with` `refused`", or before one, as in "clause `refused` of
@@ -12,7 +13,7 @@ must lead to one, and its part after `#` to a heading there, or to a line. A doc
 
 import re
 from pathlib import Path
-from typing import Iterator, List, Set, Tuple
+from typing import Dict, Iterator, List, Set, Tuple
 
 import markdown
 from declared import Declarations
@@ -39,6 +40,8 @@ TOKEN = re.compile(r"(?:(?<=[\w)])(\.)|(?<![\w'/\\-]))([A-Za-z_][\w-]*(?:::[A-Za
 FILE_NAME = re.compile(r"[\w-]+(?:\.(?:py|sh|antt|rt|so|a|txt))+\b")
 SHAPE = re.compile(r"_|::|[a-z]-[a-z]|[a-z][A-Z]|^[A-Z][a-z]")
 COMMAND = re.compile(r"\(?(?:cd|rt|python3|sh|cargo|git|cc) ")
+# A value with its fields, such as `TooBig { size: 8, len: 4 }`.
+VALUE = re.compile(r"\b([A-Z]\w*) \{\s*([^{}]*)\}")
 # A path from the top of the repository, which may be that of README's `SCROLL`; a file by its name.
 PATH = re.compile(
     r"(?<![\w/.-])(?:\$SCROLL/|\.\./)*((?:gate|tools|crates|clients|embed|bench|compare|docs|sessions)/[\w./-]*[\w/])"
@@ -79,6 +82,24 @@ def names_in(span: str) -> List[str]:
         return []
     tokens = [(dot, re.sub(r"^(?:Self|[A-Z])::|-\d+$", "", name), call) for dot, name, call in TOKEN.findall(FILE_NAME.sub("", span))]
     return [name for dot, name, call in tokens if not name.isupper() and (dot or call or SHAPE.search(name))]
+
+
+def fields_of_sources() -> Dict[str, List[Set[str]]]:
+    """Returns for each name that stands before fields the words of these, wherever it does."""
+    found: Dict[str, List[Set[str]]] = {}
+    for path in [*TOP.glob("crates/*/src/**/*.rt"), *TOP.glob("clients/*/src/**/*.rt.txt")]:
+        for name, fields in VALUE.findall(path.read_text(encoding="utf-8")):
+            found.setdefault(name, []).append({*WORD.findall(fields)})
+    return found
+
+
+def has_no_fields(span: str, fields: Dict[str, List[Set[str]]]) -> bool:
+    """Whether the code between backticks has a value with fields that nothing in the sources has so."""
+    for name, cited in VALUE.findall(span):
+        wanted = {*re.findall(r"(?:^|, )([a-z_]\w*)", cited)}
+        if wanted and not any(wanted <= it for it in fields.get(name, [])):
+            return True
+    return False
 
 
 def commands(document: Path) -> Iterator[Tuple[int, str]]:
@@ -170,7 +191,7 @@ def wrong_clauses(line: str, declared: Declarations, is_list: bool) -> List[str]
     return wrong
 
 
-def faults(document: Path, known: Set[str], declared: Declarations) -> Tuple[int, List[str]]:
+def faults(document: Path, known: Set[str], fields: Dict[str, List[Set[str]]], declared: Declarations) -> Tuple[int, List[str]]:
     """How many names and links a document has, and the lines that say which of them are gone."""
     count = 0
     gone = []
@@ -181,6 +202,7 @@ def faults(document: Path, known: Set[str], declared: Declarations) -> Tuple[int
         paths = [it for it in SPAN.findall(line) if FILE.fullmatch(it)]
         count += len(names) + len(links) + len(paths)
         gone += [f"{place}: `{it}` is not in the sources" for it in names if not is_known(it, known, declared)]
+        gone += [f"{place}: `{it}` has no such fields" for it in SPAN.findall(line) if has_no_fields(it, fields)]
         gone += [f"{place}: {it}" for it in wrong_clauses(line, declared, document.suffix == ".md")]
         gone += [f"{place}: `{it}` is not there" for it in paths if is_gone(it, document)]
         gone += [f"{place}: the link to {it} leads nowhere" for it in links if leads_nowhere(it, document)]
@@ -194,10 +216,10 @@ def faults(document: Path, known: Set[str], declared: Declarations) -> Tuple[int
 
 def try_all(step: Step) -> None:
     declared = Declarations()
-    known = words_of_sources(declared)
+    known, fields = words_of_sources(declared), fields_of_sources()
     names = 0
     for document in documents():
-        count, gone = faults(document, known, declared)
+        count, gone = faults(document, known, fields, declared)
         step.count(str(document.relative_to(TOP)), "".join(f"    {it}\n" for it in gone) if gone else None)
         names += count
     step.tell(f"{names} names and links were looked up")

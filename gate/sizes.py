@@ -40,7 +40,7 @@ def jobs() -> str:
     for _, cells in markdown.read(SPEED).rows():
         if len(cells) == JOB and cells[0] != "job":
             kinds.setdefault(OF_A_KIND.sub("", cells[0]), []).append(cells[4])
-    return ", ".join(f"{kind} {' to '.join(sorted({min(it), max(it)}))}" for kind, it in kinds.items()) + "."
+    return ", ".join(f"{kind} {' to '.join(dict.fromkeys((min(it, key=float), max(it, key=float))))}" for kind, it in kinds.items()) + "."
 
 
 def try_readme(step: Step, is_writing: bool) -> None:
