@@ -37,10 +37,10 @@ def read_promises() -> List[Promise]:
     for line in SOURCE.read_text(encoding="utf-8").splitlines():
         if line.startswith("## "):
             section = line[3:]
-        elif line.startswith("  by: "):
-            found[-1] = found[-1]._replace(by=line[6:])
         elif line.startswith("  test: "):
             found[-1] = found[-1]._replace(tests=line[8:].split(", "))
+        elif line.startswith("  "):
+            found[-1] = found[-1]._replace(by=line[2:])
         elif line and not line.startswith("# "):
             name, _, says = line.partition(":")
             found.append(Promise(section, name, says.strip(), "", []))
