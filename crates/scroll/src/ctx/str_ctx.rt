@@ -50,7 +50,8 @@ impl StrCtx {
         }
     }
 
-    /// Returns whether it counts none: of `Length` alone.
+    /// Returns whether the size of a string counts no byte after the text, which holds of `Length`
+    /// alone.
     pub fn is_empty(&self) -> bool
         ensures { IsTrue result ↔ (delimiter_len self.now ≡ 0) }
     {
