@@ -91,21 +91,26 @@ def code_size(at, functions):
 LARGE = " of 64 MiB"
 
 
-def table(times, costs, versions, size):
-    head = ["job", "ours, ns", "fastest peer", "its ns", "ratio", "in four layouts", "at 64 MiB"]
-    head += ["allocations, ours and its", "their bytes", "machine code, bytes", "other peers, ns"]
-    lines = [f"| {' | '.join(head)} |", "|---|--:|---|--:|--:|---|--:|---|---|---|---|"]
+def rows(times):
+    """Returns for each job of the table its times as cells, and its peers, the fastest first."""
     for row, forms in times.items():
         peers = sorted((mean(best.values()), form) for form, best in forms.items() if form != "scroll")
         if not peers or row.endswith(LARGE):
             continue
-        its, peer = peers[0]
-        ours = forms["scroll"]
+        (its, peer), ours = peers[0], forms["scroll"]
         ratios = [ours[shift] / forms[peer][shift] for shift in SHIFTS]
         time = mean(ours.values())
-        both = [costs[row, form] for form in ("scroll", peer)]
-        cells = [row, draw.seen(time), name(peer, versions), draw.seen(its), f"{time / its:.2f}"]
-        cells += [f"{min(ratios):.2f} to {max(ratios):.2f}", grown(times.get(row + LARGE), peer)]
+        cells = [draw.seen(time), draw.seen(its), f"{time / its:.2f}", f"{min(ratios):.2f} to {max(ratios):.2f}"]
+        yield row, [*cells, grown(times.get(row + LARGE), peer)], peers
+
+
+def table(times, costs, versions, size):
+    head = ["job", "ours, ns", "fastest peer", "its ns", "ratio", "in four layouts", "at 64 MiB"]
+    head += ["allocations, ours and its", "their bytes", "machine code, bytes", "other peers, ns"]
+    lines = [f"| {' | '.join(head)} |", "|---|--:|---|--:|--:|---|--:|---|---|---|---|"]
+    for row, (ours, its, *others), peers in rows(times):
+        both = [costs[row, form] for form in ("scroll", peers[0][1])]
+        cells = [row, ours, name(peers[0][1], versions), its, *others]
         cells += [", ".join(f"{cost[i]:,}" for cost in both) for i in (0, 1)]
         cells.append(", ".join(f"{size(cost[2]):,}" for cost in both))
         cells.append(", ".join(f"{name(form, versions)} {draw.seen(time)}" for time, form in peers[1:]))

@@ -1,9 +1,10 @@
 """Makes docs/API.md from the doc comments of the library: each public module, trait, type, constant and function, and each
 implementation that has a comment of its own.
 
-A function has its signature, the names of its clauses, and its comment. A call without `_with` is part of the one with it. Of an
-example the parts that show an error are on the page, and for a client's its file's name; a paragraph that is on the page already
-isn't printed again. A link to an item leads to its heading. The page is a check.
+A function has its signature, without the bounds that the page's head says, and its comment. A call without `_with` is part of the one
+with it. Of an example the parts that show an error are on the page, if README or an example before it doesn't show it, and for a
+client's its file's name; a paragraph that is on the page already isn't printed again. A link to an item leads to its heading. The
+page is a check.
 """
 
 import re
@@ -17,10 +18,10 @@ SRC = TOP / "crates" / "scroll" / "src"
 PAGE = TOP / "docs" / "API.md"
 HEAD = """# API
 
-Each public item of the library, from its doc comments. Offsets and sizes are in bytes. Behind a signature are, in parentheses, the
-names of the contract's clauses, in words of [DEFINITIONS.md](DEFINITIONS.md). A call whose name ends in `_with` takes a context; the one without
-takes the default of the context's type, which for numbers is the machine's byte order. The examples are those that show an error; the
-gate runs these and the others, which are in the sources and in [GUIDE.md](GUIDE.md).
+Each public item of the library, from its doc comments. Offsets and sizes are in bytes. In signatures a context's type is `Copy`, and
+`E` is `From<Error>`. A call whose name ends in `_with` takes a context; the one without takes the default of the context's type, which
+for numbers is the machine's byte order. The examples show errors; the gate runs these and the others, in the sources. The names of the
+contracts' clauses are in [PROVED.md](PROVED.md), and those of the calls in [GUIDE.md](GUIDE.md#the-clauses-of-each-call).
 """
 # A note on a variant or a function that has fewer words says no more than its name.
 SHORT = 12
@@ -44,17 +45,20 @@ SECTIONS = {
 ITEM = re.compile(r"(?P<indent>(?:    )?)(?P<open>pub )?(?:final |const |unsafe )*(?P<kind>trait|struct|enum|fn|const|type|impl)\b(?P<rest>.*)")
 VARIANT = re.compile(r"    (?:pub )?(?P<name>[A-Za-z_]\w*)[,({:]?.*")
 CLAUSE = re.compile(r"\s+(requires|ensures|succeeds) (?:(\w+) )?\{")
+# The bounds that the head of the page says.
+BOUNDS = re.compile(r"(?<=[<\s])(?:Ctx: Copy(?: \+ Default)?|E: From<Error>)(?:, |(?=>))")
+# An error, as an example shows it.
+SHOWN = re.compile(r'Error::\w+|msg: "[^"]*"|\bNone\b|\bAt \{|Err\(\d+\)')
 LINK = re.compile(r"\[(`[^`]+`)\](?:\([\w:]+\))?")
 
 
 class Entry(NamedTuple):
-    """An item: how deep it stands, its heading, its signature, its comment, and the names of its clauses."""
+    """An item: how deep it stands, its heading, its signature, and its comment."""
 
     depth: int
     title: str
     code: str
     said: List[str]
-    clauses: List[str]
 
 
 def name_of(kind: str, rest: str) -> str:
@@ -79,18 +83,8 @@ def signature(lines: List[str], at: int) -> str:
             break
     text = re.sub(r"\s+", " ", " ".join(head)).rstrip("{};").strip()
     text = re.sub(r",? (?=[)>])|(?<=[(<]) ", "", re.sub(r",\s*([)>])", r"\1", text)).replace(" where Ctx: Default,", "")
-    return text.removeprefix("pub ").replace(" where Ctx: Default", "")
-
-
-def clauses(lines: List[str], at: int) -> List[str]:
-    """Returns the names of a function's clauses."""
-    found: List[str] = []
-    for line in lines[at + 1 :]:
-        clause = CLAUSE.match(line)
-        found += [f"`{clause[2]}`"] if clause and clause[2] else []
-        if re.match(r"\s*(///|#\[|pub |fn |final fn |impl|\}|\{)", line):
-            break
-    return found
+    text = BOUNDS.sub("", text).replace("<>", "")
+    return re.sub(r"^pub | where .*$", "", text)
 
 
 def entries(path: Path) -> Iterator[Entry]:
@@ -98,7 +92,7 @@ def entries(path: Path) -> Iterator[Entry]:
     lines = path.read_text(encoding="utf-8").split("\n")
     module = [line[3:].removeprefix(" ") for line in lines if line.startswith("//!")]
     if module:
-        yield Entry(3, f"`scroll::{path.relative_to(SRC).with_suffix('').as_posix().replace('/', '::')}`", "", module, [])
+        yield Entry(3, f"`scroll::{path.relative_to(SRC).with_suffix('').as_posix().replace('/', '::')}`", "", module)
     said: List[str] = []
     owner, kind, is_open = "", "", False
     for at, line in enumerate(lines):
@@ -120,12 +114,12 @@ def entries(path: Path) -> Iterator[Entry]:
             owner += f": {bound[1]}" if bound else ""
             if said and is_open:
                 code = signature(lines, at) if kind in ("fn", "type", "const") else ""
-                yield Entry(3 if kind != "impl" else 4, f"`{owner}`", code, said, clauses(lines, at) if kind == "fn" else [])
+                yield Entry(3 if kind != "impl" else 4, f"`{owner}`", code, said)
         elif item and said and item["kind"] == "fn" and (item["open"] or kind in ("trait", "impl")):
             name = name_of("fn", item["rest"])
-            yield Entry(4, f"`{owner.split(' for ')[-1].split('<')[0]}::{name}`", signature(lines, at), said, clauses(lines, at))
+            yield Entry(4, f"`{owner.split(' for ')[-1].split('<')[0]}::{name}`", signature(lines, at), said)
         elif said and kind in ("enum", "struct") and is_open and VARIANT.fullmatch(line):
-            yield Entry(0, f"`{line.strip().rstrip(',{').strip()}`", "", said, [])
+            yield Entry(0, f"`{line.strip().rstrip(',{').strip()}`", "", said)
         said = []
 
 
@@ -136,9 +130,11 @@ def paragraphs(said: List[str], printed: Set[str], is_slice: bool, is_module: bo
     source = False
     for piece in re.split(r"(?ms)(^```.*?^```$)|\n\n+", "\n".join(said)):
         piece = (piece or "").strip("\n")
+        words = " ".join(piece.split())
         if piece.startswith("```"):
             lines = [it for it in piece.strip("`\n").split("\n")[1:] if not it.startswith("use ")]
-            shown = [it for it in "\n".join(lines).strip("\n").split("\n\n") if re.search(r"Err\(|None|\.err\(\)", it)]
+            shown = [it for it in "\n".join(lines).strip("\n").split("\n\n") if not printed.issuperset(SHOWN.findall(it))]
+            printed.update(SHOWN.findall("\n".join(shown)))
             if source or not shown:
                 found[-1:] = [re.sub(r":$", ".", it) for it in found[-1:]]
             else:
@@ -147,10 +143,10 @@ def paragraphs(said: List[str], printed: Set[str], is_slice: bool, is_module: bo
         elif re.match(r"From `", piece):
             source = True
             found.append(re.sub(r"^From (`[^`]+`)(?:, (.*))?:$", r"Example: \1.", piece))
-        elif piece and not (piece in printed and (is_slice or len(piece.split()) > SHORT)):
+        elif piece and not (words in printed and (is_slice or len(words.split()) > SHORT)):
             source = False
-            printed.add(piece)
-            found.append(" ".join(piece.split()) if not re.search(r"(?m)^[-|]", piece) else piece)
+            printed.add(words)
+            found.append(words if not re.search(r"(?m)^[-|]", piece) else piece)
     if is_module:
         found = [it for it in found if not it.startswith(("- ", "Errors are"))][:OPENING]
     return "\n\n".join(found)
@@ -186,7 +182,7 @@ def page() -> str:
     titles: Set[str] = {e.title for listed in found.values() for e in listed if e.depth}
     shown = [e.title for listed in found.values() for e in merged(listed) if e.depth and not is_short(e)]
     merged_as = {it.split(", ")[0].strip("`"): it for it in shown}
-    printed: Set[str] = set()
+    printed: Set[str] = {*SHOWN.findall((TOP / "README.md").read_text(encoding="utf-8"))}
     twins: Dict[str, str] = {}
 
     def linked(text: str, owner: str) -> str:
@@ -217,7 +213,7 @@ def page() -> str:
                 like = UNSIGNED.sub("", text)
                 text = f"As {twins[like]}." if text and like in twins else text
                 twins.setdefault(like, e.title)
-                text = code + (f" ({', '.join(e.clauses)})" if e.clauses else "") + (f": {text}" if text else "")
+                text = code + (f": {text}" if text else "")
                 if owner and not heads or owner and owner != heads[-1]:
                     text = f"{owner}: {text}" if not owner.isidentifier() else f"`{owner}`: {text}"
                 parts.append(("" if parts[-1].startswith("- ") else "\n") + f"- {text}")
@@ -228,7 +224,7 @@ def page() -> str:
             heads.append(e.title.strip("`").split("`")[0].split("::")[0])
             parts.append(f"\n{'#' * e.depth} {e.title}\n")
             if e.code:
-                parts.append(f"`{e.code}`" + (f" ({', '.join(e.clauses)})" if e.clauses else "") + "\n")
+                parts.append(f"`{e.code}`\n")
             parts.append(text)
     return re.sub(r"\n{3,}", "\n\n", re.sub(r"(?m)(^- .*)\n\n(?=- )", r"\1\n", "\n".join(parts))) + "\n"
 

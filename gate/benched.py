@@ -1,16 +1,18 @@
 """Says which public call of the library no set of the bench makes: each has a row but those that PROVIDED and CONSTANT leave
-out, or that by which THROUGH goes. And compares the summary in docs/SPEED.md with bench/results/speed.csv.
+out, or that by which THROUGH goes. And compares the summary and the times of jobs in docs/SPEED.md with those in bench/results/.
 
-A call is a check, and so is the summary.
+A call is a check, and so are the summary and the jobs.
 """
 
 import re
 import sys
 from typing import Set
 
+import markdown
 from step import TOP, Step
 
 sys.path.append(str(TOP / "bench"))
+import jobs  # noqa: E402
 import results  # noqa: E402
 
 SOURCES = TOP / "crates" / "scroll" / "src"
@@ -55,6 +57,12 @@ def try_all(step: Step) -> None:
     for name in sorted((CONSTANT | THROUGH.keys()) - calls):
         step.count(f"{name}: gate/benched.py leaves it out, and there is no such call", "")
     summary = "\n".join(results.summary(results.read_csv(TOP / "bench" / "results" / "speed.csv")))
-    is_there = f"\n{summary}\n" in (TOP / "docs" / "SPEED.md").read_text(encoding="utf-8")
+    page = TOP / "docs" / "SPEED.md"
+    is_there = f"\n{summary}\n" in page.read_text(encoding="utf-8")
     step.count("docs/SPEED.md has another summary than speed.csv", None if is_there else "    python3 bench/draw.py makes it")
+    on_page = {cells[0]: [cells[1], *cells[3:7]] for _, cells in markdown.read(page).rows() if len(cells) == 11 and cells[0] != "job"}
+    wanted = {row: cells for row, cells, _ in jobs.rows(jobs.read_csv())}
+    for row in sorted(on_page.keys() | wanted.keys()):
+        fault = None if on_page.get(row) == wanted.get(row) else f"    {on_page.get(row)} on the page, {wanted.get(row)} by jobs.csv"
+        step.count(f"docs/SPEED.md: {row}", fault)
     step.tell(f"{len(calls - CONSTANT)} of {len(calls)} public calls have a row in the bench, the others take constant time")

@@ -5,7 +5,8 @@ The files come in the order of specs/Lib.antt. The comment at the head of a file
 full stop, and then its text; an empty line of the comment ends a paragraph. The comment above a definition says what it means;
 a definition without one shares that of the definition before it. Where a definition has several equations, its comment begins
 with the name and the parameters, between backticks, and a colon. Where a comment ends with a colon, the page has the equations.
-Of the words of laws the page has the names.
+Of the words of laws the page has the names, and so it has of a part: a definition that no contract of a public item cites, no client
+and nothing that tools/derive prints, and that no meaning on the page names.
 
 A file of specs/ is a check.
 """
@@ -14,7 +15,7 @@ import itertools
 import re
 from dataclasses import dataclass
 from pathlib import Path
-from typing import Iterator, List, Tuple
+from typing import Dict, Iterator, List, Set, Tuple
 
 from step import TOP, Step
 
@@ -22,7 +23,7 @@ PAGE = TOP / "docs" / "DEFINITIONS.md"
 
 HEAD = """# Definitions
 
-The words that the contracts cite, from the comments in `specs/`. `rt lemma WORD` prints a definition whole, with its parts and its import.
+The words that the contracts cite, from the comments in `specs/`. `rt lemma WORD` prints a definition whole, with its import. Of *parts*, which definitions alone cite, the page has the names.
 """
 
 # The files of which only the laws' contracts speak: their names alone are on the page.
@@ -32,6 +33,9 @@ START = re.compile(r"(?:abbrev pub|pub record) ([^\s:({]+)(.*)")
 FORMS = re.compile(r"((?:`[^`]+`(?:, )?)+): ")
 PARAMETERS = re.compile(r"\(([^:()]+) :")
 PART = re.compile(r"  pub (\w+) :")
+# What of the sources is no contract of a public item: comments, imports, and functions for the crate alone.
+INNER = re.compile(r"(?ms)//[^\n]*|--[^\n]*|^(?:ghost )?use [^;]*;|^(?:pub\(crate\) )?(?:const )?fn .*?^\}")
+WORD = re.compile(r"[^\W\d][\w-]*")
 
 
 class Bad(Exception):
@@ -98,12 +102,10 @@ def item(meaning: str, group: List[Definition]) -> str:
     return text + ("\n" if meaning.endswith(".") else ".\n")
 
 
-def section(path: Path) -> str:
-    """The section of a file; it is empty where the file defines nothing."""
-    found = list(blocks(path))
-    title, *text = headed(found[0][0])
+def entries_of(path: Path) -> List[Tuple[str, List[Definition]]]:
+    """The meanings in a file, each with the definitions that share it."""
     entries: List[Tuple[str, List[Definition]]] = []
-    for comment, lines in found[1:]:
+    for comment, lines in list(blocks(path))[1:]:
         start = START.match(lines[0]) if lines else None
         if not start:
             continue
@@ -112,16 +114,43 @@ def section(path: Path) -> str:
         elif not entries:
             raise Bad(f"{start[1]} has no comment")
         entries[-1][1].append(definition(start[1], start[2], lines))
+    return entries
+
+
+def names_of(group: List[Definition]) -> str:
+    return ", ".join(f"`{it.name}`" for it in group)
+
+
+def cited_names(meanings: Dict[str, str]) -> Set[str]:
+    """The definitions that a user meets: those that are cited, and those that the meaning of one of these names."""
+    src = TOP / "crates" / "scroll" / "src"
+    files = [it for it in src.rglob("*.rt") if "tests" not in it.relative_to(src).parts]
+    files += [*TOP.glob("clients/*/src/**/*.rt.txt"), *TOP.glob("clients/*/specs/*.txt"), *TOP.glob("tools/derive/*.*")]
+    words = {it for path in files for it in WORD.findall(INNER.sub("", path.read_text(encoding="utf-8")))}
+    left, found = [it for it in meanings if it in words], set()
+    while left:
+        name = left.pop()
+        if name not in found:
+            found.add(name)
+            left += [it for span in re.findall(r"`([^`]+)`", meanings[name]) for it in WORD.findall(span) if it in meanings]
+    return found
+
+
+def section(path: Path, entries: List[Tuple[str, List[Definition]]], cited: Set[str]) -> str:
+    """The section of a file; it is empty where the file defines nothing."""
+    title, *text = headed(next(blocks(path))[0])
     if not entries:
         return ""
     if not title:
         raise Bad("it has no comment at its head")
     link = f"[{path.name}]({Path('..') / path.relative_to(TOP)})"
     if path.stem in FOR_LAWS:
-        names = ", ".join(f"`{it.name}`" for _, group in entries for it in group)
+        names = ", ".join(names_of(group) for _, group in entries)
         return f"\n### {title.rstrip('.')}\n\n{link}, of which only laws speak: {names}.\n"
     head = "\n\n".join([f"### {title.rstrip('.')}", " ".join([f"{link}.", *text])])
-    return f"\n{head}\n\n" + "".join(item(*entry) for entry in entries)
+    told = [it for it in entries if any(one.name in cited for one in it[1])]
+    parts = ", ".join(names_of(group) for meaning, group in entries if (meaning, group) not in told)
+    return f"\n{head}\n\n" + "".join(item(*entry) for entry in told) + (f"- Parts: {parts}.\n" if parts else "")
 
 
 def try_all(step: Step, is_writing: bool) -> None:
@@ -130,10 +159,18 @@ def try_all(step: Step, is_writing: bool) -> None:
     failed = step.failed
     lib = TOP / "crates" / "scroll" / "specs" / "Lib.antt"
     sections: List[str] = []
-    for name in re.findall(r"^pub mod ([A-Z]\w*)", lib.read_text(encoding="utf-8"), re.M):
-        path = lib.parent / f"{name}.antt"
+    entries: Dict[Path, List[Tuple[str, List[Definition]]]] = {}
+    paths = [lib.parent / f"{name}.antt" for name in re.findall(r"^pub mod ([A-Z]\w*)", lib.read_text(encoding="utf-8"), re.M)]
+    for path in paths:
         try:
-            sections.append(section(path))
+            entries[path] = entries_of(path)
+        except Bad as why:
+            step.count(f"{path.relative_to(TOP)}: {why}", "")
+    listed = [it for path in entries for it in entries[path] if path.stem not in FOR_LAWS]
+    cited = cited_names({one.name: meaning for meaning, group in listed for one in group})
+    for path in entries:
+        try:
+            sections.append(section(path, entries[path], cited))
             made.append((path, sections[-1]))
         except Bad as why:
             step.count(f"{path.relative_to(TOP)}: {why}", "")

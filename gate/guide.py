@@ -2,7 +2,7 @@
 
 Above each block of the guide is a comment `<!-- code: FILE | ITEM | ITEM .. -->`: the block has these items of the file, in this
 order. An item is named by the start of its first line of code, such as `pub fn read_length`; `imports` are the lines of `use` at the
-head, and `all` is the file without its tests; `-- file: PATH` is that part of a client's proofs. `python3 gate/docs.py write` writes the blocks, and the list of the lemmas in
+head, and `all` is the file without its tests; `-- file: PATH` is that part of a client's proofs. `python3 gate/docs.py write` writes the blocks, and the list of the files in
 proofs/lemmas/callers/.
 
 The blocks in the library's doc comments and in docs/FROM-RUST.md below a line that begins with a file's name, such as
@@ -20,7 +20,6 @@ from step import TOP, Step
 GUIDE = TOP / "docs" / "GUIDE.md"
 BLOCK = re.compile(r"(?ms)^<!-- code: ([^|\n]+) \| (.*?) -->\n\n(?:From `[^`\n]+`:\n\n```\w*\n.*?^```\n)?")
 BEGIN, END = "<!-- lemmas: begin -->\n", "<!-- lemmas: end -->\n"
-LEMMA = re.compile(r"(?m)^(?:abbrev )?pub (?:record )?([^\s:({]+)(?= *[:({])")
 # A line that a file has at its head.
 AUTO = "#![tactic(auto)]"
 
@@ -88,17 +87,14 @@ def source_fault(found: markdown.Block) -> Optional[str]:
 
 
 def lemmas() -> str:
-    """Returns the lemmas for callers: for each file what it is about, and its names."""
+    """Returns the files of the lemmas for callers, each with what it is about."""
     lines = []
     for path in sorted(TOP.glob("crates/scroll/proofs/lemmas/callers/*.antt")):
-        text = path.read_text(encoding="utf-8")
-        comment = re.match(r"(?:--.*\n)+", text)
+        comment = re.match(r"(?:--.*\n)+", path.read_text(encoding="utf-8"))
         about = " ".join(it[2:].strip() for it in comment[0].splitlines()) if comment else ""
         about = re.sub(r"^Lemmas for callers: ", "", about).partition(". ")[0].rstrip(".")
-        exported = [it for names in re.findall(r"(?m)^pub use .*\.\{(.*)\}", text) for it in names.split(", ")]
-        names = ", ".join(f"`{it}`" for it in dict.fromkeys([*LEMMA.findall(text), *exported]) if it != "use")
-        lines.append(f"- **`{path.stem}`**, {about}: {names}")
-    return "\n".join(lines) + "\n"
+        lines.append(f"- [{path.stem}](../{path.relative_to(TOP).as_posix()}): {about[0].lower()}{about[1:]}\n")
+    return "".join(lines)
 
 
 def try_guide(step: Step, is_writing: bool) -> int:

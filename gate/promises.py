@@ -1,8 +1,9 @@
-"""Makes the tables of docs/PROVED.md from gate/promises.txt and from the lines `promise:` of the edits, and compares them.
+"""Makes the lists of docs/PROVED.md from gate/promises.txt and from the lines `promise:` of the edits, and compares them.
 
-A row is a promise: what it says, the clauses that state it, each with a link to the line where the contract is, how many edits
-there are for it, and where it is tested too. A clause must be one of its function, and a test must be there. The line
-`promise:` of an edit has the names of the promises that it is for, with `, ` between two. Each promise is a check.
+An item is a promise: how many edits there are for it, what it says, the clauses that state it, each with a link to the line where
+the contract is, and where it is tested too. A clause must be one of its function, and a test must be there; a function all of whose
+named clauses are cited is printed without them. The line `promise:` of an edit has the names of the promises that it is for, with
+`, ` between two. Each promise is a check.
 """
 
 import re
@@ -36,13 +37,13 @@ def read_promises() -> List[Promise]:
     for line in SOURCE.read_text(encoding="utf-8").splitlines():
         if line.startswith("## "):
             section = line[3:]
-        elif line.startswith("  by: "):
-            found[-1] = found[-1]._replace(by=line[6:])
         elif line.startswith("  test: "):
             found[-1] = found[-1]._replace(tests=line[8:].split(", "))
+        elif line.startswith("  "):
+            found[-1] = found[-1]._replace(by=line[2:])
         elif line and not line.startswith("# "):
-            name, _, says = line.partition(": ")
-            found.append(Promise(section, name, says, "", []))
+            name, _, says = line.partition(":")
+            found.append(Promise(section, name, says.strip(), "", []))
     return found
 
 
@@ -67,7 +68,8 @@ def cited(text: str, declared: Declarations) -> str:
             line = it.clauses[clauses[0]]
     words = f"`{name}`" + (f" of `{of}`" if of else "")
     link = f"[{words}](../{best[0].relative_to(TOP).as_posix()}#L{line})"
-    return f"{link} {', '.join(f'`{it}`' for it in clauses)}".strip()
+    shown = [] if {*clauses} == (best[2] or declared.clauses(name)) - {""} else clauses
+    return f"{link} {', '.join(f'`{it}`' for it in shown)}".strip()
 
 
 def edits_by_promise(step: Step) -> Dict[str, List[Edit]]:
@@ -85,12 +87,14 @@ def edits_by_promise(step: Step) -> Dict[str, List[Edit]]:
     return edits
 
 
-def row(promise: Promise, edits: int, declared: Declarations) -> str:
+def item(promise: Promise, edits: int, declared: Declarations) -> str:
     for test in promise.tests:
         if not declared.resolves(test):
             raise Bad(f"there is no test `{test}`")
-    by = "; ".join(cited(it, declared) for it in re.split(r"; (?!N\])", promise.by))
-    return f"| **{promise.name}**: {promise.says} | {by} | {edits or ''} | {', '.join(f'`{it}`' for it in promise.tests)} |".replace("  |", " |")
+    by = [cited(it, declared) for it in re.split(r"; (?!N\])", promise.by)]
+    tests = [", ".join(f"`{it}`" for it in promise.tests)] if promise.tests else []
+    head = f"- **{promise.name}**" + (f" ({edits})" if edits else "") + (f": {promise.says}" if promise.says else "")
+    return f"{head}: {'; '.join(by + tests)}"
 
 
 def try_all(step: Step, is_writing: bool) -> None:
@@ -102,20 +106,20 @@ def try_all(step: Step, is_writing: bool) -> None:
     for it in read_promises():
         if it.section != section:
             section = it.section
-            lines += ["", f"### {section}", "", "| promise | by | edits | tests |", "|---|---|--:|---|"]
+            lines += ["", f"### {section}", ""]
         fault = "    it stands twice" if it.name in names else None
         names.append(it.name)
         try:
-            lines.append(row(it, len(edits.get(it.name, [])), declared))
+            lines.append(item(it, len(edits.get(it.name, [])), declared))
         except Bad as why:
             fault = f"    {why}"
         step.count(f"gate/promises.txt: {it.name}", fault)
     for name in sorted(edits.keys() - {*names}):
         step.count(f"{', '.join(edit.name for edit in edits[name])}: gate/promises.txt has no promise `{name}`", "")
-    table = "\n".join(lines).lstrip("\n") + "\n\n"
+    listed = "\n".join(lines).lstrip("\n") + "\n\n"
     before, _, rest = PAGE.read_text(encoding="utf-8").partition(BEGIN)
-    is_same = rest.partition(END)[0] == "\n" + table
+    is_same = rest.partition(END)[0] == "\n" + listed
     if is_writing:
-        PAGE.write_text(before + BEGIN + "\n" + table + END + rest.partition(END)[2], encoding="utf-8")
-    step.count("docs/PROVED.md has other tables", None if is_same or is_writing else "    python3 gate/docs.py write makes them")
+        PAGE.write_text(before + BEGIN + "\n" + listed + END + rest.partition(END)[2], encoding="utf-8")
+    step.count("docs/PROVED.md has other lists", None if is_same or is_writing else "    python3 gate/docs.py write makes them")
     step.tell(f"{len(names)} promises have {sum(map(len, edits.values()))} edits")

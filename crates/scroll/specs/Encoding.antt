@@ -1,8 +1,6 @@
--- LEB128 by division. These are the same encodings, made by division as section 7.6 of DWARF 5
--- makes them. No reader uses this. A `encoding` is the encoding of a number in a given number of
--- bytes. A number is written as its encoding, in as many bytes as its `Counted` says. The laws are
--- the same for unsigned and for signed numbers: in them, `Has v n` says that `v` has an encoding of
--- `n` bytes, which is that of the unsigned number `form v n`.
+-- LEB128 by division. These are the same encodings, made as section 7.6 of DWARF 5 makes them; no
+-- reader uses this. The laws are the same for unsigned and for signed numbers: in them, `Has v n`
+-- says that `v` has an encoding of `n` bytes, which is that of the unsigned number `form v n`.
 use Rattle.std.specs.Prelude.{◌≡◌, ℕ, suc, ◌+◌, ◌-◌, ◌*◌, ◌/◌, ◌%◌, ◌^◌, ◌<◌, ◌≤◌, nat_lt, ⊤, List, take, if◌then◌else◌, ℤ, pos, negsuc, ◌≤ℤ◌, ◌<ℤ◌, neg_ℤ, FitsSigned, ◌++◌, ◌↔◌, drop}
 use Rattle.std.specs.Int.{w64}
 use Rattle.scroll.specs.Bytes.{list_below, WritesPrefix}
@@ -14,12 +12,13 @@ use Rattle.std.specs.List.{All}
 abbrev pub encoded_byte : ℕ → ℕ → ℕ → ℕ
 encoded_byte v n i = if nat_lt (i + 1) n then 128 + v / 128 ^ i % 128 else v / 128 ^ i
 
--- the encoding of `v` in `n` bytes
+-- the encoding of `v` in `n` bytes: byte `i` is `128 + v / 128^i mod 128`, and the last one `v /
+-- 128^i`
 abbrev pub encoding : ℕ → ℕ → List ℕ
 encoding v n = list_below (encoded_byte v n) n
 
--- `unsigned_form v n`: the number that is encoded for a signed one: `v`, or `v + 128^n` where `v`
--- is negative
+-- `unsigned_form v n`: what is encoded for a signed number: `v`, or `v + 128^n` where `v` is
+-- negative
 abbrev pub unsigned_form : ℤ → ℕ → ℕ
 unsigned_form (pos v) n = v
 unsigned_form (negsuc v) n = 128 ^ n - suc v
@@ -32,7 +31,8 @@ Room v n = v < 128 ^ n
 abbrev pub SignedRoom : ℤ → ℕ → Type 0
 SignedRoom v n = (neg_ℤ (pos (64 * 128 ^ (n - 1))) ≤ℤ v) × (v <ℤ pos (64 * 128 ^ (n - 1)))
 
--- `v` has an encoding of `n` bytes: `n` is from 1 to 10, `n` groups have room for `v`, and `v` fits
+-- `v` has an encoding of `n` bytes: `n` is from 1 to 10, `v` fits, and `n` groups have room for it:
+-- it is below `128^n`, signed from `-64 * 128^(n - 1)` to below `64 * 128^(n - 1)`
 pub record HasLeb {V : Type 0} (HasRoom : V → ℕ → Type 0) (Fits : V → Type 0) (v : V)
     (n : ℕ) : Type 0 where
   pub some : 1 ≤ n
@@ -64,8 +64,8 @@ BeginsWith = BeginsWithLeb HasEncoding (λ v n. v)
 abbrev pub BeginsWithSigned : List ℕ → ℤ → ℕ → Type 0
 BeginsWithSigned = BeginsWithLeb HasSignedEncoding unsigned_form
 
--- the encoding of the number, that of the unsigned number `form v n`: the one leaf of a `Uleb128`,
--- of a `Sleb128`
+-- `leb_text form x`, `uleb_text`, `sleb_text`: the encoding of a `Counted` in as many bytes as it
+-- says: its one leaf
 abbrev pub leb_text : {V : Type 0} → (V → ℕ → ℕ) → Counted V → List ℕ
 leb_text form x = encoding (form x.value x.count) x.count
 
@@ -75,7 +75,7 @@ uleb_text = leb_text (λ v n. v)
 abbrev pub sleb_text : Counted ℤ → List ℕ
 sleb_text = leb_text unsigned_form
 
--- the encoding is written over the start of a target: `WritesPrefix`
+-- `WritesLeb form x`, `WritesUleb`, `WritesSleb`: `WritesPrefix` with that encoding
 abbrev pub WritesLeb : {V : Type 0} → (V → ℕ → ℕ) → Counted V → List ℕ → List ℕ → ℕ → Type 0
 WritesLeb form x = WritesPrefix x.count (leb_text form x)
 
@@ -100,8 +100,8 @@ abbrev pub ten_groups : ℕ → ℕ → ℕ
 ten_groups low tenth = tenth * 2 ^ 63 + low % 2 ^ 63
 
 -- a source reads as a value with a size exactly where it begins with the encoding of that value in
--- that many bytes; a value has one encoding of each length from its shortest to ten; and no
--- encoding is a prefix of another
+-- that many bytes; a value has one encoding of each length from its shortest to ten; and none is a
+-- prefix of another
 pub record ReadsEncodings {V : Type 0} (reads_as : List ℕ → V → ℕ → Type 0) (Has : V → ℕ → Type 0)
     (form : V → ℕ → ℕ) : Type 0 where
   pub reads : (source : List ℕ) (x : V) (n : ℕ) → All (λ b. b < 256) source

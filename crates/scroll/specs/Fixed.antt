@@ -13,7 +13,7 @@ pub record One {X : Type 0} (P : X → Type 0) : Type 0 where
 abbrev pub SameAt : ℕ → List ℕ → ℕ → List ℕ → ℕ → Type 0
 SameAt w s at t to = take w (drop at s) ≡ take w (drop to t)
 
--- the first `n` of the bytes, and zeros in the place of those that are missing; the elements of an
--- array have as many bytes as the array, and of these it is all
+-- the first `n` of the bytes, with zeros in the place of those that are missing; of the elements of
+-- an array it is all
 abbrev pub exactly : ℕ → List ℕ → List ℕ
 exactly n bytes = list_below (slice_index bytes) n

@@ -1,8 +1,7 @@
--- Histories. A history is the list of the pieces that were written to a buffer, in order. Nothing
--- in it is overwritten; which bytes are seen after it is computed. A value that is written is a
--- list of leaves, and a leaf is a list of bytes that is written whole or not at all. A number is
--- one leaf, its bytes; a number in LEB128 is one leaf, its encoding; and an array has the leaves of
--- its elements, in order.
+-- Histories. A history is the list of the pieces that were written to a buffer, in order; nothing
+-- in it is overwritten. A value that is written is a list of leaves, each a list of bytes that is
+-- written whole or not at all: a number is one, its bytes; a number in LEB128 its encoding; and an
+-- array has the leaves of its elements.
 use Rattle.std.specs.Prelude.{ℕ, ◌-◌, List, [], ◌∷◌, length, nat_le, if◌then◌else◌, Option, None, unwrap_or, slice_get, slice_index, ◌≡◌, ◌+◌, nat_lt, Some, Result, Ok, Err, MatchResult}
 use Rattle.std.specs.Option.{option_or}
 use Rattle.scroll.specs.Bytes.{list_below}
@@ -23,30 +22,29 @@ abbrev pub last_byte : List Piece → ℕ → Option ℕ
 last_byte [] i = None
 last_byte (p ∷ ps) i = option_or (last_byte ps i) (byte_of p i)
 
--- the buffer as it is seen after a history, with the length unchanged: at each offset the last byte
--- of the history, or that of `buffer` where no piece covers the offset
+-- the buffer after a history: at each offset the byte of the last piece that covers it, or that of
+-- `buffer`
 abbrev pub seen : List ℕ → List Piece → List ℕ
 seen buffer history =
     list_below (λ i. unwrap_or (last_byte history i) (slice_index buffer i)) (length buffer)
 
--- `pieces len offset leaves`: the leaves laid one after another from the offset `offset` in a
--- buffer of the length `len`, ending before the first leaf that is longer than the bytes left to it
+-- `pieces len offset leaves`: the leaves laid one after another from `offset` in a buffer of the
+-- length `len`, up to the first that is longer than what is left
 abbrev pub pieces : ℕ → ℕ → List (List ℕ) → List Piece
 pieces len offset [] = []
 pieces len offset (leaf ∷ leaves) =
     if nat_le (offset + length leaf) len
     then (offset, leaf) ∷ pieces len (offset + length leaf) leaves else []
 
--- `left_over len offset leaves`: the error of that first leaf, if there is one: `TooBig` with its
--- length and the number of bytes left to it
+-- `left_over len offset leaves`: the error of that leaf, if there is one: `TooBig` with its length
+-- and what is left
 abbrev pub left_over : ℕ → ℕ → List (List ℕ) → Option Error
 left_over len offset [] = None
 left_over len offset (leaf ∷ leaves) =
     if nat_le (offset + length leaf) len then left_over len (offset + length leaf) leaves
     else Some (TooBig (length leaf) (len - offset))
 
--- the error of a write of leaves, if it fails: `BadOffset` where the offset is past the end, and
--- else `left_over`
+-- the error of a write of leaves, if it fails: `BadOffset` past the end, else `left_over`
 abbrev pub refusal : ℕ → ℕ → List (List ℕ) → Option Error
 refusal len offset leaves =
     if nat_lt len offset then Some (BadOffset offset) else left_over len offset leaves
@@ -58,13 +56,14 @@ AnswersLeaves len offset leaves r =
     MatchResult r (λ n. (refusal len offset leaves ≡ None) × (n ≡ sum_by length leaves))
     (λ e. refusal len offset leaves ≡ Some e)
 
--- `new` is what is seen of `old` after the pieces, and `r` is what the write returns
+-- `new` is what is seen of `old` after the pieces, and `r` what the write returns: the `refusal`,
+-- or the sum of the lengths of the leaves
 pub record WritesLeaves (old : List ℕ) (offset : ℕ) (leaves : List (List ℕ)) (new : List ℕ)
     (r : Result ℕ Error) : Type 0 where
   pub after : new ≡ seen old (pieces (length old) offset leaves)
   pub answer : AnswersLeaves (length old) offset leaves r
 
--- of every value, the relations of its type imply `WritesLeaves` of its leaves at the start of a
+-- of every value, `writes` and `refuses` imply `WritesLeaves` of its leaves at the start of a
 -- target
 pub record HasLeaves {V : Type 0} (leaves : V → List (List ℕ))
     (writes : V → List ℕ → List ℕ → ℕ → Type 0)

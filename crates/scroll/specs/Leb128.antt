@@ -1,7 +1,6 @@
 -- Numbers in LEB128. The encoding is that of section 7.6 of DWARF 5: each byte has seven bits of
--- the number, the lowest first, and a byte below 128 ends it. A read takes encodings of at most ten
--- bytes, whose numbers fit into 64 bits. A reader finds the groups of a number in these bytes; a
--- read of a source that doesn't begin with such an encoding fails.
+-- the number, the lowest first, and a byte below 128 ends it. It is complete if it ends within ten
+-- bytes.
 use Rattle.std.specs.Prelude.{◌≡◌, ℕ, ◌+◌, ◌*◌, ◌%◌, ◌^◌, ◌<◌, ◌≤◌, ◌==◌, nat_lt, ⊤, Bool, List, length, slice_index, ℤ, pos, ◌-ℤ◌, if◌then◌else◌, FitsSigned, Some, ◌⊎◌, codes}
 use Rattle.std.specs.Int.{w64}
 use Rattle.std.specs.List.{position_or_len, slice_get}
@@ -13,8 +12,7 @@ use Rattle.scroll.specs.declared.error.Error.{Error}
 use Rattle.scroll.specs.declared.error.Error.TheVariants.{TooBig}
 use Rattle.scroll.specs.Errors.{IsBadInput}
 
--- the index of the byte that ends the encoding, the first below 128, or the length of `s` where
--- there is none
+-- the index of the first byte below 128, or the length of `s`
 abbrev pub end_of : List ℕ → ℕ
 end_of s = position_or_len (λ b. nat_lt b 128) s
 
@@ -30,26 +28,25 @@ IsTruncated s = (length s ≤ end_of s) × (length s < 10)
 abbrev pub count_of : List ℕ → ℕ
 count_of s = end_of s + 1
 
--- the seven bits of the number in byte `i`: `s[i] mod 128`
+-- the seven bits of byte `i`: `s[i] mod 128`
 abbrev pub group : List ℕ → ℕ → ℕ
 group s i = slice_index s i % 128
 
--- the sum of `group s i * 128^i` over the indices `i` below `n`
+-- the sum of `group s i * 128^i` over the `i` below `n`
 abbrev pub groups_value : List ℕ → ℕ → ℕ
 groups_value s n = sum_below (λ i. group s i * 128 ^ i) n
 
--- the unsigned number of the encoding: `groups_value s n`, with `n` the length of the encoding
+-- `groups_value s n`, with `n` the length of the encoding
 abbrev pub unsigned_of : List ℕ → ℕ
 unsigned_of s = groups_value s (count_of s)
 
--- the signed number of the encoding, sign-extended: `unsigned_of s`, less `128^n` where the last of
--- its `n` groups is at least 64
+-- the same sign-extended: less `128^n` where the last of the `n` groups is at least 64
 abbrev pub signed_of : List ℕ → ℤ
 signed_of s = if nat_lt (group s (end_of s)) 64 then pos (unsigned_of s)
     else pos (unsigned_of s) -ℤ pos (128 ^ count_of s)
 
--- a number is read from the start of a source: the encoding is complete, its number
--- `value_of source` fits, `x` is that number, and the size `n` is the length of the encoding
+-- the encoding is complete, its number `value_of source` fits and is `x`, and the size `n` is the
+-- length of the encoding
 pub record ReadsLeb {V : Type 0} (value_of : List ℕ → V) (Fits : V → Type 0) (source : List ℕ)
     (x : V) (n : ℕ) : Type 0 where
   pub complete : IsComplete source
@@ -68,13 +65,12 @@ ReadsSleb = ReadsLeb signed_of (FitsSigned w64)
 abbrev pub ReadsGroups : List ℕ → ℕ → ℕ → Type 0
 ReadsGroups = ReadsLeb unsigned_of (λ v. ⊤)
 
--- a number, and the length of its encoding in bytes: what a contract sees of a `Uleb128` or a
--- `Sleb128`
+-- a number, and the length of its encoding: what a contract sees of a `Uleb128` or a `Sleb128`
 pub record Counted (V : Type 0) : Type 0 where
   pub value : V
   pub count : ℕ
 
--- whether two of them are equal: the numbers by `value_eq`, and the lengths
+-- whether the numbers are equal by `value_eq`, and the lengths
 abbrev pub counted_eq : {V : Type 0} → (V → V → Bool) → Counted V → Counted V → Bool
 counted_eq value_eq = eq_of_both (on (λ x. x.value) value_eq) (on (λ x. x.count) ◌==◌)
 
@@ -110,7 +106,9 @@ pub record RefusesUnfit {V : Type 0} (value_of : List ℕ → V) (Fits : V → T
   pub unfit : IsComplete source → ¬ Fits (value_of source)
   pub error : IsBadInput e (length source) (codes "failed to parse")
 
--- the read of a number fails: the source is truncated, or its number is unfit
+-- the read of a number fails: fewer than ten bytes and none below 128 are `TooBig` with 1 and 0; an
+-- encoding that is not complete or whose number does not fit is `BadInput` with the length of the
+-- source and the message `failed to parse`
 abbrev pub RefusesLeb : {V : Type 0} → (List ℕ → V) → (V → Type 0) → List ℕ → Error → Type 0
 RefusesLeb value_of Fits source e = RefusesTruncated source e ⊎ RefusesUnfit value_of Fits source e
 

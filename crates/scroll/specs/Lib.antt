@@ -1,13 +1,10 @@
--- The library. Numbers are unbounded integers, lists are finite, and indices and offsets count from
--- 0.
+-- The library. Numbers are unbounded, lists finite, and indices and offsets count from 0.
 --
--- A name that begins with a capital is a statement, which holds of its parameters or does not; any
--- other name is a value. A statement of several parts names them: where `h` proves it, `h.size`
--- proves the part `size`.
+-- A name that begins with a capital is a statement, any other name a value. A statement of several
+-- parts names them: where `h` proves it, `h.size` proves the part `size`.
 --
--- No definition retraces the code. The code shifts, copies and overwrites one array; the
--- definitions have sums of powers, lists by index, and a history of pieces in which nothing is
--- overwritten.
+-- No definition retraces the code, which shifts, copies and overwrites one array: the definitions
+-- have sums of powers, lists by index, and a history in which nothing is overwritten.
 pub mod Bytes
 pub mod Numbers
 pub mod Fixed

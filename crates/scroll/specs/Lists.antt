@@ -1,5 +1,5 @@
--- Values up to the mark that ends a list, such as a zero; and a value that may be absent. A type of
--- such values says by `mark` whether a source begins with the mark, and what size that has.
+-- Lists up to a mark, and values that may be absent. A type of such values says by `mark` whether a
+-- source begins with the mark that ends a list, such as a zero, and what size that has.
 use Rattle.std.specs.Prelude.{◌≡◌, ◌<◌, ◌≤◌, ◌+◌, ◌==◌, ◌&&◌, ◌++◌, ℕ, Bool, true, false, List, [], length, take, drop, nat_lt, if◌then◌else◌, Option, Some, None, IsSome, MatchOption, option_map, option_and_then, ◌⊎◌}
 use Rattle.scroll.specs.Leb128.{end_of, count_of, unsigned_of}
 use Rattle.scroll.specs.Reads.{ReadsAll, RefusesAt, Stands}
@@ -7,13 +7,13 @@ use Rattle.scroll.specs.Errors.{PastEnd}
 use Rattle.scroll.specs.declared.error.Error.{Error}
 use Rattle.scroll.specs.declared.error.Error.TheVariants.{NoMemory}
 
--- the size of the number in LEB128 at the start of a source if it is zero
+-- the size of the number in LEB128 at the start of `s` if it is zero
 abbrev pub zero_size : List ℕ → Option ℕ
 zero_size s =
     if nat_lt (end_of s) (length s) && nat_lt (end_of s) 10 && unsigned_of s == 0
     then Some (count_of s) else None
 
--- the size of two numbers in LEB128 at the start of a source if both are zero
+-- that of two such numbers if both are zero
 abbrev pub two_zeros_size : List ℕ → Option ℕ
 two_zeros_size s =
     option_and_then (λ n. option_map (λ m. n + m) (zero_size (drop n s))) (zero_size s)
@@ -24,7 +24,7 @@ pub record ReadsListed {V : Type 0} (reads : List ℕ → V → ℕ → Type 0)
   pub more : mark s ≡ None
   pub value : reads s x n
 
--- the mark is at the offset `at`, and ends at the offset `to`
+-- the mark is between two offsets
 pub record EndsAt (mark : List ℕ → Option ℕ) (buffer : List ℕ) (at to : ℕ) : Type 0 where
   pub inside : at ≤ length buffer
   pub size : ℕ
@@ -44,7 +44,7 @@ pub record AppendsListed {V : Type 0} (reads : List ℕ → V → ℕ → Type 0
   pub each : ReadsAll (ReadsListed reads mark) buffer from values to
   pub appended : new ≡ old ++ values
 
--- a list is read from the start of a source, up to its mark, and kept as its bytes
+-- a list is read, up to its mark, and kept as its bytes
 pub record ReadsUntil {V : Type 0} (reads : List ℕ → V → ℕ → Type 0) (mark : List ℕ → Option ℕ)
     (s bytes : List ℕ) (n : ℕ) : Type 0 where
   pub end : ℕ
@@ -61,8 +61,7 @@ pub record AppendsUntil {V : Type 0} (reads : List ℕ → V → ℕ → Type 0)
   pub ends : EndsAt mark buffer end to
   pub is : Stands bytes buffer from to
 
--- the read of a list fails: after some values, at the offset `stop`, there is no mark, and the next
--- value is refused with `e`
+-- after some values there is no mark, and the next one is refused with `e`
 pub record RefusesUntil {V E : Type 0} (reads : List ℕ → V → ℕ → Type 0)
     (mark : List ℕ → Option ℕ) (refuses : List ℕ → E → Type 0) (gives : Error → E → Type 0)
     (s : List ℕ) (e : E) : Type 0 where
@@ -71,8 +70,8 @@ pub record RefusesUntil {V E : Type 0} (reads : List ℕ → V → ℕ → Type 
   pub more : stop ≤ length s → mark (drop stop s) ≡ None
   pub error : RefusesAt refuses (PastEnd gives) s stop e
 
--- after some values, which are appended to `old`, the next one is refused, or there is no memory
--- for it
+-- after some values, which are appended to `old`, the next one, at `stop`, is refused, or there is
+-- no memory for it
 pub record RefusesAppend {V E : Type 0} (reads : List ℕ → V → ℕ → Type 0)
     (mark : List ℕ → Option ℕ) (refuses : List ℕ → E → Type 0) (gives : Error → E → Type 0)
     (buffer : List ℕ) (from : ℕ) (old new : List V) (stop : ℕ) (e : E) : Type 0 where
@@ -94,14 +93,14 @@ pub record TakesListed {V : Type 0} (reads : List ℕ → V → ℕ → Type 0) 
   pub room : size ≤ length old
   pub rest : new ≡ drop size old
 
--- a call of an iterator's `next`: it takes the next value of a list, or there is none, and the
--- bytes are unchanged
+-- an iterator's `next` takes the next value of a list; or there is none, and the bytes are
+-- unchanged
 abbrev pub YieldsListed : {V E : Type 0} → (List ℕ → V → ℕ → Type 0) → (List ℕ → Option ℕ)
     → (List ℕ → E → Type 0) → List ℕ → Option V → List ℕ → Type 0
 YieldsListed reads mark refuses old r new =
     MatchOption r (NoneListed reads mark refuses old × (new ≡ old)) (TakesListed reads mark old new)
 
--- a value that is there if `there` says so, and else has no bytes
+-- a value is read if it is `there`, and else has no bytes
 abbrev pub ReadsOptional : {V : Type 0} → Bool → (List ℕ → V → ℕ → Type 0) → List ℕ → Option V → ℕ
     → Type 0
 ReadsOptional there reads s x n =
@@ -111,7 +110,7 @@ ReadsOptional there reads s x n =
 abbrev pub RefusesOptional : {E : Type 0} → Bool → (List ℕ → E → Type 0) → List ℕ → E → Type 0
 RefusesOptional there refuses s e = (there ≡ true) × refuses s e
 
--- `optional_bytes bytes x`: the bytes of such a value, of which there are none where `x` has none
+-- `optional_bytes bytes x`: the bytes of such a value
 abbrev pub optional_bytes : {V : Type 0} → (V → List ℕ) → Option V → List ℕ
 optional_bytes bytes None = []
 optional_bytes bytes (Some v) = bytes v

@@ -1,5 +1,4 @@
--- Many values, read one after another into memory, and written one after another; and the elements
--- of a table, each of the same size.
+-- Many values, and the elements of a table. The relation `gives` converts an `Error` to `e`.
 use Rattle.std.specs.Prelude.{◌≡◌, ◌≢◌, ◌<◌, ◌≤◌, ◌+◌, ◌++◌, ◌/◌, ◌∷◌, ℕ, List, length, take, drop, ◌⊎◌, Option, MatchOption, All, codes}
 use Rattle.scroll.specs.Arrays.{WritesAll}
 use Rattle.scroll.specs.Reads.{ReadsAt, ReadsAll, ReadsBetween, RefusesAt, ReadsSome}
@@ -9,9 +8,8 @@ use Rattle.scroll.specs.Errors.{IsBadInput, PastEnd}
 use Rattle.scroll.specs.declared.error.Error.{Error}
 use Rattle.scroll.specs.declared.error.Error.TheVariants.{NoMemory}
 
--- a read of `count` values stops at the error `e`: fewer are read one after another from the offset
--- `from`, and the next, at the offset `stop`, fails with `e`, or there is no memory for it. The
--- relation `gives` converts an `Error` to `e`.
+-- fewer than `count` values are read one after another from `from`, and the next, at `stop`, fails
+-- with `e`, or there is no memory for it
 pub record RefusesMany {V E : Type 0} (reads : List ℕ → V → ℕ → Type 0)
     (refuses : List ℕ → E → Type 0) (gives : Error → E → Type 0) (buffer : List ℕ)
     (from count stop : ℕ) (e : E) : Type 0 where
@@ -32,9 +30,9 @@ pub record RefusesSize {V E : Type 0} (reads : List ℕ → V → ℕ → Type 0
   pub is : IsBadInput error size (codes "a value of no bytes, or past the end")
   pub made : gives error e
 
--- a read of values up to the end stops at the error `e`: some are read one after another from the
--- offset `from`, none of them ends at the end, and the next, at the offset `stop`, fails with `e`,
--- has such a size, or there is no memory for it
+-- some values are read so, none of them ends at the end, and the next, at `stop`, fails with `e`,
+-- has no bytes or goes past the end, or there is no memory for it. Its size is then that of a
+-- `BadInput` with the message `a value of no bytes, or past the end`
 pub record RefusesToEnd {V E : Type 0} (reads : List ℕ → V → ℕ → Type 0)
     (refuses : List ℕ → E → Type 0) (gives : Error → E → Type 0) (buffer : List ℕ)
     (from stop : ℕ) (e : E) : Type 0 where
@@ -44,9 +42,8 @@ pub record RefusesToEnd {V E : Type 0} (reads : List ℕ → V → ℕ → Type 
   pub error : RefusesAt refuses (PastEnd gives) buffer stop e ⊎ gives NoMemory e
       ⊎ RefusesSize reads gives buffer stop e
 
--- a write of the values `all` stops at the error `e`: those before some value are written one after
--- another from the offset `from`, and the write of that one, at the offset `stop`, fails with `e`
--- and leaves `new`
+-- the values of `all` before some value are written one after another from `from`, and the write of
+-- that one, at `stop`, fails with `e` and leaves `new`
 pub record FailsMany {V E : Type 0} (writes : V → List ℕ → List ℕ → ℕ → Type 0)
     (refuses : V → List ℕ → List ℕ → E → Type 0) (gives : Error → E → Type 0) (old : List ℕ)
     (from : ℕ) (all : List V) (new : List ℕ) (stop : ℕ) (e : E) : Type 0 where
@@ -58,8 +55,7 @@ pub record FailsMany {V E : Type 0} (writes : V → List ℕ → List ℕ → �
   pub each : WritesAll writes old from values mid stop
   pub error : RefusesWriteAt (refuses value) (PastEnd gives) mid stop new e
 
--- such a write stops before one of them: those before it are written, and `refuses` holds of the
--- offset `stop` and `e`
+-- those before one of them are written, and `refuses` holds of `stop` and `e`
 pub record StopsBefore {V E : Type 0} (writes : V → List ℕ → List ℕ → ℕ → Type 0)
     (refuses : ℕ → E → Type 0) (old : List ℕ) (from : ℕ) (all : List V) (new : List ℕ) (stop : ℕ)
     (e : E) : Type 0 where
@@ -70,15 +66,15 @@ pub record StopsBefore {V E : Type 0} (writes : V → List ℕ → List ℕ → 
   pub each : WritesAll writes old from values new stop
   pub error : refuses stop e
 
--- only bytes between the offsets `from` and `to` may differ
+-- only bytes between the two offsets may differ
 pub record ChangesBetween (from to : ℕ) (old new : List ℕ) : Type 0 where
   pub forward : from ≤ to
   pub before : take from new ≡ take from old
   pub after : drop to new ≡ drop to old
   pub len : length new ≡ length old
 
--- the value `v` is read between the offsets `from` and `to` of `new`, and of each buffer with the
--- same first `to` bytes: whatever is written after it
+-- `v` is read between `from` and `to` of `new`, and of each buffer with the same first `to` bytes:
+-- whatever is written after it
 abbrev pub KeepsOne : {V : Type 0} → (List ℕ → V → ℕ → Type 0) → List ℕ → ℕ → V → ℕ → Type 0
 KeepsOne reads new from v to =
     (later : List ℕ) → take to later ≡ take to new → ReadsBetween reads later from to v
@@ -88,14 +84,13 @@ abbrev pub KeepsAll : {V : Type 0} → (List ℕ → V → ℕ → Type 0) → L
 KeepsAll reads new from vs to =
     (later : List ℕ) → take to later ≡ take to new → ReadsAll reads later from vs to
 
--- the value `v` is read at the place that the entry `entry` says, and is one that it describes
+-- `v` is read at the place that the entry says, and is one that it describes
 pub record StandsAs {P V : Type 0} (reads : List ℕ → V → ℕ → Type 0) (place : P → ℕ)
     (describes : P → V → Type 0) (buffer : List ℕ) (entry : P) (v : V) : Type 0 where
   pub there : ReadsSome reads buffer (place entry) v
   pub is : describes entry v
 
--- the values `vs` are where their entries say, in `new` and in each buffer with the same first `to`
--- bytes: whatever is written after them
+-- so are all of `vs`, whatever is written after them
 abbrev pub KeepsPlaced : {P V : Type 0} → (List ℕ → V → ℕ → Type 0) → (P → ℕ) → (P → V → Type 0)
     → List ℕ → List P → List V → ℕ → Type 0
 KeepsPlaced reads place describes new entries vs to =
@@ -110,8 +105,8 @@ pub record TakesElement {V : Type 0} (w : ℕ) (makes : List ℕ → V → Type 
   pub value : makes old x
   pub rest : new ≡ drop w old
 
--- a call of an iterator's `next`: it takes the first element, or there is no whole one, and the
--- bytes are unchanged
+-- an iterator's `next` takes the first element; or there is no whole one, and the bytes are
+-- unchanged
 abbrev pub YieldsElement : {V : Type 0} → ℕ → (List ℕ → V → Type 0) → List ℕ → Option V → List ℕ
     → Type 0
 YieldsElement w makes old r new =

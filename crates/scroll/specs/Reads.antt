@@ -1,18 +1,16 @@
 -- Reads at an offset. In a context, a type has two relations: `reads` says which value and size a
--- source may give, and `refuses` which error. Here they speak of the rest of a buffer at an offset.
--- The relation `past_end` says which error an offset past the end may give; for `Error` it is
--- `BadOffset` with that offset. Callers that read or write one value after another speak of the
--- bytes between two offsets. A `Loads` is a source that counts how often bytes were loaded from it.
+-- source may give, and `refuses` which error. Here they speak of the rest of a buffer at an offset;
+-- `past_end` says which error an offset past the end may give. Callers that read or write one value
+-- after another speak of the bytes between two offsets.
 use Rattle.std.specs.Prelude.{◌≡◌, ◌≤◌, ◌<◌, ◌+◌, ℕ, List, [], ◌∷◌, length, take, drop, ◌⊎◌, ◌-◌, ◌++◌, nat_lt, if◌then◌else◌}
 use Rattle.scroll.specs.declared.error.Error.{Error}
 use Rattle.scroll.specs.declared.error.Error.TheVariants.{TooBig}
 
--- each size is at most one more than the length of the source
+-- each size is at most one more than the source's length
 abbrev pub IsBounded : {V : Type 0} → (List ℕ → V → ℕ → Type 0) → Type 0
 IsBounded {V} reads = (s : List ℕ) (v : V) (n : ℕ) → reads s v n → n ≤ length s + 1
 
--- the offset `offset` is at most the length of the buffer, and the rest there reads as `v` with the
--- size `n`
+-- `offset` is at most the buffer's length, and the rest there reads as `v` with the size `n`
 pub record ReadsAt {V : Type 0} (reads : List ℕ → V → ℕ → Type 0) (buffer : List ℕ) (offset : ℕ)
     (v : V) (n : ℕ) : Type 0 where
   pub inside : offset ≤ length buffer
@@ -22,28 +20,28 @@ pub record ReadsAt {V : Type 0} (reads : List ℕ → V → ℕ → Type 0) (buf
 abbrev pub ReadsSome : {V : Type 0} → (List ℕ → V → ℕ → Type 0) → List ℕ → ℕ → V → Type 0
 ReadsSome reads buffer offset v = (n : ℕ) × ReadsAt reads buffer offset v n
 
--- `ReadsAt` at the offset `from`, with a size that leads to `to`
+-- `ReadsAt` at `from`, with a size that leads to `to`
 abbrev pub ReadsBetween : {V : Type 0} → (List ℕ → V → ℕ → Type 0) → List ℕ → ℕ → ℕ → V → Type 0
 ReadsBetween reads buffer from to v = (n : ℕ) × (to ≡ from + n) × ReadsAt reads buffer from v n
 
--- the offset is past the end, and `past_end` holds of it and `e`; or it is at most the length of
--- the buffer, and the read of the rest there fails with `e`
+-- the offset is past the end, and `past_end` holds of it and `e`; or the read of the rest there
+-- fails with `e`
 abbrev pub RefusesAt : {E : Type 0} → (List ℕ → E → Type 0) → (ℕ → E → Type 0) → List ℕ → ℕ → E
     → Type 0
 RefusesAt refuses past_end buffer offset e =
     ((length buffer < offset) × past_end offset e)
     ⊎ ((offset ≤ length buffer) × refuses (drop offset buffer) e)
 
--- `ReadsAll reads buffer from vs to`: the values `vs` are read one after another, the first at
--- `from` and each where the one before it ends, and the last ends at `to`
+-- `ReadsAll reads buffer from vs to`: the values `vs` are read one after another, from `from` to
+-- `to`
 abbrev pub ReadsAll : {V : Type 0} → (List ℕ → V → ℕ → Type 0) → List ℕ → ℕ → List V → ℕ → Type 0
 ReadsAll reads buffer from [] to = to ≡ from
 ReadsAll reads buffer from (v ∷ vs) to =
     (n : ℕ) × ReadsAt reads buffer from v n × ReadsAll reads buffer (from + n) vs to
 
--- a bulk read stops at an error: for some `count` below the number of elements, the first `count`
--- elements of `new` are read between `from` and `to`, the others are those of `old`, and `e` is the
--- error of the next read, at `to`
+-- a bulk read stops: for some `count` below their number, the first `count` elements of `new` are
+-- read between `from` and `to`, the others are those of `old`, and `e` is the error of the next
+-- read, at `to`
 pub record StopsAt {V E : Type 0} (reads : List ℕ → V → ℕ → Type 0) (refuses : List ℕ → E → Type 0)
     (past_end : ℕ → E → Type 0) (buffer : List ℕ) (from to : ℕ) (old new : List V)
     (e : E) : Type 0 where
@@ -53,18 +51,17 @@ pub record StopsAt {V E : Type 0} (reads : List ℕ → V → ℕ → Type 0) (r
   pub others : drop count new ≡ drop count old
   pub error : RefusesAt refuses past_end buffer to e
 
--- `fact` holds of some context that may be the default. A number's context has one default,
--- `Little`.
+-- `fact` holds of some context that may be the default; a number's is `Little` alone
 abbrev pub ByDefault : {C : Type 0} → (C → Type 0) → (C → Type 0) → Type 0
 ByDefault {C} is_default fact = (ctx : C) × is_default ctx × fact ctx
 
--- the bytes of the buffer between the offsets `from` and `to` are `text`
+-- the bytes of the buffer between two offsets are `text`
 pub record Stands (text buffer : List ℕ) (from to : ℕ) : Type 0 where
   pub inside : to ≤ length buffer
   pub size : to ≡ from + length text
   pub is : drop from buffer ≡ text ++ drop to buffer
 
--- `text` is written between the offsets `from` and `to`, and all other bytes are unchanged
+-- `text` is written between two offsets, and all other bytes are unchanged
 pub record Puts (text old new : List ℕ) (from to : ℕ) : Type 0 where
   pub inside : to ≤ length old
   pub size : to ≡ from + length text
@@ -82,7 +79,7 @@ pub record PutsPrefix (text old new : List ℕ) (from : ℕ) (e : Error) : Type 
   pub short : length old < to + length part
   pub error : e ≡ TooBig (length part) (length old - to)
 
--- the bytes of such a source, and how many loads were made
+-- the bytes of a `Loads`, and how many loads were made
 pub record Loading : Type 0 where
   pub bytes : List ℕ
   pub made : ℕ
@@ -92,7 +89,7 @@ pub record Loaded (old new : Loading) (most : ℕ) : Type 0 where
   pub same : new.bytes ≡ old.bytes
   pub few : new.made ≤ old.made + most
 
--- how many loads a read of LEB128 makes at most: 3 where `s` has eight bytes or more, and else one
--- for each byte
+-- how many a read of LEB128 makes at most: 3 where `s` has eight bytes or more, else one for each
+-- byte
 abbrev pub max_loads : List ℕ → ℕ
 max_loads s = if nat_lt (length s) 8 then length s else 3

@@ -1,5 +1,5 @@
--- Runs of commands. These definitions say what each command of a list returns over one buffer, and
--- what the list leaves: they are the contract of `runner::run`.
+-- Runs of commands. The contract of `runner::run`: what each command returns over one buffer, and
+-- what the list leaves.
 use Rattle.std.specs.Prelude.{◌≡◌, ◌<◌, ℕ, ◌+◌, ◌++◌, Bool, true, false, List, [], ◌∷◌, length, take, map, Ok, Err, ⊤}
 use Rattle.std.specs.String.{string_bytes}
 use Rattle.scroll.specs.Arrays.{ReadsArray, RefusesArray}
@@ -139,8 +139,8 @@ abbrev pub offset_of : Place → ℕ → ℕ
 offset_of (offset.At offset) cursor = offset
 offset_of offset.Cursor cursor = cursor
 
--- `moved at cursor size`: the cursor after a command of this size succeeded: advanced by the size
--- where the command acts at the cursor, and else unchanged
+-- `moved at cursor size`: the cursor after a command that succeeded: advanced by the size where the
+-- command acts at the cursor
 abbrev pub moved : Place → ℕ → ℕ → ℕ
 moved (offset.At offset) cursor size = cursor
 moved offset.Cursor cursor size = cursor + size
@@ -181,7 +181,8 @@ WriteStep buffer cursor at leaves (answer.Refused e) after =
 WriteStep buffer cursor at leaves (answer.Read x) after = ⊥
 
 -- `Step buffer cursor c a written after`: one command over the buffer that is seen: its result `a`,
--- the pieces that it writes, and the cursor `after` it
+-- as the relations of its type or of its leaves say, the pieces that it writes, and the cursor
+-- `after` it, which a failure leaves unchanged
 abbrev pub Step : List ℕ → ℕ → Command → Answer → List Piece → ℕ → Type 0
 Step buffer cursor (command.Read at what) a written after =
     ReadStep buffer cursor at what a after × (written ≡ [])
@@ -196,10 +197,10 @@ pub record IsStep (old new : List ℕ) (cursor : ℕ) (c : Command) (a : Answer)
   pub step : Step old cursor c a written after
   pub bytes : new ≡ seen old written
 
--- `Run first history cursor commands answers whole after`: the commands run one after another, each
--- over what is seen of `first` after the history so far, and `answers` has the result of each. The
--- pieces of each write are appended to the history, also those of a write that fails; `whole` is
--- the history at the end, and `after` the cursor.
+-- `Run first history cursor commands answers whole after`: the commands run in turn, each over what
+-- is seen of `first` after the history so far; `answers` has their results. The pieces of each
+-- write, also of one that fails, are appended to the history; `whole` is the history at the end,
+-- and `after` the cursor.
 abbrev pub Run : List ℕ → List Piece → ℕ → List Command → List Answer → List Piece → ℕ → Type 0
 Run first history cursor [] [] whole after = (whole ≡ history) × (after ≡ cursor)
 Run first history cursor (c ∷ cs) (a ∷ rest) whole after =
@@ -208,8 +209,8 @@ Run first history cursor (c ∷ cs) (a ∷ rest) whole after =
 Run first history cursor [] (a ∷ rest) whole after = ⊥
 Run first history cursor (c ∷ cs) [] whole after = ⊥
 
--- a run from the buffer `first` and the cursor `from`: its results are appended to `old` in order,
--- `buffer` is what is seen after its history, and `to` is the cursor after it
+-- a run from the buffer `first` and the cursor `from`: its results are appended to `old`, `buffer`
+-- is what is seen after it, and `to` the cursor
 pub record IsRun (first buffer : List ℕ) (from to : ℕ) (commands : List Command)
     (old new : List Answer) : Type 0 where
   pub answers : List Answer

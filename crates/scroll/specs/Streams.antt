@@ -1,11 +1,10 @@
--- Values over streams. A reader may tell which bytes it has left, and a writer which bytes it
--- holds, as those over memory do. Where a reader doesn't tell them, some bytes, as many as the
--- size, make the value; where a writer doesn't, nothing is specified of what it holds.
+-- Values over streams. A reader may tell which bytes it has left, and a writer which it holds, as
+-- those over memory do. Where a reader doesn't, some bytes, as many as the size, make the value;
+-- where a writer doesn't, nothing is said of what it holds.
 use Rattle.std.specs.Prelude.{◌≡◌, ℕ, List, length, Option}
 use Rattle.std.specs.Io.KnownBytes.{Appends, Consumes}
 
--- a value is read from a reader: `old` is some bytes, `size` of them, followed by `new`, and
--- `makes` holds of those bytes
+-- `old` is some bytes, `size` of them, followed by `new`, and `makes` holds of those bytes
 pub record TakesValue (old new : Option (List ℕ)) (size : ℕ)
     (makes : List ℕ → Type 0) : Type 0 where
   pub bytes : List ℕ
@@ -13,8 +12,7 @@ pub record TakesValue (old new : Option (List ℕ)) (size : ℕ)
   pub taken : Consumes old new bytes
   pub value : makes bytes
 
--- a value is written to a writer: `new` is `old` followed by some bytes, `size` of them, and
--- `overwrites` holds of those bytes
+-- `new` is `old` followed by some bytes, `size` of them, and `overwrites` holds of those bytes
 pub record AppendsValue (old new : Option (List ℕ)) (size : ℕ)
     (overwrites : List ℕ → Type 0) : Type 0 where
   pub bytes : List ℕ

@@ -13,7 +13,7 @@ pub record HasTag (order : Endian) (w tag : ℕ) (s : List ℕ) : Type 0 where
   pub room : w ≤ length s
   pub is : number order w s ≡ tag
 
--- a tag is read, and a value after it by `reads`, in `n` bytes together
+-- a tag is read, and a value after it by `reads`, in `n` bytes
 pub record ReadsTagged {V : Type 0} (order : Endian) (w tag : ℕ) (reads : List ℕ → V → ℕ → Type 0)
     (s : List ℕ) (x : V) (n : ℕ) : Type 0 where
   pub tagged : HasTag order w tag s
@@ -26,15 +26,14 @@ pub record ReadsTag (order : Endian) (w tag : ℕ) (s : List ℕ) (n : ℕ) : Ty
   pub tagged : HasTag order w tag s
   pub whole : n ≡ w
 
--- a tag is read, and the read of the value after it fails; `past_end` says which error an offset
--- past the end may give
+-- a tag is read, and the read of the value after it fails, as `RefusesAt` says
 pub record RefusesTagged {E : Type 0} (order : Endian) (w tag : ℕ) (refuses : List ℕ → E → Type 0)
     (past_end : ℕ → E → Type 0) (s : List ℕ) (e : E) : Type 0 where
   pub tagged : HasTag order w tag s
   pub refused : RefusesAt refuses past_end s w e
 
--- the bytes `tag` of a tag are written over the first `w` bytes of a target, and a value after them
--- by `writes`, in `n` bytes together
+-- the bytes `tag` are written over the first `w` of a target, and a value after them by `writes`,
+-- in `n` bytes
 pub record WritesTagged (w : ℕ) (tag : List ℕ) (writes : List ℕ → List ℕ → ℕ → Type 0)
     (old new : List ℕ) (n : ℕ) : Type 0 where
   pub room : w ≤ length old
@@ -51,8 +50,8 @@ pub record FailsTag {E : Type 0} (w : ℕ) (gives : Error → E → Type 0) (old
   pub same : new ≡ old
   pub error : gives (TooBig w (length old)) e
 
--- such a write fails: there is no room for the tag, or the write of the value after it fails, and
--- the bytes of the tag are unchanged
+-- such a write fails: the tag has no room, which is `TooBig` in the type's error and leaves the
+-- target unchanged; or the write after it fails, and the bytes of the tag are unchanged
 abbrev pub FailsTagged : {E : Type 0} → ℕ → (List ℕ → List ℕ → E → Type 0) → (Error → E → Type 0)
     → List ℕ → List ℕ → E → Type 0
 FailsTagged w refuses gives old new e = FailsTag w gives old new e ⊎ FailsAt refuses old w new e

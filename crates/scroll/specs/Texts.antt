@@ -1,8 +1,7 @@
--- Texts and byte slices. A text is UTF-8, by std's word `IsUtf8`: the bytes are the concatenation
--- of the encodings of Unicode scalar values, each of one to four bytes, as in ISO/IEC 10646 and in
--- chapter 3 of the Unicode Standard (definition D92 and table 3-6). So no text has an overlong
--- form, a surrogate, or a value above 0x10FFFF. The context of a text, a `StrCtx`, says where the
--- text ends.
+-- Texts and byte slices. A text is UTF-8, by std's `IsUtf8`: encodings of Unicode scalar values,
+-- each of one to four bytes, as in ISO/IEC 10646 and in chapter 3 of the Unicode Standard
+-- (definition D92 and table 3-6). So it has no overlong form, no surrogate, and no value above
+-- 0x10FFFF. Its context, a `StrCtx`, says where it ends.
 use Rattle.std.specs.Prelude.{◌≡◌, ◌≤◌, ◌<◌, ⊤, ◌==◌, ◌||◌, ◌+◌, ℕ, nat_le, Bool, List, length, take, min, codes, ◌⊎◌, IsUtf8}
 use Rattle.std.specs.List.{position_or_len}
 use Rattle.scroll.specs.Bytes.{ReadsPrefix, RefusesShort}
@@ -15,13 +14,11 @@ use Rattle.scroll.specs.declared.error.Error.{Error}
 abbrev pub index_of : ℕ → List ℕ → ℕ
 index_of d s = position_or_len (λ b. b == d) s
 
--- the byte `b` is the delimiter `d`, or is 128 or more, which is not ASCII. The search for a
--- delimiter stops there.
+-- the search for the delimiter `d` stops at the byte `b`: at `d`, and at what is not ASCII
 abbrev pub is_stop : ℕ → ℕ → Bool
 is_stop d b = (b == d) || nat_le 128 b
 
--- `wanted_len ctx`: how many bytes the context needs of a source: its limit or its length, and 0
--- for `Delimiter` and `Required`
+-- `wanted_len ctx`: how many bytes the context needs of a source: its limit or its length, else 0
 abbrev pub wanted_len : StrCtx → ℕ
 wanted_len (Delimiter d) = 0
 wanted_len (DelimiterUntil d limit) = limit
@@ -35,25 +32,23 @@ text_len (DelimiterUntil d limit) source = min limit (index_of d source)
 text_len (Length n) source = n
 text_len (Required d) source = index_of d source
 
--- `delimiter_len ctx`: how many bytes the size counts after the text: 0 for `Length`, and else 1
--- for the delimiter, also where the source has none
+-- `delimiter_len ctx`: how many bytes the size counts after the text: 0 for `Length`, else 1, also
+-- where the source has no delimiter
 abbrev pub delimiter_len : StrCtx → ℕ
 delimiter_len (Delimiter d) = 1
 delimiter_len (DelimiterUntil d limit) = 1
 delimiter_len (Length n) = 0
 delimiter_len (Required d) = 1
 
--- `HasDelimiter ctx source`: the source has the byte `d`, where the context is `Required d`; the
--- other contexts need no delimiter
+-- `HasDelimiter ctx source`: the source has the byte that a context `Required` names
 abbrev pub HasDelimiter : StrCtx → List ℕ → Type 0
 HasDelimiter (Delimiter d) source = ⊤
 HasDelimiter (DelimiterUntil d limit) source = ⊤
 HasDelimiter (Length n) source = ⊤
 HasDelimiter (Required d) source = index_of d source < length source
 
--- a text is read from the start of a source: the source has as many bytes as the context needs,
--- `text` is its first `text_len ctx source` bytes and is UTF-8, the size `n` counts these bytes and
--- `delimiter_len ctx` more, and `HasDelimiter` holds
+-- the source has `wanted_len ctx` bytes, `text` is its first `text_len ctx source` bytes and is
+-- UTF-8, the size `n` is that and `delimiter_len ctx`, and `HasDelimiter` holds
 pub record ReadsText (ctx : StrCtx) (source text : List ℕ) (n : ℕ) : Type 0 where
   pub room : wanted_len ctx ≤ length source
   pub prefix : text ≡ take (text_len ctx source) source
@@ -78,12 +73,13 @@ pub record RefusesMissing (ctx : StrCtx) (source : List ℕ) (e : Error) : Type 
   pub missing : ¬ HasDelimiter ctx source
   pub error : IsBadInput e (length source) (codes "missing delimiter")
 
--- the read of a text fails: the source is too short, which is tested first, or a required delimiter
--- is missing, or the text is not UTF-8
+-- the read of a text fails: the source is shorter than `wanted_len ctx`, which is `RefusesShort`;
+-- else a required delimiter is missing, or the text is not UTF-8. The error is then `BadInput` with
+-- the length of the source and the message `missing delimiter`, or `invalid utf8`
 abbrev pub RefusesText : StrCtx → List ℕ → Error → Type 0
 RefusesText ctx source e = RefusesShort (wanted_len ctx) source e ⊎ RefusesInvalid ctx source e
     ⊎ RefusesMissing ctx source e
 
--- the first `n` bytes of a source are read: `ReadsPrefix n (take n)`
+-- `ReadsPrefix n (take n)`
 abbrev pub ReadsSlice : ℕ → List ℕ → List ℕ → ℕ → Type 0
 ReadsSlice n = ReadsPrefix n (take n)

@@ -1,10 +1,10 @@
 -- Writes at an offset. In a context and at a value, a type has two relations: `writes` says which
 -- target and size a write may leave, and `refuses` which target and error. Here they speak of the
--- rest of a target at an offset. The relation `past_end` is that of a read.
+-- rest of a target at an offset.
 use Rattle.std.specs.Prelude.{◌≡◌, ◌≤◌, ◌<◌, ℕ, List, length, take, drop, ◌⊎◌, Result, MatchResult}
 
--- the offset `offset` is at most the length of `old`, the bytes before it and the length are
--- unchanged, and `writes` holds of the rests of `old` and `new` there and of the size `n`
+-- `offset` is at most the length of `old`, the bytes before it and the length are unchanged, and
+-- `writes` holds of the rests of `old` and `new` there and of the size `n`
 pub record WritesAt (writes : List ℕ → List ℕ → ℕ → Type 0) (old : List ℕ) (offset : ℕ)
     (new : List ℕ) (n : ℕ) : Type 0 where
   pub inside : offset ≤ length old
@@ -12,8 +12,7 @@ pub record WritesAt (writes : List ℕ → List ℕ → ℕ → Type 0) (old : L
   pub after : writes (drop offset old) (drop offset new) n
   pub len : length new ≡ length old
 
--- the offset `offset` is at most the length of `old`, the bytes before it and the length are
--- unchanged, and `refuses` holds of the rests of `old` and `new` there and of the error `e`
+-- the same with `refuses` and the error `e`
 pub record FailsAt {E : Type 0} (refuses : List ℕ → List ℕ → E → Type 0) (old : List ℕ) (offset : ℕ)
     (new : List ℕ) (e : E) : Type 0 where
   pub inside : offset ≤ length old
@@ -21,14 +20,14 @@ pub record FailsAt {E : Type 0} (refuses : List ℕ → List ℕ → E → Type 
   pub after : refuses (drop offset old) (drop offset new) e
   pub len : length new ≡ length old
 
--- the offset is past the end, the target is unchanged, and `past_end` holds of the offset and `e`
+-- the offset is past the end, `past_end` holds of it and `e`, and the target is unchanged
 pub record FailsPast {E : Type 0} (past_end : ℕ → E → Type 0) (old : List ℕ) (offset : ℕ)
     (new : List ℕ) (e : E) : Type 0 where
   pub past : length old < offset
   pub same : new ≡ old
   pub error : past_end offset e
 
--- a write fails: `FailsPast` or `FailsAt`
+-- `FailsPast` or `FailsAt`
 abbrev pub RefusesWriteAt : {E : Type 0} → (List ℕ → List ℕ → E → Type 0) → (ℕ → E → Type 0)
     → List ℕ → ℕ → List ℕ → E → Type 0
 RefusesWriteAt refuses past_end old offset new e =

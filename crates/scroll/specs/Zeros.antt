@@ -1,12 +1,10 @@
--- Zeros. A `Zeros` stands for bytes that are all zero, such as the padding up to a multiple of a
--- size.
+-- Zeros.
 use Rattle.std.specs.Prelude.{◌≡◌, ◌≢◌, ◌≤◌, ◌<◌, ◌-◌, ◌%◌, ℕ, List, length, replicate, codes, slice_index, ◌⊎◌}
 use Rattle.scroll.specs.Bytes.{RefusesShort}
 use Rattle.scroll.specs.Errors.{IsBadInput}
 use Rattle.scroll.specs.declared.error.Error.{Error}
 
--- how many bytes there are from an offset to the next multiple; none at a multiple, and none if
--- `multiple` is 0
+-- how many bytes there are from an offset to the next multiple; none if `multiple` is 0
 abbrev pub padding_len : ℕ → ℕ → ℕ
 padding_len offset multiple = (multiple - offset % multiple) % multiple
 
@@ -14,7 +12,7 @@ padding_len offset multiple = (multiple - offset % multiple) % multiple
 abbrev pub zeros : ℕ → List ℕ
 zeros n = replicate n 0
 
--- the source has `n` bytes or more, the first `n` are zero, and the size `m` is `n`
+-- the first `n` bytes of a source are zero, and the size `m` is `n`
 pub record ReadsZeros (n : ℕ) (source : List ℕ) (m : ℕ) : Type 0 where
   pub room : n ≤ length source
   pub zero : (i : ℕ) → i < n → slice_index source i ≡ 0
@@ -30,7 +28,8 @@ pub record RefusesNonzero (n : ℕ) (source : List ℕ) (e : Error) : Type 0 whe
   pub nonzero : slice_index source index ≢ 0
   pub error : IsBadInput e index (codes "padding is not zero")
 
--- the read of zeros fails: the source is too short, which is tested first, or one of its first `n`
--- bytes is not zero
+-- the source is too short, which is `RefusesShort`; or one of its first `n` bytes is not zero, and
+-- the error is `BadInput` with the index of the first of these and the message `padding is not
+-- zero`
 abbrev pub RefusesZeros : ℕ → List ℕ → Error → Type 0
 RefusesZeros n source e = RefusesShort n source e ⊎ RefusesNonzero n source e

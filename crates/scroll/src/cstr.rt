@@ -1,7 +1,7 @@
 //! C strings: bytes other than zero, followed by a zero byte.
 //!
-//! A [`CStr`] borrows a C string, a [`CString`] owns one. Both hold exactly one zero byte, at the
-//! end. Their types ensure this, so no call requires it.
+//! A [`CStr`] borrows one, a [`CString`] owns one. Their types ensure that there is exactly one
+//! zero, at the end.
 //!
 //! ```rust
 //! let text = CStr::from_bytes_until_nul(b"on\0off\0").ok_or("no zero")?;
@@ -39,8 +39,8 @@ pub struct CStr<'a> {
 impl<'a> CStr<'a> {
     ghost use Rattle.scroll.specs.CStringTexts.{c_str_text};
 
-    /// Returns the C string at the start of `bytes`: the bytes up to and including the first zero.
-    /// It borrows `bytes`. Returns `None` exactly where `bytes` contains no zero.
+    /// Returns the C string at the start of `bytes`, up to and including the first zero, which it
+    /// borrows. Returns `None` exactly where there is no zero.
     #[inline(always)]
     pub fn from_bytes_until_nul(bytes: &'a [u8]) -> Option<CStr<'a>>
         ensures found { OnSome result (index_of 0 bytes.now < length bytes.now) }
@@ -101,7 +101,7 @@ impl<'a> Eq for CStr<'a> {
 }
 
 /// A C string that owns its memory. It is read in a context `&Global`, the allocator, and written
-/// in the context `()`; its size counts the zero.
+/// in `()`; its size counts the zero.
 #[derive(Debug, Drop)]
 pub struct CString {
     // The text and the zero after it.
@@ -115,8 +115,8 @@ impl CString {
     /// Copies `text` and appends a zero.
     ///
     /// A text that contains a zero returns [`Error::BadInput`] with the message `nul byte in text`,
-    /// whose `size` is the offset of its first zero; this is checked before memory is allocated. An
-    /// allocation failure returns [`Error::NoMemory`].
+    /// whose `size` is the offset of its first zero, before memory is allocated. An allocation
+    /// failure returns [`Error::NoMemory`].
     pub fn new(alloc: Global, text: &[u8]) -> Result<CString>
         ensures text { IfOk result (λ s. c_string_text s ≡ text.now) }
         ensures no_zero { OnOk result (index_of 0 text.now ≡ length text.now) }

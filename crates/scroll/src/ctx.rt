@@ -1,8 +1,7 @@
 //! Contexts, and the traits of types that are read and written in one.
 //!
 //! A context says how the bytes of a value are interpreted: in which byte order, up to which
-//! delimiter, or how many of them. A call whose name ends in `_with` takes the context; the others
-//! use the default of the context's type.
+//! delimiter, or how many of them.
 //!
 //! From `clients/examples/src/sized_fields.rt.txt`, a context of its own:
 //!
@@ -64,8 +63,8 @@ pub use zeros::{Zeros, padding};
 /// A type that can be read from bytes in a context.
 ///
 /// An implementation says by `reads` which values and sizes a read may return, and by `refuses`
-/// which errors. A caller that is generic over the type knows these two of a read, and that its
-/// size is at most one byte more than the source has.
+/// which errors. A generic caller knows these two of a read, and that its size is at most one byte
+/// more than the source has.
 ///
 /// From `clients/examples/src/errors.rt.txt`, with an error of its own:
 ///
@@ -97,8 +96,7 @@ pub trait TryFromCtx<'a, Ctx: Copy>: Sized {
     // Holds of a context, a source, and each error that a read of them may return.
     ghost refuses: { Ctx → List ℕ → Self.Error → Type 0 };
 
-    /// Reads a value at the start of `from` in the context `ctx`, and returns it with its size in
-    /// bytes.
+    /// Reads a value at the start of `from`, and returns it with its size in bytes.
     ///
     /// Returns the type's error where `from` doesn't begin with a value.
     fn try_from_ctx(from: &'a [u8], ctx: Ctx) -> Result<(Self, usize), Self::Error>
@@ -112,9 +110,8 @@ pub trait TryFromCtx<'a, Ctx: Copy>: Sized {
 /// A type that can be written to bytes in a context.
 ///
 /// An implementation says by `writes` which target and size a write may leave, and by `refuses`
-/// which target and error. A caller that is generic over the type knows these two of a write, that
-/// its size is at most the length of the target, and that the bytes after the first `size` are
-/// unchanged.
+/// which target and error. A generic caller knows these two of a write, that its size is at most
+/// the length of the target, and that the bytes after it are unchanged.
 ///
 /// From `clients/examples/src/errors.rt.txt`, whose error has a text:
 ///
@@ -150,10 +147,10 @@ pub trait TryIntoCtx<Ctx: Copy>: Sized {
     // return for them.
     ghost refuses: { Ctx → Self → List ℕ → List ℕ → Self.Error → Type 0 };
 
-    /// Writes the value to the start of `dst` in the context `ctx`, and returns its size in bytes.
+    /// Writes the value to the start of `dst`, and returns its size in bytes.
     ///
-    /// Returns the type's error where the value can't be written whole; the type says what is then
-    /// in `dst`.
+    /// Returns the type's error where it can't be written whole; the type says what is then in
+    /// `dst`.
     fn try_into_ctx(self, dst: &mut [u8], ctx: Ctx) -> Result<usize, Self::Error>
         ensures wrote { IfOk result (λ n. writes ctx self dst.old dst.new n) }
         ensures refused { IfErr result (λ e. refuses ctx self dst.old dst.new e) };
@@ -197,8 +194,7 @@ pub trait FromCtx<Ctx: Copy>: Sized {
     // it.
     ghost makes: { Ctx → List ℕ → Self → Type 0 };
 
-    /// Returns the value at the start of `this` in the context `ctx`. `this` has at least as many
-    /// bytes as the type needs.
+    /// Returns the value at the start of `this`, which has the bytes that the type needs.
     fn from_ctx(this: &[u8], ctx: Ctx) -> Self
         requires { need ctx ≤ length this.now }
         ensures { makes ctx this.now result };
@@ -212,8 +208,8 @@ pub trait IntoCtx<Ctx: Copy>: Sized {
     // Holds of a context, a value, and a target of at least that many bytes before and after.
     ghost overwrites: { Ctx → Self → List ℕ → List ℕ → Type 0 };
 
-    /// Writes the value to the start of `dst` in the context `ctx`. `dst` has at least as many
-    /// bytes as the type needs; those after them are unchanged.
+    /// Writes the value to the start of `dst`, which has the bytes that the type needs; those after
+    /// them are unchanged.
     fn into_ctx(self, dst: &mut [u8], ctx: Ctx)
         requires { need ctx ≤ length dst.old }
         ensures { overwrites ctx self dst.old dst.new };
@@ -228,8 +224,7 @@ pub trait SizeWith<Ctx> {
     // The size of a value in bytes.
     ghost size: { Ctx → ℕ };
 
-    /// Returns the size of a value in bytes in the context `ctx`. The caller ensures that it fits
-    /// into a `usize`.
+    /// Returns the size of a value in bytes. The caller ensures that it fits into a `usize`.
     ///
     /// ```rust
     /// assert_eq!(rt; u64::size_with(&LE), 8);

@@ -9,8 +9,8 @@ use std::{fmt, io, result};
 /// No error allocates memory except [`Custom`](Error::Custom), whose creator allocates its text.
 #[derive(Debug, Drop)]
 pub enum Error {
-    /// A value of `size` bytes doesn't fit the `len` bytes that are left of the source or of the
-    /// target. For a truncated number in LEB128, these are 1 and 0.
+    /// A value of `size` bytes doesn't fit the `len` bytes that are left. For a truncated number in
+    /// LEB128, these are 1 and 0.
     TooBig { size: usize, len: usize },
     /// This offset, in bytes, is past the end.
     BadOffset(usize),
@@ -28,11 +28,10 @@ pub enum Error {
 /// The result of a call whose error is [`Error`].
 pub type Result<T> = result::Result<T, Error>;
 
-/// Checks that `len` bytes are enough for a value of `size` bytes. Returns [`Error::TooBig`] with
-/// the two numbers where they are not.
+/// Checks that `len` bytes are enough for a value of `size` bytes, and returns [`Error::TooBig`]
+/// with the two numbers where they are not.
 ///
-/// After one such check, a reader or a writer can use [`Cread`](crate::Cread) and
-/// [`Cwrite`](crate::Cwrite), whose calls return no error.
+/// After one such check, [`Cread`](crate::Cread) and [`Cwrite`](crate::Cwrite) return no error.
 ///
 /// ```rust
 /// let file: &[u8] = &[2, 1, 0, 0, 0, 0, 0, 0];

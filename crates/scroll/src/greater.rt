@@ -8,9 +8,8 @@ use crate::source::Source;
 
 /// Infallible reads from a byte slice, of any type that implements [`FromCtx`].
 ///
-/// Offsets are in bytes, from the start of the slice. The caller ensures that the offset plus the
-/// number of bytes that the type needs is at most the length of the slice. [`Pread`](crate::Pread)
-/// checks this instead, and returns an error.
+/// The caller ensures that the offset plus the number of bytes that the type needs is at most the
+/// length of the slice; [`Pread`](crate::Pread) checks this, and returns an error.
 ///
 /// From `clients/examples/src/overview.rt.txt`:
 ///
@@ -69,10 +68,8 @@ impl<'a, Ctx: Copy> Cread<Ctx> for &'a [u8] {
 
 /// Infallible writes to a byte slice, of any type that implements [`IntoCtx`].
 ///
-/// Offsets are in bytes, from the start of the slice. The caller ensures that the offset plus the
-/// number of bytes that the type needs is at most the length of the slice. The bytes before the
-/// offset, and those after the bytes that the type needs, are unchanged. [`Pwrite`](crate::Pwrite)
-/// checks the room instead, and returns an error.
+/// The caller ensures room as for [`Cread`]. The bytes before the offset, and those after the bytes
+/// that the type needs, are unchanged.
 ///
 /// From `clients/examples/src/overview.rt.txt`:
 ///

@@ -1,8 +1,7 @@
-//! Laws of the definitions that the contracts use, for whoever builds a format on them. The
-//! functions here change nothing: the contract of each is a law, and its proof is the proof of the
-//! law. To cite a law in a proof, call its function. All bodies are empty, except that of
-//! [`size_is_that_of_reads_and_writes`], which returns the sizes that its law speaks of. The name
-//! of each function says its law; a law that has a number has it as a second name.
+//! Laws of the definitions that the contracts use, for whoever builds a format on them: each is the
+//! contract of a function that changes nothing, and its proof is the function's. To cite a law in a
+//! proof, call its function. All bodies are empty, except that of
+//! [`size_is_that_of_reads_and_writes`], which returns the sizes that its law speaks of.
 //!
 //! - **Readers of records**: a record may be read from a longer buffer than it was tested on, and
 //!   no read ends more than a byte past the buffer ([`fixed_size_is_kept`],

@@ -1,15 +1,14 @@
 //! Numbers in LEB128, as DWARF and WebAssembly have them: seven bits per byte, the lowest first.
 //!
 //! A byte below 128 ends an encoding, and the low seven bits of each byte are the groups of the
-//! number. An encoding has one to ten bytes. A number has one encoding of each length from its
-//! shortest up to ten; the longer ones are padded, and they are read as well. A number that was
-//! read is written with as many bytes as it had; any other number is written in its shortest
+//! number. A number has one encoding of each length from its shortest up to ten; the longer ones
+//! are padded. One that was read is written with as many bytes as it had, any other in its shortest
 //! encoding.
 //!
 //! [`Pread`](crate::Pread) reads [`Uleb128`] and [`Sleb128`], and [`Pwrite`](crate::Pwrite) writes
-//! them, in the context `()`. The functions of this module read the same numbers from a slice
-//! ([`plain_uleb`], [`plain_sleb`]), from eight bytes ([`uleb_block`], [`sleb_block`]) and from a
-//! source that counts its loads ([`uleb_loads`], [`sleb_loads`]).
+//! them. The functions of this module read the same numbers from a slice ([`plain_uleb`],
+//! [`plain_sleb`]), from eight bytes ([`uleb_block`], [`sleb_block`]) and by counted loads
+//! ([`uleb_loads`], [`sleb_loads`]).
 mod block;
 mod by_loads;
 mod bytewise;

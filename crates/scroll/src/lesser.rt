@@ -15,11 +15,11 @@ const SMALL: usize = 16;
 /// Reads values of any type that implements [`FromCtx`] and [`SizeWith`] from a reader.
 ///
 /// Every reader implements it. A read takes exactly as many bytes as the type's size, even if the
-/// type needs fewer. The caller ensures that the type needs at most its size, and that its size is
-/// at most 256 bytes; both hold of every number.
+/// type needs fewer. The caller ensures that it needs no more, and that the size is at most 256;
+/// both hold of every number.
 ///
-/// An error is the reader's own, or one of kind `UnexpectedEof` where the reader ends too early. An
-/// interrupted call is repeated. After an error, the number of bytes taken is not specified.
+/// An error is the reader's own, or one of kind `UnexpectedEof` where the reader ends too early;
+/// how many bytes were then taken is not specified. An interrupted call is repeated.
 ///
 /// From `clients/examples/src/stream.rt.txt`, of a struct that is a [`Record`](crate::ctx::Record):
 ///
@@ -121,12 +121,11 @@ fn fill<R: Read>(reader: &mut R, bytes: &mut [u8]) -> io::Result<()>
 /// Writes values of any type that implements [`IntoCtx`] and [`SizeWith`] to a writer.
 ///
 /// Every writer implements it. A write appends exactly as many bytes as the type's size: what the
-/// value leaves in that many zeros. The caller ensures that the type needs at most its size, and
-/// that its size is at most 256 bytes; both hold of every number.
+/// value leaves in that many zeros. The caller ensures the same as for [`IOread`].
 ///
-/// An error is the writer's own, or one of kind `WriteZero` where the writer takes no more bytes.
-/// An interrupted call is repeated. After an error, the number of bytes appended is not specified.
-/// The writer is not flushed.
+/// An error is the writer's own, or one of kind `WriteZero` where the writer takes no more bytes;
+/// how many were then appended is not specified. An interrupted call is repeated. The writer is not
+/// flushed.
 pub trait IOwrite<Ctx: Copy>: Write {
     /// Appends `n` in the default context, which for numbers is the machine's byte order.
     ///

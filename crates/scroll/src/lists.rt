@@ -29,8 +29,7 @@ pub trait Ends<'a, Ctx: Copy>: TryFromCtx<'a, Ctx> {
         → Self.TryFromCtx.reads ctx source x n → 1 ≤ n };
 }
 
-/// Returns the size of the number in LEB128 at the start of `from` if it is zero, however it is
-/// padded, and otherwise `None`.
+/// Returns the size of the number in LEB128 at the start of `from` if it is zero, however padded.
 ///
 /// ```rust
 /// assert_eq!(rt; zero_size(&[0, 1]), Some(1));
@@ -52,8 +51,7 @@ pub fn zero_size(from: &[u8]) -> Option<usize>
     }
 }
 
-/// Returns the size of the two numbers in LEB128 at the start of `from` if both are zero, and
-/// otherwise `None`.
+/// Returns the size of the two numbers in LEB128 at the start of `from` if both are zero.
 #[inline(always)]
 pub fn two_zeros_size(from: &[u8]) -> Option<usize>
     ensures size { result ≡ two_zeros_size from.now }
@@ -78,13 +76,12 @@ pub(crate) fn end_at<'a, Ctx: Copy, T: Ends<'a, Ctx>>(from: &[u8], at: usize) ->
     Some(at + size)
 }
 
-/// Reads values, one after another from the cursor `offset`, up to the mark that ends them, and
-/// advances the cursor past it. Appends the values to `values`, and returns the bytes of all, with
-/// the mark.
+/// Reads values, one after another from the cursor `offset` up to the mark that ends them, and
+/// advances the cursor past it. Appends the values to `values`, and returns their bytes, with the
+/// mark.
 ///
-/// Returns the error of the first value that can't be read, with the offset at which that value
-/// starts, and leaves the cursor there. An allocation failure is the error [`Error::NoMemory`] of
-/// the value for which there was no memory. The values before it are then appended.
+/// The errors are those of [`read_many`](crate::read_many); the values before the one that failed
+/// are then appended.
 pub fn append_until<
     'a,
     Ctx: Copy,

@@ -6,9 +6,6 @@ use std::marker::Model;
 
 /// A source whose bytes are read only by counted loads.
 ///
-/// [`uleb_loads`](crate::uleb_loads) and [`sleb_loads`](crate::sleb_loads) read from it, and their
-/// contracts bound the number of loads.
-///
 /// ```rust
 /// let bytes: [u8; 3] = [0x82, 0x01, 0xff];
 /// let mut source = Loads::new(&bytes);
@@ -61,8 +58,8 @@ impl<'a> Loads<'a> {
         self.made
     }
 
-    /// Loads the first eight bytes at once. Returns `None` where there are fewer. Both count as one
-    /// load. The caller ensures that fewer than 2^63 loads were made before.
+    /// Loads the first eight bytes at once, or returns `None` where there are fewer; both count as
+    /// one load. The caller ensures that fewer than 2^63 loads were made before.
     #[inline]
     pub fn word(&mut self) -> Option<[u8; 8]>
         requires { self.old.made < 2 ^ 63 }
@@ -75,8 +72,8 @@ impl<'a> Loads<'a> {
         self.src.first_chunk::<8>().copied()
     }
 
-    /// Loads the byte at offset `i`. Returns `None` where `i` is out of bounds. Both count as one
-    /// load. The caller ensures that fewer than 2^63 loads were made before.
+    /// Loads the byte at offset `i`, or returns `None` where that is out of bounds; both count as
+    /// one load. The caller ensures that fewer than 2^63 loads were made before.
     #[inline]
     pub fn byte(&mut self, i: usize) -> Option<u8>
         requires { self.old.made < 2 ^ 63 }

@@ -19,13 +19,13 @@ use crate::slice;
 use std::alloc::Global;
 use std::result::Result;
 
-/// Reads `count` values, one after another from the cursor `offset`, and advances the cursor past
-/// the last one.
+/// Reads `count` values, one after another from the cursor `offset`, and advances it past the last
+/// one.
 ///
-/// Returns the error of the first value that can't be read, with the offset at which that value
-/// starts, and leaves the cursor there. An allocation failure is the error [`Error::NoMemory`] of
-/// the value for which there was no memory. Memory is allocated as values are read, so a count that
-/// is too large costs none.
+/// Returns the error of the first value that can't be read, with the offset at which it starts, and
+/// leaves the cursor there. An allocation failure is the error [`Error::NoMemory`] of the value for
+/// which there was no memory. Memory is allocated as values are read, so a count that is too large
+/// costs none.
 ///
 /// ```rust
 /// let file: &[u8] = &[1, 0, 2, 0, 3];
@@ -71,12 +71,12 @@ pub fn read_many<'a, Ctx: Copy, E: From<Error>, T: TryFromCtx<'a, Ctx, Error = E
     Ok(values)
 }
 
-/// Reads values, one after another from the cursor `offset` up to the end of the bytes, and
-/// advances the cursor to the end.
+/// Reads values, one after another from the cursor `offset`, and advances it to the end of the
+/// bytes.
 ///
-/// Returns the error of the first value that can't be read, with the offset at which that value
-/// starts. A value of no bytes, or one whose size goes past the end, is [`Error::BadInput`] with
-/// its size, and an allocation failure [`Error::NoMemory`]. On an error the cursor is unchanged.
+/// The errors are those of [`read_many`], but leave the cursor unchanged. A value of no bytes, or
+/// one whose size goes past the end, is [`Error::BadInput`] with its size and the message `a value
+/// of no bytes, or past the end`.
 ///
 /// ```rust
 /// let file: &[u8] = &[0xff, 1, 0, 2, 0];
@@ -134,11 +134,11 @@ pub fn read_to_end<'a, Ctx: Copy, E: From<Error>, T: TryFromCtx<'a, Ctx, Error =
     Ok(values)
 }
 
-/// Writes values, one after another from the cursor `offset`, and advances the cursor past the last
-/// one. [`read_many`] reads them back.
+/// Writes values, one after another from the cursor `offset`, and advances it past the last one.
+/// [`read_many`] reads them back.
 ///
-/// Returns the error of the first value that can't be written, with the offset at which that value
-/// would start, and leaves the cursor there. The values before it are then written.
+/// Returns the error of the first value that can't be written, with the offset at which it would
+/// start, and leaves the cursor there. The values before it are then written.
 ///
 /// ```rust
 /// let mut file = [0xffu8; 6];
@@ -175,11 +175,8 @@ pub fn write_many<Ctx: Copy, E: From<Error>, T: TryIntoCtx<Ctx, Error = E> + Cop
     Ok(())
 }
 
-/// Writes a value at the cursor `offset`, and advances the cursor past it. The value reads back
-/// there, whatever is written after it.
-///
-/// Returns the error of [`gwrite_with`](slice::gwrite_with) if the value can't be written, and the
-/// cursor is then unchanged.
+/// Writes a value like [`gwrite_with`](slice::gwrite_with). It reads back at its offset, whatever
+/// is written after it.
 pub fn write_kept<Ctx: Copy, E: From<Error>, T: Kept<Ctx> + TryIntoCtx<Ctx, Error = E> + Drop>(
     dst: &mut [u8],
     value: T,
@@ -253,13 +250,12 @@ pub trait EntryOf<T>: Sized {
         ensures misplaced { IfErr result (misplaced offset) };
 }
 
-/// Writes values like [`write_many_kept`], and returns an entry for each, which says where the
-/// value stands. It reads back there, whatever is written after the values.
+/// Writes values like [`write_many_kept`], and returns an entry for each, which says where it
+/// stands.
 ///
 /// Returns the error of the first value that can't be written or whose offset doesn't fit its
-/// entry, with that offset, and leaves the cursor there. An allocation failure is the error
-/// [`Error::NoMemory`] of the value for whose entry there was no memory. The values before it are
-/// then written.
+/// entry, with that offset, and leaves the cursor there; or [`Error::NoMemory`] of the value for
+/// whose entry there was no memory. The values before it are then written.
 pub fn write_placed<
     Ctx: Copy,
     E: From<Error>,
@@ -327,12 +323,11 @@ fn fit_all<Ctx: Copy, T: Kept<Ctx>>(values: &[T])
     }
 }
 
-/// Writes a tag, such as the number of an enum's variant, and the value that follows it to the
-/// start of `dst`, and returns their size in bytes.
+/// Writes a tag, such as the number of an enum's variant, and the value after it to the start of
+/// `dst`, and returns their size in bytes.
 ///
 /// Returns [`Error::TooBig`] with the width of the tag and the length of `dst` if the tag has no
-/// room, and the value's own error if the value can't be written after it. The tag is then not
-/// written.
+/// room, and the value's own error if the value can't be written. The tag is then not written.
 ///
 /// ```rust
 /// let mut file = [0xffu8; 4];

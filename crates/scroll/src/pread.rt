@@ -9,10 +9,9 @@ use crate::source::{ReadFrom, Source};
 /// Reads values of any type that implements [`TryFromCtx`](crate::ctx::TryFromCtx) from a byte
 /// slice.
 ///
-/// Offsets and sizes are in bytes, and an offset counts from the start of the slice. An offset past
-/// the end returns `E::from(Error::BadOffset(offset))`, which for `E = Error` is that error itself;
-/// an offset at the end reads an empty source. Every other error is the type's own. The elements of
-/// a bulk read are `Drop`, since it replaces them. An array or a vector is read as it is.
+/// An offset counts from the start of the slice. One past the end returns
+/// `E::from(Error::BadOffset(offset))`; one at the end reads an empty source. Every other error is
+/// the type's own. Arrays and vectors are read as they are.
 pub trait Pread<Ctx: Copy, E>: Source {
     // Holds of an offset past the end and each error that may be returned for it.
     ghost past_end: { ℕ → E → Type 0 };

@@ -12,11 +12,10 @@ mod owned;
 
 /// Writes values of any type that implements [`TryIntoCtx`] and `Drop` to a byte slice.
 ///
-/// Offsets and sizes are in bytes, and an offset counts from the start of the slice. An offset past
-/// the end returns `E::from(Error::BadOffset(offset))`, which for `E = Error` is that error itself,
-/// and leaves the slice unchanged; an offset at the end writes to an empty target. Every other
-/// error is the type's own, and the type says what it leaves. The bytes before the offset and the
-/// length of the slice are always unchanged. An array or a vector is written as it is.
+/// An offset counts from the start of the slice. One past the end returns
+/// `E::from(Error::BadOffset(offset))` and leaves the slice unchanged; one at the end writes to an
+/// empty target. Every other error is the type's own, and the type says what it leaves. The bytes
+/// before the offset are always unchanged. Arrays and vectors are written as they are.
 pub trait Pwrite<Ctx: Copy, E> {
     // The bytes of the target.
     ghost target: { Self → List ℕ };

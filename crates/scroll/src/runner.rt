@@ -1,7 +1,6 @@
 //! Lists of commands over one buffer and one cursor.
 //!
-//! [`run`] runs the commands in turn, and appends an [`Answer`] for each to a vector. Its contract
-//! states all results and all that it leaves, over the history of what was written.
+//! Their results and all that they leave are stated over the history of what was written.
 ghost use Rattle.std.specs.Prelude.{◌≡◌, ◌+◌, ◌≤◌, length, vec_len, vec_capacity, OnOk, OnErr, IfOk, IfErr, IsOk};
 ghost use Rattle.std.specs.List.{All};
 ghost use Rattle.scroll.specs.Runs.{IsStep, IsRun, IsPrefixRun, CopiesNothing};
@@ -22,7 +21,7 @@ mod write;
 pub enum Place {
     /// At an offset in bytes from the start of the buffer.
     At(usize),
-    /// At the cursor. A command that succeeds advances it by the size of what it read or wrote.
+    /// At the cursor. A command that succeeds advances it by its size.
     Cursor,
 }
 
@@ -172,14 +171,12 @@ pub enum Answer {
 ///
 /// A command that fails appends its error, and the next one runs. It leaves the cursor unchanged,
 /// and the buffer too, except that the elements of an array before the one that failed remain
-/// written. The offset of `Place::At` counts bytes from the start of the buffer, and a command at
-/// such an offset leaves the cursor unchanged.
+/// written. A command at `Place::At` leaves the cursor unchanged.
 ///
 /// The only error is [`Error::NoMemory`], and there is none if `answers` has room for an answer to
-/// each command, and no command reads a string, a byte slice or a C string, which are copied. The
-/// answers of the first commands, fewer than all, are then appended, and the buffer and the cursor
-/// are as these commands left them: memory for an answer is reserved before its command runs, and
-/// what a read copies is copied before the cursor moves.
+/// each command, and no command reads a string, a byte slice or a C string, which are copied. Some
+/// first commands were then run, and have their answers: memory for an answer is reserved before
+/// its command runs, and what a read copies is copied before the cursor moves.
 pub fn run(
     alloc: Global,
     buffer: &mut [u8],

@@ -1,9 +1,9 @@
 //! The calls of [`Pwrite`](crate::Pwrite) and [`Cwrite`](crate::Cwrite) as functions on a borrowed
 //! slice.
 //!
-//! The traits are implemented for `&mut [u8]`, so their methods take a reference to that reference.
-//! A function whose contract says what a parameter of type `&mut [u8]` holds afterwards can't call
-//! them on that parameter. These functions take the slice itself:
+//! A method of these takes a reference to a `&mut [u8]`, so a function whose contract says what a
+//! parameter of that type holds afterwards can't call it on the parameter. These functions take the
+//! slice itself, and their offsets, errors and unchanged bytes are those of the methods:
 //!
 //! ```rust
 //! use scroll::{BE, slice};
@@ -14,11 +14,6 @@
 //! slice::gwrite_with(&mut bytes, 0xbeefbeefu32, offset, BE)?;
 //! assert_eq!(rt; *offset, 6);
 //! ```
-//!
-//! Offsets and sizes are in bytes, and an offset counts from the start of the slice. An offset past
-//! the end returns `E::from(Error::BadOffset(offset))` and leaves the slice unchanged; an offset at
-//! the end writes to an empty target. Every other error is the type's own, and the type says what
-//! it leaves. The bytes before the offset are always unchanged.
 ghost use Rattle.std.specs.Prelude.{◌≡◌, ◌+◌, ◌≤◌, length, take, drop, IfOk, IfErr, OnErr};
 ghost use Rattle.scroll.specs.Reads.{ByDefault};
 ghost use Rattle.scroll.specs.Writes.{WritesAt, RefusesWriteAt};
@@ -149,9 +144,8 @@ pub fn cwrite<Ctx: Copy + Default, N: IntoCtx<Ctx>>(dst: &mut [u8], n: N, offset
     cwrite_with(dst, n, offset, Ctx::default())
 }
 
-/// Writes `n` at `offset` in the context `ctx`. This can't fail: the caller ensures that `offset`
-/// plus the number of bytes that the type needs is at most the length of the slice. The bytes
-/// before the offset, and those after the bytes that the type needs, are unchanged.
+/// Writes `n` at `offset` in the context `ctx`. The caller ensures room as for
+/// [`Cwrite`](crate::Cwrite).
 ///
 /// ```rust
 /// let mut bytes = [0u8; 16];

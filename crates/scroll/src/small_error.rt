@@ -9,19 +9,17 @@ use std::{fmt, io};
 /// Why a read or a write of bytes failed: [`Error`] without what owns memory or comes from a
 /// stream, in at most 32 bytes.
 ///
-/// A function of your own that returns it, rather than [`Error`], has less to write back: `?`
-/// converts the error of each call. The first three variants have the fields and the printed lines
-/// of [`Error`]'s.
+/// A function that returns it has less to write back: `?` converts the error of each call. The
+/// first three variants have the fields and the printed lines of [`Error`]'s.
 #[derive(Clone, Copy, Debug, PartialEq, Eq)]
 pub enum SmallError {
-    /// [`Error::TooBig`]: a value of `size` bytes doesn't fit the `len` bytes that are left.
+    /// As [`Error::TooBig`].
     TooBig { size: usize, len: usize },
-    /// [`Error::BadOffset`]: this offset, in bytes, is past the end.
+    /// As [`Error::BadOffset`].
     BadOffset(usize),
-    /// [`Error::BadInput`]: the bytes are not a valid value; `msg` says why, and the type that was
-    /// read what `size` counts.
+    /// As [`Error::BadInput`].
     BadInput { size: usize, msg: &'static str },
-    /// Any other error: a caller's own message, an error of a stream, or an allocation that failed.
+    /// A caller's own message, an error of a stream, or an allocation that failed.
     Other,
 }
 
@@ -43,8 +41,8 @@ impl std::error::Error for SmallError {}
 impl From<Error> for SmallError {
     ghost from_gives = { λ error small. small ≡ small_error error };
 
-    /// Returns the variant of the same name with the same fields, and [`SmallError::Other`] for the
-    /// errors that have none.
+    /// Returns the variant of the same name, and [`SmallError::Other`] for the errors that have
+    /// none.
     #[inline]
     fn from(error: Error) -> SmallError {
         match &error {

@@ -17,9 +17,8 @@ impl<'a> Source for &'a [u8] {
 /// A type that can be read from a source `S`: each type that implements [`TryFromCtx`], and no
 /// other.
 ///
-/// The methods of [`Pread`](crate::Pread) use this bound in place of `TryFromCtx<'a, Ctx>`, since
-/// their bounds can't name the trait's lifetime. Implement `TryFromCtx` for a type of your own; it
-/// then implements this trait too.
+/// It is the bound of [`Pread`](crate::Pread)'s methods, which can't name that trait's lifetime.
+/// Implement `TryFromCtx` for a type of your own; it then has this trait too.
 pub trait ReadFrom<S: Source, Ctx: Copy>: Sized {
     /// The error of a read.
     type Error;
@@ -30,8 +29,8 @@ pub trait ReadFrom<S: Source, Ctx: Copy>: Sized {
     // Holds of a context, a source, and each error that a read of them may return.
     ghost refuses: { Ctx → List ℕ → Self.Error → Type 0 };
 
-    /// Reads a value at the start of `from` in the context `ctx`, and returns it with its size in
-    /// bytes, or the type's error.
+    /// Reads a value at the start of `from`, and returns it with its size in bytes, or the type's
+    /// error.
     fn read_from(from: S, ctx: Ctx) -> Result<(Self, usize), Self::Error>
         ensures read { IfOk result (λ read. reads ctx (S.bytes from) read.0 read.1) }
         ensures refused { IfErr result (λ e. refuses ctx (S.bytes from) e) };

@@ -26,12 +26,12 @@ fn fits<X>() -> bool
 }
 
 /// Returns whether an array of `N` values of type `T` fits in memory, together with the storage for
-/// its elements while it is read and while it is written. It does wherever such an array exists,
-/// and the compiler knows the result.
+/// its elements while it is read or written. It does wherever such an array exists, and the
+/// compiler knows the result.
 ///
-/// A caller that is generic over `T` or `N` may test this, or require it of its own caller: the
-/// contracts of arrays state their errors under this condition. For a concrete type the prover
-/// knows that it holds.
+/// The contracts of arrays state their errors under this condition: a caller that is generic over
+/// `T` or `N` may test it, or require it of its own caller. For a concrete type the prover knows
+/// that it holds.
 pub fn array_fits<T, const N: usize>() -> bool
     ensures read { IsTrue result → SlotsFit T.row N.row }
     ensures written { IsTrue result → ItemsFit T.row N.row }
@@ -81,10 +81,10 @@ fn write_next<Ctx: Copy, T: TryIntoCtx<Ctx, Error = Error> + Drop>(
     value.try_into_ctx(&mut dst[offset..], ctx)
 }
 
-/// Reads the elements one after another from the start of the source. An element that would start
-/// past the end returns `E::from(Error::BadOffset(offset))`, where the offset counts from the start
-/// of the array; every other error is that of the first element that fails. The contract states the
-/// errors of arrays that fit in memory: see [`array_fits`].
+/// Reads the elements one after another. One that would start past the end returns
+/// `E::from(Error::BadOffset(offset))`, where the offset counts from the start of the array; every
+/// other error is that of the first element that fails. The contract states the errors of arrays
+/// that fit in memory: see [`array_fits`].
 ///
 /// ```rust
 /// let source: &[u8] = &[1, 0, 2, 0, 3, 0];
@@ -135,8 +135,8 @@ impl<
     }
 }
 
-/// Writes the elements one after another from the start of the target. The error is that of the
-/// first element that fails; the elements before it are then written.
+/// Writes the elements one after another. The error is that of the first element that fails; those
+/// before it are then written.
 ///
 /// ```rust
 /// let mut bytes = [0xffu8; 7];
@@ -177,9 +177,8 @@ impl<Ctx: Copy, T: TryIntoCtx<Ctx, Error = Error> + Drop, const N: usize> TryInt
     }
 }
 
-/// Reads the elements, each of which starts an element's size ([`SizeWith`]) after the one before
-/// it. `this` must have `N` times as many bytes as an element needs or has as its size, whichever
-/// is more; for numbers that is the size of the array.
+/// Reads the elements, each an element's size ([`SizeWith`]) after the one before it. `this` has
+/// `N` times as many bytes as an element needs or has as its size, whichever is more.
 impl<Ctx: Copy, T: FromCtx<Ctx> + SizeWith<Ctx>, const N: usize> FromCtx<Ctx> for [T; N] {
     ghost need = { λ ctx. max (T.size ctx) (T.need ctx) * N };
 
@@ -205,9 +204,8 @@ fn element<Ctx: Copy, T: FromCtx<Ctx> + SizeWith<Ctx>>(this: &[u8], index: usize
     T::from_ctx(&this[T::size_with(&ctx) * index..], ctx)
 }
 
-/// Writes the elements, each of which starts an element's size ([`SizeWith`]) after the one before
-/// it. `dst` must have `N` times as many bytes as an element needs or has as its size, whichever is
-/// more; those after them are unchanged.
+/// Writes the elements, each an element's size ([`SizeWith`]) after the one before it. `dst` has as
+/// many bytes as such a read needs; those after them are unchanged.
 impl<Ctx: Copy, T: IntoCtx<Ctx> + SizeWith<Ctx> + Copy, const N: usize> IntoCtx<Ctx> for [T; N] {
     ghost need = { λ ctx. max (T.size ctx) (T.need ctx) * N };
 
@@ -237,7 +235,7 @@ fn put_element<Ctx: Copy, T: IntoCtx<Ctx> + SizeWith<Ctx>>(
     value.into_ctx(&mut dst[T::size_with(&ctx) * index..], ctx)
 }
 
-/// The size of an array is `N` times the size of an element.
+/// `N` times the size of an element.
 impl<Ctx, T: SizeWith<Ctx>, const N: usize> SizeWith<Ctx> for [T; N] {
     ghost size = { λ ctx. T.size ctx * N };
 

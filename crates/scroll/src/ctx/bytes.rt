@@ -8,10 +8,10 @@ ghost use Rattle.scroll.specs.lemmas.Frames.{WritesPrefix-keeps, slice-keeps};
 use crate::ctx::{IntoCtx, TryFromCtx, TryIntoCtx};
 use crate::error::{Error, Result, check_room};
 
-/// Reads as many bytes as the context says. This is zero-copy: the slice borrows the source.
+/// Reads as many bytes as the context says, zero-copy.
 ///
-/// The default context is 0, which reads the empty slice. A shorter source returns
-/// [`Error::TooBig`] with the length in the context and that of the source.
+/// The default context is 0. A shorter source returns [`Error::TooBig`] with the length in the
+/// context and its own.
 ///
 /// ```rust
 /// let source: &[u8] = &[10, 11, 12];
@@ -34,8 +34,8 @@ impl<'a> TryFromCtx<'a, usize> for &'a [u8] {
     }
 }
 
-/// Writes the bytes of the slice, without a length. A shorter target returns [`Error::TooBig`] with
-/// the lengths of the slice and of the target, and is unchanged.
+/// Writes the bytes of the slice alone. A shorter target returns [`Error::TooBig`] with the lengths
+/// of both, and is unchanged.
 impl<'s> TryIntoCtx<()> for &'s [u8] {
     type Error = Error;
 
@@ -55,8 +55,7 @@ impl<'s> TryIntoCtx<()> for &'s [u8] {
 }
 
 /// Writes the first bytes of the slice, as many as the context says, or all of them if it has
-/// fewer. `dst` needs as many bytes as the context says, so in the context of its own length a
-/// slice is written whole. The bytes after those that are written are unchanged.
+/// fewer; those after them are unchanged. `dst` needs as many bytes as the context says.
 ///
 /// ```rust
 /// let mut bytes = [0xffu8; 4];

@@ -21,8 +21,8 @@ impl<'a> TryFromCtx<'a, ()> for CStr<'a> {
     ghost reads_bounded = { λ _ source s. ReadsCString-bounded source (c_str_text s) };
 
     /// Reads up to the first zero of `from`, zero-copy; the size in bytes counts the zero. A source
-    /// without a zero returns [`Error::BadInput`] with the size 0 and the message
-    /// `The input doesn't contain a null byte`.
+    /// without one returns [`Error::BadInput`] with the size 0 and the message `The input doesn't
+    /// contain a null byte`.
     #[inline(always)]
     fn try_from_ctx(from: &'a [u8], _ctx: ()) -> Result<(CStr<'a>, usize)> {
         match CStr::from_bytes_until_nul(from) {
@@ -44,10 +44,8 @@ impl<'a, 'm> TryFromCtx<'a, &'m Global> for CString {
 
     ghost reads_bounded = { λ _ source s. ReadsCString-bounded source (c_string_text s) };
 
-    /// Copies the text before the first zero of `from`; the size in bytes counts the zero. A source
-    /// without a zero returns [`Error::BadInput`] with the size 0 and the message
-    /// `The input doesn't contain a null byte`, before memory is allocated. An allocation failure
-    /// returns [`Error::NoMemory`].
+    /// Copies what a `CStr` borrows, with the same size and error. An allocation failure returns
+    /// [`Error::NoMemory`].
     #[inline(always)]
     fn try_from_ctx(from: &'a [u8], ctx: &'m Global) -> Result<(CString, usize)> {
         let (text, size) = CStr::try_from_ctx(from, ())?;
@@ -68,8 +66,8 @@ pub trait WithNul {
         ensures { result.now ≡ text self.now ++ 0 ∷ [] };
 }
 
-/// Writes the text and its zero. A shorter target returns [`Error::TooBig`] with the length of the
-/// text and its zero and that of the target, and is unchanged.
+/// Writes the text and its zero. A shorter target returns [`Error::TooBig`] with the lengths of
+/// both, and is unchanged.
 impl<S: WithNul + Drop> TryIntoCtx<()> for S {
     type Error = Error;
 

@@ -22,8 +22,8 @@ use std::ffi::CStr;
 /// A value that is written as bytes, however many it has.
 ///
 /// A tuple of two to four is its parts in order, so a struct is written as tuples of its fields,
-/// such as `(a, b, c, (d, e))`. Slices, texts and arrays are parts by themselves, a value of a
-/// fixed size is one as [`Value`], and zeros as [`Gap`].
+/// such as `(a, b, c, (d, e))`. Slices, texts and arrays are parts, a value of a fixed size is one
+/// as [`Value`], and zeros as [`Gap`].
 pub trait Encode: Copy {
     // The bytes of a value.
     ghost bytes: { Endian → Self → List ℕ };
@@ -320,11 +320,11 @@ pub trait Checked: Copy {
         ensures differs { IfErr result (differs self) };
 }
 
-/// Reads a value of a fixed size at the cursor `offset`, also an array, and advances the cursor
-/// past it.
+/// Reads a value of a fixed size at the cursor `offset`, also an array, and advances it past the
+/// value.
 ///
 /// Returns [`Error::BadOffset`] for an offset past the end, and [`Error::TooBig`] with the width of
-/// the value and the number of bytes there if they are fewer. On an error the cursor is unchanged.
+/// the value and the number of bytes there. On an error the cursor is unchanged.
 #[inline(always)]
 pub fn read_fixed<P: Fixed>(from: &[u8], offset: &mut usize, order: Endian) -> Result<P>
     requires { P.width < 2 ^ 64 }
@@ -348,8 +348,7 @@ pub fn read_fixed<P: Fixed>(from: &[u8], offset: &mut usize, order: Endian) -> R
 /// Writes the bytes of a value at an offset, and returns the offset after them. The caller ensures
 /// that the offset is at most the length of `dst`.
 ///
-/// Returns their number as the error if there is no room for all of them, and `dst` is then
-/// unchanged.
+/// Returns their number as the error if they have no room, and `dst` is then unchanged.
 ///
 /// ```rust
 /// let mut file = [0xffu8; 4];
@@ -378,9 +377,8 @@ pub fn put_at<A: Encode>(
     Ok(offset + size)
 }
 
-/// Appends the bytes of a value to a vector, whose size needn't be known before.
-///
-/// An allocation failure is the error [`Error::NoMemory`], and the vector is then unchanged.
+/// Appends the bytes of a value to a vector. An allocation failure is [`Error::NoMemory`], and the
+/// vector is then unchanged.
 ///
 /// ```rust
 /// let mut file: Vec<u8> = Vec::new(rt.alloc());
@@ -407,11 +405,10 @@ pub fn append<A: Encode>(target: &mut Vec<u8>, value: A, order: Endian) -> Resul
     Ok(())
 }
 
-/// Appends the bytes of a value to a vector if the fields of the value agree.
+/// Appends the bytes of a value to a vector if the value's fields agree.
 ///
-/// Returns the value's own error if they don't, and [`Error::NoMemory`] on an allocation failure,
-/// converted to that error, which doesn't occur where the vector has the capacity. The vector is
-/// then unchanged.
+/// Returns the value's own error if they don't, and that of [`Error::NoMemory`] on an allocation
+/// failure, which doesn't occur where the vector has the capacity. The vector is then unchanged.
 pub fn append_checked<E: From<Error>, A: Encode + Checked<Error = E>>(
     target: &mut Vec<u8>,
     value: A,

@@ -19,9 +19,8 @@ use crate::error::{Error, Result, check_room};
 /// A type whose values all have the same number of bytes: a number, a tuple or an array of such
 /// types, or a struct of them.
 ///
-/// For a struct implement [`Record`], which says its fields. An implementation of this trait says
-/// the bytes of a value and the value of bytes, in a byte order, and proves that these go together:
-/// what was written reads back.
+/// For a struct implement [`Record`]. An implementation of this trait says the bytes of a value and
+/// the value of bytes, in a byte order, and proves that what was written reads back.
 pub trait Fixed: Copy {
     // How many bytes a value has.
     ghost width: { ℕ };
@@ -79,11 +78,9 @@ pub trait RoundTrip: Fixed {
         → Self.Fixed.bytes order x ≡ take Self.Fixed.width (drop at s) };
 }
 
-/// A struct that is its fields, one after another in the order of its parts, with nothing between
-/// them.
+/// A struct that is its fields, one after another in the order of its parts.
 ///
-/// It then is [`Fixed`], and so it implements the traits of contexts. `tools/derive` prints the
-/// implementation:
+/// It then is [`Fixed`], and has the traits of contexts. `tools/derive` prints the implementation:
 ///
 /// ```rust
 /// impl Record for Format {
@@ -211,8 +208,8 @@ fn read_parts<R: Record>(from: &[u8], offset: usize, order: Endian) -> R
     R::of_parts(R::Parts::read_at(from, offset, order))
 }
 
-/// Marks the types that implement the traits of contexts by [`Fixed`]: numbers and structs. Arrays
-/// have implementations of their own, for elements of any size.
+/// Marks the types that have the traits of contexts by [`Fixed`]: numbers and structs. Arrays have
+/// their own implementations, for elements of any size.
 pub trait Plain: Fixed {
     // The number of bytes fits into a `usize`.
     ghost small: { Self.width < 2 ^ 64 };
@@ -256,9 +253,8 @@ impl<P: Plain> FromCtx<Endian> for P {
     }
 }
 
-/// Reads a value in a byte order. If the source is shorter than the value, returns
-/// [`Error::TooBig`] with the value's width and the length of the source. The bits of any NaN are
-/// read as a NaN.
+/// Reads a value in a byte order. A shorter source returns [`Error::TooBig`] with the value's width
+/// and its own length. The bits of any NaN are read as a NaN.
 ///
 /// ```rust
 /// let bytes: &[u8] = &[0, 1, 2, 3, 0x80, 0, 0xfe];
@@ -306,9 +302,9 @@ impl<W: Written> IntoCtx<Endian> for W {
     }
 }
 
-/// Writes a value in a byte order. If the target is shorter than the value, returns
-/// [`Error::TooBig`] with the value's width and the length of the target, and leaves the target
-/// unchanged. A NaN is written as the quiet NaN with no sign and no payload.
+/// Writes a value in a byte order. A shorter target returns [`Error::TooBig`] with the value's
+/// width and its own length, and is unchanged. A NaN is written as the quiet NaN with no sign and
+/// no payload.
 ///
 /// ```rust
 /// let mut bytes = [0xffu8; 3];

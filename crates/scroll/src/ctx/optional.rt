@@ -8,7 +8,8 @@ use crate::ctx::encode::Encode;
 use crate::endian::Endian;
 use std::result::Result;
 
-/// The context of an optional value: whether it is there, and then its own context.
+/// The context of an optional value, such as `When(kind == 7, LE)`: whether it is there, and then
+/// its own context. A value that isn't there is `None`, and has no bytes.
 ///
 /// ```rust
 /// let file: &[u8] = &[7, 1, 0];

@@ -9,10 +9,10 @@ use std::alloc::AllocError;
 use std::marker::PhantomData;
 use std::result::Result;
 
-/// The elements of a table, each of the same size, one after another in bytes that are borrowed.
+/// The elements of a table, each of the same size, in bytes that are borrowed.
 ///
-/// It allocates no memory: an element is read where it lies. The number of elements is that of the
-/// bytes by the size of an element; bytes after the last whole element are no part of the table.
+/// An element is read where it lies, without memory. Bytes after the last whole element are no part
+/// of the table.
 ///
 /// ```rust
 /// let file: &[u8] = &[3, 1, 0, 2, 0, 3, 0];

@@ -11,17 +11,15 @@ use crate::ctx::{StrCtx, TryFromCtx, TryIntoCtx};
 use crate::error::{Error, Result, check_room};
 use crate::search::{first_stop, index_of};
 
-/// Reads a string up to where the context ends it. This is zero-copy: the string borrows the
-/// source.
+/// Reads a string up to where the context ends it, zero-copy.
 ///
-/// The string is what comes before the delimiter, the limit or the length. In a context with a
-/// delimiter the size is one byte more than the string has, even if no delimiter follows, and even
-/// past the end of the source.
+/// In a context with a delimiter the size is one byte more than the string has, even if no
+/// delimiter follows, and even past the end of the source.
 ///
 /// A limit or a length beyond the source returns [`Error::TooBig`], even if a delimiter comes
 /// earlier. A source without the delimiter of `Required` returns [`Error::BadInput`] with the
-/// message `missing delimiter`, and bytes that aren't UTF-8 return [`Error::BadInput`] with the
-/// message `invalid utf8`; the `size` of both is the length of the whole source.
+/// message `missing delimiter`, and bytes that aren't UTF-8 one with `invalid utf8`; the `size` of
+/// both is the length of the source.
 ///
 /// ```rust
 /// let source: &[u8] = b"ab";
@@ -133,8 +131,8 @@ fn text_of_ascii(bytes: &[u8]) -> &str
     unsafe { str::from_utf8_unchecked(bytes) }
 }
 
-/// Writes the bytes of the string, without a delimiter or a length. A shorter target returns
-/// [`Error::TooBig`] with the lengths of the string and of the target, and is unchanged.
+/// Writes the bytes of the string alone. A shorter target returns [`Error::TooBig`] with the
+/// lengths of both, and is unchanged.
 impl<'t> TryIntoCtx<()> for &'t str {
     type Error = Error;
 

@@ -12,10 +12,10 @@ use std::alloc::AllocError;
 use std::marker::PhantomData;
 use std::result::Result;
 
-/// The values of a list, one after another in bytes that are borrowed, up to the mark that ends it.
+/// The values of a list, in bytes that are borrowed, up to the mark that ends it.
 ///
-/// It allocates no memory: a value is read where it lies. A read tests that each value can be read,
-/// and returns the error of the first that can't.
+/// A value is read where it lies, without memory. A read tests that each value can be read, and
+/// returns the error of the first that can't.
 #[derive(Debug)]
 pub struct Until<'a, T> {
     /// The bytes of the values, and of the mark after them.
@@ -46,8 +46,8 @@ impl<'a, T> Until<'a, T> {
         }
     }
 
-    /// Returns the values in a context, in order: those before the mark, and none after one that
-    /// can't be read in this context. There are at most as many as the bytes.
+    /// Returns the values before the mark in a context, in order, and none after one that can't be
+    /// read in it. There are at most as many as the bytes.
     #[inline(always)]
     pub fn values<Ctx: Copy>(&self, ctx: Ctx) -> Values<'a, T, Ctx>
         ensures bytes { result.bytes.now ≡ self.now.bytes.now }

@@ -12,11 +12,11 @@ use crate::error::{Error, Result, check_room};
 /// Bytes that are all zero, as many as the context says: padding, or what a format reserves. The
 /// default context is 0.
 ///
-/// A read returns [`Error::TooBig`] where the source is shorter. Otherwise it returns
-/// [`Error::BadInput`] with the message `padding is not zero` where a byte isn't zero; its `size`
-/// is the offset of the first such byte from the start of the zeros. A write writes zeros, or
-/// returns [`Error::TooBig`] where the target is shorter, and leaves it unchanged. [`padding`] says
-/// how many bytes there are before the next multiple of a size.
+/// A read returns [`Error::TooBig`] where the source is shorter, and else [`Error::BadInput`] with
+/// the message `padding is not zero` where a byte isn't zero; its `size` is the offset of the first
+/// such byte from the start of the zeros. A write returns [`Error::TooBig`] where the target is
+/// shorter, and leaves it unchanged. [`padding`] says how many bytes there are before the next
+/// multiple of a size.
 ///
 /// ```rust
 /// let file: &[u8] = &[7, 0, 0, 0, 0, 0, 0, 0, 9];
@@ -28,8 +28,8 @@ use crate::error::{Error, Result, check_room};
 #[derive(Clone, Copy, Debug, PartialEq, Eq)]
 pub struct Zeros;
 
-/// Returns how many bytes there are between an offset and the next multiple of `multiple`: 0 if the
-/// offset is a multiple, and 0 if `multiple` is 0.
+/// Returns how many bytes there are between an offset and the next multiple of `multiple`: 0 at a
+/// multiple, and if `multiple` is 0.
 ///
 /// ```rust
 /// assert_eq!(rt; padding(62, 8), 2);

@@ -9,10 +9,10 @@ ghost use Rattle.scroll.specs.declared.endian.Endian.{Endian};
 use crate::ctx::{Fixed, Plain, RoundTrip, SizeWith};
 use crate::endian::Endian;
 
-/// A value of a fixed size that was written in a byte order reads back in that order, if it `fits`,
-/// as each value that was read does; and the bytes after it are unchanged. A read depends on the
-/// value's own bytes alone, its size is at most the length of the source, and at each offset there
-/// is exactly one result. What is written is one leaf.
+/// A value of a fixed size that was written in a byte order reads back in it, if it `fits`, as each
+/// value that was read does; and the bytes after it are unchanged. A read depends on the value's
+/// own bytes alone, its size is at most the length of the source, and at each offset there is
+/// exactly one result. What is written is one leaf.
 ///
 /// This holds for every type that is [`Fixed`]: numbers, floats, tuples and arrays of them, and
 /// each struct that is a [`Record`](crate::ctx::Record).

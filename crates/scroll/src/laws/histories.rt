@@ -89,7 +89,7 @@ pub fn array_has_leaves<Ctx: Copy, T: TryIntoCtx<Ctx, Error = Error>>()
         (FailsNested (T.writes ctx) (T.refuses ctx) counts) }
 {}
 
-/// A call of `Pwrite` or of `slice` that writes at an offset writes the leaves of the value there:
+/// A write at an offset, by `Pwrite` or `slice`, writes the leaves of the value there:
 /// `WritesLeaves` says what it leaves and what it returns, errors included. The two premises are
 /// the clauses `wrote` and `refused` of the call.
 pub fn write_is_of_its_leaves<Ctx: Copy, T: TryIntoCtx<Ctx, Error = Error>>()

@@ -5,7 +5,7 @@ ghost use Rattle.scroll.specs.Encoding.{ReadsEncodings, KeepsTexts, HasEncoding,
 
 /// A read of an unsigned number returns a value and a size exactly where the source begins with the
 /// encoding of that value in that many bytes. A value has one encoding of each length from its
-/// shortest to ten, and no encoding is a prefix of another.
+/// shortest to ten, and none is a prefix of another.
 pub fn unsigned_reads_are_encodings()
     ensures { ReadsEncodings ReadsUleb HasEncoding (λ v n. v) }
 {}
@@ -23,9 +23,9 @@ pub fn leb128_reads_have_one_to_ten_bytes()
         → (1 ≤ n) × (n ≤ 10) × (n ≤ length source) }
 {}
 
-/// Round trips: an unsigned number in LEB128 that was read is written back byte for byte. One that
-/// was written reads back with the same value and size, whatever bytes follow, and every source
-/// that reads as it begins with the bytes that were written.
+/// An unsigned number in LEB128 that was read is written back byte for byte. One that was written
+/// reads back with the same value and size, whatever bytes follow, and every source that reads as
+/// it begins with the bytes that were written.
 pub fn unsigned_texts_are_kept()
     ensures { KeepsTexts ReadsUleb HasEncoding (λ v n. v) }
 {}

@@ -16,15 +16,13 @@ ghost use Rattle.scroll.specs.declared.ctx.zeros.Zeros.{Zeros};
 use crate::ctx::TryFromCtx;
 use crate::error::Error;
 
-/// A read that ends within its source returns the same value and size for every source that is at
-/// least as long and begins with the bytes that were read. Its size is at most the length of its
-/// source, or one more for a string whose delimiter is missing. A read at an offset has exactly one
-/// result, a value with its size or an error, so a read at an offset and a read with a cursor there
-/// return the same.
+/// A read that ends within its source returns the same value and size for every source that begins
+/// with the bytes that were read. Its size is at most the length of its source, or one more for a
+/// string whose delimiter is missing. A read at an offset has exactly one result, with a cursor
+/// too.
 ///
 /// [`fixed_size_is_kept`](super::fixed_size_is_kept) says this of numbers, floats and structs, and
-/// [`arrays_keep_their_laws`] of arrays; those of values that borrow are here, which are compared
-/// by their bytes.
+/// [`arrays_keep_their_laws`] of arrays; values that borrow are compared by their bytes.
 pub fn reads_keep_their_laws()
     ensures slice { (n : ℕ) → IsReaderWithin (ReadsSlice n) (RefusesShort n) }
     ensures text { (ctx : StrCtx) → IsReader (ReadsText ctx) (RefusesText ctx) }

@@ -23,8 +23,8 @@ pub fn c_string_has_one_zero()
 {}
 
 /// The size of a string that was read in the context `Required` is at most the length of its
-/// source. So such a string depends only on its own bytes, and an array of them never returns
-/// `BadOffset` from within.
+/// source. So it depends only on its own bytes, and an array of them never returns `BadOffset` from
+/// within.
 pub fn required_text_is_within_its_source()
     ensures within { (d : ℕ) → IsWithin (ReadsText (Required d)) }
     ensures depends { (d : ℕ) (s t text : List ℕ) (n : ℕ)

@@ -6,8 +6,8 @@ ghost use Rattle.scroll.specs.Leb128.{end_of, groups_value, ReadsGroups, ReadsSl
 // The low seven bits of each byte.
 const GROUPS: u64 = 0x7f7f_7f7f_7f7f_7f7f;
 
-/// Returns the value of the unsigned encoding that starts at the first of eight bytes, and its size
-/// in bytes. Returns `None` where none of the eight bytes ends it.
+/// Returns the value of the unsigned encoding at the start of eight bytes, and its size in bytes,
+/// or `None` where none of them ends it.
 #[inline(always)]
 pub fn uleb_block(b: [u8; 8]) -> Option<(u64, usize)>
     ensures read { IfSome result (λ read. ReadsUleb b read.0 read.1) }
@@ -16,8 +16,8 @@ pub fn uleb_block(b: [u8; 8]) -> Option<(u64, usize)>
     groups_in(u64::from_le_bytes(b))
 }
 
-/// Returns the value of the signed encoding that starts at the first of eight bytes, and its size
-/// in bytes. Returns `None` where none of the eight bytes ends it.
+/// Returns the value of the signed encoding at the start of eight bytes, and its size in bytes, or
+/// `None` where none of them ends it.
 #[inline(always)]
 pub fn sleb_block(b: [u8; 8]) -> Option<(i64, usize)>
     ensures read { IfSome result (λ read. ReadsSleb b read.0 read.1) }

@@ -9,11 +9,9 @@ use super::groups::{Groups, signed, unfit, unsigned};
 use crate::error::Result;
 use crate::loads::Loads;
 
-/// Reads the unsigned number at the start of a source, and returns its value and its size in bytes.
-/// It makes at most three loads or, if the source has fewer than eight bytes, at most one for each
-/// byte. The caller ensures that fewer than 2^62 loads were made before.
-///
-/// It returns what a read of a [`Uleb128`](super::Uleb128) returns, errors included.
+/// Returns what a read of a [`Uleb128`](super::Uleb128) returns, as a value and a size in bytes,
+/// errors included. It makes at most three loads or, if the source has fewer than eight bytes, at
+/// most one for each byte. The caller ensures that fewer than 2^62 loads were made before.
 #[inline(always)]
 pub fn uleb_loads(src: &mut Loads<'_>) -> Result<(u64, usize)>
     requires { src.old.made < 2 ^ 62 }
@@ -45,11 +43,9 @@ pub fn uleb_loads(src: &mut Loads<'_>) -> Result<(u64, usize)>
     Ok(read)
 }
 
-/// Reads the signed number at the start of a source, and returns its value and its size in bytes.
-/// It makes at most three loads or, if the source has fewer than eight bytes, at most one for each
-/// byte. The caller ensures that fewer than 2^62 loads were made before.
-///
-/// It returns what a read of a [`Sleb128`](super::Sleb128) returns, errors included.
+/// Returns what a read of a [`Sleb128`](super::Sleb128) returns, as a value and a size in bytes,
+/// errors included. It makes at most three loads or, if the source has fewer than eight bytes, at
+/// most one for each byte. The caller ensures that fewer than 2^62 loads were made before.
 #[inline(always)]
 pub fn sleb_loads(src: &mut Loads<'_>) -> Result<(i64, usize)>
     requires { src.old.made < 2 ^ 62 }

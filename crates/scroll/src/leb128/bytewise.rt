@@ -7,9 +7,7 @@ use super::groups::{Groups, signed, unfit, unsigned};
 use crate::error::Result;
 
 /// Reads the unsigned number at the start of `src`, byte by byte, and returns its value and its
-/// size in bytes.
-///
-/// It returns what a read of a [`Uleb128`](super::Uleb128) returns, errors included.
+/// size in bytes, or the error of a read of a [`Uleb128`](super::Uleb128).
 #[inline(always)]
 pub fn plain_uleb(src: &[u8]) -> Result<(u64, usize)>
     ensures read { IfOk result (λ read. ReadsUleb src.now read.0 read.1) }
@@ -25,9 +23,7 @@ pub fn plain_uleb(src: &[u8]) -> Result<(u64, usize)>
 }
 
 /// Reads the signed number at the start of `src`, byte by byte, and returns its value and its size
-/// in bytes.
-///
-/// It returns what a read of a [`Sleb128`](super::Sleb128) returns, errors included.
+/// in bytes, or the error of a read of a [`Sleb128`](super::Sleb128).
 #[inline(always)]
 pub fn plain_sleb(src: &[u8]) -> Result<(i64, usize)>
     ensures read { IfOk result (λ read. ReadsSleb src.now read.0 read.1) }

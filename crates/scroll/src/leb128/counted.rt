@@ -59,9 +59,9 @@ pub trait LebNumber: Copy {
 /// [`Sleb128`](super::Sleb128).
 ///
 /// It is read and written in the context `()`. A source of fewer than ten bytes, none of which ends
-/// the encoding, returns `TooBig { size: 1, len: 0 }`. If none of the first ten bytes ends the
-/// encoding, or the value doesn't fit into 64 bits, the read returns `BadInput { size, msg: "failed
-/// to parse" }`, whose `size` is the length of the source.
+/// the encoding, returns `TooBig { size: 1, len: 0 }`. If none of the first ten ends it, or the
+/// value doesn't fit into 64 bits, the read returns `BadInput { size, msg: "failed to parse" }`
+/// with the length of the source.
 pub struct Leb128<V: LebNumber> {
     pub(super) value: V,
     pub(super) count: usize,
@@ -126,11 +126,10 @@ impl<V: LebNumber> Leb128<V> {
         self.count
     }
 
-    /// Reads the value at the cursor `offset`, and advances the cursor past its encoding. On an
-    /// error the cursor is unchanged.
+    /// Reads the value at the cursor `offset`, and advances it past the encoding. On an error the
+    /// cursor is unchanged.
     ///
-    /// The errors are those of a read of a [`Leb128`], and `BadOffset(offset)` for an offset past
-    /// the end.
+    /// The errors are those of a read of a [`Leb128`], and `BadOffset(offset)` past the end.
     ///
     /// ```rust
     /// let bytes: [u8; 2] = [0x82, 0x01];
@@ -188,12 +187,11 @@ impl<V: LebNumber> TryIntoCtx<()> for Leb128<V> {
 
     ghost writes_keeps = { λ _ x old new n h. drop-written (length-encoding _ x.count) h };
 
-    /// Writes the encoding of the number that has [`size`](Leb128::size) bytes, and returns that
-    /// size.
+    /// Writes the encoding of [`size`](Leb128::size) bytes, and returns that size.
     ///
     /// The target then reads as this number, and every source that reads as this number starts with
     /// the bytes that were written. A shorter target returns `TooBig { size, len }`, with the
-    /// lengths of the encoding and of the target, and is unchanged.
+    /// lengths of both, and is unchanged.
     #[inline(always)]
     fn try_into_ctx(self, dst: &mut [u8], _ctx: ()) -> Result<usize>
         ensures wrote { IfOk result (WritesLeb V.form self dst.old dst.new) }

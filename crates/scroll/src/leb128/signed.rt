@@ -13,11 +13,10 @@ use super::write::{put_groups, shortest_count, to_magnitude};
 use crate::error::Result;
 use crate::loads::Loads;
 
-/// A signed number in LEB128, with the length of its encoding in bytes. [`Leb128`] says how it is
-/// read and written.
+/// A signed [`Leb128`].
 ///
-/// The groups of the encoding are in two's complement: the value is negative if the second highest
-/// bit of the last byte is set.
+/// Its groups are in two's complement: the value is negative if the second highest bit of the last
+/// byte is set.
 ///
 /// ```rust
 /// let bytes: [u8; 3] = [0xff, 0x7e, 0x00];
@@ -61,7 +60,7 @@ impl LebNumber for i64 {
     }
 }
 
-/// Two numbers are equal if their values are equal and their encodings have the same length.
+/// Equal are two numbers whose values are equal and whose encodings have the same length.
 impl PartialEq for Sleb128 {
     ghost eq = { counted_eq int_eq };
 

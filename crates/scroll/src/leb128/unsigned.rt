@@ -11,8 +11,7 @@ use super::write::{put_groups, shortest_count};
 use crate::error::Result;
 use crate::loads::Loads;
 
-/// An unsigned number in LEB128, with the length of its encoding in bytes. [`Leb128`] says how it
-/// is read and written.
+/// An unsigned [`Leb128`].
 ///
 /// ```rust
 /// let bytes: [u8; 3] = [0x82, 0x01, 0xff];
@@ -61,7 +60,7 @@ impl LebNumber for u64 {
     }
 }
 
-/// Two numbers are equal if their values are equal and their encodings have the same length.
+/// Equal are two numbers whose values are equal and whose encodings have the same length.
 impl PartialEq for Uleb128 {
     ghost eq = { counted_eq ◌==◌ };
 
