@@ -2,9 +2,8 @@
 implementation that has a comment of its own.
 
 A function has its signature, without the bounds that the page's head says, and its comment. A call without `_with` is part of the one
-with it. Of an example the parts that show an error are on the page, if README or an example before it doesn't show it, and for a
-client's its file's name; a paragraph that is on the page already isn't printed again. A link to an item leads to its heading. The
-page is a check.
+with it. A part of an example whose errors README or an example before it shows isn't printed, nor is a paragraph that is on the page
+already; of a client's example the page has its file's name. A link to an item leads to its heading. The page is a check.
 """
 
 import re
@@ -20,8 +19,8 @@ HEAD = """# API
 
 Each public item of the library, from its doc comments. Offsets and sizes are in bytes. In signatures a context's type is `Copy`, and
 `E` is `From<Error>`. A call whose name ends in `_with` takes a context; the one without takes the default of the context's type, which
-for numbers is the machine's byte order. The examples show errors; the gate runs these and the others, in the sources. The names of the
-contracts' clauses are in [PROVED.md](PROVED.md), and those of the calls in [GUIDE.md](GUIDE.md#the-clauses-of-each-call).
+for numbers is the machine's byte order. The gate runs the examples. The names of the contracts' clauses are in [PROVED.md](PROVED.md),
+and those of the calls in [GUIDE.md](GUIDE.md#the-clauses-of-each-call).
 """
 # A note on a variant or a function that has fewer words says no more than its name.
 SHORT = 12
@@ -124,8 +123,7 @@ def entries(path: Path) -> Iterator[Entry]:
 
 
 def paragraphs(said: List[str], printed: Set[str], is_slice: bool, is_module: bool) -> str:
-    """Returns a comment with the parts of its examples that show an error, and without a paragraph that is on the page already; of a
-    module's the first paragraphs."""
+    """Returns a comment without what is on the page already; of a module's the first paragraphs."""
     found: List[str] = []
     source = False
     for piece in re.split(r"(?ms)(^```.*?^```$)|\n\n+", "\n".join(said)):
@@ -133,9 +131,10 @@ def paragraphs(said: List[str], printed: Set[str], is_slice: bool, is_module: bo
         words = " ".join(piece.split())
         if piece.startswith("```"):
             lines = [it for it in piece.strip("`\n").split("\n")[1:] if not it.startswith("use ")]
-            shown = [it for it in "\n".join(lines).strip("\n").split("\n\n") if not printed.issuperset(SHOWN.findall(it))]
+            parts = [(it, SHOWN.findall(it)) for it in "\n".join(lines).strip("\n").split("\n\n")]
+            shown = [it for it, errors in parts if not errors or not printed.issuperset(errors)]
             printed.update(SHOWN.findall("\n".join(shown)))
-            if source or not shown:
+            if source or is_slice or not shown:
                 found[-1:] = [re.sub(r":$", ".", it) for it in found[-1:]]
             else:
                 found.append("```rust\n" + "\n\n".join(shown) + "\n```")
