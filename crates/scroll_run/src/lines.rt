@@ -102,11 +102,9 @@ fn parse_commands<M: Memory>(memory: M, lines: &[&[u8]]) -> Result<Vec<CommandLi
 {
     let mut commands = Vec::new(memory.alloc());
     for line in lines {
+        memory.reserve(&mut commands, 1)?;
         match parse_command(memory, line)? {
-            Some(command) => {
-                memory.reserve(&mut commands, 1)?;
-                commands.push_reserved(command);
-            }
+            Some(command) => commands.push_reserved(command),
             None => return Err(Stop::BadLine(commands.len() + 3)),
         }
     }
