@@ -10,7 +10,7 @@ use crate::words::{parse_bytes, parse_usize, split};
 use std::alloc::AllocError;
 
 /// Why an input isn't run.
-#[derive(Clone, Copy, Debug)]
+#[derive(Clone, Copy)]
 pub enum Stop {
     /// The first bad line, counted from 1.
     BadLine(usize),
