@@ -21,8 +21,10 @@ pub fn print_answers<M: Memory>(
         print_answer(memory, &mut text, answer)?;
     }
     let bytes = print_bytes(memory, buffer)?;
-    memory.write(&mut text, format_args_nl!("buffer {bytes}"))?;
-    memory.write(&mut text, format_args_nl!("cursor {cursor}"))?;
+    memory.write(
+        &mut text,
+        format_args_nl!("buffer {bytes}\ncursor {cursor}"),
+    )?;
     Ok(text)
 }
 

@@ -6,7 +6,7 @@ ghost use Rattle.scroll_run.specs.Words.{Finds, texts_of, words_of};
 use crate::kinds::parse_kind;
 use crate::memory::Memory;
 use crate::puts::{OwnedPut, parse_put};
-use crate::words::{parse_usize, split};
+use crate::words::{is, parse_usize, split};
 use scroll::runner::{Command, Kind, Place};
 use std::alloc::AllocError;
 
@@ -64,12 +64,16 @@ fn parse_words<M: Memory>(memory: M, words: &[&[u8]]) -> Result<Option<CommandLi
     let Some((verb, rest)) = words.split_first() else {
         return Ok(None);
     };
-    match *verb {
-        b"pread" => Ok(parse_pread(rest)),
-        b"gread" => Ok(parse_gread(rest)),
-        b"pwrite" => parse_pwrite(memory, rest),
-        b"gwrite" => parse_gwrite(memory, rest),
-        _ => Ok(None),
+    if is(verb, b"pread") {
+        Ok(parse_pread(rest))
+    } else if is(verb, b"gread") {
+        Ok(parse_gread(rest))
+    } else if is(verb, b"pwrite") {
+        parse_pwrite(memory, rest)
+    } else if is(verb, b"gwrite") {
+        parse_gwrite(memory, rest)
+    } else {
+        Ok(None)
     }
 }
 

@@ -19,7 +19,7 @@ const MAX_CALLS: usize = 131_072;
 const CHUNK: usize = 4096;
 
 /// Why reading the input failed.
-#[derive(Debug, Drop)]
+#[derive(Drop)]
 pub enum ReadError {
     /// There was no memory for the bytes.
     NoMemory,

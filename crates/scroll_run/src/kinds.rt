@@ -3,7 +3,7 @@ ghost use Rattle.std.specs.Prelude.{[], ◌∷◌};
 ghost use Rattle.scroll_run.specs.Kinds.{SpellsEnd, SpellsKind};
 ghost use Rattle.scroll_run.specs.Words.{Parses, texts_of};
 
-use crate::words::{parse_byte, parse_order, parse_usize, parse_width};
+use crate::words::{is, parse_byte, parse_order, parse_usize, parse_width};
 use scroll::ctx::StrCtx;
 use scroll::runner::Kind;
 
@@ -14,8 +14,8 @@ pub fn parse_kind(words: &[&[u8]]) -> Option<Kind>
     match words {
         [name] => parse_kind_of_one(name),
         [name, word] => parse_kind_of_two(name, word),
-        [name, end @ ..] if *name == b"str".as_slice() => Some(Kind::Text(parse_end(end)?)),
-        [name, end @ ..] if *name == b"strx2".as_slice() => Some(Kind::Textx2(parse_end(end)?)),
+        [name, end @ ..] if is(name, b"str") => Some(Kind::Text(parse_end(end)?)),
+        [name, end @ ..] if is(name, b"strx2") => Some(Kind::Textx2(parse_end(end)?)),
         _ => None,
     }
 }
@@ -23,12 +23,16 @@ pub fn parse_kind(words: &[&[u8]]) -> Option<Kind>
 fn parse_kind_of_one(name: &[u8]) -> Option<Kind>
     ensures { Parses (SpellsKind (name.now ∷ [])) result }
 {
-    match name {
-        b"cstr" => Some(Kind::CStr),
-        b"cstring" => Some(Kind::CString),
-        b"uleb" => Some(Kind::Uleb),
-        b"sleb" => Some(Kind::Sleb),
-        _ => None,
+    if is(name, b"cstr") {
+        Some(Kind::CStr)
+    } else if is(name, b"cstring") {
+        Some(Kind::CString)
+    } else if is(name, b"uleb") {
+        Some(Kind::Uleb)
+    } else if is(name, b"sleb") {
+        Some(Kind::Sleb)
+    } else {
+        None
     }
 }
 
@@ -38,11 +42,14 @@ fn parse_kind_of_two(name: &[u8], word: &[u8]) -> Option<Kind>
     if let Some(width) = parse_width(name) {
         return Some(Kind::Number(width, parse_order(word)?));
     }
-    match name {
-        b"bytes" => Some(Kind::Bytes(parse_usize(word)?)),
-        b"u8x0" => Some(Kind::U8x0(parse_order(word)?)),
-        b"u16x3" => Some(Kind::U16x3(parse_order(word)?)),
-        _ => None,
+    if is(name, b"bytes") {
+        Some(Kind::Bytes(parse_usize(word)?))
+    } else if is(name, b"u8x0") {
+        Some(Kind::U8x0(parse_order(word)?))
+    } else if is(name, b"u16x3") {
+        Some(Kind::U16x3(parse_order(word)?))
+    } else {
+        None
     }
 }
 
@@ -59,19 +66,23 @@ fn parse_end(words: &[&[u8]]) -> Option<StrCtx>
 fn parse_end_of_two(name: &[u8], word: &[u8]) -> Option<StrCtx>
     ensures { Parses (SpellsEnd (name.now ∷ word.now ∷ [])) result }
 {
-    match name {
-        b"delim" => Some(StrCtx::Delimiter(parse_byte(word)?)),
-        b"len" => Some(StrCtx::Length(parse_usize(word)?)),
-        b"required" => Some(StrCtx::Required(parse_byte(word)?)),
-        _ => None,
+    if is(name, b"delim") {
+        Some(StrCtx::Delimiter(parse_byte(word)?))
+    } else if is(name, b"len") {
+        Some(StrCtx::Length(parse_usize(word)?))
+    } else if is(name, b"required") {
+        Some(StrCtx::Required(parse_byte(word)?))
+    } else {
+        None
     }
 }
 
 fn parse_end_of_three(name: &[u8], byte: &[u8], limit: &[u8]) -> Option<StrCtx>
     ensures { Parses (SpellsEnd (name.now ∷ byte.now ∷ limit.now ∷ [])) result }
 {
-    match name {
-        b"until" => Some(StrCtx::DelimiterUntil(parse_byte(byte)?, parse_usize(limit)?)),
-        _ => None,
+    if is(name, b"until") {
+        Some(StrCtx::DelimiterUntil(parse_byte(byte)?, parse_usize(limit)?))
+    } else {
+        None
     }
 }

@@ -10,7 +10,7 @@ use crate::words::{parse_bytes, parse_usize, split};
 use std::alloc::AllocError;
 
 /// Why an input isn't run.
-#[derive(Clone, Copy, Debug)]
+#[derive(Clone, Copy)]
 pub enum Stop {
     /// The first bad line, counted from 1.
     BadLine(usize),
@@ -102,11 +102,9 @@ fn parse_commands<M: Memory>(memory: M, lines: &[&[u8]]) -> Result<Vec<CommandLi
 {
     let mut commands = Vec::new(memory.alloc());
     for line in lines {
+        memory.reserve(&mut commands, 1)?;
         match parse_command(memory, line)? {
-            Some(command) => {
-                memory.reserve(&mut commands, 1)?;
-                commands.push_reserved(command);
-            }
+            Some(command) => commands.push_reserved(command),
             None => return Err(Stop::BadLine(commands.len() + 3)),
         }
     }

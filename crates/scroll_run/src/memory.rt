@@ -115,6 +115,6 @@ impl Memory for Global {
         commands: &[Command<'_>],
         answers: &mut Vec<Answer>,
     ) -> Result<(), AllocError> {
-        runner::run(self, buffer, cursor, commands, answers).map_err(|_| AllocError)
+        runner::run(self, buffer, cursor, commands, answers).or(Err(AllocError))
     }
 }

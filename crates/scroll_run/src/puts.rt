@@ -5,7 +5,7 @@ ghost use Rattle.scroll_run.specs.Puts.{IsPutOf, SpellsPut, SpellsValue};
 ghost use Rattle.scroll_run.specs.Words.{Finds, Parses, SpellsNumber, SpellsSigned, texts_of};
 
 use crate::memory::Memory;
-use crate::words::{parse_bytes, parse_number, parse_order, parse_signed, parse_width};
+use crate::words::{is, parse_bytes, parse_number, parse_order, parse_signed, parse_width};
 use scroll::cstr::CString;
 use scroll::runner::{Number, Put, Width};
 use scroll::{Endian, Error, Sleb128, Uleb128};
@@ -82,13 +82,18 @@ fn parse_put_of_two<M: Memory>(
     ensures { MatchResult result (Finds IsPutOf (SpellsPut (name.now ∷ word.now ∷ [])))
         (λ _. M.refuses memory) }
 {
-    match name {
-        b"str" => parse_text(memory, word),
-        b"bytes" => parse_slice(memory, word),
-        b"cstr" => parse_c_string(memory, word),
-        b"uleb" => Ok(parse_uleb(word)),
-        b"sleb" => Ok(parse_sleb(word)),
-        _ => Ok(None),
+    if is(name, b"str") {
+        parse_text(memory, word)
+    } else if is(name, b"bytes") {
+        parse_slice(memory, word)
+    } else if is(name, b"cstr") {
+        parse_c_string(memory, word)
+    } else if is(name, b"uleb") {
+        Ok(parse_uleb(word))
+    } else if is(name, b"sleb") {
+        Ok(parse_sleb(word))
+    } else {
+        Ok(None)
     }
 }
 
@@ -105,9 +110,10 @@ fn parse_put_of_three<M: Memory>(
     if let Some((number, order)) = parse_number_put(name, first, second) {
         return Ok(Some(OwnedPut::Plain(Put::Number(number, order))));
     }
-    match name {
-        b"bytesx2" => parse_two(memory, first, second),
-        _ => Ok(None),
+    if is(name, b"bytesx2") {
+        parse_two(memory, first, second)
+    } else {
+        Ok(None)
     }
 }
 
@@ -121,9 +127,10 @@ fn parse_put_of_five(
     ensures { Finds IsPutOf (SpellsPut
         (name.now ∷ order.now ∷ first.now ∷ second.now ∷ third.now ∷ [])) result }
 {
-    match name {
-        b"u16x3" => parse_three(order, first, second, third),
-        _ => None,
+    if is(name, b"u16x3") {
+        parse_three(order, first, second, third)
+    } else {
+        None
     }
 }
 

@@ -1,6 +1,7 @@
 //! Lines and words, and what a word spells.
 ghost use Rattle.std.specs.Prelude.{◌≡◌, ◌<◌, ◌^◌, ◌+◌, ◌++◌, MatchResult, OnErr, OnOk, SomeIff, ◌==◌, count_by, length, vec_capacity, vec_len};
 ghost use Rattle.std.specs.List.{slice_split};
+ghost use Rattle.std.specs.Str.{bytes_eq};
 ghost use Rattle.std.specs.Str.Parse.{IsNumeral, digits_value};
 ghost use Rattle.scroll_run.specs.Words.{Parses, ParsesAs, SpellsByte, SpellsBytes, SpellsSigned, order_word, texts_of, width_word};
 
@@ -84,7 +85,7 @@ pub fn parse_bytes<M: Memory>(memory: M, word: &[u8]) -> Result<Option<Vec<u8>>,
     ensures { MatchResult result (ParsesAs (λ bytes. bytes.items) (SpellsBytes word.now))
         (λ _. M.refuses memory) }
 {
-    if word == b"-".as_slice() {
+    if is(word, b"-") {
         return Ok(Some(Vec::new(memory.alloc())));
     }
     if word.is_empty() {
@@ -105,22 +106,39 @@ pub fn parse_byte(word: &[u8]) -> Option<u8>
     Some(bytes[0])
 }
 
+/// Returns whether the word is this one.
+pub fn is(word: &[u8], name: &[u8]) -> bool
+    ensures { result ≡ bytes_eq word.now name.now }
+{
+    word == name
+}
+
 /// Returns the number type that a word names.
 pub fn parse_width(word: &[u8]) -> Option<Width>
     ensures { Parses (λ width. word.now ≡ width_word width) result }
 {
-    match word {
-        b"u8" => Some(Width::U8),
-        b"i8" => Some(Width::I8),
-        b"u16" => Some(Width::U16),
-        b"i16" => Some(Width::I16),
-        b"u32" => Some(Width::U32),
-        b"i32" => Some(Width::I32),
-        b"u64" => Some(Width::U64),
-        b"i64" => Some(Width::I64),
-        b"u128" => Some(Width::U128),
-        b"i128" => Some(Width::I128),
-        _ => None,
+    if is(word, b"u8") {
+        Some(Width::U8)
+    } else if is(word, b"i8") {
+        Some(Width::I8)
+    } else if is(word, b"u16") {
+        Some(Width::U16)
+    } else if is(word, b"i16") {
+        Some(Width::I16)
+    } else if is(word, b"u32") {
+        Some(Width::U32)
+    } else if is(word, b"i32") {
+        Some(Width::I32)
+    } else if is(word, b"u64") {
+        Some(Width::U64)
+    } else if is(word, b"i64") {
+        Some(Width::I64)
+    } else if is(word, b"u128") {
+        Some(Width::U128)
+    } else if is(word, b"i128") {
+        Some(Width::I128)
+    } else {
+        None
     }
 }
 
@@ -128,9 +146,11 @@ pub fn parse_width(word: &[u8]) -> Option<Width>
 pub fn parse_order(word: &[u8]) -> Option<Endian>
     ensures { Parses (λ order. word.now ≡ order_word order) result }
 {
-    match word {
-        b"le" => Some(Endian::Little),
-        b"be" => Some(Endian::Big),
-        _ => None,
+    if is(word, b"le") {
+        Some(Endian::Little)
+    } else if is(word, b"be") {
+        Some(Endian::Big)
+    } else {
+        None
     }
 }

@@ -1,7 +1,13 @@
 use Rattle.std.proofs.Common.{codes, arith, rules}
-use Rattle.scroll_run.proofs.CommandLemmas.{first_word}
+use Rattle.scroll_run.proofs.CommandLemmas.{by_index, first_word}
 use Rattle.scroll_run.proofs.KindLemmas.{by_strx2, no_kind}
 use Rattle.scroll_run.proofs.kinds.parse_kind.Goals as goal
+
+pub returns-in-len1 : goal.returns-in-len1
+returns-in-len1 c = rw (by_index c.args.words.now 1 (search rules)) c.parse_kind_of_one.ensures
+
+pub returns-in-len2 : goal.returns-in-len2
+returns-in-len2 c = rw (by_index c.args.words.now 2 (search rules)) c.parse_kind_of_two.ensures
 
 pub returns-in_ok-parse_end-in-len1-up : goal.returns-in_ok-parse_end-in-len1-up
 returns-in_ok-parse_end-in-len1-up c = (_, first_word c.args.words.now (codes "str") (omega arith) (search rules), c.in_ok-parse_end-in-len1-up.ensures)

@@ -10,4 +10,4 @@ returns-in-None g c =
 pub loop-line-preserved : goal.loop-line-preserved
 loop-line-preserved g c =
     let some = rw c.in-Some.is at c.in_ok-command.ensures in
-    rw (c.push_reserved.ensures.items ∙ ap (λ xs. xs ++ c.in-Some.command ∷ []) c.in_ok-reserve-in-Some.ensures.items) (held_next c.args.lines.now _ c.loop-line.commands.items c.loop-line.line-index c.in-Some.command c.loop-line.invariant (search rules) some)
+    rw (c.push_reserved.ensures.items ∙ ap (λ xs. xs ++ c.in-Some.command ∷ []) c.in_ok-reserve.ensures.items) (held_next c.args.lines.now _ c.loop-line.commands.items c.loop-line.line-index c.in-Some.command c.loop-line.invariant (search rules) some)
