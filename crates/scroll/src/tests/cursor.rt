@@ -210,10 +210,15 @@ fn arrays_and_vectors_are_written_as_they_are(rt: HostRuntime) -> Result<()> {
     let Ok(mut bytes) = vec![in rt.alloc(); 0u8, 0, 0] else {
         return Err(Error::NoMemory);
     };
-    let offset = &mut 1;
-    check_value(&rt, bytes.gwrite_with(0x0102u16, offset, BE), 2);
-    check_eq(&rt, bytes.as_slice(), &[0, 1, 2]);
+    check_vector(&rt, &mut bytes);
     Ok(())
+}
+
+// Checks a write to a vector of three zeros.
+fn check_vector(rt: &impl Abort, bytes: &mut Vec<u8>) {
+    let offset = &mut 1;
+    check_value(rt, bytes.gwrite_with(0x0102u16, offset, BE), 2);
+    check_eq(rt, bytes.as_slice(), &[0, 1, 2]);
 }
 
 #[test]

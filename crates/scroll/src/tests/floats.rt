@@ -121,19 +121,26 @@ where
 
 #[test]
 fn floats_and_their_bytes(rt: HostRuntime) {
-    let rt = &rt;
     for (value, big) in &SINGLES {
-        check_float(rt, *value, big, BE);
-        let mut little = *big;
-        little.reverse();
-        check_float(rt, *value, &little, LE);
+        check_single(&rt, *value, big);
     }
     for (value, big) in &DOUBLES {
-        check_float(rt, *value, big, BE);
-        let mut little = *big;
-        little.reverse();
-        check_float(rt, *value, &little, LE);
+        check_double(&rt, *value, big);
     }
+}
+
+fn check_single(rt: &impl Abort, value: f32, big: &[u8; 4]) {
+    check_float(rt, value, big, BE);
+    let mut little = *big;
+    little.reverse();
+    check_float(rt, value, &little, LE);
+}
+
+fn check_double(rt: &impl Abort, value: f64, big: &[u8; 8]) {
+    check_float(rt, value, big, BE);
+    let mut little = *big;
+    little.reverse();
+    check_float(rt, value, &little, LE);
 }
 
 // Quiet and signalling NaNs of both signs, with payloads. The Rust crate reads each as a NaN, and

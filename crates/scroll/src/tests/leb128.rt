@@ -244,6 +244,15 @@ fn blocks(rt: HostRuntime) {
     check_eq(&rt, sleb_block(large), Some((35465847065542656, 8)));
 }
 
+// Checks the loads of two bytes.
+fn check_short_loads(rt: &impl Abort) {
+    let mut short = Loads::new(&[0x80, 0x80]);
+    check_eq(rt, (short.len(), short.is_empty()), (2, false));
+    check_eq(rt, short.word(), None);
+    check_eq(rt, (short.byte(2), short.byte(1)), (None, Some(0x80)));
+    check_eq(rt, short.made(), 3);
+}
+
 const GREATEST: [u8; 10] = [0xff, 0xff, 0xff, 0xff, 0xff, 0xff, 0xff, 0xff, 0xff, 1];
 
 #[test]
@@ -251,11 +260,7 @@ fn counted_loads(rt: HostRuntime) {
     let mut source = Loads::new(&GREATEST);
     check_value(&rt, uleb_loads(&mut source), (18446744073709551615, 10));
     check_eq(&rt, source.made(), 3);
-    let mut short = Loads::new(&[0x80, 0x80]);
-    check_eq(&rt, (short.len(), short.is_empty()), (2, false));
-    check_eq(&rt, short.word(), None);
-    check_eq(&rt, (short.byte(2), short.byte(1)), (None, Some(0x80)));
-    check_eq(&rt, short.made(), 3);
+    check_short_loads(&rt);
 }
 
 // Checks that two readers of `len` bytes return the same number, or that both refuse them.

@@ -239,12 +239,11 @@ const NOT_CHARACTERS: [&[u8]; 25] = [
 
 #[test]
 fn edges_of_utf8(rt: HostRuntime) {
-    let rt = &rt;
     for &bytes in &CHARACTERS {
-        check_text(rt, bytes, bytes);
+        check_text(&rt, bytes, bytes);
     }
     for &bytes in &NOT_CHARACTERS {
-        check_text(rt, bytes, b"");
+        check_text(&rt, bytes, b"");
     }
 }
 
@@ -264,9 +263,10 @@ const FORMS: [&[(u8, u8)]; 9] = [
 
 // Returns whether these bytes have one form.
 fn has_form(bytes: &[u8], form: &[(u8, u8)]) -> bool {
-    for (&(low, high), &byte) in form.iter().zip(bytes.iter()) {
-        if byte < low || high < byte {
-            return false;
+    for (index, &byte) in bytes.iter().enumerate() {
+        match form.get(index) {
+            Some(&(low, high)) if low <= byte && byte <= high => {}
+            _ => return false,
         }
     }
     true
