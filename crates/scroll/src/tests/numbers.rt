@@ -72,26 +72,35 @@ fn pwrite_and_pread_roundtrip_i64(rt: HostRuntime) {
     check_roundtrip(&rt, &mut bytes, BE, 0x7eefbeef7eef7eefi64, 8);
 }
 
-// Checks the size of a number by an order and by nothing.
-fn check_size<N: SizeWith<Endian> + SizeWith<()>>(rt: &impl Abort, wanted: usize) {
-    check_eq(rt, N::size_with(&LE), wanted);
-    check_eq(rt, N::size_with(&BE), wanted);
-    check_eq(rt, N::size_with(&()), wanted);
-}
-
 #[test]
 fn test_measurable(rt: HostRuntime) {
-    let rt = &rt;
-    check_size::<u8>(rt, 1);
-    check_size::<i8>(rt, 1);
-    check_size::<u16>(rt, 2);
-    check_size::<i16>(rt, 2);
-    check_size::<u32>(rt, 4);
-    check_size::<i32>(rt, 4);
-    check_size::<u64>(rt, 8);
-    check_size::<i64>(rt, 8);
-    check_size::<u128>(rt, 16);
-    check_size::<i128>(rt, 16);
+    check_eq(&rt, u64::size_with(&LE), 8);
+    let by_order = [
+        u8::size_with(&BE),
+        i8::size_with(&BE),
+        u16::size_with(&BE),
+        i16::size_with(&BE),
+        u32::size_with(&BE),
+        i32::size_with(&BE),
+        u64::size_with(&BE),
+        i64::size_with(&BE),
+        u128::size_with(&BE),
+        i128::size_with(&BE),
+    ];
+    let by_nothing = [
+        u8::size_with(&()),
+        i8::size_with(&()),
+        u16::size_with(&()),
+        i16::size_with(&()),
+        u32::size_with(&()),
+        i32::size_with(&()),
+        u64::size_with(&()),
+        i64::size_with(&()),
+        u128::size_with(&()),
+        i128::size_with(&()),
+    ];
+    check_eq(&rt, by_order, [1, 1, 2, 2, 4, 4, 8, 8, 16, 16]);
+    check_eq(&rt, by_nothing, by_order);
 }
 
 #[test]
