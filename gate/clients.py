@@ -8,9 +8,11 @@
 NAME is a folder of clients/, or of the folder that the variable CLIENTS names; without one, all that have a file
 src/lib.rt.txt are tried. `--unpack` makes a workspace outside of the repository, in which the clients are crates, to work on
 them by `rt`; `--pack` copies them back. A client's files are copied without their `.txt`; those of its proofs/, each of a few
-lines, stand in one, `proofs.antt.txt`, below lines `-- file: PATH`, and specs/Lib.antt is made of the names of the others there. The library is proved and built in the
-tree itself, by `rt lib` over what its out/ keeps, and its build is copied, so it isn't proved again for the clients. As many
-clients are tried in parallel as there are workers (gate/step.py), and they share the jobs.
+lines, stand in one, `proofs.antt.txt`, below lines `-- file: PATH`, and specs/Lib.antt is made of the names of the others there.
+The library is proved and built in the tree itself, by `rt lib` over what its out/ keeps, and its build is copied, so it isn't
+proved again for the clients. What the proof of a client keeps gets second names in clients/out/, with which the next workspace
+begins: in the gate, that of gate/embed.py. As many clients are tried in parallel as there are workers (gate/step.py), and they
+share the jobs.
 
 A client passes if it has the layout of `rt fmt` and names no proofs of the library except its lemmas for callers; if `rt test`,
 which proves its code and its tests and runs these, succeeds, with at least one test; and if gate/faults.py passes these tests
@@ -37,6 +39,8 @@ PART = re.compile(r"src/.*\.rt\.txt|specs/.*\.antt\.txt|" + re.escape(PROOFS))
 PROOF = re.compile(r"scroll(?:\.|::)proofs(?!(?:\.|::)lemmas(?:\.|::)callers(?:\.|::))")
 # What the clients don't need of the library.
 LEFT_OUT = ("must-fail", "bugs", "incremental")
+# Where their proofs are kept.
+KEPT = TOP / "clients" / "out"
 
 
 class Wrong(Exception):
@@ -89,6 +93,8 @@ def make_workspace(names: List[str], tree: Path) -> None:
     shutil.copy(TOP / "HANDLES", tree)
     for name in names:
         copy_client(CLIENTS / name, tree / "crates" / name)
+        if (KEPT / name).is_dir():
+            copy_kept(KEPT / name, tree / "crates" / name / "out" / "incremental")
 
 
 def pack(names: List[str], tree: Path) -> None:
@@ -141,6 +147,8 @@ def test(step: Step, name: str, jobs: int, skipped: List[str]) -> str:
     ran = step.run(crate, "rt", "test", "--jobs", jobs)
     if ran.status or not ran.tests():
         raise Wrong(f"    it is not proved, or a test fails or is left out\n{ran.end()}")
+    shutil.rmtree(KEPT / name, ignore_errors=True)
+    copy_kept(crate / "out" / "incremental", KEPT / name)
     program = crate / "out" / f"{name}_tests"
     refused = step.run(TOP, sys.executable, "gate/faults.py", "--tests", program, env={**os.environ, "WORKERS": str(jobs)})
     if refused.status:

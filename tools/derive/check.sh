@@ -26,6 +26,39 @@ count() {
     fi
 }
 
+# Runs Python code that tries many calls in one process, and counts them: `call` returns the status and what is printed of one,
+# and `tell` takes whether it is as it must be, and what is said where it isn't.
+tell_of() {
+    cat >"$1/calls" && python3 -B - "$1" >"$1/out" <<'END'
+import sys
+from contextlib import redirect_stderr, redirect_stdout
+from io import StringIO
+from pathlib import Path
+
+sys.path.insert(0, "tools/derive")
+import derive
+
+room = Path(sys.argv[1])
+
+
+def call(*words):
+    with redirect_stdout(StringIO()) as out, redirect_stderr(StringIO()) as err:
+        status = derive.main([*words])
+    return status, out.getvalue(), err.getvalue()
+
+
+def tell(is_told, why):
+    print("passed" if is_told else f"derive: {' '.join(why.split())}")
+
+
+exec((room / "calls").read_text(encoding="utf-8"))
+END
+    [ $? -eq 0 ] || failed=$((failed + 1))
+    passed=$((passed + $(grep -c '^passed$' "$1/out")))
+    failed=$((failed + $(grep -c '^derive: ' "$1/out")))
+    grep '^derive: ' "$1/out"
+}
+
 # Tests whether each file has the implementation for a struct: FILE STRUCT.
 while read -r file name; do
     sh tools/derive/derive.sh --check "$file" "$name"
@@ -51,19 +84,16 @@ clients/png/src/chunk.rt.txt Chunk
 END
 
 # Tests whether a file in which one line of the implementation differs is found out: --check ends with 1 and one line.
-first=$(grep -n '^impl Record' clients/examples/src/format.rt.txt | head -n 1 | cut -d : -f 1)
-last=$(awk -v first="$first" 'NR > first && $0 == "}" { print NR; exit }' clients/examples/src/format.rt.txt)
-line=$first
-while [ "$line" -le "$last" ]; do
-    awk -v line="$line" 'NR == line { $0 = $0 "!" } { print }' clients/examples/src/format.rt.txt >"$room/format.rt"
-    said=$(sh tools/derive/derive.sh --check "$room/format.rt" Format 2>&1)
-    status=$?
-    [ "$status" -eq 1 ] && [ "$said" = "$room/format.rt: the implementation for Format is not what tools/derive/derive.sh prints" ]
-    result=$?
-    [ "$result" -eq 0 ] || echo "derive: with another line $line --check ended with $status and '$said'"
-    count "$result"
-    line=$((line + 1))
-done
+tell_of "$room" <<'END'
+file = room / "format.rt"
+lines = Path("clients/examples/src/format.rt.txt").read_text(encoding="utf-8").split("\n")
+first = next(at for at, it in enumerate(lines) if it.startswith("impl Record"))
+for at in range(first, lines.index("}", first) + 1):
+    file.write_text("\n".join([*lines[:at], f"{lines[at]}!", *lines[at + 1 :]]), encoding="utf-8")
+    status, out, err = call("--check", str(file), "Format")
+    is_told = (status, out) == (1, f"{file}: the implementation for Format is not what tools/derive/derive.sh prints\n")
+    tell(is_told and not err, f"with another line {at + 1} --check ended with {status} and '{out}{err}'")
+END
 
 # The same for the files of a struct of any size: a line of its implementations, of its definitions and of its proof.
 while IFS='|' read -r file old words; do
@@ -112,13 +142,7 @@ struct One { a: u8 }
 struct Seventeen { a: u8, b: u8, c: u8, d: u8, e: u8, f: u8, g: u8, h: u8, i: u8, j: [u64; 16usize], k: u8, l: u8, m: u8, n: u8, o: u8, p: u8, q: [u16; 0x10] }
 struct Left { number_one: u64, number_two: u64, number_three: u64, number_four: u64, number_five: u64, number_six: u64, number_seven: u64, number_eight: u64, number_nine: u64 }
 END
-while IFS='|' read -r name line; do
-    sh tools/derive/derive.sh "$room/forms.rt" "$name" >"$room/out"
-    grep -qxF -- "$line" "$room/out"
-    result=$?
-    [ "$result" -eq 0 ] || echo "derive: the implementation for $name has no line '$line'"
-    count "$result"
-done <<'END'
+cat >"$room/lines" <<'END'
 Forms|use scroll::ctx::{Record, Written};
 Forms|    type Parts = ([u64; LEN], [[f32; 1_0]; 16usize], Inner, i128);
 Forms|    ghost parts_of = { λ x. (x.«data», x.«record», x.inner, x.last) };
@@ -143,6 +167,15 @@ Seventeen|        let q = self.q;
 Left|    type Parts = ((u64, u64, u64, u64), (u64, u64, u64, u64), u64);
 Left|      ((h.4, (h.5, (h.6, h.7))), h.8),
 END
+for name in Forms Inner One Seventeen Left; do
+    sh tools/derive/derive.sh "$room/forms.rt" "$name" >"$room/$name"
+done
+while IFS='|' read -r name line; do
+    grep -qxF -- "$line" "$room/$name"
+    result=$?
+    [ "$result" -eq 0 ] || echo "derive: the implementation for $name has no line '$line'"
+    count "$result"
+done <"$room/lines"
 
 # Tests whether a call is refused with one line that ends in these words.
 refuses() {
@@ -448,9 +481,7 @@ END
 cp "$room/trial/src/bad.rt" "$room/bad.rt"
 cp "$room/bad.rt" "$room/bad.txt"
 # FILE STRUCT: what the line ends in
-while IFS='|' read -r file name words; do
-    refuses "$words" "$room/$file" "$name"
-done <<'END'
+cat >"$room/refused" <<'END'
 none.rt|Data|none.rt: No such file or directory
 bad.txt|Twenty|bad.txt: not a .rt file
 bad.rt|Data|there is no struct Data
@@ -491,7 +522,7 @@ trial/src/bad.rt|Grid|bad.rt:82: the field cells is an array of arrays in a stru
 trial/src/bad.rt|Line|bad.rt:87: the field text has the note ctx, which its type CStr<'a> doesn't take
 trial/src/bad.rt|Tail|bad.rt:91: the field pad has no context: how many bytes it has
 trial/src/bad.rt|Cells|bad.rt:96: the context padding(offset, 4) of the field text is no sum of fields `as usize`, each times a number, and of numbers
-trial/src/bad.rt|Many|bad.rt:101: the context len as usize \* 18446744073709551615 of the field text adds to a number of more than 32 bits
+trial/src/bad.rt|Many|bad.rt:101: the context len as usize * 18446744073709551615 of the field text adds to a number of more than 32 bits
 trial/src/bad.rt|Kind|bad.rt:105: the field kind is of the type char, which is no number of a fixed width, no array and no struct of this file
 trial/src/bad.rt|Failing|bad.rt:109: the error Failure::Long is no variant of Failure
 trial/src/bad.rt|Faulty|bad.rt:111: the error Fault::Short is no `SmallError`, and no variant of an enum of this crate
@@ -538,6 +569,13 @@ trial/src/bad.rt|Unequal|bad.rt:274: the condition kind > 1 of the field value i
 trial/src/bad.rt|Always|bad.rt:279: the field value has the note if, which its type Uleb128 doesn't take
 trial/src/bad.rt|Slice|bad.rt:281: the struct Slice would have the library's name ReadsSlice, RefusesSlice or WritesSlice
 trial/src/bad.rt|Never|bad.rt:285: the condition kind == 0x100 of the field value has a number that doesn't fit kind
+END
+tell_of "$room" <<'END'
+for row in (room / "refused").read_text(encoding="utf-8").splitlines():
+    name, struct, words = row.split("|")
+    status, out, err = call(f"{room}/{name}", struct)
+    is_told = status == 2 and not out and err.count("\n") == 1 and err.endswith(f"{words}\n")
+    tell(is_told, f"'{name} {struct}' should be refused with '{words}', and ended with {status} and '{err}'")
 END
 refuses 'bad.rt:20: the struct Twenty is of a fixed size, and has no definitions of its own' --specs "$room/bad.rt" Twenty
 refuses 'usage: derive.sh \[--check | --specs | --back\] FILE STRUCT' "$room/bad.rt"

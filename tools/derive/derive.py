@@ -4,7 +4,7 @@ from __future__ import annotations
 
 import sys
 from pathlib import Path
-from typing import List
+from typing import List, Tuple
 
 from fixed import record_block, record_uses
 from format_back import format_back
@@ -32,25 +32,25 @@ def check_specs(path: str, name: str, texts: List[str]) -> int:
     return 0
 
 
-def run(option: str, path: str, name: str) -> int:
-    source = Source(path)
+def texts_of(source: Source, name: str) -> Tuple[List[str], str, List[str]]:
+    """Returns the `use` lines, the implementations, and the texts of the files of specs/, which a struct of a fixed size lacks."""
     raw = source.find_struct(name)
-    texts: List[str] = []
     if raw.is_enum:
         choice = read_choice(source, raw)
-        texts = [choice_specs(choice), choice_back(choice)]
-        uses, block = choice_uses(choice), choice_blocks(choice)
-    elif is_format(source, raw):
+        return choice_uses(choice), choice_blocks(choice), [wrap_comments(it) for it in (choice_specs(choice), choice_back(choice))]
+    if is_format(source, raw):
         form = read_format(source, raw)
-        texts = [format_specs(form), format_back(form)]
-        uses, block = format_uses(form), format_blocks(form)
-    elif option in ("--specs", "--back"):
-        source.refuse(raw.place, f"the struct {name} is of a fixed size, and has no definitions of its own")
-    else:
-        block = record_block(read_struct(source, name))
-        uses = record_uses(block)
-    texts = [wrap_comments(it) for it in texts]
+        return format_uses(form), format_blocks(form), [wrap_comments(it) for it in (format_specs(form), format_back(form))]
+    block = record_block(read_struct(source, name))
+    return record_uses(block), block, []
+
+
+def run(option: str, path: str, name: str) -> int:
+    source = Source(path)
+    uses, block, texts = texts_of(source, name)
     if option in ("--specs", "--back"):
+        if not texts:
+            source.refuse(source.find_struct(name).place, f"the struct {name} is of a fixed size, and has no definitions of its own")
         print(texts[("--specs", "--back").index(option)])
         return 0
     if option == "--check":

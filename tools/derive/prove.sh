@@ -3,8 +3,8 @@
 #
 #     sh tools/derive/prove.sh
 #
-# It copies the files, adds the printed blocks after the structs and the printed files to specs/, runs gate/clients.py on
-# them, and keeps nothing. The output and the exit status are those of gate/clients.py.
+# It copies the files, and the checks of the tests from clients/examples, adds the printed blocks after the structs and the printed
+# files to specs/, runs gate/clients.py on them, and keeps nothing. The output and the exit status are those of gate/clients.py.
 set -u
 
 top=$(CDPATH='' cd -- "$(dirname -- "$0")/../.." && pwd) || exit 1
@@ -19,23 +19,23 @@ room=$(mktemp -d) || exit 1
 trap 'rm -rf "$room"' EXIT
 trap 'exit 1' HUP INT TERM
 
-derive() {
-    sh "$top/tools/derive/derive.sh" "$@"
-}
-
 cp -R "$top/tools/derive/shapes" "$room/derived" && mkdir "$room/derived/specs" || stop 'the structs could not be copied'
-for file in "$room"/derived/src/*.rt.txt; do
-    awk '/#\[scroll\(tag = / { tagged = 1 } /^pub struct / || (/^pub enum / && tagged) { sub(/^pub [a-z]* /, ""); sub(/[^A-Za-z0-9].*/, ""); print; tagged = 0 }' \
-        "$file" >"$room/names"
-    while read -r name; do
-        derive "$file" "$name" >"$room/printed" || stop "nothing is printed for $name"
-        { echo && sed -n '/^impl/,$p' "$room/printed"; } >>"$file"
-        specs=$room/derived/specs/${name}
-        ! derive --specs "$file" "$name" >"$room/specs" 2>/dev/null || {
-            cp "$room/specs" "${specs}Format.antt.txt" && derive --back "$file" "$name" >"${specs}Back.antt.txt" ||
-                stop "nothing is printed for the specs of $name"
-        }
-    done <"$room/names"
-done
+cp "$top/clients/examples/src/results.rt.txt" "$room/derived/src/tests/" || stop 'the checks of the tests could not be copied'
+python3 -B - "$top/tools/derive" "$room/derived" <<'END' || stop 'the structs could not be derived'
+import re
+import sys
+from pathlib import Path
+
+sys.path.insert(0, sys.argv[1])
+import derive
+
+crate = Path(sys.argv[2])
+for file in crate.glob("src/*.rt.txt"):
+    for name in re.findall(r"(?m)^(?:// #\[scroll\(tag = .*\n#.*\npub enum|pub struct) (\w+)", file.read_text()):
+        _, block, texts = derive.texts_of(derive.Source(str(file)), name)
+        file.write_text(f"{file.read_text()}\n{block}\n")
+        for kind, text in zip(("Format", "Back"), texts):
+            (crate / "specs" / f"{name}{kind}.antt.txt").write_text(f"{text}\n")
+END
 
 CLIENTS=$room python3 "$top/gate/clients.py" derived

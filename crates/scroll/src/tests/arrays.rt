@@ -6,36 +6,31 @@ ghost use Rattle.scroll.specs.Numbers.{number, number_bytes, signed_number};
 
 use crate::ctx::{Record, SizeWith, StrCtx, TryFromCtx, TryIntoCtx};
 use crate::laws::fixed_size_is_kept;
+use crate::tests::reads::{
+    check_read, check_read_past, check_short_read, check_short_write, check_write,
+};
 use crate::tests::results::{check_bad_offset, check_eq, check_too_big, check_value};
-use crate::{BE, Cread, Endian, Error, LE, Pread, Pwrite, Result, slice};
+use crate::{BE, Cread, Endian, Error, LE, Pread, Result, slice};
+use std::process::Abort;
 use std::result;
 
 #[test]
 fn numbers_in_arrays_and_in_arrays_of_arrays(rt: HostRuntime) {
     let rt = &rt;
     let source: &[u8] = &[1, 0, 2, 0, 3, 0, 4, 0];
-    let offset = &mut 0;
-    check_value(rt, source.gread_with::<[u16; 3]>(offset, LE), [1, 2, 3]);
-    check_too_big(rt, source.gread_with::<[u16; 3]>(offset, LE), 2, 0);
-    check_eq(rt, *offset, 6);
-    let big = source.pread_with::<[u16; 3]>(2, BE);
-    check_value(rt, big, [0x200, 0x300, 0x400]);
-    check_bad_offset(rt, source.pread_with::<[u16; 3]>(9, LE), 9);
-    let offset = &mut 0;
-    let cut = source[..6].gread_with::<[[u16; 2]; 2]>(offset, LE);
-    check_too_big(rt, cut, 2, 0);
-    let whole = source.gread_with::<[[u16; 2]; 2]>(offset, LE);
-    check_value(rt, whole, [[1, 2], [3, 4]]);
-    check_eq(rt, *offset, 8);
+    check_read(rt, source, 0, LE, [1u16, 2, 3], 6);
+    check_short_read::<[u16; 3], _>(rt, source, 6, LE, 2, 0);
+    check_read(rt, source, 2, BE, [0x200u16, 0x300, 0x400], 8);
+    check_read_past::<[u16; 3], _>(rt, source, 9, LE);
+    check_short_read::<[[u16; 2]; 2], _>(rt, &source[..6], 0, LE, 2, 0);
+    check_read(rt, source, 0, LE, [[1u16, 2], [3, 4]], 8);
 }
 
 #[test]
 fn no_elements(rt: HostRuntime) {
     let rt = &rt;
-    let source: &[u8] = &[7];
-    let offset = &mut 1;
-    check_value(rt, source.gread_with::<[u8; 0]>(offset, LE), []);
-    check_eq(rt, *offset, 1);
+    let none: [u8; 0] = [];
+    check_read(rt, &[7], 1, LE, none, 1);
     let mut out = [7u8; 1];
     check_value(rt, [0u16; 0].try_into_ctx(&mut out, BE), 0);
     check_eq(rt, out, [7]);
@@ -46,16 +41,10 @@ fn a_refused_write_leaves_its_first_elements(rt: HostRuntime) {
     let rt = &rt;
     let pairs: [[u16; 2]; 2] = [[1, 2], [3, 4]];
     let mut bytes = [0xffu8; 7];
-    let mut target = &mut bytes[..];
-    let mut offset = 0;
-    check_too_big(rt, target.gwrite_with(pairs, &mut offset, BE), 2, 1);
-    check_eq(rt, offset, 0);
+    check_short_write(rt, &mut bytes, pairs, 0, BE, 2, 1);
     check_eq(rt, bytes, [0, 1, 0, 2, 0, 3, 0xff]);
     let mut wide = [0xffu8; 9];
-    let mut target = &mut wide[..];
-    let mut offset = 1;
-    check_value(rt, target.gwrite_with(pairs, &mut offset, BE), 8);
-    check_eq(rt, offset, 9);
+    check_write(rt, &mut wide, pairs, 1, BE, 8);
     check_eq(rt, wide, [0xff, 0, 1, 0, 2, 0, 3, 0, 4]);
 }
 
@@ -77,12 +66,7 @@ fn a_bad_offset_counts_from_its_own_array(rt: HostRuntime) {
     let offset = &mut 0;
     check_bad_offset(rt, source.gread_with::<[[&str; 2]; 2]>(offset, words), 2);
     check_eq(rt, *offset, 0);
-    check_value(
-        rt,
-        source.gread_with::<[&str; 2]>(offset, words),
-        ["a", "b"],
-    );
-    check_eq(rt, *offset, 4);
+    check_read(rt, source, 0, words, ["a", "b"], 4);
 }
 
 // Reads arrays of any length and type, through the bound.
@@ -164,24 +148,32 @@ fn read_format(file: &[u8], offset: &mut usize, order: Endian) -> Result<Format>
     file.gread_with(offset, order)
 }
 
+const FORMAT: Format = Format {
+    tag: 1,
+    gain: -2,
+    rate: 44100,
+};
+
+const FILE: [u8; 10] = *b"\xff\x00\x01\xff\xfe\x00\x00\xac\x44\xff";
+
 #[test]
 fn a_struct_of_parts(rt: HostRuntime) {
     let rt = &rt;
     fixed_size_is_kept::<Format>();
-    let format = Format {
-        tag: 1,
-        gain: -2,
-        rate: 44100,
-    };
     let mut file = [0xffu8; 10];
-    check_value(rt, slice::pwrite_with(&mut file, format, 1, BE), 8);
-    check_eq(rt, &file, b"\xff\x00\x01\xff\xfe\x00\x00\xac\x44\xff");
-    let offset = &mut 1;
-    check_value(rt, read_format(&file, offset, BE), format);
-    check_eq(rt, *offset, 9);
-    check_too_big(rt, read_format(&file, offset, BE), 8, 1);
-    check_too_big(rt, slice::pwrite_with(&mut file, format, 3, LE), 8, 7);
-    check_eq(rt, file[..].cread_with::<Format>(1, BE), format);
-    check_value(rt, file[..].pread_with::<[Format; 1]>(1, BE), [format]);
+    check_value(rt, slice::pwrite_with(&mut file, FORMAT, 1, BE), 8);
+    check_eq(rt, &file, &FILE);
+    check_too_big(rt, slice::pwrite_with(&mut file, FORMAT, 3, LE), 8, 7);
+    check_formats(rt);
+    check_eq(rt, FILE[..].cread_with::<Format>(1, BE), FORMAT);
     check_eq(rt, Format::size_with(&LE), 8);
+}
+
+// Checks the format that is read at a cursor, and one in an array.
+fn check_formats(rt: &impl Abort) {
+    let offset = &mut 1;
+    check_value(rt, read_format(&FILE, offset, BE), FORMAT);
+    check_eq(rt, *offset, 9);
+    check_too_big(rt, read_format(&FILE, offset, BE), 8, 1);
+    check_read(rt, &FILE, 1, BE, [FORMAT], 9);
 }

@@ -4,7 +4,7 @@
 // allocation fails, one of the two calls must succeed.
 use crate::cstr::{CStr, CString};
 use crate::ctx::{TryFromCtx, TryIntoCtx};
-use crate::tests::reads::check_read;
+use crate::tests::reads::{check_read, check_short_write, check_write};
 use crate::tests::results::{
     check_bad_input, check_bad_offset, check_eq, check_too_big, check_value,
 };
@@ -77,12 +77,21 @@ fn check_reads(
     check_read(rt, source, from, (), borrow(rt, wanted), to);
     let copy: CString = read_copy(rt, alloc, source, from, to);
     check_eq(rt, copy.as_bytes_with_nul(), wanted);
-    let mut offset = to;
-    let cut = source.gread_with::<CStr>(&mut offset, ());
-    check_bad_input(rt, cut, 0, NO_ZERO);
-    let cut = source.gread_with::<CString>(&mut offset, alloc);
-    check_bad_input(rt, cut, 0, NO_ZERO);
-    check_eq(rt, offset, to);
+    check_cut::<CStr, _>(rt, source, to, ());
+    check_cut::<CString, _>(rt, source, to, alloc);
+}
+
+// Checks that a read finds no zero, at an offset and at a cursor, which is left.
+fn check_cut<'a, T: TryFromCtx<'a, Ctx, Error = Error> + Drop, Ctx: Copy>(
+    rt: &impl Abort,
+    source: &'a [u8],
+    from: usize,
+    ctx: Ctx,
+) {
+    check_bad_input(rt, source.pread_with::<T>(from, ctx), 0, NO_ZERO);
+    let mut offset = from;
+    check_bad_input(rt, source.gread_with::<T>(&mut offset, ctx), 0, NO_ZERO);
+    check_eq(rt, offset, from);
 }
 
 // Checks that a C string is made of a text, and has these bytes with its zero.
@@ -140,16 +149,23 @@ fn texts_that_are_held(rt: HostRuntime) {
 fn texts_of_each_length(rt: HostRuntime) {
     let rt = &rt;
     let alloc = rt.alloc();
-    for len in [0, 1, 255, 256, 4096, 65_535, 65_536] {
+    for &len in &LENGTHS {
         let text = vec![in alloc; b'a'; len].or(vec![in alloc; b'a'; len]);
         let text = text.expect(rt, "no memory twice");
-        let string = make(rt, alloc, &text);
-        check_eq(rt, string.as_bytes(), text.as_slice());
-        let source = string.as_bytes_with_nul();
-        check_reads(rt, &alloc, source, 0, source, len + 1);
-        let copy: ffi::CString = read_copy(rt, &alloc, source, 0, len + 1);
-        check_eq(rt, copy.as_bytes(), text.as_slice());
+        check_whole(rt, alloc, &text);
     }
+}
+
+const LENGTHS: [usize; 7] = [0, 1, 255, 256, 4096, 65_535, 65_536];
+
+// Checks that a text is held, and that it is read back.
+fn check_whole(rt: &impl Abort, alloc: Global, text: &[u8]) {
+    let string = make(rt, alloc, text);
+    check_eq(rt, string.as_bytes(), text);
+    let source = string.as_bytes_with_nul();
+    check_reads(rt, &alloc, source, 0, source, source.len());
+    let copy: ffi::CString = read_copy(rt, &alloc, source, 0, source.len());
+    check_eq(rt, copy.as_bytes(), text);
 }
 
 // Checks whether the C strings at the start of these bytes are equal.
@@ -164,10 +180,9 @@ fn up_to_the_first_zero(rt: HostRuntime) {
     check_eq(rt, borrow(rt, b"a\0b\0").to_bytes(), b"a");
     check_eq(rt, CStr::from_bytes_until_nul(b"a"), None);
     check_eq(rt, CStr::from_bytes_until_nul(b""), None);
-    let other: &[u8] = &[b'a', 0, 0];
-    check_same(rt, b"a\0b\0", other, true);
-    check_same(rt, b"b\0", other, false);
-    check_same(rt, b"aa\0", other, false);
+    check_same(rt, b"a\0b\0", b"a\0\0", true);
+    check_same(rt, b"b\0", b"a\0\0", false);
+    check_same(rt, b"aa\0", b"a\0\0", false);
 }
 
 #[test]
@@ -186,10 +201,8 @@ fn arrays_of_c_strings(rt: HostRuntime) {
     let rt = &rt;
     let alloc = &rt.alloc();
     let source: &[u8] = b"ab\0\0c";
-    let cut = source.pread_with::<[CString; 2]>(4, alloc);
-    check_bad_input(rt, cut, 0, NO_ZERO);
-    let cut = source.pread_with::<[CStr; 3]>(0, ());
-    check_bad_input(rt, cut, 0, NO_ZERO);
+    check_cut::<[CString; 2], _>(rt, source, 4, alloc);
+    check_cut::<[CStr; 3], _>(rt, source, 0, ());
     let strings: [CString; 2] = read_copy(rt, alloc, source, 0, 4);
     let [first, second] = &strings;
     check_eq(rt, first.as_bytes(), b"ab");
@@ -201,18 +214,13 @@ fn writes(rt: HostRuntime) {
     let rt = &rt;
     let alloc = rt.alloc();
     let mut bytes = [0xffu8; 4];
-    let mut target: &mut [u8] = &mut bytes;
-    let mut offset = 0;
-    let two = borrow(rt, b"ab\0");
-    check_value(rt, target.gwrite_with(two, &mut offset, ()), 3);
-    let one = borrow(rt, b"a\0");
-    check_too_big(rt, target.gwrite_with(one, &mut offset, ()), 2, 1);
-    check_eq(rt, offset, 3);
-    check_eq(rt, bytes, *b"ab\0\xff");
+    check_write(rt, &mut bytes, borrow(rt, b"ab\0"), 0, (), 3);
+    check_short_write(rt, &mut bytes, borrow(rt, b"a\0"), 3, (), 2, 1);
+    check_eq(rt, &bytes, b"ab\0\xff");
     let mut target: &mut [u8] = &mut bytes;
     check_value(rt, target.pwrite(make(rt, alloc, b"ab"), 1), 3);
     check_too_big(rt, target.pwrite(make(rt, alloc, b"a"), 3), 2, 1);
-    check_eq(rt, bytes, *b"aab\0");
+    check_eq(rt, &bytes, b"aab\0");
 }
 
 const BYTES: &[u8] = b"on\0off\0";
@@ -228,18 +236,16 @@ fn borrowed(rt: HostRuntime) {
     check_read(rt, BYTES, 3, (), text, 7);
     check_bad_input(rt, CUT.pread::<ffi::CStr>(0), 0, NO_ZERO);
     let mut target = [7u8; 5];
-    let mut slice: &mut [u8] = &mut target;
-    check_value(rt, slice.pwrite_with(text, 1, ()), 4);
-    check_eq(rt, target, *b"\x07off\0");
-    check_too_big(rt, text.try_into_ctx(&mut target[..3], ()), 4, 3);
+    check_write(rt, &mut target, text, 1, (), 4);
+    check_eq(rt, &target, b"\x07off\0");
+    check_short_write(rt, &mut target[..3], text, 0, (), 4, 3);
 }
 
 #[test]
 fn owned(rt: HostRuntime) {
     let rt = &rt;
     let alloc = &rt.alloc();
-    let cut = CUT.pread_with::<ffi::CString>(0, alloc);
-    check_bad_input(rt, cut, 0, NO_ZERO);
+    check_cut::<ffi::CString, _>(rt, CUT, 0, alloc);
     let read: ffi::CString = read_copy(rt, alloc, BYTES, 0, 3);
     check_eq(rt, read.as_bytes(), b"on");
     let string = CString::from(read);
@@ -247,5 +253,5 @@ fn owned(rt: HostRuntime) {
     let mut target = [7u8; 5];
     let back = ffi::CString::from(string);
     check_value(rt, back.try_into_ctx(&mut target, ()), 3);
-    check_eq(rt, target, *b"on\0\x07\x07");
+    check_eq(rt, &target, b"on\0\x07\x07");
 }

@@ -7,6 +7,9 @@ use crate::laws::{
     array_depends_on_its_bytes, array_has_leaves, arrays_keep_their_laws, fixed_size_is_kept,
     fixed_size_is_written_back, size_is_that_of_reads_and_writes, write_is_of_its_leaves,
 };
+use crate::tests::reads::{
+    check_read, check_read_past, check_short_read, check_short_write, check_write, check_write_past,
+};
 use crate::tests::results::{check_bad_offset, check_eq, check_too_big, check_value};
 use crate::{BE, Endian, LE, NATIVE, NETWORK, Pread, Pwrite, Sleb128, Uleb128, slice};
 use std::process::Abort;
@@ -30,29 +33,28 @@ fn byte_orders(rt: HostRuntime) {
 fn reads_at_an_offset(rt: HostRuntime) {
     let rt = &rt;
     let source: &[u8] = &[0xde, 0xad, 0xbe, 0xef, 0x01, 0x02, 0x03, 0x04];
-    check_value(rt, source.pread_with::<u16>(0, BE), 0xdead);
-    check_value(rt, source.pread_with::<u8>(2, LE), 190);
-    check_value(rt, source.pread_with::<u16>(1, BE), 44478);
-    check_value(rt, source.pread_with::<u32>(0, BE), 3735928559);
-    check_value(rt, source.pread_with::<u32>(0, LE), 4022250974);
-    check_value(rt, source.pread_with::<u64>(0, BE), 0xdeadbeef01020304);
-    check_value(rt, source.pread_with::<u64>(0, LE), 0x04030201efbeadde);
-    check_too_big(rt, source.pread_with::<u64>(1, LE), 8, 7);
-    check_too_big(rt, source.pread_with::<u8>(8, LE), 1, 0);
-    check_bad_offset(rt, source.pread_with::<u8>(9, LE), 9);
+    check_read(rt, source, 0, BE, 0xdeadu16, 2);
+    check_read(rt, source, 2, LE, 190u8, 3);
+    check_read(rt, source, 1, BE, 44478u16, 3);
+    check_read(rt, source, 0, BE, 3735928559u32, 4);
+    check_read(rt, source, 0, LE, 4022250974u32, 4);
+    check_read(rt, source, 0, BE, 0xdeadbeef01020304u64, 8);
+    check_read(rt, source, 0, LE, 0x04030201efbeaddeu64, 8);
+    check_short_read::<u64, _>(rt, source, 1, LE, 8, 7);
+    check_short_read::<u8, _>(rt, source, 8, LE, 1, 0);
+    check_read_past::<u8, _>(rt, source, 9, LE);
 }
 
 #[test]
 fn writes_at_an_offset(rt: HostRuntime) {
     let rt = &rt;
     let mut bytes = [0xffu8; 16];
-    let mut target = &mut bytes[..];
-    check_value(rt, target.pwrite_with(0x0102030405060708u64, 0, BE), 8);
-    check_value(rt, target.pwrite_with(0xdeadbeefu32, 6, LE), 4);
-    check_value(rt, target.pwrite_with(0x1234u16, 12, BE), 2);
-    check_value(rt, target.pwrite_with(7u8, 15, LE), 1);
-    check_too_big(rt, target.pwrite_with(0u32, 13, LE), 4, 3);
-    check_bad_offset(rt, target.pwrite_with(0u8, 17, LE), 17);
+    check_write(rt, &mut bytes, 0x0102030405060708u64, 0, BE, 8);
+    check_write(rt, &mut bytes, 0xdeadbeefu32, 6, LE, 4);
+    check_write(rt, &mut bytes, 0x1234u16, 12, BE, 2);
+    check_write(rt, &mut bytes, 7u8, 15, LE, 1);
+    check_short_write(rt, &mut bytes, 0u32, 13, LE, 4, 3);
+    check_write_past(rt, &mut bytes, 0u8, 17, LE);
     let wanted: [u8; 16] = [
         1, 2, 3, 4, 5, 6, 0xef, 0xbe, 0xad, 0xde, 0xff, 0xff, 0x12, 0x34, 0xff, 7,
     ];
@@ -77,30 +79,37 @@ const MOST: usize = usize::MAX;
 
 const SOURCE: &[u8] = b"a\0b";
 
+// Checks that numbers are refused in the default context and in LEB128.
+fn check_numbers(rt: &impl Abort) {
+    let mut at = MOST;
+    check_bad_offset(rt, SOURCE.pread::<u16>(MOST), MOST);
+    check_bad_offset(rt, SOURCE.gread::<u16>(&mut at), MOST);
+    check_bad_offset(rt, Uleb128::read(SOURCE, &mut at), MOST);
+    check_bad_offset(rt, Sleb128::read(SOURCE, &mut at), MOST);
+    check_eq(rt, at, MOST);
+}
+
+// Checks that bulk reads are refused, and change nothing.
+fn check_bulk(rt: &impl Abort) {
+    let mut at = MOST;
+    let mut two = [3u16, 4];
+    check_bad_offset(rt, SOURCE.gread_inout(&mut at, &mut two), MOST);
+    check_bad_offset(rt, SOURCE.gread_inout_with(&mut at, &mut two, BE), MOST);
+    check_eq(rt, two, [3, 4]);
+    check_eq(rt, at, MOST);
+}
+
 #[test]
 fn reads(rt: HostRuntime) {
     let rt = &rt;
-    let source = SOURCE;
-    let mut at = MOST;
-    check_bad_offset(rt, source.pread::<u16>(MOST), MOST);
-    check_bad_offset(rt, source.pread_with::<u16>(MOST, BE), MOST);
-    check_bad_offset(rt, source.gread::<u16>(&mut at), MOST);
-    check_bad_offset(rt, source.gread_with::<u16>(&mut at, LE), MOST);
-    check_bad_offset(
-        rt,
-        source.gread_with::<&str>(&mut at, StrCtx::Length(0)),
-        MOST,
-    );
-    check_bad_offset(rt, source.gread_with::<&[u8]>(&mut at, 0), MOST);
-    check_bad_offset(rt, source.gread_with::<CStr>(&mut at, ()), MOST);
-    check_bad_offset(rt, source.gread_with::<[u8; 0]>(&mut at, LE), MOST);
-    check_bad_offset(rt, Uleb128::read(source, &mut at), MOST);
-    check_bad_offset(rt, Sleb128::read(source, &mut at), MOST);
-    let mut two = [3u16, 4];
-    check_bad_offset(rt, source.gread_inout(&mut at, &mut two), MOST);
-    check_bad_offset(rt, source.gread_inout_with(&mut at, &mut two, BE), MOST);
-    check_eq(rt, two, [3, 4]);
-    check_eq(rt, at, MOST);
+    check_read_past::<u16, _>(rt, SOURCE, MOST, BE);
+    check_read_past::<u16, _>(rt, SOURCE, MOST, LE);
+    check_read_past::<&str, _>(rt, SOURCE, MOST, StrCtx::Length(0));
+    check_read_past::<&[u8], _>(rt, SOURCE, MOST, 0);
+    check_read_past::<CStr, _>(rt, SOURCE, MOST, ());
+    check_read_past::<[u8; 0], _>(rt, SOURCE, MOST, LE);
+    check_numbers(rt);
+    check_bulk(rt);
 }
 
 // Checks that a bulk read into no element succeeds, and leaves the offset.
@@ -121,25 +130,29 @@ fn bulk_reads_into_no_element(rt: HostRuntime) {
     check_no_element(rt, MOST);
 }
 
+// Checks that the writes of `slice` are refused, and leave the cursor.
+fn check_slice(rt: &impl Abort, target: &mut [u8]) {
+    let mut at = MOST;
+    check_bad_offset(rt, slice::pwrite(target, "", MOST), MOST);
+    let one = Uleb128::shortest(1);
+    check_bad_offset(rt, slice::pwrite_with(target, one, MOST, ()), MOST);
+    check_bad_offset(rt, slice::gwrite(target, 1u8, &mut at), MOST);
+    let none = [1u8; 0];
+    check_bad_offset(rt, slice::gwrite_with(target, none, &mut at, LE), MOST);
+    check_eq(rt, at, MOST);
+}
+
 #[test]
 fn writes(rt: HostRuntime) {
     let rt = &rt;
     let mut bytes = [7u8; 3];
     let mut at = MOST;
+    check_write_past(rt, &mut bytes, 1u16, MOST, BE);
+    check_write_past(rt, &mut bytes, 1u16, MOST, LE);
+    check_slice(rt, &mut bytes);
     let mut target = &mut bytes[..];
     check_bad_offset(rt, target.pwrite(1u16, MOST), MOST);
-    check_bad_offset(rt, target.pwrite_with(1u16, MOST, BE), MOST);
     check_bad_offset(rt, target.gwrite(1u16, &mut at), MOST);
-    check_bad_offset(rt, target.gwrite_with(1u16, &mut at, LE), MOST);
-    check_bad_offset(rt, slice::pwrite(&mut bytes, "", MOST), MOST);
-    let one = Uleb128::shortest(1);
-    check_bad_offset(rt, slice::pwrite_with(&mut bytes, one, MOST, ()), MOST);
-    check_bad_offset(rt, slice::gwrite(&mut bytes, 1u8, &mut at), MOST);
-    check_bad_offset(
-        rt,
-        slice::gwrite_with(&mut bytes, [1u8; 0], &mut at, LE),
-        MOST,
-    );
     check_eq(rt, at, MOST);
     check_eq(rt, bytes, [7; 3]);
 }
@@ -147,11 +160,10 @@ fn writes(rt: HostRuntime) {
 #[test]
 fn lengths_and_limits(rt: HostRuntime) {
     let rt = &rt;
-    let by_length = SOURCE.pread_with::<&str>(1, StrCtx::Length(MOST));
-    check_too_big(rt, by_length, MOST, 2);
-    let by_limit = SOURCE.pread_with::<&str>(0, StrCtx::DelimiterUntil(0, MOST));
-    check_too_big(rt, by_limit, MOST, 3);
-    check_too_big(rt, SOURCE.pread_with::<&[u8]>(3, MOST), MOST, 0);
+    check_short_read::<&str, _>(rt, SOURCE, 1, StrCtx::Length(MOST), MOST, 2);
+    let limit = StrCtx::DelimiterUntil(0, MOST);
+    check_short_read::<&str, _>(rt, SOURCE, 0, limit, MOST, 3);
+    check_short_read::<&[u8], _>(rt, SOURCE, 3, MOST, MOST, 0);
 }
 
 #[test]

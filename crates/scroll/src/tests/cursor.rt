@@ -104,7 +104,8 @@ fn gread_inout(rt: HostRuntime) {
     let mut copy = [0u8; 8];
     let mut offset = 0;
     check_value(&rt, ONE_TO_EIGHT.gread_inout(&mut offset, &mut copy), ());
-    check_eq(&rt, (copy, offset), (ONE_TO_EIGHT, 8));
+    check_eq(&rt, &copy, &ONE_TO_EIGHT);
+    check_eq(&rt, offset, 8);
     let mut two = [0u8; 2];
     let mut offset = 0;
     let answer: Result<()> = ONE_TO_EIGHT.gread_inout_with(&mut offset, &mut two, LE);
@@ -147,6 +148,11 @@ fn writes_at_a_place(rt: HostRuntime) {
     check_too_big(rt, slice::pwrite_with(&mut bytes, 7u32, 2, BE), 4, 2);
     check_bad_offset(rt, slice::pwrite(&mut bytes, 7u8, 5), 5);
     check_eq(rt, bytes, [0, 2, 3, 4]);
+    check_made_sure(rt);
+}
+
+// Checks writes in bounds.
+fn check_made_sure(rt: &impl Abort) {
     let mut made_sure = [0u8; 5];
     slice::cwrite(&mut made_sure, 0x0102u16, 0);
     slice::cwrite_with(&mut made_sure, 0x0304u16, 3, BE);
@@ -204,10 +210,15 @@ fn arrays_and_vectors_are_written_as_they_are(rt: HostRuntime) -> Result<()> {
     let Ok(mut bytes) = vec![in rt.alloc(); 0u8, 0, 0] else {
         return Err(Error::NoMemory);
     };
-    let offset = &mut 1;
-    check_value(&rt, bytes.gwrite_with(0x0102u16, offset, BE), 2);
-    check_eq(&rt, bytes.as_slice(), &[0, 1, 2]);
+    check_vector(&rt, &mut bytes);
     Ok(())
+}
+
+// Checks a write to a vector of three zeros.
+fn check_vector(rt: &impl Abort, bytes: &mut Vec<u8>) {
+    let offset = &mut 1;
+    check_value(rt, bytes.gwrite_with(0x0102u16, offset, BE), 2);
+    check_eq(rt, bytes.as_slice(), &[0, 1, 2]);
 }
 
 #[test]

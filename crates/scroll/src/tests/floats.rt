@@ -3,8 +3,11 @@
 ghost use Rattle.std.specs.Prelude.{◌≤◌};
 
 use crate::ctx::{FromCtx, IntoCtx, SizeWith, TryFromCtx, TryIntoCtx};
-use crate::tests::reads::{check_gread_gwrite, check_read};
-use crate::tests::results::{check_bad_offset, check_eq, check_too_big, check_value, expect_value};
+use crate::tests::reads::{
+    check_gread_gwrite, check_read, check_read_past, check_short_read, check_short_write,
+    check_write,
+};
+use crate::tests::results::{check_eq, check_value, expect_value};
 use crate::tests::streams::check_kind;
 use crate::{BE, Cread, Cwrite, Endian, Error, IOread, IOwrite, LE, Pread, Pwrite, Result};
 use std::fmt::Debug;
@@ -118,19 +121,26 @@ where
 
 #[test]
 fn floats_and_their_bytes(rt: HostRuntime) {
-    let rt = &rt;
     for (value, big) in &SINGLES {
-        check_float(rt, *value, big, BE);
-        let mut little = *big;
-        little.reverse();
-        check_float(rt, *value, &little, LE);
+        check_single(&rt, *value, big);
     }
     for (value, big) in &DOUBLES {
-        check_float(rt, *value, big, BE);
-        let mut little = *big;
-        little.reverse();
-        check_float(rt, *value, &little, LE);
+        check_double(&rt, *value, big);
     }
+}
+
+fn check_single(rt: &impl Abort, value: f32, big: &[u8; 4]) {
+    check_float(rt, value, big, BE);
+    let mut little = *big;
+    little.reverse();
+    check_float(rt, value, &little, LE);
+}
+
+fn check_double(rt: &impl Abort, value: f64, big: &[u8; 8]) {
+    check_float(rt, value, big, BE);
+    let mut little = *big;
+    little.reverse();
+    check_float(rt, value, &little, LE);
 }
 
 // Quiet and signalling NaNs of both signs, with payloads. The Rust crate reads each as a NaN, and
@@ -151,23 +161,29 @@ const DOUBLE_NANS: [[u8; 8]; 5] = [
     [0xff, 0xff, 0xff, 0xff, 0xff, 0xff, 0xff, 0xff],
 ];
 
+fn check_single_nan(rt: &impl Abort, bytes: &[u8; 4]) {
+    let read: f32 = expect_value(rt, bytes.as_slice().pread_with(0, BE));
+    check_eq(rt, read.is_nan(), true);
+    let mut target = [7u8; 4];
+    check_value(rt, read.try_into_ctx(&mut target, LE), 4);
+    check_eq(rt, &target, &[0, 0, 0xc0, 0x7f]);
+}
+
+fn check_double_nan(rt: &impl Abort, bytes: &[u8; 8]) {
+    let (read, size) = expect_value(rt, f64::try_from_ctx(bytes, BE));
+    check_eq(rt, (read.is_nan(), size), (true, 8));
+    let mut target = [7u8; 8];
+    check_value(rt, (&read).try_into_ctx(&mut target, BE), 8);
+    check_eq(rt, &target, &[0x7f, 0xf8, 0, 0, 0, 0, 0, 0]);
+}
+
 #[test]
 fn nans_and_their_bytes(rt: HostRuntime) {
-    let rt = &rt;
     for bytes in &SINGLE_NANS {
-        let read: f32 = expect_value(rt, bytes.as_slice().pread_with(0, BE));
-        assert!(rt; read.is_nan());
-        let mut target = [7u8; 4];
-        check_value(rt, read.try_into_ctx(&mut target, LE), 4);
-        check_eq(rt, &target, &[0, 0, 0xc0, 0x7f]);
+        check_single_nan(&rt, bytes);
     }
     for bytes in &DOUBLE_NANS {
-        let (read, size) = expect_value(rt, f64::try_from_ctx(bytes, BE));
-        assert!(rt; read.is_nan());
-        check_eq(rt, size, 8);
-        let mut target = [7u8; 8];
-        check_value(rt, (&read).try_into_ctx(&mut target, BE), 8);
-        check_eq(rt, &target, &[0x7f, 0xf8, 0, 0, 0, 0, 0, 0]);
+        check_double_nan(&rt, bytes);
     }
 }
 
@@ -183,12 +199,10 @@ fn sizes_and_refusals(rt: HostRuntime) {
     ];
     check_eq(rt, sizes, [4, 8, 4, 8, 48]);
     let mut bytes = [0u8; 3];
-    let source: &[u8] = &bytes;
-    check_too_big(rt, source.pread_with::<f32>(0, LE), 4, 3);
-    check_too_big(rt, source.pread_with::<f64>(1, LE), 8, 2);
-    check_bad_offset(rt, source.pread_with::<f32>(4, LE), 4);
-    let mut target: &mut [u8] = &mut bytes;
-    check_too_big(rt, target.pwrite_with(1.0f32, 0, LE), 4, 3);
+    check_short_read::<f32, _>(rt, &bytes, 0, LE, 4, 3);
+    check_short_read::<f64, _>(rt, &bytes, 1, LE, 8, 2);
+    check_read_past::<f32, _>(rt, &bytes, 4, LE);
+    check_short_write(rt, &mut bytes, 1.0f32, 0, LE, 4, 3);
     check_eq(rt, bytes, [0, 0, 0]);
 }
 
@@ -217,15 +231,14 @@ const ROW_BYTES: [u8; 20] = [
 fn arrays_and_bulk_reads(rt: HostRuntime) {
     let rt = &rt;
     let mut bytes = [0u8; 20];
-    let mut target: &mut [u8] = &mut bytes;
-    check_value(rt, target.pwrite_with(ROWS, 4, LE), 16);
-    check_eq(rt, bytes, ROW_BYTES);
+    check_write(rt, &mut bytes, ROWS, 4, LE, 16);
+    check_eq(rt, &bytes, &ROW_BYTES);
+    check_read(rt, &ROW_BYTES, 4, LE, ROWS, 20);
     let source: &[u8] = &ROW_BYTES;
-    check_value(rt, source.pread_with(4, LE), ROWS);
     let mut all = [0.0f32; 5];
     let mut offset = 0;
     check_value(rt, source.gread_inout_with(&mut offset, &mut all, LE), ());
-    check_eq(rt, all, [0.0, 0.5, -2.0, 0.1, 65504.0]);
+    check_eq(rt, &all, &[0.0, 0.5, -2.0, 0.1, 65504.0]);
     check_eq(rt, offset, 20);
 }
 
@@ -239,22 +252,24 @@ fn a_stream_that_ends(rt: HostRuntime) {
     check_kind(rt, reader.ioread_with::<f64>(LE), ErrorKind::UnexpectedEof);
 }
 
-// Checks what a writer holds that two floats were written to, and reads them back.
+// Two floats, in big-endian order and in little-endian order.
+const TWO: [u8; 12] = [
+    0x3d, 0xcc, 0xcc, 0xcd, 0xfc, 0xa9, 0xf1, 0xd2, 0x4d, 0x62, 0xb0, 0xbf,
+];
+
+// Checks what is held after two floats were written.
 fn check_stream(rt: &impl Abort, written: &mut Vec<u8>) -> io::Result<()> {
     written.iowrite_with(0.1f32, BE)?;
     written.iowrite(-0.064f64)?;
-    let wanted: &[u8] = &[
-        0x3d, 0xcc, 0xcc, 0xcd, 0xfc, 0xa9, 0xf1, 0xd2, 0x4d, 0x62, 0xb0, 0xbf,
-    ];
-    let mut reader = written.as_slice();
-    check_eq(rt, reader, wanted);
-    check_value(rt, reader.ioread_with::<f32>(BE), 0.1);
-    check_value(rt, reader.ioread::<f64>(), -0.064);
+    check_eq(rt, written.as_slice(), &TWO);
     Ok(())
 }
 
 #[test]
 fn streams_of_floats(rt: HostRuntime) -> io::Result<()> {
+    let mut reader: &[u8] = &TWO;
+    check_value(&rt, reader.ioread_with::<f32>(BE), 0.1);
+    check_value(&rt, reader.ioread::<f64>(), -0.064);
     let mut written = Vec::new(rt.alloc());
     check_stream(&rt, &mut written)
 }

@@ -1,6 +1,9 @@
 // LEB128 encodings, the readers compared with each other, and encodings that are written.
+ghost use Rattle.std.specs.Prelude.{◌<◌};
+
 use crate::ctx::{TryFromCtx, TryIntoCtx};
 use crate::leb128::{plain_sleb, plain_uleb, sleb_block, sleb_loads, uleb_block, uleb_loads};
+use crate::tests::reads::check_short_write;
 use crate::tests::results::{
     check_bad_input, check_bad_offset, check_eq, check_too_big, check_value,
 };
@@ -17,6 +20,15 @@ fn unsigned(source: &[u8]) -> Result<(u64, usize)> {
 fn signed(source: &[u8]) -> Result<(i64, usize)> {
     let number: Sleb128 = source.pread(0)?;
     Ok((*number.as_ref(), number.size()))
+}
+
+// Checks the number at the start of a source, and its size.
+fn check_unsigned(rt: &impl Abort, source: &[u8], value: u64, size: usize) {
+    check_value(rt, unsigned(source), (value, size));
+}
+
+fn check_signed(rt: &impl Abort, source: &[u8], value: i64, size: usize) {
+    check_value(rt, signed(source), (value, size));
 }
 
 // Checks that a read of `len` bytes was refused: ten bytes or more are no number, and fewer are
@@ -47,8 +59,8 @@ const NUMBERS: [(&[u8], u64, usize); 3] = [(&[0x82, 1], 130, 2), (&[0, 1], 0, 1)
 
 #[test]
 fn uleb_size(rt: HostRuntime) {
-    for (bytes, value, size) in NUMBERS.iter() {
-        check_value(&rt, unsigned(bytes), (*value, *size));
+    for &(bytes, value, size) in &NUMBERS {
+        check_unsigned(&rt, bytes, value, size);
     }
 }
 
@@ -91,14 +103,21 @@ fn reads_with_an_offset(rt: HostRuntime) {
     check_eq(&rt, past, 4);
 }
 
+// Checks that a number isn't equal to the same with more bytes.
+fn check_different<'a, N: TryFromCtx<'a, (), Error = Error> + PartialEq + Drop>(
+    rt: &impl Abort,
+    short: &'a [u8],
+    padded: &'a [u8],
+) {
+    let short: N = read(rt, short);
+    let padded: N = read(rt, padded);
+    check_eq(rt, [short == short, short == padded], [true, false]);
+}
+
 #[test]
 fn numbers_with_their_lengths_are_compared(rt: HostRuntime) {
-    let short: Uleb128 = read(&rt, &[0]);
-    let padded: Uleb128 = read(&rt, &[0x80, 0]);
-    check_eq(&rt, [short == short, short == padded], [true, false]);
-    let short: Sleb128 = read(&rt, &[0x7f]);
-    let padded: Sleb128 = read(&rt, &[0xff, 0x7f]);
-    check_eq(&rt, [short == short, short == padded], [true, false]);
+    check_different::<Uleb128>(&rt, &[0], &[0x80, 0]);
+    check_different::<Sleb128>(&rt, &[0x7f], &[0xff, 0x7f]);
 }
 
 const ZERO: [u8; 10] = [0x80, 0x80, 0x80, 0x80, 0x80, 0x80, 0x80, 0x80, 0x80, 0];
@@ -109,9 +128,9 @@ const MINUS_ONE: [u8; 10] = [0xff, 0xff, 0xff, 0xff, 0xff, 0xff, 0xff, 0xff, 0xf
 fn padded_texts(rt: HostRuntime) {
     for size in 1..11 {
         let zero = &ZERO[10 - size..];
-        check_value(&rt, unsigned(zero), (0, size));
-        check_value(&rt, signed(zero), (0, size));
-        check_value(&rt, signed(&MINUS_ONE[10 - size..]), (-1, size));
+        check_unsigned(&rt, zero, 0, size);
+        check_signed(&rt, zero, 0, size);
+        check_signed(&rt, &MINUS_ONE[10 - size..], -1, size);
     }
     check_refused(
         &rt,
@@ -141,6 +160,8 @@ const SIGN_BITS: [(u64, i64, i64); 9] = [
 
 const SET: [u8; 9] = [0x80, 0x80, 0x80, 0x80, 0x80, 0x80, 0x80, 0x80, 0x40];
 
+const EIGHT_GROUPS: [u8; 9] = [0x80, 0x80, 0x80, 0x80, 0x80, 0x80, 0x80, 0x80, 0x7f];
+
 const CLEAR: [u8; 9] = [0x80, 0x80, 0x80, 0x80, 0x80, 0x80, 0x80, 0x80, 0x3f];
 
 #[test]
@@ -148,14 +169,13 @@ fn sign_bits(rt: HostRuntime) {
     for (count, (as_unsigned, as_signed, clear)) in SIGN_BITS.iter().enumerate() {
         let size = count + 1;
         let source = &SET[8 - count..];
-        check_value(&rt, unsigned(source), (*as_unsigned, size));
-        check_value(&rt, signed(source), (*as_signed, size));
+        check_unsigned(&rt, source, *as_unsigned, size);
+        check_signed(&rt, source, *as_signed, size);
         let source = &CLEAR[8 - count..];
-        check_value(&rt, unsigned(source), (clear.cast_unsigned(), size));
-        check_value(&rt, signed(source), (*clear, size));
+        check_unsigned(&rt, source, clear.cast_unsigned(), size);
+        check_signed(&rt, source, *clear, size);
     }
-    let eight_groups: [u8; 9] = [0x80, 0x80, 0x80, 0x80, 0x80, 0x80, 0x80, 0x80, 0x7f];
-    check_value(&rt, signed(&eight_groups), (-72057594037927936, 9));
+    check_signed(&rt, &EIGHT_GROUPS, -72057594037927936, 9);
 }
 
 // Checks that a read of twelve bytes returned this number of ten bytes, or refused it where there
@@ -224,18 +244,23 @@ fn blocks(rt: HostRuntime) {
     check_eq(&rt, sleb_block(large), Some((35465847065542656, 8)));
 }
 
+// Checks the loads of two bytes.
+fn check_short_loads(rt: &impl Abort) {
+    let mut short = Loads::new(&[0x80, 0x80]);
+    check_eq(rt, (short.len(), short.is_empty()), (2, false));
+    check_eq(rt, short.word(), None);
+    check_eq(rt, (short.byte(2), short.byte(1)), (None, Some(0x80)));
+    check_eq(rt, short.made(), 3);
+}
+
+const GREATEST: [u8; 10] = [0xff, 0xff, 0xff, 0xff, 0xff, 0xff, 0xff, 0xff, 0xff, 1];
+
 #[test]
 fn counted_loads(rt: HostRuntime) {
-    let greatest: [u8; 10] = [0xff, 0xff, 0xff, 0xff, 0xff, 0xff, 0xff, 0xff, 0xff, 1];
-    let mut source = Loads::new(&greatest);
+    let mut source = Loads::new(&GREATEST);
     check_value(&rt, uleb_loads(&mut source), (18446744073709551615, 10));
     check_eq(&rt, source.made(), 3);
-    let mut short = Loads::new(&[0x80, 0x80]);
-    check_eq(&rt, short.len(), 2);
-    check_eq(&rt, short.is_empty(), false);
-    check_eq(&rt, short.word(), None);
-    check_eq(&rt, [short.byte(2), short.byte(1)], [None, Some(0x80)]);
-    check_eq(&rt, short.made(), 3);
+    check_short_loads(&rt);
 }
 
 // Checks that two readers of `len` bytes return the same number, or that both refuse them.
@@ -262,16 +287,25 @@ fn check_readers(rt: &impl Abort, source: &[u8]) {
     check_same(rt, by_loads, plain_sleb(source), source.len());
 }
 
+// Checks the readers at as many bytes that others follow as said, and then this one.
+fn check_last(rt: &impl Abort, count: usize, last: u8)
+    requires { count < 12 }
+{
+    let mut bytes = [0xffu8; 19];
+    bytes[..count].fill(0x80);
+    bytes[count] = last;
+    check_readers(rt, &bytes[..count]);
+    check_readers(rt, &bytes[..count + 1]);
+    check_readers(rt, &bytes[..count + 8]);
+}
+
+const LAST: [u8; 6] = [0x00, 0x01, 0x3f, 0x40, 0x7e, 0x7f];
+
 #[test]
 fn readers_agree(rt: HostRuntime) {
     for count in 0..12 {
-        for last in &[0x00, 0x01, 0x3f, 0x40, 0x7e, 0x7f] {
-            let mut bytes = [0xffu8; 19];
-            bytes[..count].fill(0x80);
-            bytes[count] = *last;
-            check_readers(&rt, &bytes[..count]);
-            check_readers(&rt, &bytes[..count + 1]);
-            check_readers(&rt, &bytes[..count + 8]);
+        for last in &LAST {
+            check_last(&rt, count, *last);
         }
     }
 }
@@ -283,8 +317,8 @@ fn check_written<N: TryIntoCtx<(), Error = Error> + Drop>(rt: &impl Abort, numbe
     let mut bytes = UNTOUCHED;
     let size = text.len();
     check_value(rt, number.try_into_ctx(&mut bytes, ()), size);
-    let written = (bytes.get(..size), bytes.get(size..));
-    check_eq(rt, written, (Some(text), UNTOUCHED.get(size..)));
+    check_eq(rt, bytes.get(..size), Some(text));
+    check_eq(rt, bytes.get(size..), UNTOUCHED.get(size..));
 }
 
 const UNSIGNED: [(u64, &[u8]); 7] = [
@@ -322,11 +356,11 @@ const SIGNED: [(i64, &[u8]); 8] = [
 
 #[test]
 fn shortest_texts(rt: HostRuntime) {
-    for (value, text) in UNSIGNED.iter() {
-        check_written(&rt, Uleb128::shortest(*value), text);
+    for &(value, text) in &UNSIGNED {
+        check_written(&rt, Uleb128::shortest(value), text);
     }
-    for (value, text) in SIGNED.iter() {
-        check_written(&rt, Sleb128::shortest(*value), text);
+    for &(value, text) in &SIGNED {
+        check_written(&rt, Sleb128::shortest(value), text);
     }
 }
 
@@ -342,16 +376,12 @@ fn padded_texts_are_kept(rt: HostRuntime) {
 #[test]
 fn short_targets(rt: HostRuntime) {
     let mut bytes = [7u8; 9];
-    let mut target = &mut bytes[..];
-    let refused: Result<usize> = target.pwrite(Uleb128::shortest(u64::MAX), 0);
-    check_too_big(&rt, refused, 10, 9);
-    let refused: Result<usize> = target.pwrite(Sleb128::shortest(64), 8);
-    check_too_big(&rt, refused, 2, 1);
+    let greatest = Uleb128::shortest(u64::MAX);
+    check_short_write(&rt, &mut bytes, greatest, 0, (), 10, 9);
+    check_short_write(&rt, &mut bytes, Sleb128::shortest(64), 8, (), 2, 1);
     check_eq(&rt, bytes, [7; 9]);
     let mut bytes = [0u8; 2];
-    let mut target = &mut bytes[..];
     let numbers = [Uleb128::shortest(1), Uleb128::shortest(128)];
-    let refused: Result<usize> = target.pwrite(numbers, 0);
-    check_too_big(&rt, refused, 2, 1);
+    check_short_write(&rt, &mut bytes, numbers, 0, (), 2, 1);
     check_eq(&rt, bytes, [1, 0]);
 }

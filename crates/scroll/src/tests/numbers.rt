@@ -5,8 +5,9 @@ ghost use Rattle.scroll.specs.Numbers.{number};
 ghost use Rattle.scroll.specs.declared.endian.Endian.TheVariants.{Big};
 
 use crate::ctx::{FromCtx, IntoCtx, SizeWith, TryFromCtx, TryIntoCtx};
-use crate::tests::results::{check_eq, check_too_big, check_value};
-use crate::{BE, Cread, Cwrite, Endian, Error, LE, Pread, Pwrite, Result};
+use crate::tests::reads::{check_read, check_short_read, check_short_write, check_write};
+use crate::tests::results::check_eq;
+use crate::{BE, Cread, Cwrite, Endian, Error, LE};
 use std::fmt::Debug;
 use std::process::Abort;
 
@@ -25,19 +26,8 @@ where
         + TryIntoCtx<Endian, Error = Error>
         + TryFromCtx<'a, Endian, Error = Error>,
 {
-    let mut target = &mut bytes[..];
-    check_value(rt, target.pwrite_with(value, 0, order), size);
-    check_pread(rt, bytes, order, value);
-}
-
-// Checks that a read at the start of a source returns this number.
-fn check_pread<'a, N: TryFromCtx<'a, Endian, Error = Error> + PartialEq + Debug + Drop>(
-    rt: &impl Abort,
-    source: &'a [u8],
-    order: Endian,
-    wanted: N,
-) {
-    check_value(rt, source.pread_with(0, order), wanted);
+    check_write(rt, bytes, value, 0, order, size);
+    check_read(rt, bytes, 0, order, value, size);
 }
 
 #[test]
@@ -115,32 +105,30 @@ fn test_measurable(rt: HostRuntime) {
 
 #[test]
 fn pread_with_be(rt: HostRuntime) {
-    check_pread(&rt, &[0x7e, 0xef], BE, 0x7eefu16);
-    check_pread(&rt, &[0xde, 0xad], BE, 0xdeadu16);
+    check_read(&rt, &[0x7e, 0xef], 0, BE, 0x7eefu16, 2);
+    check_read(&rt, &[0xde, 0xad], 0, BE, 0xdeadu16, 2);
 }
 
 #[test]
 fn numbers_are_read(rt: HostRuntime) {
-    let bytes: [u8; 4] = [0x80, 0, 0xff, 0xff];
-    check_pread(&rt, &bytes, LE, -128i8);
-    check_pread(&rt, &bytes, BE, -32768i16);
-    check_pread(&rt, &bytes, LE, 128i16);
-    check_pread(&rt, &bytes, LE, -65408i32);
-    let ones = [0xffu8; 16];
-    check_pread(&rt, &ones, BE, u128::MAX);
-    check_pread(&rt, &ones, LE, -1i128);
-    let short: Result<i64> = bytes.pread_with(0, LE);
-    check_too_big(&rt, short, 8, 4);
+    let bytes: &[u8] = &[0x80, 0, 0xff, 0xff];
+    check_read(&rt, bytes, 0, LE, -128i8, 1);
+    check_read(&rt, bytes, 0, BE, -32768i16, 2);
+    check_read(&rt, bytes, 0, LE, 128i16, 2);
+    check_read(&rt, bytes, 0, LE, -65408i32, 4);
+    let ones: &[u8] = &[0xff; 16];
+    check_read(&rt, ones, 0, BE, u128::MAX, 16);
+    check_read(&rt, ones, 0, LE, -1i128, 16);
+    check_short_read::<i64, _>(&rt, bytes, 0, LE, 8, 4);
 }
 
 #[test]
 fn numbers_are_written(rt: HostRuntime) {
     let mut out = [0u8; 16];
-    let mut target = &mut out[..];
-    check_value(&rt, target.pwrite_with(i128::MIN, 0, BE), 16);
-    check_value(&rt, target.pwrite_with(-3000i32, 4, BE), 4);
-    check_value(&rt, target.pwrite_with(-3000i32, 8, LE), 4);
-    check_value(&rt, target.pwrite_with(-2i8, 12, LE), 1);
+    check_write(&rt, &mut out, i128::MIN, 0, BE, 16);
+    check_write(&rt, &mut out, -3000i32, 4, BE, 4);
+    check_write(&rt, &mut out, -3000i32, 8, LE, 4);
+    check_write(&rt, &mut out, -2i8, 12, LE, 1);
     let wanted: [u8; 16] = [
         0x80, 0, 0, 0, 0xff, 0xff, 0xf4, 0x48, 0x48, 0xf4, 0xff, 0xff, 0xfe, 0, 0, 0,
     ];
@@ -150,12 +138,10 @@ fn numbers_are_written(rt: HostRuntime) {
 #[test]
 fn references_write_as_their_numbers(rt: HostRuntime) {
     let mut bytes = [0u8; 2];
-    let mut target = &mut bytes[..];
-    check_value(&rt, target.pwrite_with(&258u16, 0, BE), 2);
+    check_write(&rt, &mut bytes, &258u16, 0, BE, 2);
     check_eq(&rt, bytes, [1, 2]);
     (&-2i16).into_ctx(&mut bytes, LE);
-    let short = (&1u128).try_into_ctx(&mut bytes, LE);
-    check_too_big(&rt, short, 16, 2);
+    check_short_write(&rt, &mut bytes, &1u128, 0, LE, 16, 2);
     check_eq(&rt, bytes, [0xfe, 0xff]);
 }
 
@@ -223,11 +209,15 @@ fn clear_first<T: Cwrite<Endian>>(target: &mut T)
     target.cwrite_with(0u8, 0, BE)
 }
 
+// Checks reads through the bounds.
+fn check_reads(rt: &impl Abort, bytes: &[u8; 4]) {
+    check_eq(rt, at_the_start(&bytes[1..]), 0x0203);
+    check_eq(rt, second_of::<u16>(bytes), 0x0304);
+}
+
 #[test]
 fn through_the_bounds(rt: HostRuntime) {
-    let bytes: [u8; 4] = [1, 2, 3, 4];
-    assert!(rt; at_the_start(&bytes[1..]) == 0x0203);
-    check_eq(&rt, second_of::<u16>(&bytes), 0x0304);
+    check_reads(&rt, &[1, 2, 3, 4]);
     let mut out = [0u8; 4];
     put(&mut out, -2i16);
     put(&mut out[2..], &0x0506u16);

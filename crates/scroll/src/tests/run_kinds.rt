@@ -11,6 +11,24 @@ use std::process::Abort;
 
 const HERE: Place = Place::Cursor;
 
+const TEXTS: [Command<'static>; 9] = [
+    Command::Read(HERE, Kind::Text(StrCtx::DelimiterUntil(b'b', 3))),
+    Command::Read(HERE, Kind::Text(StrCtx::DelimiterUntil(b'b', 1))),
+    Command::Read(HERE, Kind::Text(StrCtx::Delimiter(NULL))),
+    Command::Read(Place::At(0), Kind::Text(StrCtx::Length(2))),
+    Command::Read(Place::At(0), Kind::Text(StrCtx::Length(4))),
+    Command::Write(Place::At(1), Put::Bytes(&[0xff, 0x7a])),
+    Command::Read(Place::At(0), Kind::Text(StrCtx::Delimiter(NULL))),
+    Command::Read(Place::At(1), Kind::Bytes(2)),
+    Command::Read(Place::At(3), Kind::Bytes(0)),
+];
+
+const WRITES: [Command<'static>; 3] = [
+    Command::Write(HERE, Put::Text("abc")),
+    Command::Write(HERE, Put::Text("de")),
+    Command::Write(HERE, Put::Bytes(&[])),
+];
+
 #[test]
 fn texts_and_slices(rt: HostRuntime) {
     check_run(
@@ -18,17 +36,7 @@ fn texts_and_slices(rt: HostRuntime) {
         rt.alloc(),
         [0x61, 0x62, 0x63],
         0,
-        &[
-            Command::Read(HERE, Kind::Text(StrCtx::DelimiterUntil(b'b', 3))),
-            Command::Read(HERE, Kind::Text(StrCtx::DelimiterUntil(b'b', 1))),
-            Command::Read(HERE, Kind::Text(StrCtx::Delimiter(NULL))),
-            Command::Read(Place::At(0), Kind::Text(StrCtx::Length(2))),
-            Command::Read(Place::At(0), Kind::Text(StrCtx::Length(4))),
-            Command::Write(Place::At(1), Put::Bytes(&[0xff, 0x7a])),
-            Command::Read(Place::At(0), Kind::Text(StrCtx::Delimiter(NULL))),
-            Command::Read(Place::At(1), Kind::Bytes(2)),
-            Command::Read(Place::At(3), Kind::Bytes(0)),
-        ],
+        &TEXTS,
         &[
             r#"Read(Text("a"))"#,
             r#"Read(Text("c"))"#,
@@ -48,11 +56,7 @@ fn texts_and_slices(rt: HostRuntime) {
         rt.alloc(),
         [0; 4],
         0,
-        &[
-            Command::Write(HERE, Put::Text("abc")),
-            Command::Write(HERE, Put::Text("de")),
-            Command::Write(HERE, Put::Bytes(&[])),
-        ],
+        &WRITES,
         &[
             "Wrote(3)",
             "Refused(TooBig { size: 2, len: 1 })",
@@ -65,22 +69,21 @@ fn texts_and_slices(rt: HostRuntime) {
 
 // Checks that the answers are a string, a slice and two C strings of these bytes.
 fn check_copies(rt: &impl Abort, answers: &[Answer], bytes: &[u8]) {
-    let [text, slice, borrowed, owned] = answers else {
-        panic!(rt; "expected four copies, got {answers:?}");
-    };
-    match (text, slice, borrowed, owned) {
-        (
-            Answer::Read(Value::Text(text)),
-            Answer::Read(Value::Bytes(slice)),
-            Answer::Read(Value::CStr(borrowed)),
-            Answer::Read(Value::CStr(owned)),
-        ) => {
-            check_eq(rt, text.as_bytes(), bytes);
-            check_eq(rt, slice.as_slice(), bytes);
-            check_eq(rt, borrowed.as_slice(), bytes);
-            check_eq(rt, owned.as_slice(), bytes);
-        }
-        _ => panic!(rt; "expected four copies, got {answers:?}"),
+    check_eq(rt, answers.len(), KINDS.len());
+    for (index, kind) in KINDS.iter().enumerate() {
+        check_eq(rt, copy_of(answers.get(index)), Some((*kind, bytes)));
+    }
+}
+
+const KINDS: [&str; 4] = ["Text", "Bytes", "CStr", "CStr"];
+
+// Returns the kind and the bytes of a copy.
+fn copy_of(answer: Option<&Answer>) -> Option<(&str, &[u8])> {
+    match answer {
+        Some(Answer::Read(Value::Text(text))) => Some(("Text", text.as_bytes())),
+        Some(Answer::Read(Value::Bytes(slice))) => Some(("Bytes", slice.as_slice())),
+        Some(Answer::Read(Value::CStr(text))) => Some(("CStr", text.as_slice())),
+        _ => None,
     }
 }
 

@@ -77,17 +77,21 @@ fn check_block<const N: usize>(rt: &impl Abort, bytes: &[u8; 257])
     let mut source: &[u8] = bytes;
     let read = source.ioread::<Block<N>>();
     check_read(rt, read, source, bytes);
+    check_writes::<N>(rt, bytes);
+}
+
+fn check_writes<const N: usize>(rt: &impl Abort, bytes: &[u8; 257])
+    requires { N ≤ 256 }
+{
     let mut held = [0x77u8; 257];
     let mut target: &mut [u8] = &mut held;
-    check_value(
-        rt,
-        target.iowrite_with(Block::<N>::from_ctx(bytes, ()), ()),
-        (),
-    );
+    let block = Block::<N>::from_ctx(bytes, ());
+    check_value(rt, target.iowrite_with(block, ()), ());
     check_held::<N>(rt, &held, bytes);
     let mut held = [0x77u8; 257];
     let mut target: &mut [u8] = &mut held;
-    check_value(rt, target.iowrite(Block::<N>::from_ctx(bytes, ())), ());
+    let block = Block::<N>::from_ctx(bytes, ());
+    check_value(rt, target.iowrite(block), ());
     check_held::<N>(rt, &held, bytes);
 }
 

@@ -1,8 +1,10 @@
 // Readers and writers that are slow, end early, fail or are interrupted.
 ghost use Rattle.std.specs.Prelude.{◌≤◌};
 
+use crate::ctx::{FromCtx, SizeWith};
 use crate::tests::results::{check_eq, check_value};
 use crate::{BE, Endian, IOread, IOwrite, LE};
+use std::fmt::Debug;
 use std::io::{ErrorKind, Read, Write};
 use std::process::Abort;
 use std::{io, result};
@@ -170,18 +172,27 @@ fn write_slowly(room: usize, fault: Fault, order: Option<Endian>) -> (Outcome<[u
 // Nothing is flushed: the writer would fail, and count a call more.
 #[test]
 fn streams_of_one_byte_a_call(rt: HostRuntime) {
-    let rt = &rt;
     for (order, number, held) in &ORDERS {
         for fault in &HARMLESS {
-            check_eq(rt, read_slowly(&BYTES, *fault, *order).0, Ok(*number));
-            check_eq(rt, write_slowly(4, *fault, *order).0, Ok(*held));
-            check_eq(rt, write_slowly(5, *fault, *order).0, Ok(*held));
-            for len in 0..4 {
-                let source = &BYTES[..len];
-                check_eq(rt, read_slowly(source, *fault, *order).0, Err(ENDED));
-                check_eq(rt, write_slowly(len, *fault, *order).0, Err(FULL));
-            }
+            check_whole(&rt, *fault, *order, *number, held);
+            check_ends(&rt, *fault, *order);
         }
+    }
+}
+
+// Checks streams that are as long as the number, or longer.
+fn check_whole(rt: &impl Abort, fault: Fault, order: Option<Endian>, number: u32, held: &[u8; 5]) {
+    check_eq(rt, read_slowly(&BYTES, fault, order).0, Ok(number));
+    check_eq(rt, write_slowly(4, fault, order).0, Ok(*held));
+    check_eq(rt, write_slowly(5, fault, order).0, Ok(*held));
+}
+
+// Checks streams that end before the number does.
+fn check_ends(rt: &impl Abort, fault: Fault, order: Option<Endian>) {
+    for len in 0..4 {
+        let source = &BYTES[..len];
+        check_eq(rt, read_slowly(source, fault, order).0, Err(ENDED));
+        check_eq(rt, write_slowly(len, fault, order).0, Err(FULL));
     }
 }
 
@@ -190,11 +201,15 @@ fn streams_of_one_byte_a_call(rt: HostRuntime) {
 fn check_cause(rt: &impl Abort, cause: Cause) {
     for (order, _, _) in &ORDERS {
         for at in 1..5 {
-            let fault = Fault::At(at, cause);
-            check_eq(rt, read_slowly(&BYTES, fault, *order), (Err(cause), at));
-            check_eq(rt, write_slowly(5, fault, *order), (Err(cause), at));
+            check_fault(rt, at, cause, *order);
         }
     }
+}
+
+fn check_fault(rt: &impl Abort, at: usize, cause: Cause, order: Option<Endian>) {
+    let fault = Fault::At(at, cause);
+    check_eq(rt, read_slowly(&BYTES, fault, order), (Err(cause), at));
+    check_eq(rt, write_slowly(5, fault, order), (Err(cause), at));
 }
 
 #[test]
@@ -219,28 +234,60 @@ pub fn check_kind<T: Drop>(rt: &impl Abort, outcome: io::Result<T>, wanted: Erro
     }
 }
 
+// Checks the next number of a source, in the default order where none is given, and returns what
+// is left.
+fn take_number<'a, N: FromCtx<Endian> + SizeWith<Endian> + PartialEq + Debug + Drop>(
+    rt: &impl Abort,
+    bytes: &'a [u8],
+    order: Option<Endian>,
+    wanted: N,
+) -> &'a [u8]
+    requires need { (ctx : Endian) → N.need ctx ≤ N.size ctx }
+    requires size { (ctx : Endian) → N.size ctx ≤ 256 }
+{
+    let mut source = bytes;
+    let read = match order {
+        Some(order) => source.ioread_with::<N>(order),
+        None => source.ioread::<N>(),
+    };
+    check_value(rt, read, wanted);
+    source
+}
+
 #[test]
 fn numbers_from_memory(rt: HostRuntime) {
     let rt = &rt;
-    let mut source: &[u8] = &[0xef, 0xbe, 0xb0, 0xb0, 0xfe, 0xed, 0xde, 0xad];
-    check_value(rt, source.ioread_with::<u16>(LE), 48879);
-    check_value(rt, source.ioread::<u8>(), 176);
-    check_value(rt, source.ioread::<u8>(), 176);
-    check_value(rt, source.ioread_with::<u32>(BE), 4277001901);
+    let source: &[u8] = &[0xef, 0xbe, 0xb0, 0xb0, 0xfe, 0xed, 0xde, 0xad];
+    let source = take_number(rt, source, Some(LE), 48879u16);
+    let source = take_number(rt, source, None, 176u8);
+    let source = take_number(rt, source, None, 176u8);
+    let mut source = take_number(rt, source, Some(BE), 4277001901u32);
     check_kind(rt, source.ioread::<u8>(), ErrorKind::UnexpectedEof);
-    let mut source: &[u8] = &[0xef, 0xbe];
-    check_value(rt, source.ioread::<u16>(), 48879);
-    check_eq(rt, source.len(), 0);
+    check_eq(rt, take_number(rt, &[0xef, 0xbe], None, 48879u16), &[]);
     let bytes: &[u8] = &[1, 0, 0, 0, 0, 0, 0, 0, 0xef, 0xbe, 0, 0];
-    let mut source = bytes;
-    check_value(rt, source.ioread::<u64>(), 1);
-    check_value(rt, source.ioread::<u32>(), 48879);
-    let mut source = bytes;
-    check_value(rt, source.ioread_with::<u64>(LE), 1);
+    let source = take_number(rt, bytes, None, 1u64);
+    check_eq(rt, take_number(rt, source, None, 48879u32), &[]);
+    let mut source = take_number(rt, bytes, Some(LE), 1u64);
     check_eq(rt, source.len(), 4);
     check_kind(rt, source.ioread_with::<u64>(LE), ErrorKind::UnexpectedEof);
-    let mut source: &[u8] = &[0; 16];
-    check_value(rt, source.ioread_with::<u128>(LE), 0);
+    check_eq(rt, take_number(rt, &[0; 16], Some(LE), 0u128), &[]);
+}
+
+// Checks what is held after a write of 0xdeadbeef.
+fn check_held(rt: &impl Abort, order: Option<Endian>, held: &[u8; 5]) {
+    let mut bytes = [0x11u8; 5];
+    let mut target: &mut [u8] = &mut bytes;
+    check_value(rt, write_number(&mut target, order), ());
+    check_eq(rt, &bytes, held);
+}
+
+// Checks a write for which there is no room.
+fn check_full(rt: &impl Abort) {
+    let mut bytes = [0u8; 5];
+    let mut target: &mut [u8] = &mut bytes;
+    check_value(rt, target.iowrite(0xdeadbeefu32), ());
+    check_kind(rt, target.iowrite(1u16), ErrorKind::WriteZero);
+    check_eq(rt, &bytes[..4], &[0xef, 0xbe, 0xad, 0xde]);
 }
 
 #[test]
@@ -252,16 +299,9 @@ fn numbers_to_memory(rt: HostRuntime) {
     check_value(rt, target.iowrite_with(0xdeadbeefu32, BE), ());
     check_eq(rt, &bytes, b"hello\xde\xad\xbe\xef\0");
     for (order, _, held) in &ORDERS {
-        let mut bytes = [0x11u8; 5];
-        let mut target: &mut [u8] = &mut bytes;
-        check_value(rt, write_number(&mut target, *order), ());
-        check_eq(rt, &bytes, held);
+        check_held(rt, *order, held);
     }
-    let mut bytes = [0u8; 5];
-    let mut target: &mut [u8] = &mut bytes;
-    check_value(rt, target.iowrite(0xdeadbeefu32), ());
-    check_kind(rt, target.iowrite(1u16), ErrorKind::WriteZero);
-    check_eq(rt, &bytes[..4], &[0xef, 0xbe, 0xad, 0xde]);
+    check_full(rt);
     let mut bytes = [7u8; 16];
     let mut target: &mut [u8] = &mut bytes;
     check_value(rt, target.iowrite_with(0u128, LE), ());

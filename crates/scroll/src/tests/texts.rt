@@ -1,52 +1,68 @@
 // Strings, byte slices and measures: the calls for them, which bytes are strings, and strings whose
 // delimiter the source must contain.
-use crate::ctx::{MeasureWith, NULL, RET, SPACE, StrCtx, TAB};
-use crate::tests::reads::check_read;
+use crate::ctx::{MeasureWith, NULL, RET, SPACE, StrCtx, TAB, TryIntoCtx};
+use crate::tests::reads::{check_read, check_read_past, check_short_read};
 use crate::tests::results::{
     check_bad_input, check_bad_offset, check_eq, check_too_big, check_value,
 };
-use crate::{BE, LE, Pread, Pwrite, Result};
+use crate::{BE, Error, LE, Pread, Pwrite, Result};
+use std::alloc::Global;
 use std::process::Abort;
+
+fn is_delimited_by_zero(ctx: StrCtx) -> bool {
+    match ctx {
+        StrCtx::Delimiter(byte) => byte == 0,
+        _ => false,
+    }
+}
+
+const CONTEXTS: [(StrCtx, usize, bool); 3] = [
+    (StrCtx::Delimiter(NULL), 1, false),
+    (StrCtx::DelimiterUntil(SPACE, 4), 1, false),
+    (StrCtx::Length(3), 0, true),
+];
 
 #[test]
 fn contexts(rt: HostRuntime) {
     let rt = &rt;
-    assert!(rt; matches!(StrCtx::default(), StrCtx::Delimiter(0)));
-    for (ctx, len, is_empty) in &[
-        (StrCtx::Delimiter(NULL), 1, false),
-        (StrCtx::DelimiterUntil(SPACE, 4), 1, false),
-        (StrCtx::Length(3), 0, true),
-    ] {
-        check_eq(rt, ctx.len(), *len);
-        check_eq(rt, ctx.is_empty(), *is_empty);
+    check_eq(rt, is_delimited_by_zero(StrCtx::default()), true);
+    for &(ctx, len, is_empty) in &CONTEXTS {
+        check_eq(rt, (ctx.len(), ctx.is_empty()), (len, is_empty));
     }
     check_eq(rt, [NULL, SPACE, RET, TAB], *b"\0 \n\t");
 }
 
 // (One allocation may fail, so what allocates is called twice.)
-#[test]
-fn test_measure_with_bytes(rt: HostRuntime) {
-    let rt = &rt;
-    let alloc = rt.alloc();
-    let bytes: [u8; 4] = [0xef, 0xbe, 0xad, 0xde];
-    check_eq(rt, bytes.measure_with(&()), 4);
-    let slice = &bytes[1..];
-    check_eq(rt, slice.measure_with(&LE), 3);
+fn check_vector(rt: &impl Abort, alloc: Global, slice: &[u8]) {
     let vector = Vec::from_slice(alloc, slice).or(Vec::from_slice(alloc, slice));
     let vector = vector.expect(rt, "no memory twice");
     check_eq(rt, vector.measure_with(&StrCtx::Length(9)), 3);
-    let text = "h\u{e9}";
-    check_eq(rt, text.measure_with(&()), 3);
+}
+
+fn check_string(rt: &impl Abort, alloc: Global, text: &str) {
     let string = String::from_str(alloc, text).or(String::from_str(alloc, text));
     let string = string.expect(rt, "no memory twice");
     check_eq(rt, string.measure_with(&BE), 3);
 }
 
 #[test]
+fn test_measure_with_bytes(rt: HostRuntime) {
+    let rt = &rt;
+    let bytes: [u8; 4] = [0xef, 0xbe, 0xad, 0xde];
+    check_eq(rt, bytes.measure_with(&()), 4);
+    let slice = &bytes[1..];
+    check_eq(rt, slice.measure_with(&LE), 3);
+    check_vector(rt, rt.alloc(), slice);
+    let text = "h\u{e9}";
+    check_eq(rt, text.measure_with(&()), 3);
+    check_string(rt, rt.alloc(), text);
+}
+
+#[test]
 fn pread_slice(rt: HostRuntime) {
     let rt = &rt;
     let bytes: &[u8] = &[0x7e, 0xef];
-    check_too_big(rt, bytes.pread_with::<&str>(0, StrCtx::Length(3)), 3, 2);
+    check_short_read::<&str, _>(rt, bytes, 0, StrCtx::Length(3), 3, 2);
     check_value(rt, bytes.pread::<&[u8]>(1), &[]);
     check_bad_offset(rt, bytes.pread::<&[u8]>(3), 3);
 }
@@ -55,10 +71,7 @@ fn pread_slice(rt: HostRuntime) {
 fn gread_slice(rt: HostRuntime) {
     let rt = &rt;
     let bytes: &[u8] = &[0x7e, 0xef];
-    let mut offset = 0;
-    let long = bytes.gread_with::<&str>(&mut offset, StrCtx::Length(3));
-    check_too_big(rt, long, 3, 2);
-    check_eq(rt, offset, 0);
+    check_short_read::<&str, _>(rt, bytes, 0, StrCtx::Length(3), 3, 2);
     check_read(rt, b"EBD", 0, StrCtx::Length(2), "EB", 2);
     check_read(rt, bytes, 0, 2, bytes, 2);
 }
@@ -96,8 +109,7 @@ fn pread_str_weird(rt: HostRuntime) {
     let rt = &rt;
     let none: &[u8] = b"";
     check_read(rt, none, 0, StrCtx::Delimiter(NULL), "", 1);
-    let past = none.pread_with::<&str>(7, StrCtx::Delimiter(SPACE));
-    check_bad_offset(rt, past, 7);
+    check_read_past::<&str, _>(rt, none, 7, StrCtx::Delimiter(SPACE));
     let zero: &[u8] = b"\0";
     check_value(rt, zero.pread::<&str>(0), "");
 }
@@ -110,36 +122,42 @@ fn texts_at_the_cursor(rt: HostRuntime) {
     }
 }
 
+// Checks that a text isn't read, and that the cursor is left.
+fn check_bad_text(rt: &impl Abort, bytes: &[u8], ctx: StrCtx, size: usize, msg: &str) {
+    let mut at = 0;
+    check_bad_input(rt, bytes.gread_with::<&str>(&mut at, ctx), size, msg);
+    check_bad_input(rt, bytes.pread_with::<&str>(0, ctx), size, msg);
+    check_eq(rt, at, 0);
+}
+
 #[test]
 fn refused_texts(rt: HostRuntime) {
     let rt = &rt;
-    let mut at = 0;
-    let three: &[u8] = b"a\0c";
-    let short: Result<&str> = three.gread_with(&mut at, StrCtx::DelimiterUntil(NULL, 4));
-    check_too_big(rt, short, 4, 3);
-    let invalid: &[u8] = b"\xffa\0";
-    let invalid: Result<&str> = invalid.gread_with(&mut at, StrCtx::Delimiter(NULL));
-    check_bad_input(rt, invalid, 3, "invalid utf8");
-    let cut: &[u8] = b"\xc3\xa9";
-    let cut: Result<&str> = cut.gread_with(&mut at, StrCtx::Length(1));
-    check_bad_input(rt, cut, 2, "invalid utf8");
-    check_eq(rt, at, 0);
+    let limit = StrCtx::DelimiterUntil(NULL, 4);
+    check_short_read::<&str, _>(rt, b"a\0c", 0, limit, 4, 3);
+    check_bad_text(rt, b"\xffa\0", StrCtx::Delimiter(NULL), 3, "invalid utf8");
+    check_bad_text(rt, b"\xc3\xa9", StrCtx::Length(1), 2, "invalid utf8");
+}
+
+// Checks a write at the start, in the default context.
+fn check_default_write<T: TryIntoCtx<Ctx, Error = Error> + Drop, Ctx: Copy + Default>(
+    rt: &impl Abort,
+    mut target: &mut [u8],
+    value: T,
+    size: usize,
+) {
+    check_value(rt, target.pwrite(value, 0), size);
 }
 
 #[test]
 fn pwrite_str_and_bytes(rt: HostRuntime) {
     let rt = &rt;
     let bytes: &[u8] = b"more\0bytes";
+    let text = "lol hello_world lal\0ala imabytes";
     let mut buffer = [0u8; 33];
-    let mut target: &mut [u8] = &mut buffer;
-    check_value(
-        rt,
-        target.pwrite("lol hello_world lal\0ala imabytes", 0),
-        32,
-    );
+    check_default_write(rt, &mut buffer, text, 32);
     check_read(rt, &buffer, 4, StrCtx::Delimiter(SPACE), "hello_world", 16);
-    let mut target: &mut [u8] = &mut buffer;
-    check_value(rt, target.pwrite(bytes, 0), 10);
+    check_default_write(rt, &mut buffer, bytes, 10);
     check_read(rt, &buffer, 8, StrCtx::Length(6), "esworl", 14);
 }
 
@@ -221,12 +239,11 @@ const NOT_CHARACTERS: [&[u8]; 25] = [
 
 #[test]
 fn edges_of_utf8(rt: HostRuntime) {
-    let rt = &rt;
     for &bytes in &CHARACTERS {
-        check_text(rt, bytes, bytes);
+        check_text(&rt, bytes, bytes);
     }
     for &bytes in &NOT_CHARACTERS {
-        check_text(rt, bytes, b"");
+        check_text(&rt, bytes, b"");
     }
 }
 
@@ -246,9 +263,10 @@ const FORMS: [&[(u8, u8)]; 9] = [
 
 // Returns whether these bytes have one form.
 fn has_form(bytes: &[u8], form: &[(u8, u8)]) -> bool {
-    for (&(low, high), &byte) in form.iter().zip(bytes.iter()) {
-        if byte < low || high < byte {
-            return false;
+    for (index, &byte) in bytes.iter().enumerate() {
+        match form.get(index) {
+            Some(&(low, high)) if low <= byte && byte <= high => {}
+            _ => return false,
         }
     }
     true
@@ -303,26 +321,21 @@ fn texts(rt: HostRuntime) {
     let rt = &rt;
     check_eq(rt, (REQUIRED.len(), REQUIRED.is_empty()), (1, false));
     let source: &[u8] = b"ab\0";
-    let offset = &mut 0;
-    check_value(rt, source.gread_with(offset, REQUIRED), "ab");
+    check_read(rt, source, 0, REQUIRED, "ab", 3);
+    let offset = &mut 3;
     check_bad_input(rt, source.gread_with::<&str>(offset, REQUIRED), 0, MISSING);
     check_eq(rt, *offset, 3);
-    let source: &[u8] = b"ab";
-    check_bad_input(rt, source.pread_with::<&str>(0, REQUIRED), 2, MISSING);
-    check_value(rt, source.pread_with(0, StrCtx::Delimiter(0)), "ab");
-    let source: &[u8] = b"\xffa";
-    check_bad_input(rt, source.pread_with::<&str>(0, REQUIRED), 2, MISSING);
-    let source: &[u8] = b"\xff\0";
-    let text = source.pread_with::<&str>(0, REQUIRED);
-    check_bad_input(rt, text, 2, "invalid utf8");
+    check_bad_text(rt, b"ab", REQUIRED, 2, MISSING);
+    check_read(rt, b"ab", 0, StrCtx::Delimiter(0), "ab", 3);
+    check_bad_text(rt, b"\xffa", REQUIRED, 2, MISSING);
+    check_bad_text(rt, b"\xff\0", REQUIRED, 2, "invalid utf8");
 }
 
 #[test]
 fn arrays_of_texts(rt: HostRuntime) {
     let rt = &rt;
-    let source: &[u8] = b"a\0b\0";
-    check_value(rt, source.pread_with(0, REQUIRED), ["a", "b"]);
+    check_read(rt, b"a\0b\0", 0, REQUIRED, ["a", "b"], 4);
     let source: &[u8] = b"a\0";
     check_bad_input(rt, source.pread_with::<[&str; 2]>(0, REQUIRED), 0, MISSING);
-    check_value(rt, source.pread_with(0, StrCtx::Delimiter(0)), ["a", ""]);
+    check_read(rt, source, 0, StrCtx::Delimiter(0), ["a", ""], 3);
 }
