@@ -3,7 +3,7 @@ ghost use Rattle.std.specs.Prelude.{◌≡◌, ◌≢◌, ℕ, ℤ, [], ◌∷�
 ghost use Rattle.std.specs.String.{string_bytes};
 ghost use Rattle.scroll.specs.Runs.{Copies, ReadsKind, RefusesKind, ReadsHere, RefusesHere, ReadStep, UnlessNoMemory, ReadsWide, is_signed, bytes_in};
 ghost use Rattle.scroll.specs.Arrays.{ReadsArray, RefusesArray};
-ghost use Rattle.scroll.specs.Bytes.{RefusesShort};
+ghost use Rattle.scroll.specs.Bytes.{ReadsFixed, RefusesShort};
 ghost use Rattle.scroll.specs.CStrings.{RefusesCString};
 ghost use Rattle.scroll.specs.Errors.{IsBadOffset, PastEnd};
 ghost use Rattle.scroll.specs.Texts.{ReadsText, RefusesText};
@@ -13,7 +13,7 @@ ghost use Rattle.scroll.specs.declared.runner.Value.TheVariants as value;
 
 use super::{Answer, Kind, Place, Value, Width};
 use crate::cstr::{CStr, CString};
-use crate::ctx::StrCtx;
+use crate::ctx::{Plain, StrCtx};
 use crate::endian::Endian;
 use crate::error::{Error, Result};
 use crate::pread::Pread;
@@ -160,29 +160,51 @@ fn read_number(
         (RefusesShort (bytes_in width)) IsBadOffset buffer.now cursor.old place e cursor.new) }
 {
     match width {
-        Width::U8 => read_at(buffer, cursor, place, order).map(unsigned::<u8>),
-        Width::I8 => read_at(buffer, cursor, place, order).map(signed::<i8>),
-        Width::U16 => read_at(buffer, cursor, place, order).map(unsigned::<u16>),
-        Width::I16 => read_at(buffer, cursor, place, order).map(signed::<i16>),
-        Width::U32 => read_at(buffer, cursor, place, order).map(unsigned::<u32>),
-        Width::I32 => read_at(buffer, cursor, place, order).map(signed::<i32>),
-        Width::U64 => read_at(buffer, cursor, place, order).map(unsigned::<u64>),
-        Width::I64 => read_at(buffer, cursor, place, order).map(signed::<i64>),
-        Width::U128 => read_at(buffer, cursor, place, order).map(Value::Unsigned),
-        Width::I128 => read_at(buffer, cursor, place, order).map(Value::Signed),
+        Width::U8 => read_unsigned::<u8>(buffer, cursor, place, order),
+        Width::I8 => read_signed::<i8>(buffer, cursor, place, order),
+        Width::U16 => read_unsigned::<u16>(buffer, cursor, place, order),
+        Width::I16 => read_signed::<i16>(buffer, cursor, place, order),
+        Width::U32 => read_unsigned::<u32>(buffer, cursor, place, order),
+        Width::I32 => read_signed::<i32>(buffer, cursor, place, order),
+        Width::U64 => read_unsigned::<u64>(buffer, cursor, place, order),
+        Width::I64 => read_signed::<i64>(buffer, cursor, place, order),
+        Width::U128 => read_unsigned::<u128>(buffer, cursor, place, order),
+        Width::I128 => read_signed::<i128>(buffer, cursor, place, order),
     }
 }
 
-fn unsigned<N: Into<u128>>(x: N) -> Value
-    ensures { (wide : ℕ) × N.converts x wide × (result ≡ value.Unsigned wide) }
+fn read_unsigned<N: Plain + Into<u128>>(
+    buffer: &[u8],
+    cursor: &mut usize,
+    place: Place,
+    order: Endian,
+) -> Result<Value>
+    ensures read { IfOk result (λ x. (n : N) × (wide : ℕ) × N.converts n wide
+        × (x ≡ value.Unsigned wide)
+        × ReadsHere (ReadsFixed N.width (λ source. N.makes order source 0))
+        buffer.now cursor.old place n cursor.new) }
+    ensures refused { IfErr result (λ e. RefusesHere
+        (RefusesShort N.width) IsBadOffset buffer.now cursor.old place e cursor.new) }
 {
-    Value::Unsigned(x.into())
+    let n: N = read_at(buffer, cursor, place, order)?;
+    Ok(Value::Unsigned(n.into()))
 }
 
-fn signed<N: Into<i128>>(x: N) -> Value
-    ensures { (wide : ℤ) × N.converts x wide × (result ≡ value.Signed wide) }
+fn read_signed<N: Plain + Into<i128>>(
+    buffer: &[u8],
+    cursor: &mut usize,
+    place: Place,
+    order: Endian,
+) -> Result<Value>
+    ensures read { IfOk result (λ x. (n : N) × (wide : ℤ) × N.converts n wide
+        × (x ≡ value.Signed wide)
+        × ReadsHere (ReadsFixed N.width (λ source. N.makes order source 0))
+        buffer.now cursor.old place n cursor.new) }
+    ensures refused { IfErr result (λ e. RefusesHere
+        (RefusesShort N.width) IsBadOffset buffer.now cursor.old place e cursor.new) }
 {
-    Value::Signed(x.into())
+    let n: N = read_at(buffer, cursor, place, order)?;
+    Ok(Value::Signed(n.into()))
 }
 
 // Reads an array of two strings, and takes it apart, since a `match` can't bind an array of

@@ -1,5 +1,9 @@
 -- One more value is written, where its entry says.
-use Rattle.std.proofs.Common.{◌≡◌, ◌++◌, ◌∷◌, [], inl, inr, arith}
+use Rattle.std.proofs.Common.{◌≡◌, ◌++◌, ◌∷◌, [], inl, inr, arith, subst}
+use Rattle.std.specs.List.{AllZip}
+use Rattle.std.proofs.lemmas.List.{take_all}
+use Rattle.scroll.specs.Arrays.{WritesAll}
+use Rattle.scroll.specs.Many.{StandsAs}
 use Rattle.std.proofs.lemmas.Grind.{common_steps}
 use Rattle.scroll.proofs.lemmas.callers.ManyLemmas.{WritesAll-item, FailsMany-item, StopsBefore-item, AllZip-item, changes-next, changes-before}
 use Rattle.scroll.proofs.many.write_placed.Goals as goal
@@ -35,3 +39,13 @@ loop-k-preserved g c =
           (AllZip-item _ l.entries.items c.in-Ok.entry vs l.k v inside is (l.invariant.kept later (changes-before later w.others same)) (record { there = (read.0, rw entry.place read.2); is = entry.describes }));
       count = grind (arith, common_steps, l.invariant.count);
     }
+
+pub returns-clause-wrote : goal.returns-clause-wrote
+returns-clause-wrote g c =
+    let l = c.loop-k in
+    subst (λ vs. WritesAll (g.T.TryIntoCtx.writes c.args.ctx) c.args.dst.now c.args.offset.now vs l.dst l.offset) (take_all l.k c.args.values.now c.loop-k-test.false) l.invariant.wrote
+
+pub returns-clause-kept : goal.returns-clause-kept
+returns-clause-kept g c =
+    λ later same.
+    subst (λ vs. AllZip (StandsAs (g.T.Kept.reads c.args.ctx) g.P.EntryOf.place g.P.EntryOf.describes later) c.loop-k.entries.items vs) (take_all c.loop-k.k c.args.values.now c.loop-k-test.false) (c.loop-k.invariant.kept later same)

@@ -1,6 +1,7 @@
 use Rattle.std.proofs.Common.{◌≡◌, arith, ◌++◌, ◌∷◌, [], ap, ◌∙◌, sym, subst, get_or, rules}
+use Rattle.std.proofs.lemmas.List.{take_all}
 use Rattle.scroll.proofs.lemmas.HistoryLemmas.{IsRun-none, IsRun-next}
-use Rattle.scroll.specs.Runs.{IsStep}
+use Rattle.scroll.specs.Runs.{IsStep, IsRun}
 use Rattle.scroll.proofs.runner.run.Goals as goal
 
 pub loop-command-init : goal.loop-command-init
@@ -14,3 +15,8 @@ loop-command-preserved c =
     let inv = c.loop-command.invariant in
     let run = IsRun-next _ _ _ _ _ _ _ _ _ _ _ _ _ c.loop-command-test.true inv.0 items step in
     (run, omega (arith, inv.1, c.reserve.ensures.len, c.push_reserved.ensures.len), omega (arith, inv.2, c.reserve.ensures.capacity, c.push_reserved.ensures.capacity))
+
+pub returns-clause-ran : goal.returns-clause-ran
+returns-clause-ran c =
+    let l = c.loop-command in
+    subst (λ commands. IsRun c.args.buffer.now l.buffer c.args.cursor.now l.cursor commands c.args.answers.now.items l.answers.items) (take_all l.command-index c.args.commands.now c.loop-command-test.false) l.invariant.0

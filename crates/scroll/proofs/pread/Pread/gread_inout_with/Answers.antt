@@ -1,5 +1,5 @@
 use Rattle.std.proofs.Common.{◌+◌, ◌<◌, length, arith, ◌∙◌}
-use Rattle.std.proofs.lemmas.List.{take_more_set, drop-set-lt}
+use Rattle.std.proofs.lemmas.List.{take_more_set, drop-set-lt, take_all}
 use Rattle.std.proofs.Math.ListN.{length-set}
 use Rattle.scroll.proofs.lemmas.ArrayLemmas.{drop-next}
 use Rattle.scroll.proofs.lemmas.callers.Cursors.{ReadsAll-push}
@@ -16,3 +16,7 @@ loop-i-preserved g c =
       others = drop-set-lt (c.loop-i.i + 1) c.loop-i.inout c.loop-i.i c.in_ok-inout.field-0 (omega arith)
           ∙ drop-next c.loop-i.i _ _ c.loop-i.invariant.others;
     }
+
+pub returns-clause-read : goal.returns-clause-read
+returns-clause-read g c =
+    rw (take_all c.loop-i.i c.loop-i.inout (omega (arith, c.loop-i.invariant.len))) at c.loop-i.invariant.prefix

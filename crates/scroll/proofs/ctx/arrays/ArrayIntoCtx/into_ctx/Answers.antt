@@ -1,5 +1,5 @@
 use Rattle.std.proofs.Common.{◌≡◌, ◌+◌, ◌++◌, [], ◌∷◌, length, take, get_or, rules, arith}
-use Rattle.std.proofs.lemmas.Grind.{take_at_read}
+use Rattle.std.proofs.lemmas.Grind.{take_at_read, common_steps}
 use Rattle.std.proofs.lemmas.List.{length-take-le}
 use Rattle.scroll.proofs.lemmas.ArrayLemmas.{OverwritesAll-next}
 use Rattle.scroll.proofs.ctx.arrays.ArrayIntoCtx.into_ctx.Goals as goal
@@ -16,3 +16,6 @@ loop-i-preserved g c =
       put = rw more (OverwritesAll-next w (g.T.IntoCtx.overwrites c.args.ctx) _ (take i xs) _ x _ i len c.loop-i.invariant.put c.put_element.ensures);
       len = search rules;
     }
+
+pub returns : goal.returns
+returns g c = grind (arith, common_steps)

@@ -22,3 +22,9 @@ loop-i-preserved g c =
     let more : flat_map f (take (c.loop-i.i + 1) xs) ≡ flat_map f before ++ f x =
     ap (flat_map f) (take_at_read xs c.loop-i.i c.index-self-i.result c.loop-i-test.true).1 ∙ sym (flat_map_more f [] before x) in
     rw (size, more) (grow (f x) c.loop-i.invariant refl c.put_behind.ensures.before c.put_behind.ensures.after)
+
+pub overflow_add-offset : goal.overflow_add-offset
+overflow_add-offset g c = grind (arith, common_steps)
+
+pub returns : goal.returns
+returns g c = grind (arith, common_steps)
