@@ -115,7 +115,8 @@ def pack(names: List[str], tree: Path) -> None:
 
 def named_proofs(crate: Path) -> List[str]:
     """Returns the lines that name a proof of the library that isn't for callers."""
-    lines = [(it, line) for it in crate.rglob("*.*t*") if it.is_file() for line in it.read_text(encoding="utf-8").splitlines()]
+    files = [it for part in ("src", "specs", "proofs") for it in (crate / part).rglob("*.*t*") if it.is_file()]
+    lines = [(it, line) for it in files for line in it.read_text(encoding="utf-8").splitlines()]
     return [f"    {it.relative_to(crate)}: {line}" for it, line in lines if PROOF.search(line)]
 
 

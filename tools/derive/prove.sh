@@ -4,7 +4,7 @@
 #     sh tools/derive/prove.sh
 #
 # It copies the files, and the checks of the tests from clients/examples, adds the printed blocks after the structs and the printed
-# files to specs/, runs gate/clients.py on them, and keeps nothing. The output and the exit status are those of gate/clients.py.
+# files to specs/, and runs gate/clients.py on them. The output and the exit status are those of gate/clients.py.
 set -u
 
 top=$(CDPATH='' cd -- "$(dirname -- "$0")/../.." && pwd) || exit 1
