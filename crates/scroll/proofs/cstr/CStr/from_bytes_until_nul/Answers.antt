@@ -16,3 +16,9 @@ invariant_of-result c =
     let within = index_of-le 0 c.args.bytes.now in
     let found : index_of 0 c.args.bytes.now < length c.args.bytes.now = grind arith in
     record { one_zero = rw c.index_of-index.ensures (IsCString-prefix c.args.bytes.now found) }
+
+pub returns-clause-found : goal.returns-clause-found
+returns-clause-found c = grind (arith, common_steps)
+
+pub returns-clause-text : goal.returns-clause-text
+returns-clause-text c = grind (arith, common_steps)

@@ -2,6 +2,7 @@ use Rattle.std.proofs.Common.{◌≡◌, length, inr, refl, arith}
 use Rattle.scroll.proofs.lemmas.TextLemmas.{IsCString-push}
 use Rattle.scroll.specs.lemmas.Frames.{index_of-le}
 use Rattle.scroll.specs.Texts.{index_of}
+use Rattle.std.proofs.lemmas.Grind.{common_steps}
 use Rattle.scroll.proofs.cstr.CString.new.Goals as goal
 
 pub invariant_of-result : goal.invariant_of-result
@@ -15,3 +16,9 @@ returns-in-Err-clause-refused c =
     let within = index_of-le 0 c.args.text.now in
     let none : index_of 0 c.args.text.now ≡ length c.args.text.now = omega (arith, c.index_of-index.ensures) in
     inr (none, refl)
+
+pub returns-in-Ok-clause-text : goal.returns-in-Ok-clause-text
+returns-in-Ok-clause-text c = grind (arith, common_steps)
+
+pub returns-in-Ok-clause-no_zero : goal.returns-in-Ok-clause-no_zero
+returns-in-Ok-clause-no_zero c = grind (arith, common_steps)

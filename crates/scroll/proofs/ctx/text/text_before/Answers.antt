@@ -4,6 +4,7 @@ use Rattle.scroll.specs.Texts.{index_of}
 use Rattle.scroll.specs.lemmas.Frames.{index_of-le}
 use Rattle.scroll.proofs.lemmas.SearchLemmas.{prefix_is_ascii, ends_there, ends_further}
 use Rattle.scroll.proofs.ctx.text.text_before.Goals as goal
+use Rattle.scroll.proofs.lemmas.TextLemmas.{index_ofs}
 use Rattle.scroll.proofs.ctx.text.text_before.Goals.{then-stop-source-via-then-stop-source, then-stop-source-via-else-stop-source+then-source-stop}
 
 pub text_of_ascii-requires : goal.text_of_ascii-requires
@@ -28,3 +29,6 @@ slice_bounds-from_utf8-end c =
     let s = c.args.source.now in
     let index : c.first_stop-stop.result + c.index_of.result ≡ index_of c.args.delimiter s = ends_further c.args.delimiter s c.first_stop-stop.result c.index_of.result c.first_stop-stop.ensures.index c.first_stop-stop.ensures.within c.index_of.ensures in
     sym (length-take-le (c.first_stop-stop.result + c.index_of.result) s (omega (arith, index, index_of-le c.args.delimiter s)))
+
+pub overflow_add-index : goal.overflow_add-index
+overflow_add-index c = grind (arith, index_ofs)

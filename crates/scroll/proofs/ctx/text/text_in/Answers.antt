@@ -1,4 +1,5 @@
-use Rattle.scroll.proofs.lemmas.TextLemmas.{take-until}
+use Rattle.scroll.proofs.lemmas.TextLemmas.{take-until, index_ofs}
+use Rattle.std.proofs.Common.{arith}
 use Rattle.scroll.proofs.ctx.text.text_in.Goals as goal
 
 pub returns-in_ok-check_room-in-DelimiterUntil-clause-text : goal.returns-in_ok-check_room-in-DelimiterUntil-clause-text
@@ -12,3 +13,6 @@ returns-in_ok-check_room-in-DelimiterUntil-clause-none c =
     let at = c.in-DelimiterUntil in
     let found = c.text_before-in-DelimiterUntil in
     rw (at.is, ← take-until at.delimiter at.limit found.result.0 c.args.from.now found.ensures.index) found.ensures.none
+
+pub returns-else-index-from-clause-there : goal.returns-else-index-from-clause-there
+returns-else-index-from-clause-there c = grind (arith, index_ofs)
