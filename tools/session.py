@@ -28,9 +28,9 @@ UNUSED = """
     cstr/of_std ctx/encode ctx/fixed/arrays ctx/measure ctx/numbers/floats ctx/optional ctx/std_c_strings ctx/table ctx/tuples ctx/until
     greater laws lesser lists many pwrite/owned tests
 """.split()
-# The processor seconds of each proof, and of what goes before it on one processor, as a first estimate of the time.
-WORK = {"scroll": 280, "scroll_run": 220}
-ALONE = 20
+# The processor seconds of each proof by four jobs, and the seconds of what one processor does alone, for a first estimate.
+WORK = {"scroll": 640, "scroll_run": 480}
+ALONE = 40
 FAR = re.compile(r"so far: (\d+) of (\d+) functions checked")
 PAUSE = 10
 
