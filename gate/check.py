@@ -187,13 +187,14 @@ def list_steps(groups: Sequence[str], workers: int, anew: str) -> List[Step]:
         steps += [Step("python3 gate/docs.py", 1), Step("python3 gate/pages.py", 1), Step("sh tools/derive/check.sh", 1)]
         steps += [
             Step(library, workers),
-            Step(f"{PROVE} tests", half + 1, (library,), "tests", "crates/scroll/out/scroll_tests"),
+            # (the longest first)
+            Step(f"{PROVE} tests", half, (library,), "tests", "crates/scroll/out/scroll_tests"),
+            Step("sh tools/derive/prove.sh", half, (library,)),
             Step(program, half, (library,)),
             Step(f"{PROGRAM} tests", half, (program,)),
             Step("python3 gate/faults.py", half, (program, f"{PROVE} tests")),
         ]
         steps += [Step(f"python3 gate/clients.py {it}", 1, (library,)) for it in list_clients()]
-        steps.append(Step("sh tools/derive/prove.sh", 1, (library,)))
         # (it goes on with what the proofs of two clients kept)
         steps.append(Step("python3 gate/embed.py", 1, tuple(f"python3 gate/clients.py {it}" for it in ("zip", "object_files"))))
         steps.append(Step("python3 gate/misuse.py", 1, (library,)))
