@@ -9,7 +9,7 @@ documentation are the tests of the crate `documented`, which gate/documented.py 
 
 The library is proved in this repository first, by `rt lib` over what its out/ keeps, and its build is then copied too, so that
 it isn't proved twice; with FROM_NOTHING=1 it is proved only in the new repository. The first command likewise goes on with what
-both crates' out/ keeps, where its own has nothing. Each of these is a check.
+both crates' out/ keeps. Each of these is a check.
 """
 
 import os
@@ -46,13 +46,13 @@ def count(step: Step, what: str, is_well: bool, ran: Ran = Ran(0, "")) -> None:
 
 def run_program(step: Step) -> None:
     """README's first command prints what the stored run must, of a program that is proved."""
-    copy = TOP / "out" / "session"
+    copy = step.room / "session"
     for crate in ("scroll", "scroll_run"):
         kept = TOP / "crates" / crate / "out" / "incremental"
         to = copy / "crates" / crate / "out" / "incremental"
-        if kept.is_dir() and not to.exists() and os.environ.get("FROM_NOTHING") != "1":
+        if kept.is_dir() and os.environ.get("FROM_NOTHING") != "1":
             copy_kept(kept, to)
-    status, said = step.call("sh", "-euc", blocks_of("sh", COMMANDS)[0].splitlines()[0], cwd=TOP, stderr=subprocess.DEVNULL)
+    status, said = step.call("sh", "-euc", blocks_of("sh", COMMANDS)[0].splitlines()[0], cwd=TOP, env={**os.environ, "ROOM": str(copy)}, stderr=subprocess.DEVNULL)
     ran = Ran(status, (copy / "said.txt").read_text(encoding="utf-8"))
     is_well = not status and said == (TOP / "crates" / "scroll_run" / "stdout").read_bytes()
     count(step, "run the first command", is_well and len(re.findall(r"(?m)^logic=proved ", ran.said)) == 2, ran)

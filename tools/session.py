@@ -4,13 +4,15 @@
     python3 tools/session.py < crates/scroll_run/stdin
 
 All that runs is proved. The library's modules of which the program uses nothing, UNUSED, are left out of the copy that is proved,
-in out/session/, as are the tests; gate/check.py proves these too. What was proved once is kept there, so that a second run only
-runs the program.
+as are the tests; gate/check.py proves these too. The copy is in the user's cache, or in the folder that the variable ROOM names,
+since `rt` would take it for crates of this repository. What was proved once is kept there, so that a second run only runs the
+program.
 
 Standard output is the program's. On standard error stands how far the proof is and how long it may still take. The exit status is
-the program's, or 1 where it isn't proved; out/session/said.txt then says why.
+the program's, or 1 where it isn't proved; a file that is then named says why.
 """
 
+import hashlib
 import os
 import re
 import shutil
@@ -22,7 +24,8 @@ from pathlib import Path
 from typing import Dict
 
 TOP = Path(__file__).resolve().parents[1]
-COPY = TOP / "out" / "session"
+CACHE = Path(os.environ.get("XDG_CACHE_HOME") or Path.home() / ".cache") / "scroll_run"
+COPY = Path(os.environ.get("ROOM") or CACHE / hashlib.sha256(str(TOP).encode()).hexdigest()[:16])
 SAID = COPY / "said.txt"
 UNUSED = """
     cstr/of_std ctx/encode ctx/fixed/arrays ctx/measure ctx/numbers/floats ctx/optional ctx/std_c_strings ctx/table ctx/tuples ctx/until
