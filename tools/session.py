@@ -31,7 +31,7 @@ UNUSED = """
     cstr/of_std ctx/encode ctx/fixed/arrays ctx/measure ctx/numbers/floats ctx/optional ctx/std_c_strings ctx/table ctx/tuples ctx/until
     greater laws lesser lists many pwrite/owned tests
 """.split()
-# The processor seconds of each proof by four jobs, and the seconds of what one processor does alone, for a first estimate.
+# A first guess, from one run by four jobs: the processor seconds of each proof, and the seconds of what one processor does alone.
 WORK = {"scroll": 640, "scroll_run": 480}
 ALONE = 40
 FAR = re.compile(r"so far: (\d+) of (\d+) functions checked")
