@@ -21,7 +21,7 @@ import sys
 import threading
 import time
 from pathlib import Path
-from typing import Dict
+from typing import Dict, Sequence
 
 TOP = Path(__file__).resolve().parents[1]
 CACHE = Path(os.environ.get("XDG_CACHE_HOME") or Path.home() / ".cache") / "scroll_run"
@@ -29,8 +29,13 @@ COPY = Path(os.environ.get("ROOM") or CACHE / hashlib.sha256(str(TOP).encode()).
 SAID = COPY / "said.txt"
 UNUSED = """
     cstr/of_std ctx/encode ctx/fixed/arrays ctx/measure ctx/numbers/floats ctx/optional ctx/std_c_strings ctx/table ctx/tuples ctx/until
-    greater laws lesser lists many pwrite/owned tests
+    ctx/zeros greater laws lesser lists located many pwrite/owned small_error tests
 """.split()
+# Files of specs/ and proofs/ of which it uses nothing.
+UNUSED_WORDS = """
+    Many SmallErrors Streams Tagged lemmas/ZerosLemmas lemmas/callers/ManyLemmas lemmas/callers/Sequences lemmas/callers/TaggedLemmas
+""".split()
+ROOTS = ("lib.rt", "main.rt", "Lib.antt")
 # A first guess, from one run by four jobs: the processor seconds of each proof, and the seconds of what one processor does alone.
 WORK = {"scroll": 640, "scroll_run": 480}
 ALONE = 40
@@ -40,25 +45,32 @@ PAUSE = 10
 
 def without(text: str, module: str) -> str:
     """The text of a file without the declaration of a module and what it exports of it."""
-    text = re.sub(rf"(?m)^(?:#\[cfg\(test\)\]\n)?(?:pub )?mod {module};\n", "", text)
+    text = re.sub(rf"(?m)^(?:#\[cfg\(test\)\]\n)?(?:pub )?mod {module};?\n", "", text)
     return re.sub(rf"(?m)^pub use (?:crate::|self::)?{module}::(?:\w+|\{{[^}}]*\}});\n", "", text)
+
+
+def is_below(path: Path, modules: Sequence[str]) -> bool:
+    return any(f"{path.with_suffix('')}/".startswith(f"{it}/") for it in modules)
 
 
 def wanted_files() -> Dict[Path, str]:
     """The texts of the copy's files."""
     files = {Path(it): (TOP / it).read_text(encoding="utf-8") for it in ("crates.txt", "HANDLES")}
     for crate in WORK:
-        for part in ("src", "specs", "proofs"):
-            for file in (TOP / "crates" / crate / part).rglob("*.*t*"):
-                path = file.relative_to(TOP / "crates" / crate / part)
-                if not any(f"{path.with_suffix('')}/".startswith(f"{it}/") for it in UNUSED) or part == "specs":
-                    files[file.relative_to(TOP)] = file.read_text(encoding="utf-8")
-        for module in UNUSED:
-            above, _, name = f"/{module}".rpartition("/")
-            for root in (f"{above[1:]}.rt",) if above else ("lib.rt", "main.rt"):
-                path = Path("crates") / crate / "src" / root
-                if path in files:
-                    files[path] = without(files[path], name)
+        for part, unused in {"src": UNUSED, "specs": UNUSED_WORDS, "proofs": UNUSED + UNUSED_WORDS}.items():
+            folder = Path("crates") / crate / part
+            for file in (TOP / folder).rglob("*.*t*"):
+                path = file.relative_to(TOP / folder)
+                if not is_below(path, unused):
+                    files[folder / path] = file.read_text(encoding="utf-8")
+            for module in unused:
+                above, _, name = module.rpartition("/")
+                for root in [folder / f"{above}{end}" for end in (".rt", ".antt")] if above else [folder / it for it in ROOTS]:
+                    if root in files:
+                        files[root] = without(files[root], name)
+    # (nothing of the program prints a value's parts, but for the trait `Error`)
+    for path in [it for it in files if it.suffix == ".rt" and it.stem != "error"]:
+        files[path] = re.sub(r"(?m)^(#\[derive\(.*?)(?:, Debug\b|\bDebug, )", r"\1", files[path])
     return files
 
 

@@ -1,6 +1,7 @@
 pub mod NumberLemmas
 pub mod ArrayLemmas
 pub mod TextLemmas
+pub mod ZerosLemmas
 pub mod WordLemmas
 pub mod SearchLemmas
 pub mod HistoryLemmas

@@ -9,6 +9,7 @@ pub mod Bytes
 pub mod Numbers
 pub mod Fixed
 pub mod Errors
+pub mod SmallErrors
 pub mod Reads
 pub mod Writes
 pub mod Texts

@@ -1,6 +1,6 @@
 // The errors of reads and writes of bytes, in few bytes.
 ghost use Rattle.std.specs.Prelude.{◌≡◌};
-ghost use Rattle.scroll.specs.Errors.{small_error, IsErrorOf};
+ghost use Rattle.scroll.specs.SmallErrors.{small_error, IsErrorOf};
 
 use crate::error::Error;
 use crate::located::At;
@@ -24,7 +24,7 @@ pub enum SmallError {
 }
 
 impl fmt::Display for SmallError {
-    ghost use Rattle.scroll.specs.Errors.{small_line_of};
+    ghost use Rattle.scroll.specs.SmallErrors.{small_line_of};
 
     ghost output = { small_line_of };
 

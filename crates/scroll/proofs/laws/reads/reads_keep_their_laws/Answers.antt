@@ -1,7 +1,8 @@
 use Rattle.std.proofs.Common.{ℕ, arith, take}
 use Rattle.scroll.proofs.lemmas.callers.OneAnswer.{one-at, one-prefix, reader-within, reader-sized, reader-nested}
 use Rattle.scroll.proofs.lemmas.LebReadLemmas.{local-uleb, local-sleb, one-uleb, one-sleb}
-use Rattle.scroll.proofs.lemmas.TextLemmas.{local-zeros, within-zeros, one-zeros, local-c_string, within-c_string, one-c_string, local-slice, local-text, within-length, one-text}
+use Rattle.scroll.proofs.lemmas.ZerosLemmas.{local-zeros, one-zeros, within-zeros}
+use Rattle.scroll.proofs.lemmas.TextLemmas.{local-c_string, within-c_string, one-c_string, local-slice, local-text, within-length, one-text}
 use Rattle.scroll.specs.Bytes.{RefusesShort}
 use Rattle.scroll.specs.CStrings.{ReadsCString, RefusesCString}
 use Rattle.scroll.specs.Laws.{IsReader, IsReaderWithin}
