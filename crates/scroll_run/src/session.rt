@@ -50,16 +50,12 @@ pub fn session<M: Memory, R: Read, W: Write>(
         Err(ReadError::NoMemory) => Err(AllocError),
         Err(ReadError::Io(error)) => return Err(error),
     };
-    match &outcome {
-        Ok(outcome) => {
-            write_output(output, outcome.text.as_bytes())?;
-            Ok(outcome.status)
-        }
-        Err(_) => {
-            write_output(output, b"out of memory\n")?;
-            Ok(NO_MEMORY)
-        }
-    }
+    let (text, status) = match &outcome {
+        Ok(outcome) => (outcome.text.as_bytes(), outcome.status),
+        Err(_) => (b"out of memory\n".as_slice(), NO_MEMORY),
+    };
+    write_output(output, text)?;
+    Ok(status)
 }
 
 // Returns the output and the status for an input.
