@@ -3,10 +3,10 @@
 
     python3 tools/session.py < crates/scroll_run/stdin
 
-All that runs is proved. The library's modules of which the program uses nothing, UNUSED, are left out of the copy that is proved,
-as are the tests; gate/check.py proves these too. The copy is in the user's cache, or in the folder that the variable ROOM names,
-since `rt` would take it for crates of this repository. What was proved once is kept there, so that a second run only runs the
-program.
+All that runs is proved. What the program doesn't use is left out of the copy that is proved: the tests, the modules UNUSED and the
+derived `Debug`s of the library, and what proves these; gate/check.py proves them too. The copy is in the user's cache, or in the
+folder that the variable ROOM names, since `rt` would take it for crates of this repository. What was proved once is kept there, so
+that a second run only runs the program.
 
 Standard output is the program's. On standard error stands how far the proof is and how long it may still take. The exit status is
 the program's, or 1 where it isn't proved; a file that is then named says why.
