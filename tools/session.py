@@ -20,10 +20,14 @@ import subprocess
 import sys
 import threading
 import time
+from concurrent.futures import ThreadPoolExecutor
 from pathlib import Path
-from typing import Dict, Sequence
+from typing import Dict, List, Sequence, Tuple
 
 TOP = Path(__file__).resolve().parents[1]
+sys.path.append(str(TOP / "gate"))
+
+import step
 CACHE = Path(os.environ.get("XDG_CACHE_HOME") or Path.home() / ".cache") / "scroll_run"
 COPY = Path(os.environ.get("ROOM") or CACHE / hashlib.sha256(str(TOP).encode()).hexdigest()[:16])
 SAID = COPY / "said.txt"
@@ -36,10 +40,23 @@ UNUSED_WORDS = """
     Many SmallErrors Streams Tagged lemmas/ZerosLemmas lemmas/callers/ManyLemmas lemmas/callers/Sequences lemmas/callers/TaggedLemmas
 """.split()
 ROOTS = ("lib.rt", "main.rt", "Lib.antt")
+# Modules that are proved side by side, by a process for each row. (By itself, rt proves functions in waves, those that are called
+# first, and leaves processors idle at the end of each.)
+PARTS = {
+    "scroll": [
+        "ctx::arrays ctx::bytes ctx::fixed ctx::numbers",
+        "leb128::block leb128::by_loads leb128::bytewise leb128::groups",
+        "cstr ctx::c_strings ctx::str_ctx ctx::text pread search slice",
+        "endian error leb128::write loads pwrite source",
+    ],
+    "scroll_run": ["kinds", "puts", "answers input output", "commands::borrow_commands lines::parse_buffer lines::parse_cursor memory words"],
+}
 # A first guess, from one run by four jobs: the processor seconds of each proof, and the seconds of what one processor does alone.
-WORK = {"scroll": 640, "scroll_run": 480}
+WORK = {"scroll": 480, "scroll_run": 340}
 ALONE = 40
-FAR = re.compile(r"so far: (\d+) of (\d+) functions checked")
+# The share of a proof that is in its parts.
+SHARE = 0.7
+FAR = re.compile(r"^(?:so far: |checked .*, )(\d+) of (\d+)\b")
 PAUSE = 10
 
 
@@ -93,6 +110,7 @@ class Clock:
     def __init__(self) -> None:
         self.begun = time.time()
         self.done = 0.0
+        self.far: Dict[Tuple[str, str], float] = {}
         self.ended = threading.Event()
         threading.Thread(target=self.tell, daemon=True).start()
 
@@ -105,25 +123,48 @@ class Clock:
             left = gone * (1 - self.done) / self.done if self.done > 0.2 else max(guess - gone, 10)
             print(f"session: {self.done:.0%} is proved, about {left:.0f} s are left", file=sys.stderr, flush=True)
 
-    def read(self, crate: str, line: str) -> None:
-        """Reads off a line how far the proof of a crate is."""
+    def read(self, crate: str, part: str, line: str) -> None:
+        """Reads off a line how far the proof of a part of a crate is, or of the whole, whose name is empty."""
         found = FAR.search(line)
         if found:
-            before = sum(WORK[it] for it in list(WORK)[: list(WORK).index(crate)])
-            self.done = (before + WORK[crate] * int(found[1]) / int(found[2])) / sum(WORK.values())
+            self.far[crate, part] = int(found[1]) / int(found[2])
+            self.done = sum(WORK[it] * self.share(it) for it in WORK) / sum(WORK.values())
         if line.startswith("rt: running"):
             self.ended.set()
 
+    def share(self, crate: str) -> float:
+        parts = [self.far.get((crate, it), 0) for it in PARTS[crate]]
+        whole = self.far.get((crate, ""), 0)
+        if crate != list(WORK)[-1] and any(it != crate for it, _ in self.far):
+            return 1
+        return SHARE * sum(parts) / len(parts) + (1 - SHARE) * whole if any(parts) else whole
 
-def run(clock: Clock, crate: str, command: str, **pipes: object) -> int:
-    """Runs a command of rt in a crate of the copy, and returns its status. What it says goes to a file."""
-    with subprocess.Popen(["rt", command], cwd=COPY / "crates" / crate, text=True, errors="replace", **pipes) as ran:
+
+def run(clock: Clock, crate: str, words: List[str], part: str = "", **pipes: object) -> int:
+    """Runs a command in a crate of the copy, and returns its status. What it says goes to a file."""
+    with subprocess.Popen(words, cwd=COPY / "crates" / crate, text=True, errors="replace", **pipes) as ran:
         with SAID.open("a", encoding="utf-8") as said:
             for line in ran.stdout or ran.stderr or ():
                 said.write(line)
                 said.flush()
-                clock.read(crate, line)
+                clock.read(crate, part, line)
     return ran.returncode
+
+
+def prove_parts(clock: Clock, crate: str) -> None:
+    """Proves the parts of a crate side by side, if there are processors and memory for all. The proof of the whole begins with what
+    they keep, and judges alone."""
+    kept = COPY / "crates" / crate / "out" / "incremental"
+    if any(kept.rglob("*.oantt")) or step.count_workers() < len(PARTS[crate]):
+        return
+    kept.mkdir(parents=True, exist_ok=True)
+
+    def prove(part: str) -> int:
+        words = [*step.check_command(crate, kept, 1), "--progress", *(word for it in part.split() for word in ("--only", it))]
+        return run(clock, crate, words, part, stdin=subprocess.DEVNULL, stdout=subprocess.PIPE, stderr=subprocess.STDOUT)
+
+    with ThreadPoolExecutor(len(PARTS[crate])) as pool:
+        list(pool.map(prove, PARTS[crate]))
 
 
 def main() -> int:
@@ -133,10 +174,13 @@ def main() -> int:
     bring_up_to_date()
     SAID.unlink(missing_ok=True)
     clock = Clock()
+    step.TOP = COPY
+    prove_parts(clock, "scroll")
     # (`rt run` alone would first read all of the sources to say what is wrong before any proof.)
-    status = run(clock, "scroll", "lib", stdin=subprocess.DEVNULL, stdout=subprocess.PIPE, stderr=subprocess.STDOUT)
+    status = run(clock, "scroll", ["rt", "lib"], stdin=subprocess.DEVNULL, stdout=subprocess.PIPE, stderr=subprocess.STDOUT)
     if not status:
-        status = run(clock, "scroll_run", "run", stderr=subprocess.PIPE)
+        prove_parts(clock, "scroll_run")
+        status = run(clock, "scroll_run", ["rt", "run"], stderr=subprocess.PIPE)
     if clock.ended.is_set():
         return status
     print(f"session: it isn't proved, see {SAID}", file=sys.stderr)
