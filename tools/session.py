@@ -28,6 +28,7 @@ TOP = Path(__file__).resolve().parents[1]
 sys.path.append(str(TOP / "gate"))
 
 import step
+
 CACHE = Path(os.environ.get("XDG_CACHE_HOME") or Path.home() / ".cache") / "scroll_run"
 COPY = Path(os.environ.get("ROOM") or CACHE / hashlib.sha256(str(TOP).encode()).hexdigest()[:16])
 SAID = COPY / "said.txt"
@@ -51,7 +52,7 @@ PARTS = {
     ],
     "scroll_run": ["kinds", "puts", "answers input output", "commands::borrow_commands lines::parse_buffer lines::parse_cursor memory words"],
 }
-# A first guess, from one run by four jobs: the processor seconds of each proof, and the seconds of what one processor does alone.
+# A first guess: the processor seconds of each proof, and the seconds of what one processor does alone.
 WORK = {"scroll": 480, "scroll_run": 340}
 ALONE = 40
 # The share of a proof that is in its parts.
@@ -128,16 +129,13 @@ class Clock:
         found = FAR.search(line)
         if found:
             self.far[crate, part] = int(found[1]) / int(found[2])
-            self.done = sum(WORK[it] * self.share(it) for it in WORK) / sum(WORK.values())
+            parts = sum(self.far.get((crate, it), 0) for it in PARTS[crate]) / len(PARTS[crate])
+            whole = self.far.get((crate, ""), 0)
+            here = SHARE * parts + (1 - SHARE) * whole if parts else whole
+            before = sum(WORK[it] for it in list(WORK)[: list(WORK).index(crate)])
+            self.done = (before + WORK[crate] * here) / sum(WORK.values())
         if line.startswith("rt: running"):
             self.ended.set()
-
-    def share(self, crate: str) -> float:
-        parts = [self.far.get((crate, it), 0) for it in PARTS[crate]]
-        whole = self.far.get((crate, ""), 0)
-        if crate != list(WORK)[-1] and any(it != crate for it, _ in self.far):
-            return 1
-        return SHARE * sum(parts) / len(parts) + (1 - SHARE) * whole if any(parts) else whole
 
 
 def run(clock: Clock, crate: str, words: List[str], part: str = "", **pipes: object) -> int:
