@@ -16,16 +16,11 @@ import os
 import re
 import subprocess
 import sys
-from pathlib import Path
 from typing import List
 
 import documented
 import markdown
 from step import TOP, Ran, Step, Stop, copy_kept, run_step
-
-sys.path.append(str(TOP / "tools"))
-
-import session
 
 FIRST = "One file to paste"
 OWN = "A format of your own"
@@ -62,15 +57,6 @@ def run_program(step: Step) -> None:
     is_well = not status and said == (TOP / "crates" / "scroll_run" / "stdout").read_bytes()
     # (`rt lib` prints no verdict where it takes the build that another checkout on this machine made of the same text)
     count(step, "run the first command", is_well and len(re.findall(r"(?m)^logic=proved ", ran.said)) in (1, 2), ran)
-    lost = [f"{crate}: {it}" for crate, parts in session.PARTS.items() for it in " ".join(parts).split() if not is_there(copy / "crates" / crate / "src", it)]
-    count(step, "find the parts of the first command", not lost, Ran(1, "\n".join(lost)))
-
-
-def is_there(src: Path, name: str) -> bool:
-    """Returns whether there is a module or a function of this name."""
-    path = src.joinpath(*name.split("::"))
-    above = path.parent.with_suffix(".rt")
-    return path.with_suffix(".rt").is_file() or above.is_file() and f"fn {path.name}" in above.read_text(encoding="utf-8")
 
 
 def work(step: Step) -> None:

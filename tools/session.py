@@ -20,15 +20,10 @@ import subprocess
 import sys
 import threading
 import time
-from concurrent.futures import ThreadPoolExecutor
 from pathlib import Path
-from typing import Dict, List, Sequence, Tuple
+from typing import Dict, List, Sequence
 
 TOP = Path(__file__).resolve().parents[1]
-sys.path.append(str(TOP / "gate"))
-
-import step
-
 CACHE = Path(os.environ.get("XDG_CACHE_HOME") or Path.home() / ".cache") / "scroll_run"
 COPY = Path(os.environ.get("ROOM") or CACHE / hashlib.sha256(str(TOP).encode()).hexdigest()[:16])
 SAID = COPY / "said.txt"
@@ -41,22 +36,9 @@ UNUSED_WORDS = """
     Many SmallErrors Streams Tagged lemmas/ZerosLemmas lemmas/callers/ManyLemmas lemmas/callers/Sequences lemmas/callers/TaggedLemmas
 """.split()
 ROOTS = ("lib.rt", "main.rt", "Lib.antt")
-# Modules that are proved side by side, by a process for each row. (By itself, rt proves functions in waves, those that are called
-# first, and leaves processors idle at the end of each.)
-PARTS = {
-    "scroll": [
-        "ctx::arrays ctx::bytes ctx::fixed ctx::numbers",
-        "leb128::block leb128::by_loads leb128::bytewise leb128::groups",
-        "cstr ctx::c_strings ctx::str_ctx ctx::text pread search slice",
-        "endian error leb128::write loads pwrite source",
-    ],
-    "scroll_run": ["kinds", "puts", "answers input output", "commands::borrow_commands lines::parse_buffer lines::parse_cursor memory words"],
-}
 # A first guess: the processor seconds of each proof, and the seconds of what one processor does alone.
 WORK = {"scroll": 480, "scroll_run": 340}
 ALONE = 40
-# The share of a proof that is in its parts.
-SHARE = 0.7
 FAR = re.compile(r"^(?:so far: |checked .*, )(\d+) of (\d+)\b")
 PAUSE = 10
 
@@ -111,7 +93,6 @@ class Clock:
     def __init__(self) -> None:
         self.begun = time.time()
         self.done = 0.0
-        self.far: Dict[Tuple[str, str], float] = {}
         self.ended = threading.Event()
         threading.Thread(target=self.tell, daemon=True).start()
 
@@ -124,45 +105,26 @@ class Clock:
             left = gone * (1 - self.done) / self.done if self.done > 0.2 else max(guess - gone, 10)
             print(f"session: {self.done:.0%} is proved, about {left:.0f} s are left", file=sys.stderr, flush=True)
 
-    def read(self, crate: str, part: str, line: str) -> None:
-        """Reads off a line how far the proof of a part of a crate is, or of the whole, whose name is empty."""
+    def read(self, crate: str, line: str) -> None:
+        """Reads off a line how far the proof of a crate is."""
         found = FAR.search(line)
         if found:
-            self.far[crate, part] = int(found[1]) / int(found[2])
-            parts = sum(self.far.get((crate, it), 0) for it in PARTS[crate]) / len(PARTS[crate])
-            whole = self.far.get((crate, ""), 0)
-            here = SHARE * parts + (1 - SHARE) * whole if parts else whole
             before = sum(WORK[it] for it in list(WORK)[: list(WORK).index(crate)])
-            self.done = (before + WORK[crate] * here) / sum(WORK.values())
+            here = WORK[crate] * int(found[1]) / int(found[2])
+            self.done = max(self.done, (before + here) / sum(WORK.values()))
         if line.startswith("rt: running"):
             self.ended.set()
 
 
-def run(clock: Clock, crate: str, words: List[str], part: str = "", **pipes: object) -> int:
+def run(clock: Clock, crate: str, words: List[str], **pipes: object) -> int:
     """Runs a command in a crate of the copy, and returns its status. What it says goes to a file."""
     with subprocess.Popen(words, cwd=COPY / "crates" / crate, text=True, errors="replace", **pipes) as ran:
         with SAID.open("a", encoding="utf-8") as said:
             for line in ran.stdout or ran.stderr or ():
                 said.write(line)
                 said.flush()
-                clock.read(crate, part, line)
+                clock.read(crate, line)
     return ran.returncode
-
-
-def prove_parts(clock: Clock, crate: str) -> None:
-    """Proves the parts of a crate side by side, if there are processors and memory for all. The proof of the whole begins with what
-    they keep, and judges alone."""
-    kept = COPY / "crates" / crate / "out" / "incremental"
-    if any(kept.rglob("*.oantt")) or step.count_workers() < len(PARTS[crate]):
-        return
-    kept.mkdir(parents=True, exist_ok=True)
-
-    def prove(part: str) -> int:
-        words = [*step.check_command(crate, kept, 1), "--progress", *(word for it in part.split() for word in ("--only", it))]
-        return run(clock, crate, words, part, stdin=subprocess.DEVNULL, stdout=subprocess.PIPE, stderr=subprocess.STDOUT)
-
-    with ThreadPoolExecutor(len(PARTS[crate])) as pool:
-        list(pool.map(prove, PARTS[crate]))
 
 
 def main() -> int:
@@ -172,12 +134,9 @@ def main() -> int:
     bring_up_to_date()
     SAID.unlink(missing_ok=True)
     clock = Clock()
-    step.TOP = COPY
-    prove_parts(clock, "scroll")
     # (`rt run` alone would first read all of the sources to say what is wrong before any proof.)
     status = run(clock, "scroll", ["rt", "lib"], stdin=subprocess.DEVNULL, stdout=subprocess.PIPE, stderr=subprocess.STDOUT)
     if not status:
-        prove_parts(clock, "scroll_run")
         status = run(clock, "scroll_run", ["rt", "run"], stderr=subprocess.PIPE)
     if clock.ended.is_set():
         return status
