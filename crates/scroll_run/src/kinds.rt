@@ -43,11 +43,11 @@ fn parse_kind_of_two(name: &[u8], word: &[u8]) -> Option<Kind>
         return Some(Kind::Number(width, parse_order(word)?));
     }
     if is(name, b"bytes") {
-        Some(Kind::Bytes(parse_usize(word)?))
+        parse_usize(word).map(Kind::Bytes)
     } else if is(name, b"u8x0") {
-        Some(Kind::U8x0(parse_order(word)?))
+        parse_order(word).map(Kind::U8x0)
     } else if is(name, b"u16x3") {
-        Some(Kind::U16x3(parse_order(word)?))
+        parse_order(word).map(Kind::U16x3)
     } else {
         None
     }
@@ -67,11 +67,11 @@ fn parse_end_of_two(name: &[u8], word: &[u8]) -> Option<StrCtx>
     ensures { Parses (SpellsEnd (name.now ∷ word.now ∷ [])) result }
 {
     if is(name, b"delim") {
-        Some(StrCtx::Delimiter(parse_byte(word)?))
+        parse_byte(word).map(StrCtx::Delimiter)
     } else if is(name, b"len") {
-        Some(StrCtx::Length(parse_usize(word)?))
+        parse_usize(word).map(StrCtx::Length)
     } else if is(name, b"required") {
-        Some(StrCtx::Required(parse_byte(word)?))
+        parse_byte(word).map(StrCtx::Required)
     } else {
         None
     }

@@ -147,23 +147,53 @@ fn parse_value(width: Width, word: &[u8]) -> Option<Number>
     ensures { Parses (SpellsValue width word.now) result }
 {
     match width {
-        Width::U8 => Some(Number::U8(u8::try_from(parse_number(word)?).ok()?)),
-        Width::I8 => Some(Number::I8(i8::try_from(parse_signed(word)?).ok()?)),
-        Width::U16 => Some(Number::U16(parse_u16(word)?)),
-        Width::I16 => Some(Number::I16(i16::try_from(parse_signed(word)?).ok()?)),
-        Width::U32 => Some(Number::U32(u32::try_from(parse_number(word)?).ok()?)),
-        Width::I32 => Some(Number::I32(i32::try_from(parse_signed(word)?).ok()?)),
-        Width::U64 => Some(Number::U64(parse_u64(word)?)),
-        Width::I64 => Some(Number::I64(parse_i64(word)?)),
-        Width::U128 => Some(Number::U128(parse_number(word)?)),
-        Width::I128 => Some(Number::I128(parse_signed(word)?)),
+        Width::U8 => parse_u8(word).map(Number::U8),
+        Width::I8 => parse_i8(word).map(Number::I8),
+        Width::U16 => parse_u16(word).map(Number::U16),
+        Width::I16 => parse_i16(word).map(Number::I16),
+        Width::U32 => parse_u32(word).map(Number::U32),
+        Width::I32 => parse_i32(word).map(Number::I32),
+        Width::U64 => parse_u64(word).map(Number::U64),
+        Width::I64 => parse_i64(word).map(Number::I64),
+        Width::U128 => parse_number(word).map(Number::U128),
+        Width::I128 => parse_signed(word).map(Number::I128),
     }
+}
+
+fn parse_u8(word: &[u8]) -> Option<u8>
+    ensures { Parses (SpellsNumber (2 ^ 8) word.now) result }
+{
+    u8::try_from(parse_number(word)?).ok()
+}
+
+fn parse_i8(word: &[u8]) -> Option<i8>
+    ensures { Parses (SpellsSigned (2 ^ 7) word.now) result }
+{
+    i8::try_from(parse_signed(word)?).ok()
 }
 
 fn parse_u16(word: &[u8]) -> Option<u16>
     ensures { Parses (SpellsNumber (2 ^ 16) word.now) result }
 {
     u16::try_from(parse_number(word)?).ok()
+}
+
+fn parse_i16(word: &[u8]) -> Option<i16>
+    ensures { Parses (SpellsSigned (2 ^ 15) word.now) result }
+{
+    i16::try_from(parse_signed(word)?).ok()
+}
+
+fn parse_u32(word: &[u8]) -> Option<u32>
+    ensures { Parses (SpellsNumber (2 ^ 32) word.now) result }
+{
+    u32::try_from(parse_number(word)?).ok()
+}
+
+fn parse_i32(word: &[u8]) -> Option<i32>
+    ensures { Parses (SpellsSigned (2 ^ 31) word.now) result }
+{
+    i32::try_from(parse_signed(word)?).ok()
 }
 
 fn parse_u64(word: &[u8]) -> Option<u64>
