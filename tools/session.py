@@ -3,8 +3,8 @@
 
     python3 tools/session.py < crates/scroll_run/stdin
 
-All that runs is proved. What the program doesn't use is left out of the copy that is proved: the tests, the modules UNUSED and the
-derived `Debug`s of the library, and what proves these; gate/check.py proves them too. The copy is in the user's cache, or in the
+All that runs is proved. What the program doesn't use is left out of the copy that is proved: the tests, and modules, items and
+derived traits of the library, and what proves these; gate/check.py proves them too. The copy is in the user's cache, or in the
 folder that the variable ROOM names, since `rt` would take it for crates of this repository. What was proved once is kept there, so
 that a second run only runs the program.
 
@@ -29,7 +29,21 @@ COPY = Path(os.environ.get("ROOM") or CACHE / hashlib.sha256(str(TOP).encode()).
 SAID = COPY / "said.txt"
 UNUSED = """
     cstr/of_std ctx/encode ctx/fixed/arrays ctx/measure ctx/numbers/floats ctx/optional ctx/std_c_strings ctx/table ctx/tuples ctx/until
-    ctx/zeros greater laws lesser lists located many pwrite/owned small_error tests
+    ctx/zeros greater laws leb128/bytewise lesser lists located many pwrite small_error tests
+""".split()
+# Items of the library that it doesn't use, by the first words of each. (Debug is part of the trait `std::error::Error`.)
+UNUSED_ITEMS = [
+    r"impl\b(?!<W).* (?:FromCtx|IntoCtx|SizeWith)<",
+    r"impl\b.*\bRecord> ",
+    r"impl\b.* Written for &",
+    r"impl\b.* (?:AsRef<V>|Debug|Default|Eq|From<bool>|From<io::Error>|PartialEq|std::error::Error) for ",
+    r"pub use crate::leb128::\{plain_",
+    r"(?:pub )?fn (?:cwrite|cwrite_with|element|gread_inout|gread_inout_with|gwrite|put_element|pwrite|read_parts)\b",
+]
+UNUSED_TRAITS = "Debug|Eq|PartialEq"
+# The proofs of these items.
+UNUSED_PROOFS = """
+    ctx/arrays/ArrayFromCtx ctx/arrays/ArrayIntoCtx ctx/arrays/element ctx/arrays/put_element ctx/fixed/read_parts pread/Pread
 """.split()
 # Files of specs/ and proofs/ of which it uses nothing.
 UNUSED_WORDS = """
@@ -49,6 +63,14 @@ def without(text: str, module: str) -> str:
     return re.sub(rf"(?m)^pub use (?:crate::|self::)?{module}::(?:\w+|\{{[^}}]*\}});\n", "", text)
 
 
+def without_items(text: str) -> str:
+    """The text of a file without the items and the derived traits of which the program uses nothing."""
+    heads = "|".join(UNUSED_ITEMS)
+    text = re.sub(rf"(?m)^( *)(?:(?://|#\[).*\n\1)*(?:{heads})(?:.*(?:\{{\}}|;)\n|(?:.*\n)*?\1\}}\n)\n?", "", text)
+    text = re.sub(rf"(?m)^(#\[derive\(.*?)(?:, (?:{UNUSED_TRAITS})\b)+", r"\1", text)
+    return re.sub(rf"(?m)^#\[derive\((?:{UNUSED_TRAITS})(?:, )?", "#[derive(", text)
+
+
 def is_below(path: Path, modules: Sequence[str]) -> bool:
     return any(f"{path.with_suffix('')}/".startswith(f"{it}/") for it in modules)
 
@@ -57,7 +79,7 @@ def wanted_files() -> Dict[Path, str]:
     """The texts of the copy's files."""
     files = {Path(it): (TOP / it).read_text(encoding="utf-8") for it in ("crates.txt", "HANDLES")}
     for crate in WORK:
-        for part, unused in {"src": UNUSED, "specs": UNUSED_WORDS, "proofs": UNUSED + UNUSED_WORDS}.items():
+        for part, unused in {"src": UNUSED, "specs": UNUSED_WORDS, "proofs": UNUSED + UNUSED_WORDS + UNUSED_PROOFS}.items():
             folder = Path("crates") / crate / part
             for file in (TOP / folder).rglob("*.*t*"):
                 path = file.relative_to(TOP / folder)
@@ -68,9 +90,8 @@ def wanted_files() -> Dict[Path, str]:
                 for root in [folder / f"{above}{end}" for end in (".rt", ".antt")] if above else [folder / it for it in ROOTS]:
                     if root in files:
                         files[root] = without(files[root], name)
-    # (nothing of the program prints a value's parts, but for the trait `Error`)
-    for path in [it for it in files if it.suffix == ".rt" and it.stem != "error"]:
-        files[path] = re.sub(r"(?m)^(#\[derive\(.*?)(?:, Debug\b|\bDebug, )", r"\1", files[path])
+    for path in [it for it in files if it.suffix == ".rt"]:
+        files[path] = without_items(files[path])
     return files
 
 
