@@ -70,8 +70,8 @@ fn answer_input<M: Memory>(memory: M, input: &[u8]) -> Result<Outcome, AllocErro
         });
     }
     match parse_script(memory, input) {
-        Ok(script) => Ok(Outcome {
-            text: run_script(memory, script)?,
+        Ok(mut script) => Ok(Outcome {
+            text: run_script(memory, &mut script)?,
             status: ANSWERED,
         }),
         Err(Stop::BadLine(number)) => Ok(Outcome {
@@ -82,18 +82,18 @@ fn answer_input<M: Memory>(memory: M, input: &[u8]) -> Result<Outcome, AllocErro
     }
 }
 
-// Runs the commands of a script, and prints what they return and leave.
-fn run_script<M: Memory>(memory: M, script: Script) -> Result<String, AllocError>
-    ensures { MatchResult result (λ text. RunsScript script (string_bytes text))
+// Runs the commands of a script over its buffer, and prints what they return and leave.
+fn run_script<M: Memory>(memory: M, script: &mut Script) -> Result<String, AllocError>
+    ensures { MatchResult result (λ text. RunsScript script.old (string_bytes text))
         (λ _. M.refuses memory) }
 {
-    let Script {
-        mut buffer,
-        mut cursor,
-        commands: lines,
-    } = script;
-    let commands = borrow_commands(memory, &lines)?;
+    let commands = borrow_commands(memory, &script.commands)?;
     let mut answers = Vec::new(memory.alloc());
-    memory.run(buffer.as_mut_slice(), &mut cursor, &commands, &mut answers)?;
-    print_answers(memory, &answers, &buffer, cursor)
+    memory.run(
+        script.buffer.as_mut_slice(),
+        &mut script.cursor,
+        &commands,
+        &mut answers,
+    )?;
+    print_answers(memory, &answers, &script.buffer, script.cursor)
 }
