@@ -84,6 +84,28 @@ stops_here refused lines d xs i k h lt e bad =
       λ s. let t = rw line at s in bad t.0 t.1,
     )
 
+-- the first line is missing
+pub no_lines : (lines : List (List ℕ)) → length lines ≡ 0 → IsFirstBadLine lines 1
+no_lines lines e = record {
+  counted = omega arith;
+  needed = omega arith;
+  good = λ i lt. absurd (omega arith);
+  bad = λ s. omega (arith, e, s.0);
+}
+
+-- the second line is missing
+pub one_line : (lines : List (List ℕ)) (first : List ℕ) (rest : List (List ℕ)) (bytes : List ℕ) → lines ≡ first ∷ rest → length rest ≡ 0 → SpellsBuffer first bytes → IsFirstBadLine lines 2
+one_line lines first rest bytes e none b = record {
+  counted = omega arith;
+  needed = omega arith;
+  good = λ i lt. rw e (good i lt);
+  bad = λ s. let t = rw e at s in omega (arith, none, t.0);
+}
+  where
+    good : (i : ℕ) → i + 1 < 2 → HasGoodLine (first ∷ rest) i
+    good zero lt = (omega arith, (bytes, b))
+    good (suc i) lt = absurd (omega arith)
+
 pub first_bad : (lines : List (List ℕ)) (first : List ℕ) (rest : List (List ℕ)) → lines ≡ first ∷ rest → ((bytes : List ℕ) → ¬ (SpellsBuffer first bytes)) → IsFirstBadLine lines 1
 first_bad lines first rest e h = record {
   counted = omega arith;

@@ -1,6 +1,22 @@
-use Rattle.std.proofs.Common.{◌+◌, ◌++◌, [], ◌∷◌, rules, ap, ◌∙◌}
+use Rattle.std.proofs.Common.{◌+◌, ◌++◌, [], ◌∷◌, rules, arith, ap, ◌∙◌, map}
+use Rattle.std.proofs.lemmas.List.{length-map, take_all}
+use Rattle.std.proofs.lemmas.Result.{err_from_is_err_and}
 use Rattle.scroll_run.proofs.LineLemmas.{stops_here, held_next}
 use Rattle.scroll_run.proofs.lines.parse_commands.Goals as goal
+
+pub returns-in_err-reserve : goal.returns-in_err-reserve
+returns-in_err-reserve g c =
+    let p = err_from_is_err_and c.from_residual.result c.from_residual.ensures.1 in rw (p.1, p.2) c.in_err-reserve.ensures.refused
+
+pub returns-in_err-command : goal.returns-in_err-command
+returns-in_err-command g c =
+    let p = err_from_is_err_and c.from_residual-in_err-command.result c.from_residual-in_err-command.ensures.1 in rw (p.1, p.2) c.in_err-command.ensures
+
+pub returns : goal.returns
+returns g c =
+    let count = length-map c.args.lines.now (λ line. line.now) in
+    let end = c.loop-line-test.false in
+    rw (take_all c.loop-line.line-index (map (λ line. line.now) c.args.lines.now) (omega arith)) at c.loop-line.invariant
 
 pub returns-in-None : goal.returns-in-None
 returns-in-None g c =
