@@ -1,5 +1,6 @@
 use Rattle.std.proofs.Common.{◌≡◌, arith, ◌++◌, ◌∷◌, [], ap, ◌∙◌, sym, subst, get_or, rules}
 use Rattle.std.proofs.lemmas.List.{take_all}
+use Rattle.std.proofs.lemmas.Result.{err_from_is_err_and}
 use Rattle.scroll.proofs.lemmas.HistoryLemmas.{IsRun-none, IsRun-next}
 use Rattle.scroll.specs.Runs.{IsStep, IsRun}
 use Rattle.scroll.proofs.runner.run.Goals as goal
@@ -20,3 +21,19 @@ pub returns-clause-ran : goal.returns-clause-ran
 returns-clause-ran c =
     let l = c.loop-command in
     subst (λ commands. IsRun c.args.buffer.now l.buffer c.args.cursor.now l.cursor commands c.args.answers.now.items l.answers.items) (take_all l.command-index c.args.commands.now c.loop-command-test.false) l.invariant.0
+
+pub returns-then-is_err-clause-prefix : goal.returns-then-is_err-clause-prefix
+returns-then-is_err-clause-prefix c = record {
+  count = c.loop-command.command-index;
+  fewer = c.loop-command-test.true;
+  prefix = rw c.reserve.ensures.items c.loop-command.invariant.0;
+}
+
+pub returns-in_err-answer-clause-prefix : goal.returns-in_err-answer-clause-prefix
+returns-in_err-answer-clause-prefix c =
+    let p = err_from_is_err_and c.from_residual.result c.from_residual.ensures.1 in
+    rw p.1 record {
+      count = c.loop-command.command-index;
+      fewer = c.loop-command-test.true;
+      prefix = rw (c.in_err-answer.ensures.same, c.in_err-answer.ensures.stays, c.reserve.ensures.items) c.loop-command.invariant.0;
+    }
