@@ -42,3 +42,6 @@ take_slots-requires g c =
 
 pub new-slots-requires : goal.new-slots-requires
 new-slots-requires g c = c.if-not-fits.ensures.fits refl
+
+pub as_mut_slice-requires : goal.as_mut_slice-requires
+as_mut_slice-requires g c = c.if-not-fits.ensures.fits refl
