@@ -24,7 +24,8 @@ pub(crate) fn unsigned(found: Option<Groups>, len: usize) -> Result<(u64, usize)
     ensures read { (source : List ℕ) → IfSome found (HasGroups source)
         → IfOk result (λ read. ReadsUleb source read.0 read.1) }
     ensures refused { (source : List ℕ) → IfSome found (HasGroups source)
-        → IfNone found (IsTruncated source) → length source ≡ len → IfErr result (RefusesUleb source) }
+        → IfNone found (IsTruncated source) → length source ≡ len
+        → IfErr result (RefusesUleb source) }
 {
     let Some(groups) = found else {
         return Err(TRUNCATED);
@@ -43,7 +44,8 @@ pub(crate) fn signed(found: Option<Groups>, len: usize) -> Result<(i64, usize)>
     ensures read { (source : List ℕ) → IfSome found (HasGroups source)
         → IfOk result (λ read. ReadsSleb source read.0 read.1) }
     ensures refused { (source : List ℕ) → IfSome found (HasGroups source)
-        → IfNone found (IsTruncated source) → length source ≡ len → IfErr result (RefusesSleb source) }
+        → IfNone found (IsTruncated source) → length source ≡ len
+        → IfErr result (RefusesSleb source) }
 {
     let Some(groups) = found else {
         return Err(TRUNCATED);
