@@ -58,7 +58,7 @@ fn take_slots<T: Drop, const N: usize>(slots: &mut [Option<T>]) -> [T; N]
     ensures { slots.old ≡ map (λ x. Some x) result }
 {
     array::from_fn(
-        |i| -> T
+        move |i| -> T
             requires { (x : T) × (slice_index_or slots.now i None ≡ Some x) }
             ensures value { slice_index_or slots.entry.now i None ≡ Some result }
             ensures after { slots.exit.now ≡ slice_set slots.entry.now i None }
@@ -185,7 +185,7 @@ impl<Ctx: Copy, T: FromCtx<Ctx> + SizeWith<Ctx>, const N: usize> FromCtx<Ctx> fo
 
     fn from_ctx(this: &[u8], ctx: Ctx) -> [T; N] {
         array::from_fn(
-            |i| -> T
+            move |i| -> T
                 requires { max (T.size ctx) (T.need ctx) * (i + 1) ≤ length this.now }
                 ensures made { T.makes ctx (drop (T.size ctx * i) this.entry.now) result }
                 ensures same { this.exit.now ≡ this.entry.now }
