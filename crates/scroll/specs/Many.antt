@@ -1,5 +1,5 @@
 -- Many values, and the elements of a table. The relation `gives` converts an `Error` to `e`.
-use Rattle.std.specs.Prelude.{◌≡◌, ◌≢◌, ◌<◌, ◌≤◌, ◌+◌, ◌++◌, ◌/◌, ◌∷◌, ℕ, List, length, take, drop, ◌⊎◌, Option, MatchOption, All, codes}
+use Rattle.std.specs.Prelude.{◌≡◌, ◌≢◌, ◌<◌, ◌≤◌, ◌+◌, ◌++◌, ◌/◌, ◌∷◌, ℕ, List, length, take, drop, ◌⊎◌, Option, MatchOption, codes}
 use Rattle.scroll.specs.Arrays.{WritesAll}
 use Rattle.scroll.specs.Reads.{ReadsAt, ReadsAll, ReadsBetween, RefusesAt, ReadsSome}
 use Rattle.std.specs.List.{AllZip}

@@ -1,5 +1,5 @@
 -- Small errors.
-use Rattle.std.specs.Prelude.{◌≡◌, ℕ, ◌++◌, List, codes, Option, Some}
+use Rattle.std.specs.Prelude.{◌≡◌, ℕ, List, codes, Option, Some}
 use Rattle.std.specs.IoError.{error_kind}
 use Rattle.scroll.specs.Errors.{line_of}
 use Rattle.scroll.specs.declared.error.Error.{Error}

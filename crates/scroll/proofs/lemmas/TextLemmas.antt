@@ -1,7 +1,7 @@
 -- Strings, byte slices and C strings depend only on the bytes that they take, and a read of one has
 -- exactly one result. The index of the first byte of a value, and what comes before it. The
 -- C strings of std and those of the crate are the same lists of bytes.
-use Rattle.std.proofs.Common.{◌≡◌, ℕ, ◌≤◌, ◌==◌, List, length, take, min, ap, ◌∙◌, arith, ◌+◌, ◌<◌, refl, sym, subst, inl, inr, ◌⊎◌, IsUtf8, codes, true≢false, ◌-◌, [], ◌∷◌, ◌++◌, get_or, ◌≢◌, true, false, drop, length-append, append_assoc, length-take, not, zero, suc, slice_index}
+use Rattle.std.proofs.Common.{◌≡◌, ℕ, ◌≤◌, ◌==◌, List, length, take, min, ap, ◌∙◌, arith, ◌+◌, ◌<◌, refl, sym, subst, inl, inr, ◌⊎◌, IsUtf8, codes, true≢false, ◌-◌, [], ◌∷◌, ◌++◌, get_or, ◌≢◌, true, false, drop, length-append, append_assoc, length-take, not}
 use Rattle.std.proofs.lemmas.List.{length-take-le, take-take, get_or-take, take_at, take_more}
 use Rattle.scroll.specs.declared.ctx.str_ctx.StrCtx.{StrCtx}
 use Rattle.scroll.specs.declared.ctx.str_ctx.StrCtx.TheVariants.{Delimiter, DelimiterUntil, Length, Required}

@@ -1,5 +1,5 @@
 -- Zeros depend only on the bytes that they take, and a read of them has exactly one result.
-use Rattle.std.proofs.Common.{◌≡◌, ℕ, List, length, take, ap, ◌∙◌, arith, ◌+◌, ◌<◌, refl, sym, subst, inl, inr, ◌⊎◌, codes, ◌≢◌, zero, suc, slice_index, get_or}
+use Rattle.std.proofs.Common.{◌≡◌, ℕ, List, length, ap, ◌∙◌, arith, ◌<◌, refl, sym, subst, inl, inr, ◌⊎◌, codes, ◌≢◌, zero, suc, slice_index, get_or}
 use Rattle.std.proofs.lemmas.Bool.{cases_lt}
 use Rattle.std.proofs.lemmas.List.{get_or-take}
 use Rattle.scroll.proofs.lemmas.TextLemmas.{same-bad_input}

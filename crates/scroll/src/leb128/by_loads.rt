@@ -3,9 +3,8 @@ ghost use Rattle.std.specs.Prelude.{◌≡◌, ◌-◌, ◌<◌, ◌≤◌, ◌^
 ghost use Rattle.scroll.specs.Leb128.{end_of, IsTruncated, ReadsUleb, ReadsSleb, HasGroups, RefusesUleb, RefusesSleb};
 ghost use Rattle.scroll.specs.Reads.{Loaded, max_loads};
 
-use super::TRUNCATED;
 use super::block::{block_groups, sleb_block, uleb_block};
-use super::groups::{Groups, signed, unfit, unsigned};
+use super::groups::{Groups, signed, unsigned};
 use crate::error::Result;
 use crate::loads::Loads;
 
@@ -20,13 +19,7 @@ pub fn uleb_loads(src: &mut Loads<'_>) -> Result<(u64, usize)>
     ensures loads { Loaded src.old src.new (max_loads src.old.bytes) }
 {
     if src.len() < 8 {
-        let Some(groups) = short_groups(src) else {
-            return Err(TRUNCATED);
-        };
-        let Some(read) = unsigned(groups) else {
-            return Err(unfit(src.len()));
-        };
-        return Ok(read);
+        return unsigned(short_groups(src), src.len());
     }
     let Some(block) = src.word() else {
         unreachable!()
@@ -34,13 +27,7 @@ pub fn uleb_loads(src: &mut Loads<'_>) -> Result<(u64, usize)>
     if let Some(read) = uleb_block(block) {
         return Ok(read);
     }
-    let Some(groups) = long_groups(src, block) else {
-        return Err(TRUNCATED);
-    };
-    let Some(read) = unsigned(groups) else {
-        return Err(unfit(src.len()));
-    };
-    Ok(read)
+    unsigned(long_groups(src, block), src.len())
 }
 
 /// Returns what a read of a [`Sleb128`](super::Sleb128) returns, as a value and a size in bytes,
@@ -54,13 +41,7 @@ pub fn sleb_loads(src: &mut Loads<'_>) -> Result<(i64, usize)>
     ensures loads { Loaded src.old src.new (max_loads src.old.bytes) }
 {
     if src.len() < 8 {
-        let Some(groups) = short_groups(src) else {
-            return Err(TRUNCATED);
-        };
-        let Some(read) = signed(groups) else {
-            return Err(unfit(src.len()));
-        };
-        return Ok(read);
+        return signed(short_groups(src), src.len());
     }
     let Some(block) = src.word() else {
         unreachable!()
@@ -68,13 +49,7 @@ pub fn sleb_loads(src: &mut Loads<'_>) -> Result<(i64, usize)>
     if let Some(read) = sleb_block(block) {
         return Ok(read);
     }
-    let Some(groups) = long_groups(src, block) else {
-        return Err(TRUNCATED);
-    };
-    let Some(read) = signed(groups) else {
-        return Err(unfit(src.len()));
-    };
-    Ok(read)
+    signed(long_groups(src, block), src.len())
 }
 
 // Reads the groups of a source whose first eight bytes, `block`, don't end the encoding.

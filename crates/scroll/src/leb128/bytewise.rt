@@ -2,8 +2,7 @@
 ghost use Rattle.std.specs.Prelude.{IfOk, IfErr, IfSome, IfNone};
 ghost use Rattle.scroll.specs.Leb128.{IsTruncated, ReadsUleb, ReadsSleb, HasGroups, RefusesUleb, RefusesSleb};
 
-use super::TRUNCATED;
-use super::groups::{Groups, signed, unfit, unsigned};
+use super::groups::{Groups, signed, unsigned};
 use crate::error::Result;
 
 /// Reads the unsigned number at the start of `src`, byte by byte, and returns its value and its
@@ -13,13 +12,7 @@ pub fn plain_uleb(src: &[u8]) -> Result<(u64, usize)>
     ensures read { IfOk result (λ read. ReadsUleb src.now read.0 read.1) }
     ensures refused { IfErr result (RefusesUleb src.now) }
 {
-    let Some(groups) = groups_bytewise(src) else {
-        return Err(TRUNCATED);
-    };
-    let Some(read) = unsigned(groups) else {
-        return Err(unfit(src.len()));
-    };
-    Ok(read)
+    unsigned(groups_bytewise(src), src.len())
 }
 
 /// Reads the signed number at the start of `src`, byte by byte, and returns its value and its size
@@ -29,13 +22,7 @@ pub fn plain_sleb(src: &[u8]) -> Result<(i64, usize)>
     ensures read { IfOk result (λ read. ReadsSleb src.now read.0 read.1) }
     ensures refused { IfErr result (RefusesSleb src.now) }
 {
-    let Some(groups) = groups_bytewise(src) else {
-        return Err(TRUNCATED);
-    };
-    let Some(read) = signed(groups) else {
-        return Err(unfit(src.len()));
-    };
-    Ok(read)
+    signed(groups_bytewise(src), src.len())
 }
 
 // Reads the groups at the start of a source.

@@ -1,11 +1,11 @@
 // The groups of an encoding, as each reader finds them, and the numbers that they make.
-ghost use Rattle.std.specs.Prelude.{◌<◌, ◌^◌, List, ℕ, codes, FitsSigned, IfSome, IfNone};
-ghost use Rattle.std.specs.Int.{w64};
+ghost use Rattle.std.specs.Prelude.{◌≡◌, List, ℕ, codes, length, IfOk, IfErr, IfSome, IfNone};
 ghost use Rattle.scroll.specs.Errors.{IsBadInput};
-ghost use Rattle.scroll.specs.Leb128.{IsComplete, IsTruncated, ReadsUleb, ReadsSleb, unsigned_of, signed_of, HasGroups};
+ghost use Rattle.scroll.specs.Leb128.{IsTruncated, ReadsUleb, ReadsSleb, RefusesUleb, RefusesSleb, HasGroups};
 
+use super::TRUNCATED;
 use super::block::sign_extend;
-use crate::error::Error;
+use crate::error::{Error, Result};
 
 // The first bytes of an encoding. An encoding of up to nine bytes has as many groups, whose number
 // fits into 63 bits.
@@ -17,45 +17,53 @@ pub(crate) enum Groups {
     Ten(u64, u8),
 }
 
-// Returns the unsigned number of the groups and its size, or `None` if it doesn't fit.
+// Returns what a read of an unsigned number returns, as its value and its size in bytes, where the
+// source has `len` bytes and these groups, or is truncated.
 #[inline(always)]
-pub(crate) fn unsigned(groups: Groups) -> Option<(u64, usize)>
-    requires { (source : List ℕ) × HasGroups source groups }
-    ensures read { (source : List ℕ) → HasGroups source groups
-        → IfSome result (λ read. ReadsUleb source read.0 read.1) }
-    ensures unfit { (source : List ℕ) → HasGroups source groups → IfNone result
-        (¬ IsTruncated source × (IsComplete source → ¬ (unsigned_of source < 2 ^ 64))) }
+pub(crate) fn unsigned(found: Option<Groups>, len: usize) -> Result<(u64, usize)>
+    ensures read { (source : List ℕ) → IfSome found (HasGroups source)
+        → IfOk result (λ read. ReadsUleb source read.0 read.1) }
+    ensures refused { (source : List ℕ) → IfSome found (HasGroups source)
+        → IfNone found (IsTruncated source) → length source ≡ len
+        → IfErr result (RefusesUleb source) }
 {
+    let Some(groups) = found else {
+        return Err(TRUNCATED);
+    };
     match groups {
-        Groups::UpToNine(groups, count) => Some((groups, count)),
-        Groups::Ten(groups, tenth) if tenth <= 1 => Some((groups | u64::from(tenth) << 63, 10)),
-        Groups::Ten(_, _) => None,
+        Groups::UpToNine(groups, count) => Ok((groups, count)),
+        Groups::Ten(groups, tenth) if tenth <= 1 => Ok((groups | u64::from(tenth) << 63, 10)),
+        Groups::Ten(_, _) => Err(unfit(len)),
     }
 }
 
-// Returns the signed number of the groups and its size, or `None` if it doesn't fit.
+// Returns what a read of a signed number returns, as `unsigned` does.
 #[inline(always)]
-pub(crate) fn signed(groups: Groups) -> Option<(i64, usize)>
-    requires { (source : List ℕ) × HasGroups source groups }
-    ensures read { (source : List ℕ) → HasGroups source groups
-        → IfSome result (λ read. ReadsSleb source read.0 read.1) }
-    ensures unfit { (source : List ℕ) → HasGroups source groups → IfNone result
-        (¬ IsTruncated source × (IsComplete source → ¬ FitsSigned w64 (signed_of source))) }
+pub(crate) fn signed(found: Option<Groups>, len: usize) -> Result<(i64, usize)>
+    requires { (source : List ℕ) × IfSome found (HasGroups source) }
+    ensures read { (source : List ℕ) → IfSome found (HasGroups source)
+        → IfOk result (λ read. ReadsSleb source read.0 read.1) }
+    ensures refused { (source : List ℕ) → IfSome found (HasGroups source)
+        → IfNone found (IsTruncated source) → length source ≡ len
+        → IfErr result (RefusesSleb source) }
 {
+    let Some(groups) = found else {
+        return Err(TRUNCATED);
+    };
     match groups {
-        Groups::UpToNine(groups, count) => Some((sign_extend(groups, count), count)),
+        Groups::UpToNine(groups, count) => Ok((sign_extend(groups, count), count)),
         // All bits of the tenth byte are the sign.
         Groups::Ten(groups, tenth) if tenth == (tenth & 1) * 0x7f => {
-            Some(((groups | u64::from(tenth) << 63).cast_signed(), 10))
+            Ok(((groups | u64::from(tenth) << 63).cast_signed(), 10))
         }
-        Groups::Ten(_, _) => None,
+        Groups::Ten(_, _) => Err(unfit(len)),
     }
 }
 
 // Returns the error of a source of `len` bytes that isn't truncated, but whose encoding has no
 // number that fits.
 #[inline(always)]
-pub(crate) fn unfit(len: usize) -> Error
+fn unfit(len: usize) -> Error
     ensures { IsBadInput result len (codes "failed to parse") }
 {
     Error::BadInput {

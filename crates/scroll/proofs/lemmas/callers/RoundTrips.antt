@@ -9,7 +9,6 @@ use Rattle.std.specs.List.{All, flat_map}
 use Rattle.scroll.specs.lemmas.NumberLemmas.{bytes-fit}
 use Rattle.scroll.proofs.lemmas.callers.Cursors.{Begins, grow}
 use Rattle.scroll.proofs.lemmas.callers.SpanLemmas.{bytes-below, puts-stands}
-use Rattle.scroll.specs.lemmas.Frames.{length-number_bytes}
 use Rattle.scroll.specs.Numbers.{number, number_bytes, signed_number, signed_bytes}
 use Rattle.scroll.specs.Reads.{ReadsAt, ReadsAll, Puts}
 use Rattle.scroll.specs.Texts.{index_of, ReadsText}

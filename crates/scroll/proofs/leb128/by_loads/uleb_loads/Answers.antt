@@ -3,11 +3,5 @@ use Rattle.scroll.proofs.leb128.by_loads.uleb_loads.Goals as goal
 
 pub returns-in-Some-uleb_block-clause-read : goal.returns-in-Some-uleb_block-clause-read
 returns-in-Some-uleb_block-clause-read c =
-    let first = c.in-Some-word.ensures.first in
-    block_reads local-uleb c.args.src.now.bytes c.in-Some-word.block _ _ first.0 first.1 c.in-Some-uleb_block.ensures.read
-
-pub unsigned-requires : goal.unsigned-requires
-unsigned-requires c = (c.args.src.now.bytes, c.in-Some.ensures.read)
-
-pub unsigned-requires-2 : goal.unsigned-requires-2
-unsigned-requires-2 c = (c.word.new.self.bytes, c.in-Some-long_groups.ensures.read)
+    let first = c.in-Some.ensures.first in
+    block_reads local-uleb c.args.src.now.bytes c.in-Some.block _ _ first.0 first.1 c.in-Some-uleb_block.ensures.read

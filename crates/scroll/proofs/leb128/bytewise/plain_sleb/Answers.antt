@@ -1,4 +1,4 @@
 use Rattle.scroll.proofs.leb128.bytewise.plain_sleb.Goals as goal
 
 pub signed-requires : goal.signed-requires
-signed-requires c = (c.args.src.now, c.in-Some.ensures.read)
+signed-requires c = (c.args.src.now, c.groups_bytewise.ensures.read)

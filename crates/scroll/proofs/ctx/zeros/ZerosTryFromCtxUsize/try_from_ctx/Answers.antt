@@ -1,5 +1,5 @@
 -- What holds of the bytes up to the size holds of the source.
-use Rattle.std.proofs.Common.{ℕ, ◌≡◌, ◌<◌, ◌≤◌, List, length, take, get_or, refl, sym, ◌∙◌, rules, arith, inr}
+use Rattle.std.proofs.Common.{◌<◌, refl, sym, ◌∙◌, arith, inr}
 use Rattle.std.proofs.lemmas.List.{length-take-le, get_or-take}
 use Rattle.scroll.proofs.ctx.zeros.ZerosTryFromCtxUsize.try_from_ctx.Goals as goal
 

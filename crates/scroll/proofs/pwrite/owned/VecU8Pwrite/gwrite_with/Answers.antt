@@ -1,5 +1,5 @@
 -- The vector has the bytes of its slice, as many as before.
-use Rattle.std.proofs.Common.{ℕ, ◌≡◌, ◌≤◌, ◌++◌, List, length, take, drop, ap, ◌∙◌, arith}
+use Rattle.std.proofs.Common.{ℕ, ◌≡◌, ◌++◌, List, length, take, drop, ap, ◌∙◌, arith}
 use Rattle.std.proofs.lemmas.List.{take_all, take-append-le}
 use Rattle.scroll.proofs.pwrite.owned.VecU8Pwrite.gwrite_with.Goals as goal
 
