@@ -51,8 +51,8 @@ UNUSED_WORDS = """
 """.split()
 ROOTS = ("lib.rt", "main.rt", "Lib.antt")
 # A first guess: the processor seconds of each proof, and the seconds of what one processor does alone.
-WORK = {"scroll": 480, "scroll_run": 340}
-ALONE = 40
+WORK = {"scroll": 220, "scroll_run": 220}
+ALONE = 45
 FAR = re.compile(r"^(?:so far: |checked .*, )(\d+) of (\d+)\b")
 PAUSE = 10
 
@@ -155,10 +155,11 @@ def main() -> int:
     bring_up_to_date()
     SAID.unlink(missing_ok=True)
     clock = Clock()
-    # (`rt run` alone would first read all of the sources to say what is wrong before any proof.)
+    # (`rt run` alone would first read all of the sources to say what is wrong before any proof. Rattle's own compiler takes less time
+    # than LLVM.)
     status = run(clock, "scroll", ["rt", "lib"], stdin=subprocess.DEVNULL, stdout=subprocess.PIPE, stderr=subprocess.STDOUT)
     if not status:
-        status = run(clock, "scroll_run", ["rt", "run"], stderr=subprocess.PIPE)
+        status = run(clock, "scroll_run", ["rt", "run", "--backend", "rattle"], stderr=subprocess.PIPE)
     if clock.ended.is_set():
         return status
     print(f"session: it isn't proved, see {SAID}", file=sys.stderr)
