@@ -107,7 +107,7 @@ while IFS='|' read -r file old words; do
     count "$result"
 done <<'END'
 src/end.rt.txt|check_room(22|the implementation for EndRecord is not what tools/derive/derive.sh prints
-src/end.rt.txt|self.put(dst|the implementation for EndRecord is not what tools/derive/derive.sh prints
+src/end.rt.txt|put_whole(dst|the implementation for EndRecord is not what tools/derive/derive.sh prints
 specs/EndRecordFormat.antt.txt|◌≢◌|specs/EndRecordFormat.antt.txt is not what tools/derive/derive.sh prints for EndRecord
 specs/EndRecordFormat.antt.txt|whole|specs/EndRecordFormat.antt.txt is not what tools/derive/derive.sh prints for EndRecord
 specs/EndRecordBack.antt.txt|p7|specs/EndRecordBack.antt.txt is not what tools/derive/derive.sh prints for EndRecord

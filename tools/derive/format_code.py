@@ -324,13 +324,8 @@ def apart_lines(form: Format) -> List[str]:
 
 def whole_lines(form: Format) -> List[str]:
     """Returns the body of the write."""
-    return [
-        *(["        self.check()?;"] if form.has_own else []),
-        "        let size = self.size(ctx);",
-        "        check_room(size, dst.len())?;",
-        "        self.put(dst, ctx);",
-        "        Ok(size)",
-    ]
+    write = "put_whole(dst, self, ctx)"
+    return [*(["        self.check()?;"] if form.has_own else []), f"        Ok({write}?)" if form.error else f"        {write}"]
 
 
 def write_block(form: Format) -> List[str]:
@@ -407,7 +402,7 @@ def format_uses(form: Format) -> List[str]:
     prelude = ["◌≡◌"] * bool(form.mark) + ["⊤"] * ("⊤" in block)
     words = set(re.findall(r"\w+", block))
     known = ("Checked", "Delimited", "Encode", "Gap", "Kept", "Padded", "StrCtx", "Table", "TryFromCtx", "TryIntoCtx")
-    known += ("Until", "Value", "When", "Zeros", "padding", "read_fixed")
+    known += ("Until", "Value", "When", "Zeros", "padding", "put_whole", "read_fixed")
     contexts = [it for it in known if it in words or it == "Encode" or (it == "Checked" and ".check()" in block)]
     calls = {"Cread": "cread_with", "Pread": "gread_with"}
     ours = ("Cread", "Endian", "Ends", "Error", "Pread", "Result", "Sleb128", "Uleb128", "check_room", "two_zeros_size", "zero_size")
