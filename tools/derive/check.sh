@@ -70,6 +70,9 @@ clients/examples/src/stream.rt.txt Foo
 clients/examples/src/arrays.rt.txt Point
 clients/examples/src/arrays.rt.txt Triangle
 clients/object_files/src/sections.rt.txt Section
+clients/debug_tables/src/declaration.rt.txt Attribute
+clients/debug_tables/src/declaration.rt.txt Children
+clients/debug_tables/src/declaration.rt.txt Declaration
 clients/packets/src/packet.rt.txt DnsHeader
 clients/packets/src/packet.rt.txt UdpHeader
 clients/packets/src/packet.rt.txt Packet
