@@ -273,8 +273,9 @@ def steps(form: Format) -> Tuple[List[str], List[str]]:
     made_of: List[str] = []
 
     tree: List[Tree] = []
+    fixed = len(form.head)
     for index in range(len(lists)):
-        tree = [(in_tuples(tree), str(index))] if index in form.paddings else [*tree, str(index)]
+        tree, fixed = ([(in_tuples(tree, fixed), str(index))], 0) if index in form.paddings else ([*tree, str(index)], fixed)
     ats = dict(zip((part.name for part in form.tail), offsets_in(form)))
 
     def leaf(step: Step) -> Tuple[List[str], str, str]:
@@ -306,7 +307,7 @@ def steps(form: Format) -> Tuple[List[str], List[str]]:
         return counts, size, length_of(part)
 
     lets = [f"    let {part.name}-size = {ended_size(part, ats[part.name])} in" for part in form.parts if part.is_ended]
-    return [*lets, *visit([in_tuples(tree)], lists, leaf), *made_of], values
+    return [*lets, *visit([in_tuples(tree, fixed)], lists, leaf), *made_of], values
 
 
 def struct_lemmas(struct: Struct) -> List[str]:

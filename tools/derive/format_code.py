@@ -166,14 +166,15 @@ def parts_lines(form: Format, value: str) -> List[str]:
     names = {part.name: f"{value}{part.name}" for part in form.parts}
     lines = [f"        let {part.name} = {names[part.name]};" for part in form.parts if is_taken(form, part) and value]
     codes: List[str] = []
+    fixed = len(form.head)
     for part in form.parts:
         if part.count and part.is_padding:
-            lines += tuple_lines("let parts = ", in_tuples(codes), ";", 8) if len(codes) > 1 else []
-            codes = [f"Padded({codes[0] if len(codes) == 1 else 'parts'}, {part.count.multiple})"]
+            lines += tuple_lines("let parts = ", in_tuples(codes, fixed), ";", 8) if len(codes) > 1 else []
+            codes, fixed = [f"Padded({codes[0] if len(codes) == 1 else 'parts'}, {part.count.multiple})"], 0
         else:
             taken = f"&{part.name}" if part.kind in ("leb", "optional") else part.name
             codes.append(taken if is_taken(form, part) else encoded(part, names))
-    return [*lines, *tuple_lines("let parts = ", in_tuples(codes), ";", 8)]
+    return [*lines, *tuple_lines("let parts = ", in_tuples(codes, fixed), ";", 8)]
 
 
 def check_lines(form: Format) -> List[str]:

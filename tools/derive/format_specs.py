@@ -257,19 +257,20 @@ def cause_lines(form: Format, name: str, types: str, parameters: str, cases: Lis
 def bytes_definition(form: Format) -> List[str]:
     """Returns the definition of the bytes, and before it those of the bytes that a field pads."""
     names = fields_in(form)
-    lists: List[Tree] = []
+    lists: List[str] = []
     lines: List[str] = []
+    fixed = len(form.head)
     for part in form.parts:
         if part.is_padding:
-            lines += bytes_lines(form, before(form, part), f"its bytes before `{part.name}`", lists)
-            lists = [f"{before(form, part)} order x ++ {bytes_of(form, part, names)}"]
+            lines += bytes_lines(form, before(form, part), f"its bytes before `{part.name}`", in_tuples(lists, fixed))
+            lists, fixed = [f"{before(form, part)} order x ++ {bytes_of(form, part, names)}"], 0
         else:
             lists.append(bytes_of(form, part, names))
-    return [*lines, *bytes_lines(form, f"{form.snake}_bytes", "its bytes", lists)]
+    return [*lines, *bytes_lines(form, f"{form.snake}_bytes", "its bytes", in_tuples(lists, fixed))]
 
 
-def bytes_lines(form: Format, name: str, says: str, lists: List[Tree]) -> List[str]:
-    lines = [f"    {it}" for it in row_lines(in_tuples(lists))]
+def bytes_lines(form: Format, name: str, says: str, lists: Tree) -> List[str]:
+    lines = [f"    {it}" for it in row_lines(lists)]
     return ["", f"-- {says}", f"abbrev pub {name} : Endian → {form.name} → List ℕ", f"{name} order x =", *lines]
 
 

@@ -50,11 +50,16 @@ def nested(parts: Sequence[Tree]) -> Tree:
     return tuple(trees)
 
 
-def in_tuples(parts: Sequence[Tree]) -> Tree:
-    """Returns parts in tuples, each of which but the last ends in the next. More than four such levels are nested, since the proof of
-    a call that takes the tuples is twice as long for each."""
-    if len(parts) == 1 or len(parts) > 4 * MOST - 3:
-        return nested(parts)
+def in_tuples(parts: Sequence[Tree], fixed: int) -> Tree:
+    """Returns parts in tuples, each of which but the last ends in the next. The first `fixed` parts have a fixed size, and where there
+    would be more than four levels, they are nested, since the proof of a call that takes the tuples is twice as long for each level."""
+    if len(parts) == 1:
+        return parts[0]
+    groups = lengths(len(parts))
+    first = sum(groups[:-1])
+    if len(parts) > 4 * MOST - 3 and first <= fixed:
+        starts = range(0, first, groups[0])
+        return (*(nested(parts[at : at + groups[0]]) for at in starts), in_tuples(parts[first:], fixed - first))
     last, rest = tuple(parts[-MOST:]), parts[:-MOST]
     while rest:
         last, rest = (*rest[1 - MOST :], last), rest[: 1 - MOST]
