@@ -27,7 +27,7 @@ PROVIDED = ("ctx", "ctx.rt", "leb128", "source.rt")
 # What takes the same time for every argument: a constant, a comparison, a field, or one load of those that `uleb_loads` makes.
 CONSTANT = {"array_fits", "as_c_str", "byte", "entry_of", "is_empty", "is_little", "made", "network", "word"}
 # What does little but call another one, which has a row.
-THROUGH = {"append_checked": "append", "write_kept": "gwrite_with", "write_many_kept": "write_many", "write_placed": "gwrite_with"}
+THROUGH = {"append_checked": "append", "put_whole": "put_at", "write_kept": "gwrite_with", "write_many_kept": "write_many", "write_placed": "gwrite_with"}
 USE = re.compile(r"^use .*?;$", re.M | re.S)
 FUNCTION = re.compile(r"^\s*pub fn (\w+)", re.M)
 TRAIT = re.compile(r"^pub trait \w+.*?^}", re.M | re.S)

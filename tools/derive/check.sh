@@ -70,6 +70,9 @@ clients/examples/src/stream.rt.txt Foo
 clients/examples/src/arrays.rt.txt Point
 clients/examples/src/arrays.rt.txt Triangle
 clients/object_files/src/sections.rt.txt Section
+clients/debug_tables/src/declaration.rt.txt Attribute
+clients/debug_tables/src/declaration.rt.txt Children
+clients/debug_tables/src/declaration.rt.txt Declaration
 clients/packets/src/packet.rt.txt DnsHeader
 clients/packets/src/packet.rt.txt UdpHeader
 clients/packets/src/packet.rt.txt Packet
@@ -107,7 +110,7 @@ while IFS='|' read -r file old words; do
     count "$result"
 done <<'END'
 src/end.rt.txt|check_room(22|the implementation for EndRecord is not what tools/derive/derive.sh prints
-src/end.rt.txt|self.put(dst|the implementation for EndRecord is not what tools/derive/derive.sh prints
+src/end.rt.txt|put_whole(dst|the implementation for EndRecord is not what tools/derive/derive.sh prints
 specs/EndRecordFormat.antt.txt|◌≢◌|specs/EndRecordFormat.antt.txt is not what tools/derive/derive.sh prints for EndRecord
 specs/EndRecordFormat.antt.txt|whole|specs/EndRecordFormat.antt.txt is not what tools/derive/derive.sh prints for EndRecord
 specs/EndRecordBack.antt.txt|p7|specs/EndRecordBack.antt.txt is not what tools/derive/derive.sh prints for EndRecord

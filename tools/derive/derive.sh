@@ -50,8 +50,8 @@
 #
 # and before each variant `// #[scroll(is = 1)]`, its number.
 #
-# A struct of any size and an enum get TryFromCtx and TryIntoCtx, and Ends with `ends`; and for `append` Encode, which a struct has by
-# InParts, and Checked where values may not agree, but no struct with numbers in LEB128. A struct of any size without those, arrays,
+# A struct of any size and an enum get TryFromCtx and TryIntoCtx, and Ends with `ends`; and for `append` Encode,
+# and Checked where values may not agree, but no struct with numbers in LEB128. A struct of any size without those, arrays,
 # structs and enums also gets Kept, for `write_kept`. They derive Copy. What --specs prints is its specs/STRUCTFormat.antt, and what
 # --back prints is its specs/STRUCTBack.antt: that what was written reads back, and, where each field is a number that is no float, a
 # struct of such, a slice, a text or a table, that what was read is written back.

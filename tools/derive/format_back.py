@@ -28,7 +28,7 @@ from format_words import (
 from format_reads import is_needed, reads_lemma
 from format_whole import whole_lines
 from kinds import Array, Number, Struct, Type, width_of
-from layout import Tree, label, nested
+from layout import Tree, in_tuples, label, nested
 from optional import leb_fit, leb_word
 from parts import Format, Part, snake, width
 
@@ -239,8 +239,8 @@ def visit(left: List[Tree], lists: List[str], leaf: Callable[[Step], Tuple[List[
     its size, and why it has so many bytes."""
     padded: Dict[str, str] = {}
     lets, step = ["    let p0 : Rest 0 s s = rest-start s in"], 0
-    # The check finds bytes by itself where none are those of an array and none are grouped.
-    is_plain = not any("exactly" in it for it in lists) and all(isinstance(it, str) for it in left)
+    # The check finds bytes by itself where none are those of an array.
+    is_plain = not any("exactly" in it for it in lists)
     while left:
         first, *others = left
         after = "_" if others and is_plain else joined_bytes(others, lists)
@@ -273,8 +273,9 @@ def steps(form: Format) -> Tuple[List[str], List[str]]:
     made_of: List[str] = []
 
     tree: List[Tree] = []
+    fixed = len(form.head)
     for index in range(len(lists)):
-        tree = [(tree[0] if len(tree) == 1 else tuple(tree), str(index))] if index in form.paddings else [*tree, str(index)]
+        tree, fixed = ([(in_tuples(tree, fixed), str(index))], 0) if index in form.paddings else ([*tree, str(index)], fixed)
     ats = dict(zip((part.name for part in form.tail), offsets_in(form)))
 
     def leaf(step: Step) -> Tuple[List[str], str, str]:
@@ -306,7 +307,7 @@ def steps(form: Format) -> Tuple[List[str], List[str]]:
         return counts, size, length_of(part)
 
     lets = [f"    let {part.name}-size = {ended_size(part, ats[part.name])} in" for part in form.parts if part.is_ended]
-    return [*lets, *visit(tree, lists, leaf), *made_of], values
+    return [*lets, *visit([in_tuples(tree, fixed)], lists, leaf), *made_of], values
 
 
 def struct_lemmas(struct: Struct) -> List[str]:

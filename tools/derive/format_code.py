@@ -8,7 +8,7 @@ from typing import Dict, List
 from counts import in_code
 from format_reads import is_needed
 from kinds import Array, Number
-from layout import INSIDE, MOST, WIDTH, Generic, Tree, struct_lines, tuple_lines
+from layout import INSIDE, WIDTH, in_tuples, struct_lines, tuple_lines
 from parts import Format, Part, offsets
 
 # Names that the body of a read has.
@@ -121,7 +121,7 @@ def read_lines(form: Format) -> List[str]:
         call = f"read_fixed(from, &mut {cursor}, ctx)" if isinstance(part.fixed, Array) else f"from.gread_with(&mut {cursor}, {context_of(form, part)})"
         type = part.type
         if part.kind == "table":
-            type, values[part.name] = encoded_type(part), f"Table::new({names[part.name]})"
+            type, values[part.name] = f"&{form.lifetime} [u8]", f"Table::new({names[part.name]})"
         if part.less:
             lines += below_test(form, part, names)
         lines += broken(f"        let {names[part.name]}: {type} =", call)
@@ -161,67 +161,20 @@ def encoded(part: Part, names: Dict[str, str]) -> str:
     return f"Value({names[part.name]})" if part.fixed else names[part.name]
 
 
-def encoded_type(part: Part) -> str:
-    """Returns the type of a field as it is written."""
-    if isinstance(part.fixed, Array):
-        return part.type
-    if part.kind == "zeros":
-        return "Gap"
-    if part.delimiter:
-        return part.type.replace("&", "Delimited<").replace(" str", ">")
-    if part.kind in ("table", "until"):
-        return "&" + part.type.split("<")[1].split(",")[0] + " [u8]"
-    return f"Value<{part.type}>" if part.fixed else part.type
-
-
-def in_fours(parts: List[Tree]) -> Tree:
-    """Returns parts in tuples, each of which but the last ends in the next."""
-    if len(parts) == 1:
-        return parts[0]
-    last, rest = tuple(parts[-MOST:]), parts[:-MOST]
-    while rest:
-        last, rest = (*rest[1 - MOST :], last), rest[: 1 - MOST]
-    return last
-
-
-def parts_type(form: Format) -> Tree:
-    """Returns the type of the parts."""
-    types: List[Tree] = []
-    for part in form.parts:
-        if part.is_padding:
-            types = [Generic("Padded", in_fours(types))]
-        else:
-            types.append(encoded_type(part))
-    return in_fours(types)
-
-
-def parts_lines(codes: List[str]) -> List[str]:
-    """Returns the lines that make the variable `parts` of parts, in tuples."""
-    lines: List[str] = []
-    last, rest = (codes[-MOST:], codes[:-MOST]) if len(codes) > 1 else ([], [])
-    while last:
-        lines += tuple_lines("let parts = ", tuple(last), ";", 8)
-        last, rest = ([*rest[1 - MOST :], "parts"], rest[: 1 - MOST]) if rest else ([], [])
-    return lines
-
-
-def encode_lines(form: Format) -> List[str]:
-    """Returns the body of the function that returns the parts."""
-    names = {part.name: f"self.{part.name}" for part in form.parts}
-    lines = [f"        let {part.name} = self.{part.name};" for part in form.parts if is_taken(form, part)]
+def parts_lines(form: Format, value: str) -> List[str]:
+    """Returns the lines that make the variable `parts` of the fields, which stand behind `value`."""
+    names = {part.name: f"{value}{part.name}" for part in form.parts}
+    lines = [f"        let {part.name} = {names[part.name]};" for part in form.parts if is_taken(form, part) and value]
     codes: List[str] = []
+    fixed = len(form.head)
     for part in form.parts:
         if part.count and part.is_padding:
-            lines += parts_lines(codes)
-            codes = [f"Padded({codes[0] if len(codes) == 1 else 'parts'}, {part.count.multiple})"]
+            lines += tuple_lines("let parts = ", in_tuples(codes, fixed), ";", 8) if len(codes) > 1 else []
+            codes, fixed = [f"Padded({codes[0] if len(codes) == 1 else 'parts'}, {part.count.multiple})"], 0
         else:
             taken = f"&{part.name}" if part.kind in ("leb", "optional") else part.name
             codes.append(taken if is_taken(form, part) else encoded(part, names))
-    whole = [*lines, *(parts_lines(codes) or [f"        let parts = {codes[0]};"])]
-    # The last tuple is what is returned.
-    place = max(index for index, line in enumerate(whole) if line.startswith("        let parts = "))
-    whole[place] = whole[place].replace("let parts = ", "")
-    return [*whole[:-1], whole[-1].rstrip(";")]
+    return [*lines, *tuple_lines("let parts = ", in_tuples(codes, fixed), ";", 8)]
 
 
 def check_lines(form: Format) -> List[str]:
@@ -320,16 +273,21 @@ def ends_block(form: Format) -> List[str]:
     ]
 
 
-def parts_block(form: Format) -> List[str]:
+def encode_block(form: Format) -> List[str]:
+    lines = parts_lines(form, "self.")
     return [
-        f"{impl_of(form)} InParts for {form.type} {{",
-        *tuple_lines("type Parts = ", parts_type(form), ";", 4),
+        f"{impl_of(form)} Encode for {form.type} {{",
+        f"    ghost bytes = {{ {form.snake}_bytes }};",
         "",
-        f"    ghost bytes_of = {{ {form.snake}_bytes }};",
+        "    fn size(self, order: Endian) -> usize {",
+        *lines,
+        "        parts.size(order)",
+        "    }",
         "",
         "    #[inline(always)]",
-        "    fn parts(self) -> Self::Parts {",
-        *encode_lines(form),
+        "    fn put(self, dst: &mut [u8], order: Endian) {",
+        *lines,
+        "        parts.put(dst, order)",
         "    }",
         "}",
     ]
@@ -355,28 +313,20 @@ def check_block(form: Format) -> List[str]:
 def apart_lines(form: Format) -> List[str]:
     """Returns the body of the write of a struct that can't be passed whole. (The borrow checker's part of a proof doesn't cover a
     list in it either, and so it is taken apart.)"""
-    lines = encode_lines(form)
+    lines = parts_lines(form, "self.")
     if any(part.listed for part in form.parts):
-        taken = [f"        let {part.name} = self.{part.name};" for part in form.parts if is_taken(form, part)]
         apart = struct_lines(form.name, [(part.name, part.name) for part in form.parts], False, 8)
-        apart = ["        let " + apart[0].strip(), *apart[1:]]
-        lines = [*apart[:-1], f"{apart[-1]} = self;", *(it.replace("self.", "") for it in lines if it not in taken)]
-    start = max(index for index, line in enumerate(lines) if re.match(r" {8}\S", line) and not line.startswith("        )"))
-    lines[start] = f"        let parts = {lines[start].strip()}"
-    lines[-1] += ";"
+        apart[0] = f"        let {apart[0].strip()}"
+        apart[-1] += " = self;"
+        lines = [*apart, *parts_lines(form, "")]
     tail = ["        let size = parts.size(ctx);", "        check_room(size, dst.len())?;", "        parts.put(dst, ctx);"]
     return [*check_lines(form)[:-1], *lines, *tail, "        Ok(size)"]
 
 
 def whole_lines(form: Format) -> List[str]:
     """Returns the body of the write."""
-    return [
-        *(["        self.check()?;"] if form.has_own else []),
-        "        let size = self.size(ctx);",
-        "        check_room(size, dst.len())?;",
-        "        self.put(dst, ctx);",
-        "        Ok(size)",
-    ]
+    write = "put_whole(dst, self, ctx)"
+    return [*(["        self.check()?;"] if form.has_own else []), f"        Ok({write}?)" if form.error else f"        {write}"]
 
 
 def write_block(form: Format) -> List[str]:
@@ -439,7 +389,7 @@ def error_name(form: Format) -> str:
 
 def format_blocks(form: Format) -> str:
     """Returns the implementations."""
-    parts = [] if form.has_leb else [*parts_block(form), *(check_block(form) if form.has_own else []), ""]
+    parts = [] if form.has_leb else [*encode_block(form), *(check_block(form) if form.has_own else []), ""]
     return "\n".join([*read_block(form), "", *ends_block(form), *parts, *write_block(form), *(kept_block(form) if is_kept(form) else [])])
 
 
@@ -452,8 +402,8 @@ def format_uses(form: Format) -> List[str]:
     backs = [it for it in (f"Fits{name}", f"{snake}-bounded", f"{snake}-back", f"{snake}-some") if it in block]
     prelude = ["◌≡◌"] * bool(form.mark) + ["⊤"] * ("⊤" in block)
     words = set(re.findall(r"\w+", block))
-    known = ("Checked", "Delimited", "Encode", "Gap", "InParts", "Kept", "Padded", "StrCtx", "Table", "TryFromCtx", "TryIntoCtx")
-    known += ("Until", "Value", "When", "Zeros", "padding", "read_fixed")
+    known = ("Checked", "Delimited", "Encode", "Gap", "Kept", "Padded", "StrCtx", "Table", "TryFromCtx", "TryIntoCtx")
+    known += ("Until", "Value", "When", "Zeros", "padding", "put_whole", "read_fixed")
     contexts = [it for it in known if it in words or it == "Encode" or (it == "Checked" and ".check()" in block)]
     calls = {"Cread": "cread_with", "Pread": "gread_with"}
     ours = ("Cread", "Endian", "Ends", "Error", "Pread", "Result", "Sleb128", "Uleb128", "check_room", "two_zeros_size", "zero_size")

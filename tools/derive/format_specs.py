@@ -30,6 +30,7 @@ from format_words import (
     within,
 )
 from kinds import Number, Struct, width_of
+from layout import Tree, in_row, in_tuples
 from parts import Format, Part, offsets
 
 
@@ -258,20 +259,32 @@ def bytes_definition(form: Format) -> List[str]:
     names = fields_in(form)
     lists: List[str] = []
     lines: List[str] = []
+    fixed = len(form.head)
     for part in form.parts:
         if part.is_padding:
-            lines += bytes_lines(form, before(form, part), f"its bytes before `{part.name}`", lists)
-            lists = [f"{before(form, part)} order x ++ {bytes_of(form, part, names)}"]
+            lines += bytes_lines(form, before(form, part), f"its bytes before `{part.name}`", in_tuples(lists, fixed))
+            lists, fixed = [f"{before(form, part)} order x ++ {bytes_of(form, part, names)}"], 0
         else:
             lists.append(bytes_of(form, part, names))
-    return [*lines, *bytes_lines(form, f"{form.snake}_bytes", "its bytes", lists)]
+    return [*lines, *bytes_lines(form, f"{form.snake}_bytes", "its bytes", in_tuples(lists, fixed))]
 
 
-def bytes_lines(form: Format, name: str, says: str, lists: List[str]) -> List[str]:
-    lists = [f"({it})" if " ++ " in it and len(lists) > 1 else it for it in lists]
-    lines = [f"    {lists[0]}", *(f"    ++ ({it}" for it in lists[1:-1]), *([f"    ++ {lists[-1]}"] if len(lists) > 1 else [])]
-    lines[-1] += ")" * (len(lists) - 2)
+def bytes_lines(form: Format, name: str, says: str, lists: Tree) -> List[str]:
+    lines = [f"    {it}" for it in row_lines(lists)]
     return ["", f"-- {says}", f"abbrev pub {name} : Endian → {form.name} → List ℕ", f"{name} order x =", *lines]
+
+
+def row_lines(tree: Tree) -> List[str]:
+    """Returns the bytes of the parts of nested tuples, which are grouped like these."""
+    parts = in_row(tree)
+    lines: List[str] = []
+    for index, part in enumerate(parts):
+        own = row_lines(part) if isinstance(part, tuple) else [str(part)]
+        if len(parts) > 1 and (len(own) > 1 or " ++ " in own[0]):
+            own = "({})".format("\n".join(own)).split("\n")
+        lines += [f"{'++ ' if index else ''}{'(' if 0 < index < len(parts) - 1 else ''}{own[0]}", *own[1:]]
+    lines[-1] += ")" * (len(parts) - 2)
+    return lines
 
 
 def agreement(form: Format, part: Part) -> str:

@@ -8,7 +8,7 @@ from typing import List, Sequence, Tuple
 from fixed import made
 from format_words import fields_in, fixed_bytes, member, offsets_in, size_in, structs_in, within
 from kinds import Number, Struct, Type, width_of
-from layout import Tree, nested
+from layout import Tree, in_row, in_tuples, nested
 from parts import Format, Part, offsets, snake, width
 
 BYTES = "((i : ℕ) → Fits w8 (slice_index s i))"
@@ -94,7 +94,7 @@ def whole_lines(form: Format) -> List[str]:
     for part, at in zip(form.tail, offsets_in(form)):
         at, size = (within(re.sub(r"(?<![\w.])(\w+-size)", r"h.\1", text)) for text in (at, size_in(part, fields)))
         leaves.append((at, size, part_there(part, at)))
-    term, size = chain([str(index) for index in range(len(leaves))], leaves)
+    term, size = chain(in_row(in_tuples([str(index) for index in range(len(leaves))], len(form.head))), leaves)
     return [
         *(line for struct in structs_in(form) for line in struct_whole(struct)),
         "-- what was read is written back byte for byte",

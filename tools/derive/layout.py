@@ -3,20 +3,10 @@
 from __future__ import annotations
 
 import textwrap
-from dataclasses import dataclass
 from typing import List, Sequence, Tuple, Union
 
 # Parts in nested tuples.
-Tree = Union[str, "Tuple[Tree, ...]", "Generic"]
-
-
-@dataclass(frozen=True)
-class Generic:
-    """A generic type and its parameter."""
-
-    name: str
-    inner: Tree
-
+Tree = Union[str, "Tuple[Tree, ...]"]
 
 # A tuple has at most so many parts.
 MOST = 4
@@ -48,7 +38,7 @@ def lengths(count: int) -> List[int]:
     return [min(most, count - at) for at in range(0, count, most)]
 
 
-def nested(parts: Sequence[str]) -> Tree:
+def nested(parts: Sequence[Tree]) -> Tree:
     """Returns parts in tuples of two to four, nested where there are more."""
     if len(parts) == 1:
         return parts[0]
@@ -58,6 +48,29 @@ def nested(parts: Sequence[str]) -> Tree:
         trees.append(nested(parts[at : at + length]))
         at += length
     return tuple(trees)
+
+
+def in_tuples(parts: Sequence[Tree], fixed: int) -> Tree:
+    """Returns parts in tuples, each of which but the last ends in the next. The first `fixed` parts have a fixed size, and where there
+    would be more than four levels, they are nested, since the proof of a call that takes the tuples is twice as long for each level."""
+    if len(parts) == 1:
+        return parts[0]
+    groups = lengths(len(parts))
+    first = sum(groups[:-1])
+    if len(parts) > 4 * MOST - 3 and first <= fixed:
+        starts = range(0, first, groups[0])
+        return (*(nested(parts[at : at + groups[0]]) for at in starts), in_tuples(parts[first:], fixed - first))
+    last, rest = tuple(parts[-MOST:]), parts[:-MOST]
+    while rest:
+        last, rest = (*rest[1 - MOST :], last), rest[: 1 - MOST]
+    return last
+
+
+def in_row(tree: Tree) -> List[Tree]:
+    """Returns the parts of a tuple, and of a tuple that is its last one those in place of it."""
+    if not isinstance(tree, tuple):
+        return [tree]
+    return [*tree[:-1], *in_row(tree[-1])]
 
 
 def paths(count: int, path: str) -> List[str]:
@@ -89,19 +102,14 @@ def in_pairs(tree: Tree) -> Tree:
 
 
 def on_one_line(tree: Tree) -> str:
-    if isinstance(tree, Generic):
-        return f"{tree.name}<{on_one_line(tree.inner)}>"
     return tree if isinstance(tree, str) else f"({', '.join(on_one_line(part) for part in tree)})"
 
 
 def tuple_lines(head: str, tree: Tree, tail: str, indent: int) -> List[str]:
     """Returns nested tuples after `head` and before `tail`, on one line if they are short."""
     line = f"{' ' * indent}{head}{on_one_line(tree)}{tail}"
-    inner = tree.inner if isinstance(tree, Generic) else tree
-    if isinstance(inner, str) or (len(on_one_line(inner)) - 2 <= INSIDE and len(line) <= WIDTH):
+    if isinstance(tree, str) or (len(on_one_line(tree)) - 2 <= INSIDE and len(line) <= WIDTH):
         return [line]
-    if isinstance(tree, Generic):
-        return [f"{' ' * indent}{head}{tree.name}<", *tuple_lines("", inner, ",", indent + 4), f"{' ' * indent}>{tail}"]
     lines = [f"{' ' * indent}{head}("]
     for part in tree:
         lines += tuple_lines("", part, ",", indent + 4)

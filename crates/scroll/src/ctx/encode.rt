@@ -2,7 +2,7 @@
 ghost use Rattle.std.specs.Prelude.{◌≡◌, ◌≤◌, ◌<◌, ◌+◌, ◌-◌, ◌*◌, ◌^◌, ◌++◌, ◌⊎◌, [], ◌∷◌, ℕ, List, length, take, drop, min, vec_capacity, IfOk, IfErr, IsOk, OnOk, OnErr};
 ghost use Rattle.std.specs.CStr.{c_str_bytes};
 ghost use Rattle.std.specs.List.{flat_map};
-ghost use Rattle.scroll.specs.Bytes.{ReadsFixed, RefusesShort};
+ghost use Rattle.scroll.specs.Bytes.{ReadsFixed, RefusesShort, WritesPrefix, FailsShort};
 ghost use Rattle.scroll.specs.Errors.{IsBadOffset};
 ghost use Rattle.scroll.specs.Fixed.{exactly};
 ghost use Rattle.scroll.specs.Encoding.{leb_text};
@@ -275,8 +275,7 @@ impl<A: Encode, B: Encode, C: Encode, D: Encode> Encode for (A, B, C, D) {
     }
 }
 
-/// A struct that is encoded as parts, such as its fields in tuples. `tools/derive` prints the
-/// implementation.
+/// A struct that is encoded as parts, such as its fields in tuples.
 pub trait InParts: Copy {
     /// The parts.
     type Parts: Encode;
@@ -375,6 +374,23 @@ pub fn put_at<A: Encode>(
     }
     put_behind(value, dst, offset, order);
     Ok(offset + size)
+}
+
+/// Writes the bytes of a value to the start of `dst`, and returns their number.
+///
+/// Where they have no room, it returns [`Error::TooBig`] with their number and the length of `dst`,
+/// which is then unchanged.
+#[inline(always)]
+pub fn put_whole<A: Encode>(dst: &mut [u8], value: A, order: Endian) -> Result<usize>
+    ensures wrote { IfOk result (WritesPrefix (length (A.bytes order value))
+        (A.bytes order value) dst.old dst.new) }
+    ensures refused { IfErr result
+        (FailsShort (min (length (A.bytes order value)) (2 ^ 64 - 1)) dst.old dst.new) }
+{
+    let size = value.size(order);
+    check_room(size, dst.len())?;
+    value.put(dst, order);
+    Ok(size)
 }
 
 /// Appends the bytes of a value to a vector. An allocation failure is [`Error::NoMemory`], and the
