@@ -2,7 +2,7 @@
 -- fills; arrays whose elements are viewed as other values, such as strings as their bytes; values
 -- that are written one after another; and the leaves of an array, which are those of its elements,
 -- in order.
-use Rattle.std.proofs.Common.{◌≡◌, ◌≢◌, ℕ, zero, suc, ◌+◌, ◌<◌, ◌≤◌, List, [], ◌∷◌, length, map, get_or, set, Option, Some, None, sym, ap, ◌∙◌, subst, arith, add-zero, drop, inl, inr, Result, Ok, Err, IfErr, ◌*◌, ◌++◌, refl, append_assoc, append-nil, length-append, max, take, length-take, length-drop, ◌-◌}
+use Rattle.std.proofs.Common.{◌≡◌, ◌≢◌, ℕ, zero, suc, ◌+◌, ◌<◌, ◌≤◌, List, [], ◌∷◌, length, map, get_or, set, Option, Some, None, sym, ap, ◌∙◌, subst, arith, add-zero, drop, inl, inr, Result, Ok, Err, IfErr, ◌*◌, ◌++◌, refl, append_assoc, max, take, length-take, length-drop, ◌-◌}
 use Rattle.std.proofs.lemmas.List.{get_or-set_other, get_or-map, length-map, same_lists, get_or_default, drop-drop, length_push, map-append}
 use Rattle.std.specs.Fn.{Mut, Called, Takes}
 use Rattle.std.specs.List.{FoldsTo, slice_index_or, sum_by, flat_map}
@@ -249,15 +249,6 @@ IsPartWritten-fails writes refuses all left left' old mid new count offset x e w
   written = was.written;
   refused = failed;
 }
-
--- all values are written
-pub IsPartWritten-all : {V : Type 0} (writes : V → List ℕ → List ℕ → ℕ → Type 0) (all left : List V) (old new : List ℕ) (count offset : ℕ) → IsPartWritten writes all left old new count offset → length all ≡ count → WritesArray writes all old new offset
-IsPartWritten-all writes all [] old new count offset was len = subst (λ vs. WritesAll writes old 0 vs new offset) (sym (was.split ∙ append-nil was.done)) was.written
-IsPartWritten-all writes all (x ∷ left) old new count offset was len = absurd (omega (arith, ap length was.split, length-append was.done (x ∷ left), was.len, len))
-
--- fewer than all are
-pub IsPartWritten-more : {V : Type 0} (writes : V → List ℕ → List ℕ → ℕ → Type 0) (all left : List V) (old new : List ℕ) (count offset : ℕ) → IsPartWritten writes all left old new count offset → count < length all → length left ≡ 0 → ⊥
-IsPartWritten-more writes all left old new count offset was more empty = omega (arith, ap length was.split, length-append was.done left, empty, was.len, more)
 
 -- leaves after leaves that fit
 pieces-append : (n o : ℕ) (ls ks : List (List ℕ)) → left_over n o ls ≡ None → pieces n o (ls ++ ks) ≡ pieces n o ls ++ pieces n (o + sum_by length ls) ks
