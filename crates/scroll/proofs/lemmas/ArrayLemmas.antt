@@ -2,7 +2,7 @@
 -- fills; arrays whose elements are viewed as other values, such as strings as their bytes; values
 -- that are written one after another; and the leaves of an array, which are those of its elements,
 -- in order.
-use Rattle.std.proofs.Common.{◌≡◌, ◌≢◌, ℕ, zero, suc, ◌+◌, ◌<◌, ◌≤◌, List, [], ◌∷◌, length, map, get_or, set, Option, Some, None, sym, ap, ◌∙◌, subst, arith, add-zero, drop, inl, inr, Result, Ok, Err, IfErr, ◌*◌, ◌++◌, refl, append_assoc, append-nil, length-append, max, take, length-take, length-drop, ◌-◌}
+use Rattle.std.proofs.Common.{◌≡◌, ◌≢◌, ℕ, zero, suc, ◌+◌, ◌<◌, ◌≤◌, List, [], ◌∷◌, length, map, get_or, set, Option, Some, None, sym, ap, ◌∙◌, subst, arith, add-zero, drop, inl, inr, Result, Ok, Err, IfErr, ◌*◌, ◌++◌, refl, append_assoc}
 use Rattle.std.proofs.lemmas.List.{get_or-set_other, get_or-map, length-map, same_lists, get_or_default, drop-drop, length_push, map-append}
 use Rattle.std.specs.Fn.{Mut, Called, Takes}
 use Rattle.std.specs.List.{FoldsTo, slice_index_or, sum_by, flat_map}
@@ -12,7 +12,7 @@ use Rattle.scroll.specs.Arrays.{RefusesArray, OverwritesValue, OverwritesAll, Wr
 use Rattle.scroll.specs.Reads.{ReadsAll, RefusesAt, ReadsBetween}
 use Rattle.scroll.specs.Runs.{offset_of, RefusesHere}
 use Rattle.scroll.specs.declared.runner.Place.{Place}
-use Rattle.std.proofs.Math.Nat.{mul-suc, mul-le-mul_right}
+use Rattle.std.proofs.Math.Nat.{mul-suc}
 use Rattle.scroll.proofs.lemmas.callers.Cursors.{ReadsAll-push}
 use Rattle.scroll.specs.Writes.{WritesAt, FailsAt}
 use Rattle.std.proofs.lemmas.Grind.{flat_map-append}
@@ -158,14 +158,6 @@ OverwritesAll-next width overwrites old vs mid x new i len h w =
     let at : width * i ≡ 0 + width * length vs = ap (λ k. width * k) (sym len) ∙ sym (zero-add (width * length vs)) in
     OverwritesAll-push width overwrites old 0 vs mid x new h (subst (λ k. OverwritesValue (overwrites x) mid k new) at w)
 
--- bytes with room for the elements up to one at an index have it for its size, before it, and from
--- its start on
-pub room_for : (w n i : ℕ) (s : List ℕ) → max w n * (i + 1) ≤ length s → (w ≤ length s) × (w * i ≤ length s) × (n ≤ length (take (length s - w * i) (drop (w * i) s)))
-room_for w n i s h =
-    let all : max w n * (i + 1) ≡ max w n * i + max w n = omega arith in
-    let before : w * i ≤ max w n * i = mul-le-mul_right i (omega arith) in
-    (omega (arith, all), omega (arith, all, before), omega (arith, all, before, length-take (length s - w * i) (drop (w * i) s), length-drop (w * i) s))
-
 -- lists are equal if their optional values are
 pub map_some-same : {A : Type 0} → (xs ys : List A) → map (λ (x : A). Some x) xs ≡ map (λ (x : A). Some x) ys → xs ≡ ys
 map_some-same [] [] e = refl
@@ -249,15 +241,6 @@ IsPartWritten-fails writes refuses all left left' old mid new count offset x e w
   written = was.written;
   refused = failed;
 }
-
--- all values are written
-pub IsPartWritten-all : {V : Type 0} (writes : V → List ℕ → List ℕ → ℕ → Type 0) (all left : List V) (old new : List ℕ) (count offset : ℕ) → IsPartWritten writes all left old new count offset → length all ≡ count → WritesArray writes all old new offset
-IsPartWritten-all writes all [] old new count offset was len = subst (λ vs. WritesAll writes old 0 vs new offset) (sym (was.split ∙ append-nil was.done)) was.written
-IsPartWritten-all writes all (x ∷ left) old new count offset was len = absurd (omega (arith, ap length was.split, length-append was.done (x ∷ left), was.len, len))
-
--- fewer than all are
-pub IsPartWritten-more : {V : Type 0} (writes : V → List ℕ → List ℕ → ℕ → Type 0) (all left : List V) (old new : List ℕ) (count offset : ℕ) → IsPartWritten writes all left old new count offset → count < length all → length left ≡ 0 → ⊥
-IsPartWritten-more writes all left old new count offset was more empty = omega (arith, ap length was.split, length-append was.done left, empty, was.len, more)
 
 -- leaves after leaves that fit
 pieces-append : (n o : ℕ) (ls ks : List (List ℕ)) → left_over n o ls ≡ None → pieces n o (ls ++ ks) ≡ pieces n o ls ++ pieces n (o + sum_by length ls) ks

@@ -41,28 +41,28 @@ pub fn array_fits<T, const N: usize>() -> bool
 }
 
 // Takes the element at `index` and leaves `None` in its place.
-fn take_slot<T: Drop>(slots: &mut [Option<T>], index: usize) -> T
-    requires { (x : T) × (slice_index_or slots.old index None ≡ Some x) }
-    ensures value { slice_index_or slots.old index None ≡ Some result }
-    ensures after { slots.new ≡ slice_set slots.old index None }
+fn take_slot<T: Drop, const N: usize>(slots: &mut ArrayVec<Option<T>, N>, index: usize) -> T
+    requires { (x : T) × (slice_index_or slots.old.items index None ≡ Some x) }
+    ensures value { slice_index_or slots.old.items index None ≡ Some result }
+    ensures after { slots.new.items ≡ slice_set slots.old.items index None }
 {
-    match mem::take(&mut slots[index]) {
+    match mem::take(&mut slots.as_mut_slice()[index]) {
         Some(x) => x,
         None => unreachable!(),
     }
 }
 
-// Takes the elements of full slots as an array.
-fn take_slots<T: Drop, const N: usize>(slots: &mut [Option<T>]) -> [T; N]
-    requires { (xs : List T) × (slots.old ≡ map (λ x. Some x) xs) × (length xs ≡ N) }
-    ensures { slots.old ≡ map (λ x. Some x) result }
+// Unwraps a full vector of options into an array.
+fn unwrap_slots<T: Drop, const N: usize>(mut slots: ArrayVec<Option<T>, N>) -> [T; N]
+    requires { (xs : List T) × (slots.items ≡ map (λ x. Some x) xs) × (length xs ≡ N) }
+    ensures { slots.items ≡ map (λ x. Some x) result }
 {
     array::from_fn(
-        move |i| -> T
-            requires { (x : T) × (slice_index_or slots.now i None ≡ Some x) }
-            ensures value { slice_index_or slots.entry.now i None ≡ Some result }
-            ensures after { slots.exit.now ≡ slice_set slots.entry.now i None }
-        { take_slot(slots, i) },
+        |i| -> T
+            requires { (x : T) × (slice_index_or slots.items i None ≡ Some x) }
+            ensures value { slice_index_or slots.entry.items i None ≡ Some result }
+            ensures after { slots.exit.items ≡ slice_set slots.entry.items i None }
+        { take_slot(&mut slots, i) },
     )
 }
 
@@ -130,7 +130,8 @@ impl<
             let value: T = from.gread_with(&mut offset, ctx)?;
             slots.push(Some(value));
         }
-        Ok((take_slots(slots.as_mut_slice()), offset))
+        let values = unwrap_slots(slots);
+        Ok((values, offset))
     }
 }
 

@@ -1,4 +1,3 @@
-use Rattle.std.proofs.Common.{◌≡◌, true}
 use Rattle.scroll.proofs.ctx.arrays.array_fits.Goals as goal
 
 pub returns-then-fits-clause-read : goal.returns-then-fits-clause-read
@@ -9,8 +8,3 @@ returns-then-fits-clause-written g c = λ h. c.fits-then-fits.ensures.fits h
 
 pub returns-then-fits-clause-found : goal.returns-then-fits-clause-found
 returns-then-fits-clause-found g c = λ h. c.fits-then-fits.ensures.small h.1
-
-pub returns-else-fits-clause-found : goal.returns-else-fits-clause-found
-returns-else-fits-clause-found g c = λ h.
-    let is_true : c.fits.result ≡ true = c.fits.ensures.small h.0 in
-    absurd (cc)

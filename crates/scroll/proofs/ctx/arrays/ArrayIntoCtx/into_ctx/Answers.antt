@@ -1,7 +1,6 @@
-use Rattle.std.proofs.Common.{◌≡◌, ◌≤◌, ◌+◌, ◌++◌, [], ◌∷◌, length, take, get_or, rules, arith}
-use Rattle.std.proofs.Math.Nat.{le_trans, mul-le-mul_left}
-use Rattle.std.proofs.lemmas.Grind.{take_at_read}
-use Rattle.std.proofs.lemmas.List.{length-take-le, take_all}
+use Rattle.std.proofs.Common.{◌≡◌, ◌+◌, ◌++◌, [], ◌∷◌, length, take, get_or, rules, arith}
+use Rattle.std.proofs.lemmas.Grind.{take_at_read, common_steps}
+use Rattle.std.proofs.lemmas.List.{length-take-le}
 use Rattle.scroll.proofs.lemmas.ArrayLemmas.{OverwritesAll-next}
 use Rattle.scroll.proofs.ctx.arrays.ArrayIntoCtx.into_ctx.Goals as goal
 
@@ -18,12 +17,5 @@ loop-i-preserved g c =
       len = search rules;
     }
 
-pub put_element-requires : goal.put_element-requires
-put_element-requires g c =
-    let next : c.loop-i.i + 1 ≤ g.row.N = omega (arith, c.loop-i-test.true) in
-    rw c.loop-i.invariant.len (le_trans (mul-le-mul_left _ next) c.requires)
-
 pub returns : goal.returns
-returns g c =
-    let all : take c.loop-i.i c.args.self ≡ c.args.self = take_all c.loop-i.i c.args.self (omega arith) in
-    record { len = search rules; each = rw all at c.loop-i.invariant.put }
+returns g c = grind (arith, common_steps)

@@ -20,7 +20,7 @@ loop-i-preserved g c =
 pub returns-clause-read : goal.returns-clause-read
 returns-clause-read g c =
     let was = c.loop-i.invariant in
-    let same = map_some-same _ _ (sym was.slots ∙ sym c.as_mut_slice.ensures.value ∙ c.take_slots.ensures) in
+    let same = map_some-same _ _ (sym was.slots ∙ c.unwrap_slots-values.ensures) in
     rw (← same) (record { len = omega arith; each = was.each })
 
 pub returns-in_err-value-clause-refused : goal.returns-in_err-value-clause-refused
@@ -35,13 +35,10 @@ push-requires g c =
     let was = c.loop-i.invariant in
     (c.if-not-fits.ensures.fits refl, omega (arith, ap length was.slots, length-map was.values (λ x. Some x), was.len))
 
-pub take_slots-requires : goal.take_slots-requires
-take_slots-requires g c =
+pub unwrap_slots-values-requires : goal.unwrap_slots-values-requires
+unwrap_slots-values-requires g c =
     let was = c.loop-i.invariant in
-    (search rules, (was.values, c.as_mut_slice.ensures.value ∙ was.slots, omega (arith, was.len)))
+    (c.if-not-fits.ensures.fits refl, (search rules, (was.values, was.slots, omega (arith, was.len))))
 
 pub new-slots-requires : goal.new-slots-requires
 new-slots-requires g c = c.if-not-fits.ensures.fits refl
-
-pub as_mut_slice-requires : goal.as_mut_slice-requires
-as_mut_slice-requires g c = c.if-not-fits.ensures.fits refl

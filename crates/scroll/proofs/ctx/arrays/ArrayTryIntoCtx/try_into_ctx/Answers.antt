@@ -1,7 +1,8 @@
-use Rattle.std.proofs.Common.{◌≡◌, length, true, refl, arith, rules}
+use Rattle.std.proofs.Common.{◌≡◌, true, refl, arith, rules}
+use Rattle.std.proofs.lemmas.Grind.{common_steps}
 use Rattle.std.proofs.lemmas.Result.{err_from_is_err_and}
 use Rattle.std.specs.Array.Iter.{array_into_iter_items}
-use Rattle.scroll.proofs.lemmas.ArrayLemmas.{IsPartWritten-none, IsPartWritten-next, IsPartWritten-fails, IsPartWritten-more, IsPartWritten-all}
+use Rattle.scroll.proofs.lemmas.ArrayLemmas.{IsPartWritten-none, IsPartWritten-next, IsPartWritten-fails}
 use Rattle.scroll.proofs.ctx.arrays.ArrayTryIntoCtx.try_into_ctx.Goals as goal
 
 pub loop-i-init : goal.loop-i-init
@@ -38,19 +39,13 @@ returns-in_err-offset-in-Some-clause-refused g c =
     rw (p.1, p.2) (λ _. failed)
 
 pub unreachable-requires : goal.unreachable-requires
-unreachable-requires g c =
-    let len : length c.args.self ≡ g.row.N = search rules in
-    IsPartWritten-more (g.T.TryIntoCtx.writes c.args.ctx) c.args.self _ _ _ _ _ c.loop-i.invariant (omega (arith, len)) c.in-None.ensures.steps.0
+unreachable-requires g c = grind (arith, common_steps)
 
 pub unreachable-unreachable : goal.unreachable-unreachable
-unreachable-unreachable g c =
-    let len : length c.args.self ≡ g.row.N = search rules in
-    IsPartWritten-more (g.T.TryIntoCtx.writes c.args.ctx) c.args.self _ _ _ _ _ c.loop-i.invariant (omega (arith, len)) c.in-None.ensures.steps.0
+unreachable-unreachable g c = grind (arith, common_steps)
 
 pub returns-clause-wrote : goal.returns-clause-wrote
-returns-clause-wrote g c =
-    let len : length c.args.self ≡ g.row.N = search rules in
-    IsPartWritten-all (g.T.TryIntoCtx.writes c.args.ctx) c.args.self _ _ _ _ _ c.loop-i.invariant (omega (arith, len))
+returns-clause-wrote g c = grind (arith, common_steps)
 
 pub returns-clause-refused : goal.returns-clause-refused
-returns-clause-refused g c = tt
+returns-clause-refused g c = grind (arith, common_steps)
