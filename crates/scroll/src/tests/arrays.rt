@@ -7,10 +7,10 @@ ghost use Rattle.scroll.specs.Numbers.{number, number_bytes, signed_number};
 use crate::ctx::{Record, SizeWith, StrCtx, TryFromCtx, TryIntoCtx};
 use crate::laws::fixed_size_is_kept;
 use crate::tests::reads::{
-    check_read, check_read_past, check_short_read, check_short_write, check_write,
+    check_no_read, check_no_slice_write, check_no_write, check_read, check_slice_write, check_write,
 };
-use crate::tests::results::{check_bad_offset, check_eq, check_too_big, check_value};
-use crate::{BE, Cread, Endian, Error, LE, Pread, Result, slice};
+use crate::tests::results::{check_eq, check_too_big, check_value};
+use crate::{BE, Cread, Endian, Error, LE, Pread, Result};
 use std::process::Abort;
 use std::result;
 
@@ -19,10 +19,10 @@ fn numbers_in_arrays_and_in_arrays_of_arrays(rt: HostRuntime) {
     let rt = &rt;
     let source: &[u8] = &[1, 0, 2, 0, 3, 0, 4, 0];
     check_read(rt, source, 0, LE, [1u16, 2, 3], 6);
-    check_short_read::<[u16; 3], _>(rt, source, 6, LE, 2, 0);
+    check_no_read::<[u16; 3], _>(rt, source, 6, LE, ("TooBig", 2, 0));
     check_read(rt, source, 2, BE, [0x200u16, 0x300, 0x400], 8);
-    check_read_past::<[u16; 3], _>(rt, source, 9, LE);
-    check_short_read::<[[u16; 2]; 2], _>(rt, &source[..6], 0, LE, 2, 0);
+    check_no_read::<[u16; 3], _>(rt, source, 9, LE, ("BadOffset", 9, 0));
+    check_no_read::<[[u16; 2]; 2], _>(rt, &source[..6], 0, LE, ("TooBig", 2, 0));
     check_read(rt, source, 0, LE, [[1u16, 2], [3, 4]], 8);
 }
 
@@ -32,7 +32,7 @@ fn no_elements(rt: HostRuntime) {
     let none: [u8; 0] = [];
     check_read(rt, &[7], 1, LE, none, 1);
     let mut out = [7u8; 1];
-    check_value(rt, [0u16; 0].try_into_ctx(&mut out, BE), 0);
+    check_write(rt, &mut out, [0u16; 0], 0, BE, 0);
     check_eq(rt, out, [7]);
 }
 
@@ -41,7 +41,7 @@ fn a_refused_write_leaves_its_first_elements(rt: HostRuntime) {
     let rt = &rt;
     let pairs: [[u16; 2]; 2] = [[1, 2], [3, 4]];
     let mut bytes = [0xffu8; 7];
-    check_short_write(rt, &mut bytes, pairs, 0, BE, 2, 1);
+    check_no_write(rt, &mut bytes, pairs, 0, BE, ("TooBig", 2, 1));
     check_eq(rt, bytes, [0, 1, 0, 2, 0, 3, 0xff]);
     let mut wide = [0xffu8; 9];
     check_write(rt, &mut wide, pairs, 1, BE, 8);
@@ -63,9 +63,7 @@ fn a_bad_offset_counts_from_its_own_array(rt: HostRuntime) {
     let rt = &rt;
     let source: &[u8] = b"a\0b\0c";
     let words = StrCtx::Delimiter(0);
-    let offset = &mut 0;
-    check_bad_offset(rt, source.gread_with::<[[&str; 2]; 2]>(offset, words), 2);
-    check_eq(rt, *offset, 0);
+    check_no_read::<[[&str; 2]; 2], _>(rt, source, 0, words, ("BadOffset", 2, 0));
     check_read(rt, source, 0, words, ["a", "b"], 4);
 }
 
@@ -154,16 +152,16 @@ const FORMAT: Format = Format {
     rate: 44100,
 };
 
-const FILE: [u8; 10] = *b"\xff\x00\x01\xff\xfe\x00\x00\xac\x44\xff";
+static FILE: [u8; 10] = *b"\xff\x00\x01\xff\xfe\x00\x00\xac\x44\xff";
 
 #[test]
 fn a_struct_of_parts(rt: HostRuntime) {
     let rt = &rt;
     fixed_size_is_kept::<Format>();
     let mut file = [0xffu8; 10];
-    check_value(rt, slice::pwrite_with(&mut file, FORMAT, 1, BE), 8);
+    check_slice_write(rt, &mut file, FORMAT, 1, BE, 8);
     check_eq(rt, &file, &FILE);
-    check_too_big(rt, slice::pwrite_with(&mut file, FORMAT, 3, LE), 8, 7);
+    check_no_slice_write(rt, &mut file, FORMAT, 3, LE, ("TooBig", 8, 7));
     check_formats(rt);
     check_eq(rt, FILE[..].cread_with::<Format>(1, BE), FORMAT);
     check_eq(rt, Format::size_with(&LE), 8);

@@ -4,21 +4,23 @@
 // allocation fails, one of the two calls must succeed.
 use crate::cstr::{CStr, CString};
 use crate::ctx::{TryFromCtx, TryIntoCtx};
-use crate::tests::reads::{check_read, check_short_write, check_write};
-use crate::tests::results::{
-    check_bad_input, check_bad_offset, check_eq, check_too_big, check_value,
+use crate::tests::reads::{
+    check_no_default_read, check_no_read, check_no_write, check_read, check_write,
 };
+use crate::tests::results::{Parts, check_bad_input, check_eq, check_too_big, check_value};
 use crate::{Error, Pread, Pwrite, Result};
 use std::alloc::Global;
 use std::ffi;
 use std::process::Abort;
 
-pub const NO_ZERO: &str = "The input doesn't contain a null byte";
+// The error of a source with no zero.
+const NONE: Parts<'static> = ("The input doesn't contain a null byte", 0, 0);
 
-// Checks that a call has no error except out of memory.
-fn check_memory<T>(rt: &impl Abort, outcome: &Result<T>) {
+// Returns whether a call succeeded, and expects no error except out of memory.
+pub fn has_memory<T>(rt: &impl Abort, outcome: &Result<T>) -> bool {
     match outcome {
-        Ok(_) | Err(Error::NoMemory) => {}
+        Ok(_) => true,
+        Err(Error::NoMemory) => false,
         Err(error) => panic!(rt; "expected a value or NoMemory, got {error:?}"),
     }
 }
@@ -26,7 +28,7 @@ fn check_memory<T>(rt: &impl Abort, outcome: &Result<T>) {
 // Returns the C string of a text, from one of two calls.
 fn make(rt: &impl Abort, alloc: Global, text: &[u8]) -> CString {
     let first = CString::new(alloc, text);
-    check_memory(rt, &first);
+    has_memory(rt, &first);
     first
         .or(CString::new(alloc, text))
         .expect(rt, "no memory twice")
@@ -42,8 +44,7 @@ fn read_once<'a, T: TryFromCtx<'a, &'a Global, Error = Error> + Drop>(
 ) -> Option<T> {
     let mut offset = from;
     let value = source.gread_with(&mut offset, alloc);
-    check_memory(rt, &value);
-    check_eq(rt, offset, if value.is_ok() { to } else { from });
+    check_eq(rt, offset, if has_memory(rt, &value) { to } else { from });
     value.ok()
 }
 
@@ -77,21 +78,8 @@ fn check_reads(
     check_read(rt, source, from, (), borrow(rt, wanted), to);
     let copy: CString = read_copy(rt, alloc, source, from, to);
     check_eq(rt, copy.as_bytes_with_nul(), wanted);
-    check_cut::<CStr, _>(rt, source, to, ());
-    check_cut::<CString, _>(rt, source, to, alloc);
-}
-
-// Checks that a read finds no zero, at an offset and at a cursor, which is left.
-fn check_cut<'a, T: TryFromCtx<'a, Ctx, Error = Error> + Drop, Ctx: Copy>(
-    rt: &impl Abort,
-    source: &'a [u8],
-    from: usize,
-    ctx: Ctx,
-) {
-    check_bad_input(rt, source.pread_with::<T>(from, ctx), 0, NO_ZERO);
-    let mut offset = from;
-    check_bad_input(rt, source.gread_with::<T>(&mut offset, ctx), 0, NO_ZERO);
-    check_eq(rt, offset, from);
+    check_no_read::<CStr, _>(rt, source, to, (), NONE);
+    check_no_read::<CString, _>(rt, source, to, alloc, NONE);
 }
 
 // Checks that a C string is made of a text, and has these bytes with its zero.
@@ -123,10 +111,10 @@ fn round_trip_a_c_str(rt: HostRuntime) {
 }
 
 // Texts that contain a zero, and where.
-const REFUSED: [(&[u8], usize); 3] = [(b"a\0b", 1), (b"\0", 0), (b"ab\0\0", 2)];
+static REFUSED: [(&[u8], usize); 3] = [(b"a\0b", 1), (b"\0", 0), (b"ab\0\0", 2)];
 
 // Texts, and the bytes of their C strings.
-const HELD: [(&[u8], &[u8]); 4] = [
+static HELD: [(&[u8], &[u8]); 4] = [
     (b"", b"\0"),
     (b"a", b"a\0"),
     (b"\xff\x01 \xc3", b"\xff\x01 \xc3\0"),
@@ -156,7 +144,7 @@ fn texts_of_each_length(rt: HostRuntime) {
     }
 }
 
-const LENGTHS: [usize; 7] = [0, 1, 255, 256, 4096, 65_535, 65_536];
+static LENGTHS: [usize; 7] = [0, 1, 255, 256, 4096, 65_535, 65_536];
 
 // Checks that a text is held, and that it is read back.
 fn check_whole(rt: &impl Abort, alloc: Global, text: &[u8]) {
@@ -191,7 +179,7 @@ fn reads(rt: HostRuntime) {
     let alloc = &rt.alloc();
     let source: &[u8] = b"hello world\0more words";
     check_reads(rt, alloc, source, 6, b"world\0", 12);
-    check_bad_offset(rt, source.pread_with::<CString>(23, alloc), 23);
+    check_no_read::<CString, _>(rt, source, 23, alloc, ("BadOffset", 23, 0));
     // the empty text
     check_reads(rt, alloc, b"\0", 0, b"\0", 1);
 }
@@ -201,8 +189,8 @@ fn arrays_of_c_strings(rt: HostRuntime) {
     let rt = &rt;
     let alloc = &rt.alloc();
     let source: &[u8] = b"ab\0\0c";
-    check_cut::<[CString; 2], _>(rt, source, 4, alloc);
-    check_cut::<[CStr; 3], _>(rt, source, 0, ());
+    check_no_read::<[CString; 2], _>(rt, source, 4, alloc, NONE);
+    check_no_read::<[CStr; 3], _>(rt, source, 0, (), NONE);
     let strings: [CString; 2] = read_copy(rt, alloc, source, 0, 4);
     let [first, second] = &strings;
     check_eq(rt, first.as_bytes(), b"ab");
@@ -215,7 +203,7 @@ fn writes(rt: HostRuntime) {
     let alloc = rt.alloc();
     let mut bytes = [0xffu8; 4];
     check_write(rt, &mut bytes, borrow(rt, b"ab\0"), 0, (), 3);
-    check_short_write(rt, &mut bytes, borrow(rt, b"a\0"), 3, (), 2, 1);
+    check_no_write(rt, &mut bytes, borrow(rt, b"a\0"), 3, (), ("TooBig", 2, 1));
     check_eq(rt, &bytes, b"ab\0\xff");
     let mut target: &mut [u8] = &mut bytes;
     check_value(rt, target.pwrite(make(rt, alloc, b"ab"), 1), 3);
@@ -234,18 +222,18 @@ fn borrowed(rt: HostRuntime) {
     check_eq(rt, text.to_bytes(), b"off");
     check_eq(rt, CStr::from(text).to_bytes_with_nul(), b"off\0");
     check_read(rt, BYTES, 3, (), text, 7);
-    check_bad_input(rt, CUT.pread::<ffi::CStr>(0), 0, NO_ZERO);
+    check_no_default_read::<ffi::CStr, _>(rt, CUT, 0, NONE);
     let mut target = [7u8; 5];
     check_write(rt, &mut target, text, 1, (), 4);
     check_eq(rt, &target, b"\x07off\0");
-    check_short_write(rt, &mut target[..3], text, 0, (), 4, 3);
+    check_no_write(rt, &mut target[..3], text, 0, (), ("TooBig", 4, 3));
 }
 
 #[test]
 fn owned(rt: HostRuntime) {
     let rt = &rt;
     let alloc = &rt.alloc();
-    check_cut::<ffi::CString, _>(rt, CUT, 0, alloc);
+    check_no_read::<ffi::CString, _>(rt, CUT, 0, alloc, NONE);
     let read: ffi::CString = read_copy(rt, alloc, BYTES, 0, 3);
     check_eq(rt, read.as_bytes(), b"on");
     let string = CString::from(read);

@@ -7,11 +7,13 @@ use crate::laws::{
     array_depends_on_its_bytes, array_has_leaves, arrays_keep_their_laws, fixed_size_is_kept,
     fixed_size_is_written_back, size_is_that_of_reads_and_writes, write_is_of_its_leaves,
 };
+use crate::tests::leb128::check_no_number;
 use crate::tests::reads::{
-    check_read, check_read_past, check_short_read, check_short_write, check_write, check_write_past,
+    check_bulk, check_no_default_read, check_no_default_write, check_no_read, check_no_slice_write,
+    check_no_write, check_read, check_write,
 };
-use crate::tests::results::{check_bad_offset, check_eq, check_too_big, check_value};
-use crate::{BE, Endian, LE, NATIVE, NETWORK, Pread, Pwrite, Sleb128, Uleb128, slice};
+use crate::tests::results::{Parts, check_eq, check_too_big, check_value};
+use crate::{BE, Endian, LE, NATIVE, NETWORK, Uleb128};
 use std::process::Abort;
 
 #[test]
@@ -40,9 +42,9 @@ fn reads_at_an_offset(rt: HostRuntime) {
     check_read(rt, source, 0, LE, 4022250974u32, 4);
     check_read(rt, source, 0, BE, 0xdeadbeef01020304u64, 8);
     check_read(rt, source, 0, LE, 0x04030201efbeaddeu64, 8);
-    check_short_read::<u64, _>(rt, source, 1, LE, 8, 7);
-    check_short_read::<u8, _>(rt, source, 8, LE, 1, 0);
-    check_read_past::<u8, _>(rt, source, 9, LE);
+    check_no_read::<u64, _>(rt, source, 1, LE, ("TooBig", 8, 7));
+    check_no_read::<u8, _>(rt, source, 8, LE, ("TooBig", 1, 0));
+    check_no_read::<u8, _>(rt, source, 9, LE, ("BadOffset", 9, 0));
 }
 
 #[test]
@@ -53,8 +55,8 @@ fn writes_at_an_offset(rt: HostRuntime) {
     check_write(rt, &mut bytes, 0xdeadbeefu32, 6, LE, 4);
     check_write(rt, &mut bytes, 0x1234u16, 12, BE, 2);
     check_write(rt, &mut bytes, 7u8, 15, LE, 1);
-    check_short_write(rt, &mut bytes, 0u32, 13, LE, 4, 3);
-    check_write_past(rt, &mut bytes, 0u8, 17, LE);
+    check_no_write(rt, &mut bytes, 0u32, 13, LE, ("TooBig", 4, 3));
+    check_no_write(rt, &mut bytes, 0u8, 17, LE, ("BadOffset", 17, 0));
     let wanted: [u8; 16] = [
         1, 2, 3, 4, 5, 6, 0xef, 0xbe, 0xad, 0xde, 0xff, 0xff, 0x12, 0x34, 0xff, 7,
     ];
@@ -79,46 +81,27 @@ const MOST: usize = usize::MAX;
 
 const SOURCE: &[u8] = b"a\0b";
 
-// Checks that numbers are refused in the default context and in LEB128.
-fn check_numbers(rt: &impl Abort) {
-    let mut at = MOST;
-    check_bad_offset(rt, SOURCE.pread::<u16>(MOST), MOST);
-    check_bad_offset(rt, SOURCE.gread::<u16>(&mut at), MOST);
-    check_bad_offset(rt, Uleb128::read(SOURCE, &mut at), MOST);
-    check_bad_offset(rt, Sleb128::read(SOURCE, &mut at), MOST);
-    check_eq(rt, at, MOST);
-}
-
-// Checks that bulk reads are refused, and change nothing.
-fn check_bulk(rt: &impl Abort) {
-    let mut at = MOST;
-    let mut two = [3u16, 4];
-    check_bad_offset(rt, SOURCE.gread_inout(&mut at, &mut two), MOST);
-    check_bad_offset(rt, SOURCE.gread_inout_with(&mut at, &mut two, BE), MOST);
-    check_eq(rt, two, [3, 4]);
-    check_eq(rt, at, MOST);
-}
+const PAST: Parts<'static> = ("BadOffset", MOST, 0);
 
 #[test]
 fn reads(rt: HostRuntime) {
     let rt = &rt;
-    check_read_past::<u16, _>(rt, SOURCE, MOST, BE);
-    check_read_past::<u16, _>(rt, SOURCE, MOST, LE);
-    check_read_past::<&str, _>(rt, SOURCE, MOST, StrCtx::Length(0));
-    check_read_past::<&[u8], _>(rt, SOURCE, MOST, 0);
-    check_read_past::<CStr, _>(rt, SOURCE, MOST, ());
-    check_read_past::<[u8; 0], _>(rt, SOURCE, MOST, LE);
-    check_numbers(rt);
-    check_bulk(rt);
+    check_no_read::<u16, _>(rt, SOURCE, MOST, BE, PAST);
+    check_no_read::<u16, _>(rt, SOURCE, MOST, LE, PAST);
+    check_no_read::<&str, _>(rt, SOURCE, MOST, StrCtx::Length(0), PAST);
+    check_no_read::<&[u8], _>(rt, SOURCE, MOST, 0, PAST);
+    check_no_read::<CStr, _>(rt, SOURCE, MOST, (), PAST);
+    check_no_read::<[u8; 0], _>(rt, SOURCE, MOST, LE, PAST);
+    check_no_default_read::<u16, _>(rt, SOURCE, MOST, PAST);
+    check_no_number::<u64>(rt, SOURCE, MOST, PAST);
+    check_no_number::<i64>(rt, SOURCE, MOST, PAST);
+    check_bulk(rt, SOURCE, MOST, [3u16, 4], PAST, [3, 4], MOST);
 }
 
 // Checks that a bulk read into no element succeeds, and leaves the offset.
 fn check_no_element(rt: &impl Abort, start: usize) {
-    let mut none: [u16; 0] = [];
-    let mut at = start;
-    check_value(rt, SOURCE.gread_inout(&mut at, &mut none), ());
-    check_value(rt, SOURCE.gread_inout_with(&mut at, &mut none, BE), ());
-    check_eq(rt, at, start);
+    let none: [u16; 0] = [];
+    check_bulk(rt, SOURCE, start, none, ("Ok", 0, 0), none, start);
 }
 
 #[test]
@@ -130,40 +113,26 @@ fn bulk_reads_into_no_element(rt: HostRuntime) {
     check_no_element(rt, MOST);
 }
 
-// Checks that the writes of `slice` are refused, and leave the cursor.
-fn check_slice(rt: &impl Abort, target: &mut [u8]) {
-    let mut at = MOST;
-    check_bad_offset(rt, slice::pwrite(target, "", MOST), MOST);
-    let one = Uleb128::shortest(1);
-    check_bad_offset(rt, slice::pwrite_with(target, one, MOST, ()), MOST);
-    check_bad_offset(rt, slice::gwrite(target, 1u8, &mut at), MOST);
-    let none = [1u8; 0];
-    check_bad_offset(rt, slice::gwrite_with(target, none, &mut at, LE), MOST);
-    check_eq(rt, at, MOST);
-}
-
 #[test]
 fn writes(rt: HostRuntime) {
     let rt = &rt;
     let mut bytes = [7u8; 3];
-    let mut at = MOST;
-    check_write_past(rt, &mut bytes, 1u16, MOST, BE);
-    check_write_past(rt, &mut bytes, 1u16, MOST, LE);
-    check_slice(rt, &mut bytes);
-    let mut target = &mut bytes[..];
-    check_bad_offset(rt, target.pwrite(1u16, MOST), MOST);
-    check_bad_offset(rt, target.gwrite(1u16, &mut at), MOST);
-    check_eq(rt, at, MOST);
+    check_no_write(rt, &mut bytes, 1u16, MOST, BE, PAST);
+    check_no_write(rt, &mut bytes, 1u16, MOST, LE, PAST);
+    check_no_default_write(rt, &mut bytes, "", MOST, PAST);
+    check_no_default_write(rt, &mut bytes, 1u8, MOST, PAST);
+    check_no_slice_write(rt, &mut bytes, Uleb128::shortest(1), MOST, (), PAST);
+    check_no_slice_write(rt, &mut bytes, [1u8; 0], MOST, LE, PAST);
     check_eq(rt, bytes, [7; 3]);
 }
 
 #[test]
 fn lengths_and_limits(rt: HostRuntime) {
     let rt = &rt;
-    check_short_read::<&str, _>(rt, SOURCE, 1, StrCtx::Length(MOST), MOST, 2);
+    check_no_read::<&str, _>(rt, SOURCE, 1, StrCtx::Length(MOST), ("TooBig", MOST, 2));
     let limit = StrCtx::DelimiterUntil(0, MOST);
-    check_short_read::<&str, _>(rt, SOURCE, 0, limit, MOST, 3);
-    check_short_read::<&[u8], _>(rt, SOURCE, 3, MOST, MOST, 0);
+    check_no_read::<&str, _>(rt, SOURCE, 0, limit, ("TooBig", MOST, 3));
+    check_no_read::<&[u8], _>(rt, SOURCE, 3, MOST, ("TooBig", MOST, 0));
 }
 
 #[test]

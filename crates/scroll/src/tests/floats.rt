@@ -4,18 +4,15 @@ ghost use Rattle.std.specs.Prelude.{◌≤◌};
 
 use crate::ctx::{FromCtx, IntoCtx, SizeWith, TryFromCtx, TryIntoCtx};
 use crate::tests::reads::{
-    check_gread_gwrite, check_read, check_read_past, check_short_read, check_short_write,
-    check_write,
+    check_bulk, check_gread_gwrite, check_no_read, check_no_write, check_read, check_write,
 };
 use crate::tests::results::{check_eq, check_value, expect_value};
-use crate::tests::streams::check_kind;
-use crate::{BE, Cread, Cwrite, Endian, Error, IOread, IOwrite, LE, Pread, Pwrite, Result};
+use crate::tests::streams::{check_ended, put_number, take_number};
+use crate::{BE, Cread, Cwrite, Endian, Error, LE, Pread, Pwrite};
 use std::fmt::Debug;
-use std::io;
-use std::io::ErrorKind;
 use std::process::Abort;
 
-const HALF: [u8; 8] = [0, 0, 0, 0, 0, 0, 224, 63];
+static HALF: [u8; 8] = [0, 0, 0, 0, 0, 0, 224, 63];
 
 #[test]
 fn gread_f32(rt: HostRuntime) {
@@ -60,7 +57,7 @@ fn gread_gwrite_f32_3(rt: HostRuntime) {
 // Floats and their bytes, as the Rust crate writes them in big-endian order: zeros of both signs,
 // the least and the greatest subnormal, the least normal float, the greatest, infinities, and
 // others.
-const SINGLES: [(f32, [u8; 4]); 11] = [
+static SINGLES: [(f32, [u8; 4]); 11] = [
     (0.0, [0, 0, 0, 0]),
     (-0.0, [0x80, 0, 0, 0]),
     (1e-45, [0, 0, 0, 1]),
@@ -74,7 +71,7 @@ const SINGLES: [(f32, [u8; 4]); 11] = [
     (-1.5, [0xbf, 0xc0, 0, 0]),
 ];
 
-const DOUBLES: [(f64, [u8; 8]); 11] = [
+static DOUBLES: [(f64, [u8; 8]); 11] = [
     (0.0, [0, 0, 0, 0, 0, 0, 0, 0]),
     (-0.0, [0x80, 0, 0, 0, 0, 0, 0, 0]),
     (5e-324, [0, 0, 0, 0, 0, 0, 0, 1]),
@@ -145,7 +142,7 @@ fn check_double(rt: &impl Abort, value: f64, big: &[u8; 8]) {
 
 // Quiet and signalling NaNs of both signs, with payloads. The Rust crate reads each as a NaN, and
 // writes its own bits; here each is written as the quiet NaN with no sign and no payload.
-const SINGLE_NANS: [[u8; 4]; 5] = [
+static SINGLE_NANS: [[u8; 4]; 5] = [
     [0x7f, 0xc0, 0, 0],
     [0xff, 0xc0, 0, 0],
     [0x7f, 0x80, 0, 1],
@@ -153,7 +150,7 @@ const SINGLE_NANS: [[u8; 4]; 5] = [
     [0xff, 0xff, 0xff, 0xff],
 ];
 
-const DOUBLE_NANS: [[u8; 8]; 5] = [
+static DOUBLE_NANS: [[u8; 8]; 5] = [
     [0x7f, 0xf8, 0, 0, 0, 0, 0, 0],
     [0xff, 0xf8, 0, 0, 0, 0, 0, 0],
     [0x7f, 0xf0, 0, 0, 0, 0, 0, 1],
@@ -199,10 +196,10 @@ fn sizes_and_refusals(rt: HostRuntime) {
     ];
     check_eq(rt, sizes, [4, 8, 4, 8, 48]);
     let mut bytes = [0u8; 3];
-    check_short_read::<f32, _>(rt, &bytes, 0, LE, 4, 3);
-    check_short_read::<f64, _>(rt, &bytes, 1, LE, 8, 2);
-    check_read_past::<f32, _>(rt, &bytes, 4, LE);
-    check_short_write(rt, &mut bytes, 1.0f32, 0, LE, 4, 3);
+    check_no_read::<f32, _>(rt, &bytes, 0, LE, ("TooBig", 4, 3));
+    check_no_read::<f64, _>(rt, &bytes, 1, LE, ("TooBig", 8, 2));
+    check_no_read::<f32, _>(rt, &bytes, 4, LE, ("BadOffset", 4, 0));
+    check_no_write(rt, &mut bytes, 1.0f32, 0, LE, ("TooBig", 4, 3));
     check_eq(rt, bytes, [0, 0, 0]);
 }
 
@@ -221,9 +218,9 @@ fn with_room_made_sure_of(rt: HostRuntime) {
 }
 
 // Four bytes of zeros, and after them four floats in little-endian order.
-const ROWS: [[f32; 2]; 2] = [[0.5, -2.0], [0.1, 65504.0]];
+static ROWS: [[f32; 2]; 2] = [[0.5, -2.0], [0.1, 65504.0]];
 
-const ROW_BYTES: [u8; 20] = [
+static ROW_BYTES: [u8; 20] = [
     0, 0, 0, 0, 0, 0, 0, 0x3f, 0, 0, 0, 0xc0, 0xcd, 0xcc, 0xcc, 0x3d, 0, 0xe0, 0x7f, 0x47,
 ];
 
@@ -234,42 +231,31 @@ fn arrays_and_bulk_reads(rt: HostRuntime) {
     check_write(rt, &mut bytes, ROWS, 4, LE, 16);
     check_eq(rt, &bytes, &ROW_BYTES);
     check_read(rt, &ROW_BYTES, 4, LE, ROWS, 20);
-    let source: &[u8] = &ROW_BYTES;
-    let mut all = [0.0f32; 5];
-    let mut offset = 0;
-    check_value(rt, source.gread_inout_with(&mut offset, &mut all, LE), ());
-    check_eq(rt, &all, &[0.0, 0.5, -2.0, 0.1, 65504.0]);
-    check_eq(rt, offset, 20);
+    let wanted = [0.0, 0.5, -2.0, 0.1, 65504.0];
+    check_bulk(rt, &ROW_BYTES, 0, [0.0f32; 5], ("Ok", 0, 0), wanted, 20);
 }
 
 // What the Rust crate's documentation of streams reads, and an `f64` that they are too short for.
 #[test]
 fn a_stream_that_ends(rt: HostRuntime) {
-    let rt = &rt;
-    let mut reader: &[u8] = &[0x0b, 0x0b, 0, 0, 0, 0, 0, 0, 0xef, 0xbe, 0, 0];
-    check_value(rt, reader.ioread_with::<i64>(LE), 0xb0b);
-    check_value(rt, reader.ioread_with::<u32>(LE), 0xbeef);
-    check_kind(rt, reader.ioread_with::<f64>(LE), ErrorKind::UnexpectedEof);
+    let bytes: &[u8] = &[0x0b, 0x0b, 0, 0, 0, 0, 0, 0, 0xef, 0xbe, 0, 0];
+    let rest = take_number(&rt, bytes, Some(LE), 0xb0bi64);
+    let rest = take_number(&rt, rest, Some(LE), 0xbeefu32);
+    check_ended::<f64>(&rt, rest, Some(LE));
 }
 
 // Two floats, in big-endian order and in little-endian order.
-const TWO: [u8; 12] = [
+static TWO: [u8; 12] = [
     0x3d, 0xcc, 0xcc, 0xcd, 0xfc, 0xa9, 0xf1, 0xd2, 0x4d, 0x62, 0xb0, 0xbf,
 ];
 
-// Checks what is held after two floats were written.
-fn check_stream(rt: &impl Abort, written: &mut Vec<u8>) -> io::Result<()> {
-    written.iowrite_with(0.1f32, BE)?;
-    written.iowrite(-0.064f64)?;
-    check_eq(rt, written.as_slice(), &TWO);
-    Ok(())
-}
-
+// An allocation failure ends the test.
 #[test]
-fn streams_of_floats(rt: HostRuntime) -> io::Result<()> {
-    let mut reader: &[u8] = &TWO;
-    check_value(&rt, reader.ioread_with::<f32>(BE), 0.1);
-    check_value(&rt, reader.ioread::<f64>(), -0.064);
+fn streams_of_floats(rt: HostRuntime) {
+    let rest = take_number(&rt, &TWO, Some(BE), 0.1f32);
+    take_number(&rt, rest, None, -0.064f64);
     let mut written = Vec::new(rt.alloc());
-    check_stream(&rt, &mut written)
+    put_number(&rt, &mut written, Some(BE), 0.1f32);
+    put_number(&rt, &mut written, None, -0.064f64);
+    check_eq(&rt, written.as_slice(), &TWO);
 }

@@ -2,33 +2,43 @@
 ghost use Rattle.std.specs.Prelude.{◌<◌};
 
 use crate::ctx::{TryFromCtx, TryIntoCtx};
-use crate::leb128::{plain_sleb, plain_uleb, sleb_block, sleb_loads, uleb_block, uleb_loads};
-use crate::tests::reads::check_short_write;
-use crate::tests::results::{
-    check_bad_input, check_bad_offset, check_eq, check_too_big, check_value,
+use crate::leb128::{
+    Leb128, LebNumber, plain_sleb, plain_uleb, sleb_block, sleb_loads, uleb_block, uleb_loads,
 };
-use crate::{Error, LE, Loads, Pread, Pwrite, Result, Sleb128, Uleb128};
+use crate::tests::reads::{check_default_write, check_no_write};
+use crate::tests::results::{
+    Parts, check_bad_input, check_eq, check_error, check_too_big, check_value,
+};
+use crate::{Error, LE, Loads, Pread, Result, Sleb128, Uleb128};
 use std::fmt::Debug;
 use std::process::Abort;
 
 // Returns the value and the size of the number at the start of a source.
-fn unsigned(source: &[u8]) -> Result<(u64, usize)> {
-    let number: Uleb128 = source.pread(0)?;
-    Ok((*number.as_ref(), number.size()))
-}
-
-fn signed(source: &[u8]) -> Result<(i64, usize)> {
-    let number: Sleb128 = source.pread(0)?;
+fn number_of<V: LebNumber>(source: &[u8]) -> Result<(V, usize)> {
+    let number: Leb128<V> = source.pread(0)?;
     Ok((*number.as_ref(), number.size()))
 }
 
 // Checks the number at the start of a source, and its size.
-fn check_unsigned(rt: &impl Abort, source: &[u8], value: u64, size: usize) {
-    check_value(rt, unsigned(source), (value, size));
+fn check_number<V: LebNumber + PartialEq + Debug + Drop>(
+    rt: &impl Abort,
+    source: &[u8],
+    value: V,
+    size: usize,
+) {
+    check_value(rt, number_of(source), (value, size));
 }
 
-fn check_signed(rt: &impl Abort, source: &[u8], value: i64, size: usize) {
-    check_value(rt, signed(source), (value, size));
+// Checks that a read of a number's value is refused with this error, and that the cursor is left.
+pub fn check_no_number<V: LebNumber + Drop>(
+    rt: &impl Abort,
+    source: &[u8],
+    from: usize,
+    wanted: Parts<'_>,
+) {
+    let mut offset = from;
+    check_error(rt, Leb128::<V>::read(source, &mut offset), wanted);
+    check_eq(rt, offset, from);
 }
 
 // Checks that a read of `len` bytes was refused: ten bytes or more are no number, and fewer are
@@ -43,8 +53,8 @@ fn check_refusal<T: Drop>(rt: &impl Abort, read: Result<T>, len: usize) {
 
 // Checks that both types refuse a source.
 fn check_refused(rt: &impl Abort, source: &[u8]) {
-    check_refusal(rt, unsigned(source), source.len());
-    check_refusal(rt, signed(source), source.len());
+    check_refusal(rt, number_of::<u64>(source), source.len());
+    check_refusal(rt, number_of::<i64>(source), source.len());
 }
 
 // Reads the number that stands at the start of a source.
@@ -55,12 +65,16 @@ pub fn read<'a, N: TryFromCtx<'a, (), Error = Error> + Drop>(
     source.pread(0).expect(rt, "a number")
 }
 
-const NUMBERS: [(&[u8], u64, usize); 3] = [(&[0x82, 1], 130, 2), (&[0, 1], 0, 1), (&[0x21], 33, 1)];
+static NUMBERS: [(&[u8], u64, usize); 3] = [
+    (&[0x82, 1], 130, 2),
+    (&[0, 1], 0, 1),
+    (&[0x21], 33, 1),
+];
 
 #[test]
 fn uleb_size(rt: HostRuntime) {
     for &(bytes, value, size) in &NUMBERS {
-        check_unsigned(&rt, bytes, value, size);
+        check_number::<u64>(&rt, bytes, value, size);
     }
 }
 
@@ -72,7 +86,7 @@ fn uleb128(rt: HostRuntime) {
     check_value(&rt, bytes.pread_with::<u16>(0, LE), 386);
 }
 
-const OVERFLOW: [u8; 11] = [
+static OVERFLOW: [u8; 11] = [
     0x82, 0x82, 0x82, 0x82, 0x82, 0x82, 0x82, 0x82, 0x82, 0x82, 1,
 ];
 
@@ -94,13 +108,8 @@ fn reads_with_an_offset(rt: HostRuntime) {
     let mut offset = 1;
     check_value(&rt, Uleb128::read(&bytes, &mut offset), 130);
     check_eq(&rt, offset, 3);
-    let cut = Uleb128::read(&bytes, &mut offset);
-    check_too_big(&rt, cut, 1, 0);
-    check_eq(&rt, offset, 3);
-    let mut past = 4;
-    let refused = Sleb128::read(&bytes, &mut past);
-    check_bad_offset(&rt, refused, 4);
-    check_eq(&rt, past, 4);
+    check_no_number::<u64>(&rt, &bytes, 3, ("TooBig", 1, 0));
+    check_no_number::<i64>(&rt, &bytes, 4, ("BadOffset", 4, 0));
 }
 
 // Checks that a number isn't equal to the same with more bytes.
@@ -120,17 +129,17 @@ fn numbers_with_their_lengths_are_compared(rt: HostRuntime) {
     check_different::<Sleb128>(&rt, &[0x7f], &[0xff, 0x7f]);
 }
 
-const ZERO: [u8; 10] = [0x80, 0x80, 0x80, 0x80, 0x80, 0x80, 0x80, 0x80, 0x80, 0];
+static ZERO: [u8; 10] = [0x80, 0x80, 0x80, 0x80, 0x80, 0x80, 0x80, 0x80, 0x80, 0];
 
-const MINUS_ONE: [u8; 10] = [0xff, 0xff, 0xff, 0xff, 0xff, 0xff, 0xff, 0xff, 0xff, 0x7f];
+static MINUS_ONE: [u8; 10] = [0xff, 0xff, 0xff, 0xff, 0xff, 0xff, 0xff, 0xff, 0xff, 0x7f];
 
 #[test]
 fn padded_texts(rt: HostRuntime) {
     for size in 1..11 {
         let zero = &ZERO[10 - size..];
-        check_unsigned(&rt, zero, 0, size);
-        check_signed(&rt, zero, 0, size);
-        check_signed(&rt, &MINUS_ONE[10 - size..], -1, size);
+        check_number::<u64>(&rt, zero, 0, size);
+        check_number::<i64>(&rt, zero, 0, size);
+        check_number::<i64>(&rt, &MINUS_ONE[10 - size..], -1, size);
     }
     check_refused(
         &rt,
@@ -142,7 +151,7 @@ fn padded_texts(rt: HostRuntime) {
 
 // For each number of bytes before the last one, what both types read where the last byte is 0x40,
 // and what they read where it is 0x3f.
-const SIGN_BITS: [(u64, i64, i64); 9] = [
+static SIGN_BITS: [(u64, i64, i64); 9] = [
     (64, -64, 63),
     (8192, -8192, 8064),
     (1048576, -1048576, 1032192),
@@ -158,24 +167,24 @@ const SIGN_BITS: [(u64, i64, i64); 9] = [
     ),
 ];
 
-const SET: [u8; 9] = [0x80, 0x80, 0x80, 0x80, 0x80, 0x80, 0x80, 0x80, 0x40];
+static SET: [u8; 9] = [0x80, 0x80, 0x80, 0x80, 0x80, 0x80, 0x80, 0x80, 0x40];
 
-const EIGHT_GROUPS: [u8; 9] = [0x80, 0x80, 0x80, 0x80, 0x80, 0x80, 0x80, 0x80, 0x7f];
+static EIGHT_GROUPS: [u8; 9] = [0x80, 0x80, 0x80, 0x80, 0x80, 0x80, 0x80, 0x80, 0x7f];
 
-const CLEAR: [u8; 9] = [0x80, 0x80, 0x80, 0x80, 0x80, 0x80, 0x80, 0x80, 0x3f];
+static CLEAR: [u8; 9] = [0x80, 0x80, 0x80, 0x80, 0x80, 0x80, 0x80, 0x80, 0x3f];
 
 #[test]
 fn sign_bits(rt: HostRuntime) {
     for (count, (as_unsigned, as_signed, clear)) in SIGN_BITS.iter().enumerate() {
         let size = count + 1;
         let source = &SET[8 - count..];
-        check_unsigned(&rt, source, *as_unsigned, size);
-        check_signed(&rt, source, *as_signed, size);
+        check_number::<u64>(&rt, source, *as_unsigned, size);
+        check_number::<i64>(&rt, source, *as_signed, size);
         let source = &CLEAR[8 - count..];
-        check_unsigned(&rt, source, clear.cast_unsigned(), size);
-        check_signed(&rt, source, *clear, size);
+        check_number::<u64>(&rt, source, clear.cast_unsigned(), size);
+        check_number::<i64>(&rt, source, *clear, size);
     }
-    check_signed(&rt, &EIGHT_GROUPS, -72057594037927936, 9);
+    check_number::<i64>(&rt, &EIGHT_GROUPS, -72057594037927936, 9);
 }
 
 // Checks that a read of twelve bytes returned this number of ten bytes, or refused it where there
@@ -192,7 +201,7 @@ fn check_ten<N: PartialEq + Debug + Drop>(
 }
 
 // The byte that stands nine times, the tenth byte, and what both types read.
-const TENTH_BYTES: [(u8, u8, Option<u64>, Option<i64>); 12] = [
+static TENTH_BYTES: [(u8, u8, Option<u64>, Option<i64>); 12] = [
     (0x80, 0x00, Some(0), Some(0)),
     (0x80, 0x01, Some(9223372036854775808), None),
     (0x80, 0x02, None, None),
@@ -217,8 +226,8 @@ fn tenth_bytes(rt: HostRuntime) {
     for (fill, tenth, as_unsigned, as_signed) in TENTH_BYTES.iter() {
         let mut bytes = [*fill; 12];
         bytes[9..].copy_from_slice(&[*tenth, 0, 0]);
-        check_ten(&rt, unsigned(&bytes), *as_unsigned);
-        check_ten(&rt, signed(&bytes), *as_signed);
+        check_ten(&rt, number_of(&bytes), *as_unsigned);
+        check_ten(&rt, number_of(&bytes), *as_signed);
     }
 }
 
@@ -230,18 +239,33 @@ fn cuts(rt: HostRuntime) {
     }
 }
 
+// Eight bytes, and what both types read of them.
+static BLOCKS: [([u8; 8], Option<(u64, usize)>, Option<(i64, usize)>); 5] = [
+    ([0x82, 1, 0, 0, 0, 0, 0, 0], Some((130, 2)), Some((130, 2))),
+    ([0x80; 8], None, None),
+    (
+        [0xff, 0xff, 0xff, 0xff, 0xff, 0xff, 0xff, 0x7f],
+        Some((72057594037927935, 8)),
+        Some((-1, 8)),
+    ),
+    (
+        [0x80, 0x80, 0x80, 0x80, 0x80, 0x80, 0x80, 0x40],
+        Some((36028797018963968, 8)),
+        Some((-36028797018963968, 8)),
+    ),
+    (
+        [0x80, 0x80, 0x80, 0x80, 0x80, 0x80, 0x80, 0x3f],
+        Some((35465847065542656, 8)),
+        Some((35465847065542656, 8)),
+    ),
+];
+
 #[test]
 fn blocks(rt: HostRuntime) {
-    check_eq(&rt, uleb_block([0x82, 1, 0, 0, 0, 0, 0, 0]), Some((130, 2)));
-    check_eq(&rt, uleb_block([0x80; 8]), None);
-    check_eq(&rt, sleb_block([0x80; 8]), None);
-    let ones = [0xff, 0xff, 0xff, 0xff, 0xff, 0xff, 0xff, 0x7f];
-    check_eq(&rt, uleb_block(ones), Some((72057594037927935, 8)));
-    check_eq(&rt, sleb_block(ones), Some((-1, 8)));
-    let least = [0x80, 0x80, 0x80, 0x80, 0x80, 0x80, 0x80, 0x40];
-    check_eq(&rt, sleb_block(least), Some((-36028797018963968, 8)));
-    let large = [0x80, 0x80, 0x80, 0x80, 0x80, 0x80, 0x80, 0x3f];
-    check_eq(&rt, sleb_block(large), Some((35465847065542656, 8)));
+    for (bytes, as_unsigned, as_signed) in &BLOCKS {
+        check_eq(&rt, uleb_block(*bytes), *as_unsigned);
+        check_eq(&rt, sleb_block(*bytes), *as_signed);
+    }
 }
 
 // Checks the loads of two bytes.
@@ -253,7 +277,7 @@ fn check_short_loads(rt: &impl Abort) {
     check_eq(rt, short.made(), 3);
 }
 
-const GREATEST: [u8; 10] = [0xff, 0xff, 0xff, 0xff, 0xff, 0xff, 0xff, 0xff, 0xff, 1];
+static GREATEST: [u8; 10] = [0xff, 0xff, 0xff, 0xff, 0xff, 0xff, 0xff, 0xff, 0xff, 1];
 
 #[test]
 fn counted_loads(rt: HostRuntime) {
@@ -299,7 +323,7 @@ fn check_last(rt: &impl Abort, count: usize, last: u8)
     check_readers(rt, &bytes[..count + 8]);
 }
 
-const LAST: [u8; 6] = [0x00, 0x01, 0x3f, 0x40, 0x7e, 0x7f];
+static LAST: [u8; 6] = [0x00, 0x01, 0x3f, 0x40, 0x7e, 0x7f];
 
 #[test]
 fn readers_agree(rt: HostRuntime) {
@@ -310,7 +334,7 @@ fn readers_agree(rt: HostRuntime) {
     }
 }
 
-const UNTOUCHED: [u8; 12] = [0xee; 12];
+static UNTOUCHED: [u8; 12] = [0xee; 12];
 
 // Checks which bytes a number is written as, and that those after them are unchanged.
 fn check_written<N: TryIntoCtx<(), Error = Error> + Drop>(rt: &impl Abort, number: N, text: &[u8]) {
@@ -321,7 +345,7 @@ fn check_written<N: TryIntoCtx<(), Error = Error> + Drop>(rt: &impl Abort, numbe
     check_eq(rt, bytes.get(size..), UNTOUCHED.get(size..));
 }
 
-const UNSIGNED: [(u64, &[u8]); 7] = [
+static UNSIGNED: [(u64, &[u8]); 7] = [
     (0, &[0]),
     (127, &[0x7f]),
     (130, &[0x82, 1]),
@@ -337,7 +361,7 @@ const UNSIGNED: [(u64, &[u8]); 7] = [
     ),
 ];
 
-const SIGNED: [(i64, &[u8]); 8] = [
+static SIGNED: [(i64, &[u8]); 8] = [
     (0, &[0]),
     (63, &[0x3f]),
     (64, &[0xc0, 0]),
@@ -368,8 +392,7 @@ fn shortest_texts(rt: HostRuntime) {
 fn padded_texts_are_kept(rt: HostRuntime) {
     let zero: Uleb128 = read(&rt, &[0x80, 0]);
     let mut bytes = [0xee; 3];
-    let mut target = &mut bytes[..];
-    check_value(&rt, target.pwrite(zero, 0), 2);
+    check_default_write(&rt, &mut bytes, zero, 0, 2);
     check_eq(&rt, bytes, [0x80, 0, 0xee]);
 }
 
@@ -377,11 +400,18 @@ fn padded_texts_are_kept(rt: HostRuntime) {
 fn short_targets(rt: HostRuntime) {
     let mut bytes = [7u8; 9];
     let greatest = Uleb128::shortest(u64::MAX);
-    check_short_write(&rt, &mut bytes, greatest, 0, (), 10, 9);
-    check_short_write(&rt, &mut bytes, Sleb128::shortest(64), 8, (), 2, 1);
+    check_no_write(&rt, &mut bytes, greatest, 0, (), ("TooBig", 10, 9));
+    check_no_write(
+        &rt,
+        &mut bytes,
+        Sleb128::shortest(64),
+        8,
+        (),
+        ("TooBig", 2, 1),
+    );
     check_eq(&rt, bytes, [7; 9]);
     let mut bytes = [0u8; 2];
     let numbers = [Uleb128::shortest(1), Uleb128::shortest(128)];
-    check_short_write(&rt, &mut bytes, numbers, 0, (), 2, 1);
+    check_no_write(&rt, &mut bytes, numbers, 0, (), ("TooBig", 2, 1));
     check_eq(&rt, bytes, [1, 0]);
 }

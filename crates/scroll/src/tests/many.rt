@@ -5,9 +5,9 @@ use crate::tests::results::{check_bad_input, check_eq, check_too_big, check_valu
 use crate::{BE, Error, LE, Result, read_many, read_to_end, write_many, write_tagged};
 use std::process::Abort;
 
-const NUMBERS: [u16; 3] = [258, 772, 9];
+static NUMBERS: [u16; 3] = [258, 772, 9];
 
-const BYTES: [u8; 8] = [0xff, 1, 2, 3, 4, 0, 9, 0xff];
+static BYTES: [u8; 8] = [0xff, 1, 2, 3, 4, 0, 9, 0xff];
 
 #[test]
 fn many_values_are_written_and_read(rt: HostRuntime) {

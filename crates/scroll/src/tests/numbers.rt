@@ -5,7 +5,7 @@ ghost use Rattle.scroll.specs.Numbers.{number};
 ghost use Rattle.scroll.specs.declared.endian.Endian.TheVariants.{Big};
 
 use crate::ctx::{FromCtx, IntoCtx, SizeWith, TryFromCtx, TryIntoCtx};
-use crate::tests::reads::{check_read, check_short_read, check_short_write, check_write};
+use crate::tests::reads::{check_no_read, check_no_write, check_read, check_write};
 use crate::tests::results::check_eq;
 use crate::{BE, Cread, Cwrite, Endian, Error, LE};
 use std::fmt::Debug;
@@ -119,7 +119,7 @@ fn numbers_are_read(rt: HostRuntime) {
     let ones: &[u8] = &[0xff; 16];
     check_read(&rt, ones, 0, BE, u128::MAX, 16);
     check_read(&rt, ones, 0, LE, -1i128, 16);
-    check_short_read::<i64, _>(&rt, bytes, 0, LE, 8, 4);
+    check_no_read::<i64, _>(&rt, bytes, 0, LE, ("TooBig", 8, 4));
 }
 
 #[test]
@@ -141,7 +141,7 @@ fn references_write_as_their_numbers(rt: HostRuntime) {
     check_write(&rt, &mut bytes, &258u16, 0, BE, 2);
     check_eq(&rt, bytes, [1, 2]);
     (&-2i16).into_ctx(&mut bytes, LE);
-    check_short_write(&rt, &mut bytes, &1u128, 0, LE, 16, 2);
+    check_no_write(&rt, &mut bytes, &1u128, 0, LE, ("TooBig", 16, 2));
     check_eq(&rt, bytes, [0xfe, 0xff]);
 }
 

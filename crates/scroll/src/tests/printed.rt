@@ -2,7 +2,6 @@
 use crate::tests::results::check_eq;
 use crate::{Error, SmallError};
 use arrayvec::ArrayString;
-use std::alloc::AllocError;
 use std::fmt::{Display, Write};
 use std::io::ErrorKind;
 use std::process::Abort;
@@ -16,9 +15,14 @@ fn check_line<E: Display + Drop>(rt: &impl Abort, error: E, wanted: &str) {
     check_eq(rt, line.as_str(), wanted);
 }
 
+fn ended() -> io::Error {
+    io::Error::from(ErrorKind::UnexpectedEof)
+}
+
+// An allocation failure ends the test.
 #[test]
-fn lines_of_errors(rt: HostRuntime) -> Result<(), AllocError> {
-    let text = String::from_str(rt.alloc(), "no such field")?;
+fn lines_of_errors(rt: HostRuntime) {
+    let text = String::from_str(rt.alloc(), "no such field").expect(&rt, "no memory");
     let rt = &rt;
     let short = Error::TooBig { size: 8, len: 4 };
     check_line(rt, short, "type is too big (8) for 4");
@@ -28,11 +32,8 @@ fn lines_of_errors(rt: HostRuntime) -> Result<(), AllocError> {
     check_line(rt, bad, "bad input invalid utf8 (3)");
     check_line(rt, Error::Custom(text), "no such field");
     check_line(rt, Error::NoMemory, "out of memory");
-    let ended = io::Error::from(ErrorKind::UnexpectedEof);
-    check_line(rt, ended, "unexpected end of file");
-    let ended = Error::from(io::Error::from(ErrorKind::UnexpectedEof));
-    check_line(rt, ended, "unexpected end of file");
-    Ok(())
+    check_line(rt, ended(), "unexpected end of file");
+    check_line(rt, Error::from(ended()), "unexpected end of file");
 }
 
 // Each small error prints the line of the error that it becomes, and is what that error becomes

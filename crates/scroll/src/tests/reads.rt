@@ -1,8 +1,8 @@
 // What a test expects of a read or a write at an offset and at a cursor. A call of one of these has
 // one step in the proof of a test, and a call with a check of its result many.
 use crate::ctx::{TryFromCtx, TryIntoCtx};
-use crate::tests::results::{check_bad_offset, check_eq, check_too_big, check_value};
-use crate::{BE, Endian, Error, LE, Pread, Pwrite};
+use crate::tests::results::{Parts, check_eq, check_error, check_value};
+use crate::{BE, Endian, Error, LE, Pread, Pwrite, slice};
 use std::fmt::Debug;
 use std::process::Abort;
 
@@ -18,32 +18,71 @@ pub fn check_read<
     check_eq(rt, offset, to);
 }
 
-// Checks that a read has no room, at an offset and at a cursor, which is left.
-pub fn check_short_read<'a, T: TryFromCtx<'a, Ctx, Error = Error> + Drop, Ctx: Copy>(
+// Checks the same in the default context.
+pub fn check_default_read<
+    'a,
+    Ctx: Copy + Default,
+    T: TryFromCtx<'a, Ctx, Error = Error> + Copy + PartialEq + Debug + Drop,
+>(rt: &impl Abort, bytes: &'a [u8], from: usize, wanted: T, to: usize) {
+    check_value(rt, bytes.pread::<T>(from), wanted);
+    let mut offset = from;
+    check_value(rt, bytes.gread::<T>(&mut offset), wanted);
+    check_eq(rt, offset, to);
+}
+
+// Checks that a read is refused with this error, at an offset and at a cursor, which is left.
+pub fn check_no_read<'a, T: TryFromCtx<'a, Ctx, Error = Error> + Drop, Ctx: Copy>(
     rt: &impl Abort,
     bytes: &'a [u8],
     from: usize,
     ctx: Ctx,
-    size: usize,
-    len: usize,
+    wanted: Parts<'_>,
 ) {
-    check_too_big(rt, bytes.pread_with::<T>(from, ctx), size, len);
+    check_error(rt, bytes.pread_with::<T>(from, ctx), wanted);
     let mut offset = from;
-    check_too_big(rt, bytes.gread_with::<T>(&mut offset, ctx), size, len);
+    check_error(rt, bytes.gread_with::<T>(&mut offset, ctx), wanted);
     check_eq(rt, offset, from);
 }
 
-// Checks that a read is past the end, at an offset and at a cursor, which is left.
-pub fn check_read_past<'a, T: TryFromCtx<'a, Ctx, Error = Error> + Drop, Ctx: Copy>(
+// Checks the same in the default context.
+pub fn check_no_default_read<'a, T: TryFromCtx<'a, Ctx, Error = Error> + Drop, Ctx: Copy + Default>(
     rt: &impl Abort,
     bytes: &'a [u8],
     from: usize,
-    ctx: Ctx,
+    wanted: Parts<'_>,
 ) {
-    check_bad_offset(rt, bytes.pread_with::<T>(from, ctx), from);
+    check_error(rt, bytes.pread::<T>(from), wanted);
     let mut offset = from;
-    check_bad_offset(rt, bytes.gread_with::<T>(&mut offset, ctx), from);
+    check_error(rt, bytes.gread::<T>(&mut offset), wanted);
     check_eq(rt, offset, from);
+}
+
+// Checks the result of bulk reads in the default context, which is given or left out, and what the
+// elements and the cursor are then.
+pub fn check_bulk<
+    'a,
+    T: TryFromCtx<'a, Ctx, Error = Error> + Copy + PartialEq + Debug + Drop,
+    Ctx: Copy + Default,
+    const N: usize,
+>(
+    rt: &impl Abort,
+    bytes: &'a [u8],
+    from: usize,
+    first: [T; N],
+    outcome: Parts<'_>,
+    last: [T; N],
+    to: usize,
+) {
+    let (mut values, mut offset) = (first, from);
+    check_error(rt, bytes.gread_inout(&mut offset, &mut values), outcome);
+    check_eq(rt, (values, offset), (last, to));
+    let (mut values, mut offset) = (first, from);
+    check_error(
+        rt,
+        bytes.gread_inout_with(&mut offset, &mut values, Ctx::default()),
+        outcome,
+    );
+    check_eq(rt, (values, offset), (last, to));
 }
 
 // Checks that a write of a value has this size, at an offset and at a cursor.
@@ -61,33 +100,90 @@ pub fn check_write<T: TryIntoCtx<Ctx, Error = Error> + Copy, Ctx: Copy>(
     check_eq(rt, offset, from.wrapping_add(size));
 }
 
-// Checks that a write has no room, at an offset and at a cursor, which is left.
-pub fn check_short_write<T: TryIntoCtx<Ctx, Error = Error> + Copy, Ctx: Copy>(
+// Checks the same of the functions of `slice`.
+pub fn check_slice_write<T: TryIntoCtx<Ctx, Error = Error> + Copy, Ctx: Copy>(
     rt: &impl Abort,
-    mut target: &mut [u8],
+    target: &mut [u8],
     value: T,
     from: usize,
     ctx: Ctx,
     size: usize,
-    len: usize,
 ) {
-    check_too_big(rt, target.pwrite_with(value, from, ctx), size, len);
+    check_value(rt, slice::pwrite_with(target, value, from, ctx), size);
     let mut offset = from;
-    check_too_big(rt, target.gwrite_with(value, &mut offset, ctx), size, len);
-    check_eq(rt, offset, from);
+    check_value(
+        rt,
+        slice::gwrite_with(target, value, &mut offset, ctx),
+        size,
+    );
+    check_eq(rt, offset, from.wrapping_add(size));
 }
 
-// Checks that a write is past the end, at an offset and at a cursor, which is left.
-pub fn check_write_past<T: TryIntoCtx<Ctx, Error = Error> + Copy, Ctx: Copy>(
+// Checks the same of all four in the default context.
+pub fn check_default_write<T: TryIntoCtx<Ctx, Error = Error> + Copy, Ctx: Copy + Default>(
+    rt: &impl Abort,
+    mut target: &mut [u8],
+    value: T,
+    from: usize,
+    size: usize,
+) {
+    check_value(rt, slice::pwrite(target, value, from), size);
+    check_value(rt, target.pwrite(value, from), size);
+    let mut offset = from;
+    check_value(rt, target.gwrite(value, &mut offset), size);
+    check_eq(rt, offset, from.wrapping_add(size));
+    let mut offset = from;
+    check_value(rt, slice::gwrite(target, value, &mut offset), size);
+    check_eq(rt, offset, from.wrapping_add(size));
+}
+
+// Checks that a write is refused with this error, at an offset and at a cursor, which is left.
+pub fn check_no_write<T: TryIntoCtx<Ctx, Error = Error> + Copy, Ctx: Copy>(
     rt: &impl Abort,
     mut target: &mut [u8],
     value: T,
     from: usize,
     ctx: Ctx,
+    wanted: Parts<'_>,
 ) {
-    check_bad_offset(rt, target.pwrite_with(value, from, ctx), from);
+    check_error(rt, target.pwrite_with(value, from, ctx), wanted);
     let mut offset = from;
-    check_bad_offset(rt, target.gwrite_with(value, &mut offset, ctx), from);
+    check_error(rt, target.gwrite_with(value, &mut offset, ctx), wanted);
+    check_eq(rt, offset, from);
+}
+
+// Checks the same of the functions of `slice`.
+pub fn check_no_slice_write<T: TryIntoCtx<Ctx, Error = Error> + Copy, Ctx: Copy>(
+    rt: &impl Abort,
+    target: &mut [u8],
+    value: T,
+    from: usize,
+    ctx: Ctx,
+    wanted: Parts<'_>,
+) {
+    check_error(rt, slice::pwrite_with(target, value, from, ctx), wanted);
+    let mut offset = from;
+    check_error(
+        rt,
+        slice::gwrite_with(target, value, &mut offset, ctx),
+        wanted,
+    );
+    check_eq(rt, offset, from);
+}
+
+// Checks the same of all four in the default context.
+pub fn check_no_default_write<T: TryIntoCtx<Ctx, Error = Error> + Copy, Ctx: Copy + Default>(
+    rt: &impl Abort,
+    mut target: &mut [u8],
+    value: T,
+    from: usize,
+    wanted: Parts<'_>,
+) {
+    check_error(rt, slice::pwrite(target, value, from), wanted);
+    check_error(rt, target.pwrite(value, from), wanted);
+    let mut offset = from;
+    check_error(rt, target.gwrite(value, &mut offset), wanted);
+    check_error(rt, slice::gwrite(target, value, &mut offset), wanted);
     check_eq(rt, offset, from);
 }
 

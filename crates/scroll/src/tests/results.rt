@@ -7,7 +7,7 @@ use std::process::Abort;
 use std::result;
 
 // The variant of an error, or its message, and its numbers, or 0 for those that it lacks.
-type Parts<'a> = (&'a str, usize, usize);
+pub type Parts<'a> = (&'a str, usize, usize);
 
 // Returns the parts of a call's error.
 fn parts_of<T>(outcome: &Result<T>) -> Parts<'_> {
@@ -23,7 +23,7 @@ fn parts_of<T>(outcome: &Result<T>) -> Parts<'_> {
 }
 
 // Checks that a call returned an error of these parts.
-fn check_error<T: Drop>(rt: &impl Abort, outcome: Result<T>, wanted: Parts<'_>) {
+pub fn check_error<T: Drop>(rt: &impl Abort, outcome: Result<T>, wanted: Parts<'_>) {
     check_eq(rt, parts_of(&outcome), wanted);
 }
 

@@ -6,12 +6,12 @@ use crate::search::{first_stop, index_of};
 use crate::tests::results::check_eq;
 use std::process::Abort;
 
-const DELIMITERS: [u8; 5] = [0x00, 0x01, 0x7f, 0x80, 0xff];
+static DELIMITERS: [u8; 5] = [0x00, 0x01, 0x7f, 0x80, 0xff];
 
 // How the bytes before and after the delimiter differ from it: in the highest bit, in the lowest,
 // in the lowest directly after an equal byte, where a subtraction borrows, and not at all after it,
 // so that there is a second delimiter.
-const DIFFERENCES: [(u8, u8); 4] = [(0x80, 0x80), (0x01, 0x01), (0x80, 0x01), (0x01, 0x00)];
+static DIFFERENCES: [(u8, u8); 4] = [(0x80, 0x80), (0x01, 0x01), (0x80, 0x01), (0x01, 0x00)];
 
 // Returns the offset of the first byte that is the delimiter or above `most`, or the length if
 // there is none.

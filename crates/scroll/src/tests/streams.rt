@@ -1,7 +1,7 @@
 // Readers and writers that are slow, end early, fail or are interrupted.
 ghost use Rattle.std.specs.Prelude.{◌≤◌};
 
-use crate::ctx::{FromCtx, SizeWith};
+use crate::ctx::{FromCtx, IntoCtx, SizeWith};
 use crate::tests::results::{check_eq, check_value};
 use crate::{BE, Endian, IOread, IOwrite, LE};
 use std::fmt::Debug;
@@ -98,10 +98,10 @@ impl<'a> Write for Sink<'a> {
     }
 }
 
-const BYTES: [u8; 4] = [0xde, 0xad, 0xbe, 0xef];
+static BYTES: [u8; 4] = [0xde, 0xad, 0xbe, 0xef];
 
 // The kinds of errors that have no number of the operating system.
-const KINDS: [ErrorKind; 4] = [
+static KINDS: [ErrorKind; 4] = [
     ErrorKind::InvalidData,
     ErrorKind::WriteZero,
     ErrorKind::UnexpectedEof,
@@ -110,7 +110,7 @@ const KINDS: [ErrorKind; 4] = [
 
 // Faults that no call returns: there is none, each is an interruption, or it comes after the last
 // byte.
-const HARMLESS: [Fault; 4] = [
+static HARMLESS: [Fault; 4] = [
     Fault::Never,
     Fault::Interrupted((None, ErrorKind::Interrupted)),
     Fault::Interrupted((Some(INTERRUPTED), ErrorKind::Interrupted)),
@@ -119,11 +119,25 @@ const HARMLESS: [Fault; 4] = [
 
 // Orders, where none is the default one, with the number that `BYTES` hold in each, and the bytes
 // that a writer holds which was given 0xdeadbeef.
-const ORDERS: [(Option<Endian>, u32, [u8; 5]); 3] = [
+static ORDERS: [(Option<Endian>, u32, [u8; 5]); 3] = [
     (Some(BE), 3735928559, [0xde, 0xad, 0xbe, 0xef, 0x11]),
     (Some(LE), 4022250974, [0xef, 0xbe, 0xad, 0xde, 0x11]),
     (None, 4022250974, [0xef, 0xbe, 0xad, 0xde, 0x11]),
 ];
+
+// Reads a number, in the default order where none is given.
+fn read_number<N: FromCtx<Endian> + SizeWith<Endian>>(
+    source: &mut impl Read,
+    order: Option<Endian>,
+) -> io::Result<N>
+    requires need { (ctx : Endian) → N.need ctx ≤ N.size ctx }
+    requires size { (ctx : Endian) → N.size ctx ≤ 256 }
+{
+    match order {
+        Some(order) => source.ioread_with(order),
+        None => source.ioread(),
+    }
+}
 
 // Reads a number a byte at a time. Returns it, or the cause of the error, and how often the reader
 // was called.
@@ -133,20 +147,25 @@ fn read_slowly(rest: &[u8], fault: Fault, order: Option<Endian>) -> (Outcome<u32
         fault,
         calls: 0,
     };
-    let read = match order {
-        Some(order) => source.ioread_with::<u32>(order),
-        None => source.ioread::<u32>(),
-    };
+    let read: io::Result<u32> = read_number(&mut source, order);
     match read {
         Ok(number) => (Ok(number), source.calls),
         Err(error) => (Err(cause_of(error)), source.calls),
     }
 }
 
-fn write_number(target: &mut impl Write, order: Option<Endian>) -> io::Result<()> {
+// Writes a number, in the default order where none is given.
+fn write_number<N: IntoCtx<Endian> + SizeWith<Endian>>(
+    target: &mut impl Write,
+    number: N,
+    order: Option<Endian>,
+) -> io::Result<()>
+    requires need { (ctx : Endian) → N.need ctx ≤ N.size ctx }
+    requires size { (ctx : Endian) → N.size ctx ≤ 256 }
+{
     match order {
-        Some(order) => target.iowrite_with(0xdeadbeefu32, order),
-        None => target.iowrite(0xdeadbeefu32),
+        Some(order) => target.iowrite_with(number, order),
+        None => target.iowrite(number),
     }
 }
 
@@ -161,7 +180,7 @@ fn write_slowly(room: usize, fault: Fault, order: Option<Endian>) -> (Outcome<[u
         fault,
         calls: 0,
     };
-    let written = write_number(&mut target, order);
+    let written = write_number(&mut target, 0xdeadbeefu32, order);
     let calls = target.calls;
     match written {
         Ok(()) => (Ok(held), calls),
@@ -234,9 +253,8 @@ pub fn check_kind<T: Drop>(rt: &impl Abort, outcome: io::Result<T>, wanted: Erro
     }
 }
 
-// Checks the next number of a source, in the default order where none is given, and returns what
-// is left.
-fn take_number<'a, N: FromCtx<Endian> + SizeWith<Endian> + PartialEq + Debug + Drop>(
+// Checks the next number of a source, and returns what is left.
+pub fn take_number<'a, N: FromCtx<Endian> + SizeWith<Endian> + PartialEq + Debug + Drop>(
     rt: &impl Abort,
     bytes: &'a [u8],
     order: Option<Endian>,
@@ -246,12 +264,35 @@ fn take_number<'a, N: FromCtx<Endian> + SizeWith<Endian> + PartialEq + Debug + D
     requires size { (ctx : Endian) → N.size ctx ≤ 256 }
 {
     let mut source = bytes;
-    let read = match order {
-        Some(order) => source.ioread_with::<N>(order),
-        None => source.ioread::<N>(),
-    };
-    check_value(rt, read, wanted);
+    check_value(rt, read_number(&mut source, order), wanted);
     source
+}
+
+// Checks that a source ends before its next number does.
+pub fn check_ended<N: FromCtx<Endian> + SizeWith<Endian> + Drop>(
+    rt: &impl Abort,
+    bytes: &[u8],
+    order: Option<Endian>,
+)
+    requires need { (ctx : Endian) → N.need ctx ≤ N.size ctx }
+    requires size { (ctx : Endian) → N.size ctx ≤ 256 }
+{
+    let mut source = bytes;
+    let read: io::Result<N> = read_number(&mut source, order);
+    check_kind(rt, read, ErrorKind::UnexpectedEof);
+}
+
+// Checks that a number is written.
+pub fn put_number<N: IntoCtx<Endian> + SizeWith<Endian>>(
+    rt: &impl Abort,
+    target: &mut impl Write,
+    order: Option<Endian>,
+    number: N,
+)
+    requires need { (ctx : Endian) → N.need ctx ≤ N.size ctx }
+    requires size { (ctx : Endian) → N.size ctx ≤ 256 }
+{
+    check_value(rt, write_number(target, number, order), ());
 }
 
 #[test]
@@ -261,23 +302,40 @@ fn numbers_from_memory(rt: HostRuntime) {
     let source = take_number(rt, source, Some(LE), 48879u16);
     let source = take_number(rt, source, None, 176u8);
     let source = take_number(rt, source, None, 176u8);
-    let mut source = take_number(rt, source, Some(BE), 4277001901u32);
-    check_kind(rt, source.ioread::<u8>(), ErrorKind::UnexpectedEof);
-    check_eq(rt, take_number(rt, &[0xef, 0xbe], None, 48879u16), &[]);
-    let bytes: &[u8] = &[1, 0, 0, 0, 0, 0, 0, 0, 0xef, 0xbe, 0, 0];
-    let source = take_number(rt, bytes, None, 1u64);
-    check_eq(rt, take_number(rt, source, None, 48879u32), &[]);
-    let mut source = take_number(rt, bytes, Some(LE), 1u64);
-    check_eq(rt, source.len(), 4);
-    check_kind(rt, source.ioread_with::<u64>(LE), ErrorKind::UnexpectedEof);
-    check_eq(rt, take_number(rt, &[0; 16], Some(LE), 0u128), &[]);
+    check_last(rt, source, Some(BE), 4277001901u32);
+    check_last(rt, &[0xef, 0xbe], None, 48879u16);
+    check_eight_and_four(rt, &[1, 0, 0, 0, 0, 0, 0, 0, 0xef, 0xbe, 0, 0]);
+    check_last(rt, &[0; 16], Some(LE), 0u128);
+}
+
+// Checks the last number of a source, after which there is no byte.
+fn check_last<N: FromCtx<Endian> + SizeWith<Endian> + PartialEq + Debug + Drop>(
+    rt: &impl Abort,
+    bytes: &[u8],
+    order: Option<Endian>,
+    wanted: N,
+)
+    requires need { (ctx : Endian) → N.need ctx ≤ N.size ctx }
+    requires size { (ctx : Endian) → N.size ctx ≤ 256 }
+{
+    let rest = take_number(rt, bytes, order, wanted);
+    check_eq(rt, rest, &[]);
+    check_ended::<u8>(rt, rest, None);
+}
+
+// Checks two numbers, and that there is no other of eight bytes after the first.
+fn check_eight_and_four(rt: &impl Abort, bytes: &[u8]) {
+    check_last(rt, take_number(rt, bytes, None, 1u64), None, 48879u32);
+    let rest = take_number(rt, bytes, Some(LE), 1u64);
+    check_eq(rt, rest.len(), 4);
+    check_ended::<u64>(rt, rest, Some(LE));
 }
 
 // Checks what is held after a write of 0xdeadbeef.
 fn check_held(rt: &impl Abort, order: Option<Endian>, held: &[u8; 5]) {
     let mut bytes = [0x11u8; 5];
     let mut target: &mut [u8] = &mut bytes;
-    check_value(rt, write_number(&mut target, order), ());
+    put_number(rt, &mut target, order, 0xdeadbeefu32);
     check_eq(rt, &bytes, held);
 }
 
@@ -285,8 +343,12 @@ fn check_held(rt: &impl Abort, order: Option<Endian>, held: &[u8; 5]) {
 fn check_full(rt: &impl Abort) {
     let mut bytes = [0u8; 5];
     let mut target: &mut [u8] = &mut bytes;
-    check_value(rt, target.iowrite(0xdeadbeefu32), ());
-    check_kind(rt, target.iowrite(1u16), ErrorKind::WriteZero);
+    put_number(rt, &mut target, None, 0xdeadbeefu32);
+    check_kind(
+        rt,
+        write_number(&mut target, 1u16, None),
+        ErrorKind::WriteZero,
+    );
     check_eq(rt, &bytes[..4], &[0xef, 0xbe, 0xad, 0xde]);
 }
 
@@ -296,7 +358,7 @@ fn numbers_to_memory(rt: HostRuntime) {
     let mut bytes = [0u8; 10];
     let mut target: &mut [u8] = &mut bytes;
     check_value(rt, target.write_all(b"hello"), ());
-    check_value(rt, target.iowrite_with(0xdeadbeefu32, BE), ());
+    put_number(rt, &mut target, Some(BE), 0xdeadbeefu32);
     check_eq(rt, &bytes, b"hello\xde\xad\xbe\xef\0");
     for (order, _, held) in &ORDERS {
         check_held(rt, *order, held);
@@ -304,6 +366,6 @@ fn numbers_to_memory(rt: HostRuntime) {
     check_full(rt);
     let mut bytes = [7u8; 16];
     let mut target: &mut [u8] = &mut bytes;
-    check_value(rt, target.iowrite_with(0u128, LE), ());
+    put_number(rt, &mut target, Some(LE), 0u128);
     check_eq(rt, bytes, [0; 16]);
 }

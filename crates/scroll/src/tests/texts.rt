@@ -1,11 +1,12 @@
 // Strings, byte slices and measures: the calls for them, which bytes are strings, and strings whose
 // delimiter the source must contain.
-use crate::ctx::{MeasureWith, NULL, RET, SPACE, StrCtx, TAB, TryIntoCtx};
-use crate::tests::reads::{check_read, check_read_past, check_short_read};
-use crate::tests::results::{
-    check_bad_input, check_bad_offset, check_eq, check_too_big, check_value,
+use crate::ctx::{MeasureWith, NULL, RET, SPACE, StrCtx, TAB};
+use crate::tests::reads::{
+    check_bulk, check_default_read, check_default_write, check_no_default_read,
+    check_no_default_write, check_no_read, check_read,
 };
-use crate::{BE, Error, LE, Pread, Pwrite, Result};
+use crate::tests::results::check_eq;
+use crate::{BE, LE, Pread, Result};
 use std::alloc::Global;
 use std::process::Abort;
 
@@ -16,7 +17,7 @@ fn is_delimited_by_zero(ctx: StrCtx) -> bool {
     }
 }
 
-const CONTEXTS: [(StrCtx, usize, bool); 3] = [
+static CONTEXTS: [(StrCtx, usize, bool); 3] = [
     (StrCtx::Delimiter(NULL), 1, false),
     (StrCtx::DelimiterUntil(SPACE, 4), 1, false),
     (StrCtx::Length(3), 0, true),
@@ -62,16 +63,17 @@ fn test_measure_with_bytes(rt: HostRuntime) {
 fn pread_slice(rt: HostRuntime) {
     let rt = &rt;
     let bytes: &[u8] = &[0x7e, 0xef];
-    check_short_read::<&str, _>(rt, bytes, 0, StrCtx::Length(3), 3, 2);
-    check_value(rt, bytes.pread::<&[u8]>(1), &[]);
-    check_bad_offset(rt, bytes.pread::<&[u8]>(3), 3);
+    check_no_read::<&str, _>(rt, bytes, 0, StrCtx::Length(3), ("TooBig", 3, 2));
+    let none: &[u8] = &[];
+    check_default_read(rt, bytes, 1, none, 1);
+    check_no_default_read::<&[u8], _>(rt, bytes, 3, ("BadOffset", 3, 0));
 }
 
 #[test]
 fn gread_slice(rt: HostRuntime) {
     let rt = &rt;
     let bytes: &[u8] = &[0x7e, 0xef];
-    check_short_read::<&str, _>(rt, bytes, 0, StrCtx::Length(3), 3, 2);
+    check_no_read::<&str, _>(rt, bytes, 0, StrCtx::Length(3), ("TooBig", 3, 2));
     check_read(rt, b"EBD", 0, StrCtx::Length(2), "EB", 2);
     check_read(rt, bytes, 0, 2, bytes, 2);
 }
@@ -79,7 +81,7 @@ fn gread_slice(rt: HostRuntime) {
 const HELLO: &[u8] = b"hello, world!\0some_other_things";
 
 // Texts that are read: the bytes, the cursor, the context, the text, and the cursor after it.
-const READ: [(&[u8], usize, StrCtx, &str, usize); 10] = [
+static READ: [(&[u8], usize, StrCtx, &str, usize); 10] = [
     (HELLO, 7, StrCtx::Delimiter(NULL), "world!", 14),
     (HELLO, 14, StrCtx::Delimiter(TAB), "some_other_things", 32),
     (b"more\0bytes", 0, StrCtx::Delimiter(NULL), "more", 5),
@@ -95,8 +97,7 @@ const READ: [(&[u8], usize, StrCtx, &str, usize); 10] = [
 #[test]
 fn pread_str(rt: HostRuntime) {
     let rt = &rt;
-    let dot: &[u8] = b".\0";
-    check_value(rt, dot.pread::<&str>(0), ".");
+    check_default_read(rt, b".\0", 0, ".", 2);
     check_read(rt, HELLO, 0, StrCtx::Delimiter(NULL), "hello, world!", 14);
     check_read(rt, HELLO, 0, StrCtx::Delimiter(SPACE), "hello,", 7);
     check_read(rt, HELLO, 6, StrCtx::Delimiter(SPACE), "", 7);
@@ -109,9 +110,8 @@ fn pread_str_weird(rt: HostRuntime) {
     let rt = &rt;
     let none: &[u8] = b"";
     check_read(rt, none, 0, StrCtx::Delimiter(NULL), "", 1);
-    check_read_past::<&str, _>(rt, none, 7, StrCtx::Delimiter(SPACE));
-    let zero: &[u8] = b"\0";
-    check_value(rt, zero.pread::<&str>(0), "");
+    check_no_read::<&str, _>(rt, none, 7, StrCtx::Delimiter(SPACE), ("BadOffset", 7, 0));
+    check_default_read(rt, b"\0", 0, "", 1);
 }
 
 #[test]
@@ -122,31 +122,25 @@ fn texts_at_the_cursor(rt: HostRuntime) {
     }
 }
 
-// Checks that a text isn't read, and that the cursor is left.
-fn check_bad_text(rt: &impl Abort, bytes: &[u8], ctx: StrCtx, size: usize, msg: &str) {
-    let mut at = 0;
-    check_bad_input(rt, bytes.gread_with::<&str>(&mut at, ctx), size, msg);
-    check_bad_input(rt, bytes.pread_with::<&str>(0, ctx), size, msg);
-    check_eq(rt, at, 0);
-}
-
 #[test]
 fn refused_texts(rt: HostRuntime) {
     let rt = &rt;
     let limit = StrCtx::DelimiterUntil(NULL, 4);
-    check_short_read::<&str, _>(rt, b"a\0c", 0, limit, 4, 3);
-    check_bad_text(rt, b"\xffa\0", StrCtx::Delimiter(NULL), 3, "invalid utf8");
-    check_bad_text(rt, b"\xc3\xa9", StrCtx::Length(1), 2, "invalid utf8");
-}
-
-// Checks a write at the start, in the default context.
-fn check_default_write<T: TryIntoCtx<Ctx, Error = Error> + Drop, Ctx: Copy + Default>(
-    rt: &impl Abort,
-    mut target: &mut [u8],
-    value: T,
-    size: usize,
-) {
-    check_value(rt, target.pwrite(value, 0), size);
+    check_no_read::<&str, _>(rt, b"a\0c", 0, limit, ("TooBig", 4, 3));
+    check_no_read::<&str, _>(
+        rt,
+        b"\xffa\0",
+        0,
+        StrCtx::Delimiter(NULL),
+        ("invalid utf8", 3, 0),
+    );
+    check_no_read::<&str, _>(
+        rt,
+        b"\xc3\xa9",
+        0,
+        StrCtx::Length(1),
+        ("invalid utf8", 2, 0),
+    );
 }
 
 #[test]
@@ -155,9 +149,9 @@ fn pwrite_str_and_bytes(rt: HostRuntime) {
     let bytes: &[u8] = b"more\0bytes";
     let text = "lol hello_world lal\0ala imabytes";
     let mut buffer = [0u8; 33];
-    check_default_write(rt, &mut buffer, text, 32);
+    check_default_write(rt, &mut buffer, text, 0, 32);
     check_read(rt, &buffer, 4, StrCtx::Delimiter(SPACE), "hello_world", 16);
-    check_default_write(rt, &mut buffer, bytes, 10);
+    check_default_write(rt, &mut buffer, bytes, 0, 10);
     check_read(rt, &buffer, 8, StrCtx::Length(6), "esworl", 14);
 }
 
@@ -165,11 +159,16 @@ fn pwrite_str_and_bytes(rt: HostRuntime) {
 fn bulk_read_of_texts(rt: HostRuntime) {
     let rt = &rt;
     let bytes: &[u8] = b"ab\0cd";
-    let mut texts = ["as", "before", "this"];
-    let mut offset = 0;
-    check_bad_offset(rt, bytes.gread_inout(&mut offset, &mut texts), 6);
-    check_eq(rt, texts, ["ab", "cd", "this"]);
-    check_eq(rt, offset, 6);
+    let texts = ["as", "before", "this"];
+    check_bulk(
+        rt,
+        bytes,
+        0,
+        texts,
+        ("BadOffset", 6, 0),
+        ["ab", "cd", "this"],
+        6,
+    );
 }
 
 #[test]
@@ -177,9 +176,8 @@ fn short_targets(rt: HostRuntime) {
     let rt = &rt;
     let two: &[u8] = &[1, 2];
     let mut bytes = [0xffu8; 3];
-    let mut target: &mut [u8] = &mut bytes;
-    check_too_big(rt, target.pwrite("ab", 2), 2, 1);
-    check_too_big(rt, target.pwrite(two, 3), 2, 0);
+    check_no_default_write(rt, &mut bytes, "ab", 2, ("TooBig", 2, 1));
+    check_no_default_write(rt, &mut bytes, two, 3, ("TooBig", 2, 0));
     check_eq(rt, bytes, [0xff; 3]);
 }
 
@@ -191,7 +189,7 @@ fn check_text(rt: &impl Abort, bytes: &[u8], wanted: &[u8]) {
 }
 
 // Bytes that are one character, and bytes that are none, as Rust's `str::from_utf8` says.
-const CHARACTERS: [&[u8]; 12] = [
+static CHARACTERS: [&[u8]; 12] = [
     b"\0",
     b"\x7f",
     b"\xc2\x80",
@@ -206,7 +204,7 @@ const CHARACTERS: [&[u8]; 12] = [
     b"\xf4\x8f\xbf\xbf",
 ];
 
-const NOT_CHARACTERS: [&[u8]; 25] = [
+static NOT_CHARACTERS: [&[u8]; 25] = [
     // longer than necessary
     b"\xc0\x80",
     b"\xc1\xbf",
@@ -249,7 +247,7 @@ fn edges_of_utf8(rt: HostRuntime) {
 
 // The forms of a character, as in table 3-7 of the Unicode Standard: the range of each of its
 // bytes.
-const FORMS: [&[(u8, u8)]; 9] = [
+static FORMS: [&[(u8, u8)]; 9] = [
     &[(0x00, 0x7f)],
     &[(0xc2, 0xdf), (0x80, 0xbf)],
     &[(0xe0, 0xe0), (0xa0, 0xbf), (0x80, 0xbf)],
@@ -322,20 +320,17 @@ fn texts(rt: HostRuntime) {
     check_eq(rt, (REQUIRED.len(), REQUIRED.is_empty()), (1, false));
     let source: &[u8] = b"ab\0";
     check_read(rt, source, 0, REQUIRED, "ab", 3);
-    let offset = &mut 3;
-    check_bad_input(rt, source.gread_with::<&str>(offset, REQUIRED), 0, MISSING);
-    check_eq(rt, *offset, 3);
-    check_bad_text(rt, b"ab", REQUIRED, 2, MISSING);
+    check_no_read::<&str, _>(rt, source, 3, REQUIRED, (MISSING, 0, 0));
+    check_no_read::<&str, _>(rt, b"ab", 0, REQUIRED, (MISSING, 2, 0));
     check_read(rt, b"ab", 0, StrCtx::Delimiter(0), "ab", 3);
-    check_bad_text(rt, b"\xffa", REQUIRED, 2, MISSING);
-    check_bad_text(rt, b"\xff\0", REQUIRED, 2, "invalid utf8");
+    check_no_read::<&str, _>(rt, b"\xffa", 0, REQUIRED, (MISSING, 2, 0));
+    check_no_read::<&str, _>(rt, b"\xff\0", 0, REQUIRED, ("invalid utf8", 2, 0));
 }
 
 #[test]
 fn arrays_of_texts(rt: HostRuntime) {
     let rt = &rt;
     check_read(rt, b"a\0b\0", 0, REQUIRED, ["a", "b"], 4);
-    let source: &[u8] = b"a\0";
-    check_bad_input(rt, source.pread_with::<[&str; 2]>(0, REQUIRED), 0, MISSING);
-    check_read(rt, source, 0, StrCtx::Delimiter(0), ["a", ""], 3);
+    check_no_read::<[&str; 2], _>(rt, b"a\0", 0, REQUIRED, (MISSING, 0, 0));
+    check_read(rt, b"a\0", 0, StrCtx::Delimiter(0), ["a", ""], 3);
 }

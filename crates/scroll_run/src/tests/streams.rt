@@ -27,7 +27,7 @@ fn make_error((number, kind): Cause) -> io::Error {
 const INTERRUPTED: i32 = 4;
 
 // The kinds of errors that have no number of the operating system.
-const KINDS: [ErrorKind; 4] = [
+static KINDS: [ErrorKind; 4] = [
     ErrorKind::InvalidData,
     ErrorKind::WriteZero,
     ErrorKind::UnexpectedEof,
@@ -156,20 +156,24 @@ fn check_done(rt: &impl Abort, run: Run, calls: [usize; 2]) {
     check_run(rt, run, (Ok(0), calls, Some(OUTPUT.len()), true));
 }
 
+const BY_KIND: Fault = Fault::Odd((None, ErrorKind::Interrupted));
+
+const BY_NUMBER: Fault = Fault::Odd((Some(INTERRUPTED), ErrorKind::Interrupted));
+
+static PIECES: [(usize, Fault); 7] = [
+    (1, Fault::Never),
+    (7, Fault::Never),
+    (4096, Fault::Never),
+    (1, BY_KIND),
+    (4096, BY_KIND),
+    (1, BY_NUMBER),
+    (4096, BY_NUMBER),
+];
+
 #[test]
 fn in_pieces(rt: HostRuntime) {
-    let by_kind = Fault::Odd((None, ErrorKind::Interrupted));
-    let by_number = Fault::Odd((Some(INTERRUPTED), ErrorKind::Interrupted));
-    for (step, fault) in [
-        (1, Fault::Never),
-        (7, Fault::Never),
-        (4096, Fault::Never),
-        (1, by_kind),
-        (4096, by_kind),
-        (1, by_number),
-        (4096, by_number),
-    ] {
-        let run = run(rt.alloc(), (step, fault), (step, fault));
+    for piece in &PIECES {
+        let run = run(rt.alloc(), *piece, *piece);
         check_done(&rt, run, run.1);
     }
 }
@@ -213,12 +217,11 @@ fn each_call_fails(rt: HostRuntime) {
 
 // The first call, the last one and the flush each fail with an error.
 fn check_cause(rt: &impl Abort, alloc: Global, cause: Cause) {
-    for at in [1, READS] {
-        check_reader(rt, alloc, at, cause);
-    }
-    for at in [1, OUTPUT.len(), WRITES] {
-        check_writer(rt, alloc, at, cause);
-    }
+    check_reader(rt, alloc, 1, cause);
+    check_reader(rt, alloc, READS, cause);
+    check_writer(rt, alloc, 1, cause);
+    check_writer(rt, alloc, OUTPUT.len(), cause);
+    check_writer(rt, alloc, WRITES, cause);
 }
 
 #[test]
@@ -230,8 +233,8 @@ fn each_error_of_a_stream(rt: HostRuntime) {
             check_cause(&rt, rt.alloc(), (Some(number), kind));
         }
     }
-    for kind in KINDS {
-        check_cause(&rt, rt.alloc(), (None, kind));
+    for kind in &KINDS {
+        check_cause(&rt, rt.alloc(), (None, *kind));
     }
 }
 
@@ -250,11 +253,20 @@ fn interrupted_for_ever(rt: HostRuntime) {
     let of_reader = run(rt.alloc(), (1, Fault::From(1)), (1, Fault::Never));
     check_run(&rt, of_reader, (Err(OTHER), [CALLS, 0], Some(0), false));
     // from the first byte, from the last byte, and from the flush
-    for first in [1, OUTPUT.len(), WRITES] {
-        let run = run(rt.alloc(), (1, Fault::Never), (1, Fault::From(first)));
-        let calls = [READS, OUTPUT.len() + CALLS];
-        check_run(&rt, run, (Err(OTHER), calls, Some(first - 1), false));
-    }
+    check_from(&rt, rt.alloc(), 1);
+    check_from(&rt, rt.alloc(), OUTPUT.len());
+    check_from(&rt, rt.alloc(), WRITES);
+}
+
+// Checks a session whose writer is interrupted for ever from a call on.
+fn check_from(rt: &impl Abort, alloc: Global, first: usize) {
+    let run = run(alloc, (1, Fault::Never), (1, Fault::From(first)));
+    let calls = [READS, OUTPUT.len() + CALLS];
+    check_run(
+        rt,
+        run,
+        (Err(OTHER), calls, Some(first.saturating_sub(1)), false),
+    );
 }
 
 #[test]
