@@ -37,10 +37,10 @@ UNUSED_ITEMS = [
     r"impl\b.*\bRecord> ",
     r"impl\b.* Written for &",
     r"impl\b.* (?:AsRef<V>|Debug|Default|Eq|From<bool>|From<io::Error>|PartialEq|std::error::Error) for ",
-    r"pub use crate::leb128::\{plain_",
     r"(?:pub )?fn (?:cwrite|cwrite_with|element|gread_inout|gread_inout_with|gwrite|put_element|pwrite|read_parts)\b",
 ]
 UNUSED_TRAITS = "Debug|Eq|PartialEq"
+UNUSED_NAMES = "plain_sleb|plain_uleb"
 # The proofs of these items.
 UNUSED_PROOFS = """
     ctx/arrays/ArrayFromCtx ctx/arrays/ArrayIntoCtx ctx/arrays/element ctx/arrays/put_element ctx/fixed/read_parts pread/Pread
@@ -66,9 +66,10 @@ def without(text: str, module: str) -> str:
 def without_items(text: str) -> str:
     """The text of a file without the items and the derived traits of which the program uses nothing."""
     heads = "|".join(UNUSED_ITEMS)
-    text = re.sub(rf"(?m)^( *)(?:(?://|#\[).*\n\1)*(?:{heads})(?:.*(?:\{{\}}|;)\n|(?:.*\n)*?\1\}}\n)\n?", "", text)
+    text = re.sub(rf"(?m)^( *)(?:(?://|#\[).*\n\1)*(?:{heads})(?:.*\{{\}}\n|(?:.*\n)*?\1\}}\n)\n?", "", text)
     text = re.sub(rf"(?m)^(#\[derive\(.*?)(?:, (?:{UNUSED_TRAITS})\b)+", r"\1", text)
-    return re.sub(rf"(?m)^#\[derive\((?:{UNUSED_TRAITS})(?:, )?", "#[derive(", text)
+    text = re.sub(rf"(?m)^#\[derive\((?:{UNUSED_TRAITS})(?:, )?", "#[derive(", text)
+    return re.sub(rf"\b(?:{UNUSED_NAMES}), ", "", text)
 
 
 def is_below(path: Path, modules: Sequence[str]) -> bool:

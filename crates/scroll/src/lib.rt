@@ -52,8 +52,9 @@ mod tests;
 pub use crate::endian::{BE, Endian, LE, NATIVE, NETWORK};
 pub use crate::error::{Error, Result, check_room};
 pub use crate::greater::{Cread, Cwrite};
-pub use crate::leb128::{Sleb128, Uleb128, sleb_block, sleb_loads, uleb_block, uleb_loads};
-pub use crate::leb128::{plain_sleb, plain_uleb};
+pub use crate::leb128::{
+    Sleb128, Uleb128, plain_sleb, plain_uleb, sleb_block, sleb_loads, uleb_block, uleb_loads,
+};
 pub use crate::lesser::{IOread, IOwrite};
 pub use crate::lists::{Ends, append_until, two_zeros_size, zero_size};
 pub use crate::loads::Loads;
