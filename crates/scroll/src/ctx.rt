@@ -50,7 +50,7 @@ mod zeros;
 
 pub use arrays::array_fits;
 pub use encode::{
-    Checked, Delimited, Each, Encode, Gap, InParts, Padded, Value, append, append_checked, put_at,
+    Checked, Delimited, Each, Encode, Gap, Padded, Value, append, append_checked, put_at,
     put_whole, read_fixed,
 };
 pub use fixed::{Fixed, Plain, Record, RoundTrip, Written};

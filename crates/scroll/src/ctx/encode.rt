@@ -275,32 +275,6 @@ impl<A: Encode, B: Encode, C: Encode, D: Encode> Encode for (A, B, C, D) {
     }
 }
 
-/// A struct that is encoded as parts, such as its fields in tuples.
-pub trait InParts: Copy {
-    /// The parts.
-    type Parts: Encode;
-
-    // The bytes of a value.
-    ghost bytes_of: { Endian → Self → List ℕ };
-
-    /// Returns the parts.
-    fn parts(self) -> Self::Parts
-        ensures { (order : Endian) → Self.Parts.bytes order result ≡ bytes_of order self };
-}
-
-impl<P: InParts> Encode for P {
-    ghost bytes = { P.bytes_of };
-
-    fn size(self, order: Endian) -> usize {
-        self.parts().size(order)
-    }
-
-    #[inline(always)]
-    fn put(self, dst: &mut [u8], order: Endian) {
-        self.parts().put(dst, order)
-    }
-}
-
 /// A value whose fields may not agree, such as a count with the bytes that it counts.
 /// `tools/derive` prints the implementation.
 pub trait Checked: Copy {
