@@ -185,7 +185,7 @@ fn the_first_bytes_of_a_slice(rt: HostRuntime) {
 
 // Returns a vector of three bytes. An allocation failure ends the test.
 fn three(rt: &impl Abort, alloc: Global, first: u8) -> Vec<u8> {
-    vec![in alloc; first, 2, 3].expect(rt, "no memory")
+    vec![in alloc; first, 2, 3].ok().expect(rt, "NoMemory")
 }
 
 #[test]

@@ -232,7 +232,10 @@ static LEFT: [([u8; 3], usize); 4] = [
 fn answers_from(rt: &impl Abort, alloc: Global, start: usize) -> Vec<Answer> {
     let mut answers = Vec::new(alloc);
     for size in start..4 {
-        answers.push(Answer::Wrote(size)).expect(rt, "no room");
+        answers
+            .push(Answer::Wrote(size))
+            .ok()
+            .expect(rt, "NoMemory");
     }
     answers
 }
