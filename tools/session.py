@@ -31,7 +31,8 @@ UNUSED = """
     cstr/of_std ctx/encode ctx/fixed/arrays ctx/measure ctx/numbers/floats ctx/optional ctx/std_c_strings ctx/table ctx/tuples ctx/until
     ctx/zeros greater laws leb128/bytewise lesser lists located many pwrite small_error tests
 """.split()
-# Items of the library that it doesn't use, by the first words of each. (Debug is part of the trait `std::error::Error`.)
+# Items of the library that it doesn't use, by the first words of each; derived traits, of which `std::error::Error` needs Debug, and
+# so goes with it; and names that stand among others in a `pub use`.
 UNUSED_ITEMS = [
     r"impl\b(?!<W).* (?:FromCtx|IntoCtx|SizeWith)<",
     r"impl\b.*\bRecord> ",

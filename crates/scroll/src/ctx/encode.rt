@@ -354,6 +354,14 @@ pub fn put_at<A: Encode>(
 ///
 /// Where they have no room, it returns [`Error::TooBig`] with their number and the length of `dst`,
 /// which is then unchanged.
+///
+/// ```rust
+/// let mut file = [0xffu8; 4];
+/// assert_eq!(rt; put_whole(&mut file, (Value(1u8), "ab"), LE)?, 3);
+/// assert_eq!(rt; file, [1, b'a', b'b', 0xff]);
+/// let short = put_whole(&mut file[..2], "abc", LE);
+/// assert!(rt; matches!(&short, Err(Error::TooBig { size: 3, len: 2 })));
+/// ```
 #[inline(always)]
 pub fn put_whole<A: Encode>(dst: &mut [u8], value: A, order: Endian) -> Result<usize>
     ensures wrote { IfOk result (WritesPrefix (length (A.bytes order value))
