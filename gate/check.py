@@ -3,8 +3,9 @@
 
     python3 gate/check.py             what holds: the proofs from nothing, the tests, the sessions, the clients
     python3 gate/check.py edits       the bugs that the prover must refuse
+    python3 gate/check.py first       README's first command, from nothing
     python3 gate/check.py verdict     the toolchain's own verdict, rt ci, over the files without the edits
-    python3 gate/check.py all         what holds, and the edits
+    python3 gate/check.py all         what holds, the edits, and README's first command
     python3 gate/check.py kept        what holds, where the proofs may be those that checks on this machine kept
 
 Several of these words may be given; .ci/run gives `all verdict`. The steps are:
@@ -16,13 +17,14 @@ Several of these words may be given; .ci/run gives `all verdict`. The steps are:
     clients.py      each client of the library, proved and tested as a crate of its own
     prove.sh        what tools/derive/derive.sh prints for the structs of tools/derive/shapes/, proved and tested likewise
     embed.py        the library of embed/ in C and Python, and in Rust where cargo is, on real files and on damaged ones
-    depending.py    README's first command, and a repository that depends on the library, made by README's lines
+    depending.py    a repository that depends on the library, made by README's lines
     misuse.py       what must not compile
     sessions.py     the stored sessions, whole and with their buffers cut, by the program that was proved
     limits.py       long inputs, at which that program must not run out of memory
     faults.py       the sessions and the tests where memory is refused and streams fail, by what was proved
     compare/run.sh  random sessions and calls beside the Rust crate, where cargo finds it
     edits.py        the edits, many in one check; limits.py --edits, those that only long inputs and tests tell
+    depending.py first
 
 Steps run side by side, and a step starts when those that it needs have ended. In all they have two jobs more than there are
 workers (gate/step.py), since parts of a check run on one processor. The tests of the library and rt ci run in copies of
@@ -55,8 +57,8 @@ from typing import Any, Dict, List, Sequence, Tuple
 from clients import list_clients
 from step import TOP, copy_kept, count_workers
 
-GROUPS = ("stands", "edits", "verdict")
-WORDS = {"all": ("stands", "edits"), "kept": ("stands",)}
+GROUPS = ("stands", "edits", "first", "verdict")
+WORDS = {"all": ("stands", "edits", "first"), "kept": ("stands",)}
 COUNTS = re.compile(r"(\d+) passed, (\d+) failed(?:, (\d+) skipped)?")
 PROVE = "python3 gate/prove.py scroll"
 PROGRAM = "python3 gate/prove.py scroll_run"
@@ -203,6 +205,8 @@ def list_steps(groups: Sequence[str], workers: int, anew: str) -> List[Step]:
     if "edits" in groups:
         steps.append(Step("python3 gate/edits.py", workers, tuple(it.command for it in steps if it.jobs)))
         steps.append(Step("python3 gate/limits.py --edits", 1, ("python3 gate/edits.py",)))
+    if "first" in groups:
+        steps.append(Step("python3 gate/depending.py first", workers, tuple(it.command for it in steps if it.jobs)))
     return steps
 
 
@@ -210,7 +214,7 @@ def main(words: List[str]) -> int:
     groups = [group for word in words or ["stands"] for group in WORDS.get(word, (word,))]
     for group in groups:
         if group not in GROUPS:
-            print(f"check: '{group}' is none of stands, edits, verdict, all and kept\n0 passed, 1 failed")
+            print(f"check: '{group}' is none of stands, edits, first, verdict, all and kept\n0 passed, 1 failed")
             return 1
     begun = time.time()
     workers = count_workers()

@@ -4,9 +4,9 @@
     python3 tools/session.py < crates/scroll_run/stdin
 
 All that runs is proved. What the program doesn't use is left out of the copy that is proved: the tests, and modules, items and
-derived traits of the library, and what proves these; gate/check.py proves them too. The copy is in the user's cache, or in the
-folder that the variable ROOM names, since `rt` would take it for crates of this repository. What was proved once is kept there, so
-that a second run only runs the program.
+derived traits of the library, and what proves these; gate/check.py proves them too, in the two crates as they are. The copy is in
+the user's cache, or in the folder that the variable ROOM names, since `rt` would take it for crates of this repository. What was
+proved once is kept there, so that a second run only runs the program.
 
 Standard output is the program's. On standard error stands how far the proof is and how long it may still take. The exit status is
 the program's, or 1 where it isn't proved; a file that is then named says why.
@@ -51,9 +51,20 @@ UNUSED_WORDS = """
     Many SmallErrors Streams Tagged lemmas/ZerosLemmas lemmas/callers/ManyLemmas lemmas/callers/Sequences lemmas/callers/TaggedLemmas
 """.split()
 ROOTS = ("lib.rt", "main.rt", "Lib.antt")
-# A first guess: the processor seconds of each proof, and the seconds of what one processor does alone.
-WORK = {"scroll": 220, "scroll_run": 220}
-ALONE = 45
+# The copy is one crate, in which the library is a module: its proof takes two thirds of the time of two proofs and the build of a
+# library between them. So files of the library get other paths, their modules other names, and three files of the program a line.
+PROGRAM = Path("crates") / "scroll_run"
+PATHS = {"src/lib.rt": "src/scroll.rt", "specs/Lib.antt": "specs/scroll.antt"}
+NAMES = {
+    r"\bRattle\.scroll\.specs\.declared\.": "Rattle.scroll_run.specs.declared.scroll.",
+    r"\bRattle\.scroll\.proofs\.lemmas\b": "Rattle.scroll_run.proofs.lemmas",
+    r"\bRattle\.scroll\.(specs|proofs)\b": r"Rattle.scroll_run.\1.scroll",
+}
+ITEMS = {"scroll": r"\bcrate::(?!proofs::)", "scroll_run": r"(?<![\w:.])scroll::"}
+LINES = {"src/main.rt": "mod scroll;\n", "specs/Lib.antt": "pub mod scroll\n", "proofs/Lib.antt": "pub mod lemmas\n"}
+# A first guess of the seconds that the proof takes, and its share until the first functions are counted.
+GUESS = 165
+FIRST_SHARE = 0.58
 FAR = re.compile(r"^(?:so far: |checked .*, )(\d+) of (\d+)\b")
 PAUSE = 10
 
@@ -77,23 +88,44 @@ def is_below(path: Path, modules: Sequence[str]) -> bool:
     return any(f"{path.with_suffix('')}/".startswith(f"{it}/") for it in modules)
 
 
+def files_of(crate: str, part: str, unused: Sequence[str]) -> Dict[Path, str]:
+    """The texts of the files of a part of a crate that the program uses, by their paths below it."""
+    folder = TOP / "crates" / crate / part
+    found = [it for it in folder.rglob("*.*t*") if not is_below(it.relative_to(folder), unused)]
+    files = {it.relative_to(folder): it.read_text(encoding="utf-8") for it in found}
+    for module in unused:
+        above, _, name = module.rpartition("/")
+        for root in map(Path, [f"{above}.rt", f"{above}.antt"] if above else ROOTS):
+            if root in files:
+                files[root] = without(files[root], name)
+    return {path: without_items(text) if part == "src" else text for path, text in files.items()}
+
+
+def path_in_copy(crate: str, part: str, path: Path) -> Path:
+    """The path that a file of a crate has in the copy's crate."""
+    if crate == "scroll_run" or (part, path.parts[0].partition(".")[0]) == ("proofs", "lemmas"):
+        return Path(part) / path
+    return Path(PATHS.get(f"{part}/{path}") or Path(part) / "scroll" / path)
+
+
+def text_in_copy(crate: str, path: Path, text: str) -> str:
+    """The text that a file of a crate has in the copy's crate."""
+    for old, new in {**NAMES, ITEMS[crate]: "crate::scroll::"}.items():
+        text = re.sub(old, new, text)
+    return text.replace("#![tactic(auto)]\n", "") if crate == "scroll" else text + LINES.get(str(path), "")
+
+
 def wanted_files() -> Dict[Path, str]:
     """The texts of the copy's files."""
-    files = {Path(it): (TOP / it).read_text(encoding="utf-8") for it in ("crates.txt", "HANDLES")}
-    for crate in WORK:
+    uses = re.findall(r"(?m)^\w+:(.*)", (TOP / "crates.txt").read_text(encoding="utf-8"))
+    libraries = sorted({*" ".join(uses).split()} - {"scroll"})
+    files = {Path("crates.txt"): f"scroll_run: {' '.join(libraries)}\n", Path("HANDLES"): (TOP / "HANDLES").read_text(encoding="utf-8")}
+    for crate in ITEMS:
         for part, unused in {"src": UNUSED, "specs": UNUSED_WORDS, "proofs": UNUSED + UNUSED_WORDS + UNUSED_PROOFS}.items():
-            folder = Path("crates") / crate / part
-            for file in (TOP / folder).rglob("*.*t*"):
-                path = file.relative_to(TOP / folder)
-                if not is_below(path, unused):
-                    files[folder / path] = file.read_text(encoding="utf-8")
-            for module in unused:
-                above, _, name = module.rpartition("/")
-                for root in [folder / f"{above}{end}" for end in (".rt", ".antt")] if above else [folder / it for it in ROOTS]:
-                    if root in files:
-                        files[root] = without(files[root], name)
-    for path in [it for it in files if it.suffix == ".rt"]:
-        files[path] = without_items(files[path])
+            for path, text in files_of(crate, part, unused).items():
+                if (crate, part, str(path)) != ("scroll", "proofs", "Lib.antt"):
+                    where = path_in_copy(crate, part, path)
+                    files[PROGRAM / where] = text_in_copy(crate, where, text)
     return files
 
 
@@ -105,49 +137,38 @@ def bring_up_to_date() -> None:
         if not file.is_file() or file.read_text(encoding="utf-8") != text:
             file.parent.mkdir(parents=True, exist_ok=True)
             file.write_text(text, encoding="utf-8")
-    for file in [it for crate in WORK for part in ("src", "specs", "proofs") for it in (COPY / "crates" / crate / part).rglob("*.*t*")]:
+    for file in [it for part in ("src", "specs", "proofs") for it in (COPY / PROGRAM / part).rglob("*.*t*")]:
         if file.relative_to(COPY) not in files:
             file.unlink()
 
 
 class Clock:
-    """Says every few seconds how far the proofs are, and how long they may still take."""
+    """Says every few seconds how far the proof is, and how long it may still take."""
 
     def __init__(self) -> None:
         self.begun = time.time()
-        self.done = 0.0
+        self.whole = GUESS * 4 / min(4, os.cpu_count() or 1)
+        self.done = ""
         self.ended = threading.Event()
         threading.Thread(target=self.tell, daemon=True).start()
 
     def tell(self) -> None:
-        guess = sum(WORK.values()) / (os.cpu_count() or 1) + ALONE * len(WORK)
         pause = 1
         while not self.ended.wait(pause):
             pause = PAUSE
-            gone = time.time() - self.begun
-            left = gone * (1 - self.done) / self.done if self.done > 0.2 else max(guess - gone, 10)
-            print(f"session: {self.done:.0%} is proved, about {left:.0f} s are left", file=sys.stderr, flush=True)
+            left = max(self.whole - time.time() + self.begun, PAUSE)
+            print(f"session: {self.done or 'the proof begins'}, about {left:.0f} s are left", file=sys.stderr, flush=True)
 
-    def read(self, crate: str, line: str) -> None:
-        """Reads off a line how far the proof of a crate is."""
+    def read(self, line: str) -> None:
+        """Reads off a line how far the proof is."""
         found = FAR.search(line)
         if found:
-            before = sum(WORK[it] for it in list(WORK)[: list(WORK).index(crate)])
-            here = WORK[crate] * int(found[1]) / int(found[2])
-            self.done = max(self.done, (before + here) / sum(WORK.values()))
+            if not self.done and found[1] != "0":
+                self.whole = (time.time() - self.begun) / FIRST_SHARE
+            if found[1] != "0":
+                self.done = f"{found[1]} of {found[2]} functions are proved"
         if line.startswith("rt: running"):
             self.ended.set()
-
-
-def run(clock: Clock, crate: str, words: List[str], **pipes: object) -> int:
-    """Runs a command in a crate of the copy, and returns its status. What it says goes to a file."""
-    with subprocess.Popen(words, cwd=COPY / "crates" / crate, text=True, errors="replace", **pipes) as ran:
-        with SAID.open("a", encoding="utf-8") as said:
-            for line in ran.stdout or ran.stderr or ():
-                said.write(line)
-                said.flush()
-                clock.read(crate, line)
-    return ran.returncode
 
 
 def main() -> int:
@@ -155,15 +176,17 @@ def main() -> int:
         print("session: `rt` of the Rattle kit is not there", file=sys.stderr)
         return 1
     bring_up_to_date()
-    SAID.unlink(missing_ok=True)
     clock = Clock()
-    # (`rt run` alone would first read all of the sources to say what is wrong before any proof. Rattle's own compiler takes less time
-    # than LLVM.)
-    status = run(clock, "scroll", ["rt", "lib"], stdin=subprocess.DEVNULL, stdout=subprocess.PIPE, stderr=subprocess.STDOUT)
-    if not status:
-        status = run(clock, "scroll_run", ["rt", "run", "--backend", "rattle"], stderr=subprocess.PIPE)
+    # (Rattle's own compiler takes less time than LLVM.)
+    words = ["rt", "run", "--backend", "rattle"]
+    with subprocess.Popen(words, cwd=COPY / PROGRAM, text=True, errors="replace", stderr=subprocess.PIPE) as ran:
+        with SAID.open("w", encoding="utf-8") as said:
+            for line in ran.stderr or ():
+                said.write(line)
+                said.flush()
+                clock.read(line)
     if clock.ended.is_set():
-        return status
+        return ran.returncode
     print(f"session: it isn't proved, see {SAID}", file=sys.stderr)
     return 1
 
