@@ -38,7 +38,10 @@ UNUSED_ITEMS = [
     r"impl\b.*\bRecord> ",
     r"impl\b.* Written for &",
     r"impl\b.* (?:AsRef<V>|Debug|Default|Eq|From<bool>|From<io::Error>|PartialEq|std::error::Error) for ",
-    r"(?:pub )?fn (?:cwrite|cwrite_with|element|gread_inout|gread_inout_with|gwrite|put_element|pwrite|read_parts)\b",
+    r"impl WithNul for CString ",
+    r"(?:pub |final )?fn (?:as_bytes_with_nul|cwrite|cwrite_with|element|gread|gread_inout|gread_inout_with|gwrite|is_empty|is_little|made)\b",
+    r"(?:pub |final )?fn (?:network|pread|put_element|pwrite|read_parts)\b",
+    r"pub fn read\(bytes: ",
 ]
 UNUSED_TRAITS = "Debug|Eq|PartialEq"
 UNUSED_NAMES = "plain_sleb|plain_uleb"
@@ -51,7 +54,7 @@ UNUSED_WORDS = """
     Many SmallErrors Streams Tagged lemmas/ZerosLemmas lemmas/callers/ManyLemmas lemmas/callers/Sequences lemmas/callers/TaggedLemmas
 """.split()
 ROOTS = ("lib.rt", "main.rt", "Lib.antt")
-# The copy is one crate, in which the library is a module: its proof takes two thirds of the time of two proofs and the build of a
+# The copy is one crate, in which the library is a module, since its proof takes less time than two proofs and the build of a
 # library between them. So files of the library get other paths, their modules other names, and three files of the program a line.
 PROGRAM = Path("crates") / "scroll_run"
 PATHS = {"src/lib.rt": "src/scroll.rt", "specs/Lib.antt": "specs/scroll.antt"}
