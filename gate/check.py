@@ -187,20 +187,22 @@ def list_steps(groups: Sequence[str], workers: int, anew: str) -> List[Step]:
         steps.append(Step("rt ci", 0, tree="verdict"))
     if "stands" in groups:
         steps += [Step("python3 gate/docs.py", 1), Step("python3 gate/pages.py", 1), Step("sh tools/derive/check.sh", 1)]
+        clients = {it: f"python3 gate/clients.py {it}" for it in list_clients()}
+        # (embed.py goes on with what the proofs of two clients kept)
+        embedded = tuple(clients.pop(it) for it in ("zip", "object_files"))
+        # (the longest first, where each has those that wait for it; and most with one job, so that the last leave no processor idle)
         steps += [
             Step(library, workers),
-            # (the longest first)
             Step(f"{PROVE} tests", half, (library,), "tests", "crates/scroll/out/scroll_tests"),
             Step("sh tools/derive/prove.sh", half, (library,)),
-            Step(program, half, (library,)),
-            Step(f"{PROGRAM} tests", half, (program,)),
+            *(Step(it, 1, (library,)) for it in (embedded[0], program, embedded[1])),
+            Step("python3 gate/embed.py", 1, embedded),
+            *(Step(it, 1, (library,)) for it in clients.values()),
+            Step(f"{PROGRAM} tests", 1, (program,)),
             Step("python3 gate/faults.py", half, (program, f"{PROVE} tests")),
+            Step("python3 gate/misuse.py", 1, (library,)),
+            *(Step(f"python3 gate/{it}.py", 1, (program,)) for it in ("depending", "sessions", "limits")),
         ]
-        steps += [Step(f"python3 gate/clients.py {it}", 1, (library,)) for it in list_clients()]
-        # (it goes on with what the proofs of two clients kept)
-        steps.append(Step("python3 gate/embed.py", 1, tuple(f"python3 gate/clients.py {it}" for it in ("zip", "object_files"))))
-        steps.append(Step("python3 gate/misuse.py", 1, (library,)))
-        steps += [Step(f"python3 gate/{it}.py", 1, (program,)) for it in ("depending", "sessions", "limits")]
         steps.append(Step("sh compare/run.sh --gate", 1, (program,)))
     if "edits" in groups:
         steps.append(Step("python3 gate/edits.py", workers, tuple(it.command for it in steps if it.jobs)))
