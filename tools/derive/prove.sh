@@ -3,8 +3,8 @@
 #
 #     sh tools/derive/prove.sh
 #
-# It copies the files, and the checks of the tests from clients/examples, adds the printed blocks after the structs and the printed
-# files to specs/, and runs gate/clients.py on them. The output and the exit status are those of gate/clients.py.
+# It copies the files, adds the printed blocks after the structs and the printed files to specs/, and runs gate/clients.py on them.
+# The output and the exit status are those of gate/clients.py.
 set -u
 
 top=$(CDPATH='' cd -- "$(dirname -- "$0")/../.." && pwd) || exit 1
@@ -20,7 +20,6 @@ trap 'rm -rf "$room"' EXIT
 trap 'exit 1' HUP INT TERM
 
 cp -R "$top/tools/derive/shapes" "$room/derived" && mkdir "$room/derived/specs" || stop 'the structs could not be copied'
-cp "$top/clients/examples/src/results.rt.txt" "$room/derived/src/tests/" || stop 'the checks of the tests could not be copied'
 python3 -B - "$top/tools/derive" "$room/derived" <<'END' || stop 'the structs could not be derived'
 import re
 import sys
