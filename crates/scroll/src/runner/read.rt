@@ -111,7 +111,7 @@ fn read_texts(alloc: Global, buffer: &[u8], offset: &mut usize, ctx: StrCtx) -> 
     ensures refused { IfErr result (FailsKind (kind.Textx2 ctx) buffer.now offset.old) }
 {
     let (first, second) = borrow_texts(buffer, offset, ctx)?;
-    copy_texts(alloc, first, second)
+    Ok(Value::Textx2(copy_text(alloc, first)?, copy_text(alloc, second)?))
 }
 
 fn read_number(buffer: &[u8], offset: &mut usize, width: Width, order: Endian) -> Result<Value>
@@ -182,14 +182,6 @@ fn both<'b>(texts: [&'b str; 2]) -> (&'b str, &'b str)
     ensures { texts.entry ≡ result.0 ∷ result.1 ∷ [] }
 {
     (texts[0], texts[1])
-}
-
-fn copy_texts(alloc: Global, first: &str, second: &str) -> Result<Value>
-    ensures copied { IfOk result (λ x. (a : String Global) × (b : String Global) × (x ≡ value.Textx2 a b)
-        × (string_bytes a ≡ first.now) × (string_bytes b ≡ second.now)) }
-    ensures only_memory { IfErr result (λ e. e ≡ NoMemory) }
-{
-    Ok(Value::Textx2(copy_text(alloc, first)?, copy_text(alloc, second)?))
 }
 
 fn copy_text(alloc: Global, text: &str) -> Result<String>

@@ -1,4 +1,13 @@
+use Rattle.std.proofs.Common.{inl}
+use Rattle.std.proofs.lemmas.Result.{IfErr-weaker}
 use Rattle.scroll.proofs.runner.read.read_value.Goals as goal
+
+pub returns-in-Number-clause-read : goal.returns-in-Number-clause-read
+returns-in-Number-clause-read c = rw c.in-Number.is c.read_number.ensures.read
+
+pub returns-in-Number-clause-refused : goal.returns-in-Number-clause-refused
+returns-in-Number-clause-refused c =
+    rw c.in-Number.is (IfErr-weaker c.read_number.result _ _ (λ e refused. inl refused) c.read_number.ensures.refused)
 
 pub returns-in-Text-clause-read : goal.returns-in-Text-clause-read
 returns-in-Text-clause-read c = rw c.in-Text.is c.read_text.ensures.read
