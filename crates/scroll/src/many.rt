@@ -323,7 +323,8 @@ fn write_entered<
     T: Kept<Ctx> + TryIntoCtx<Ctx, Error = E> + Drop,
     P: EntryOf<T, Error = E> + Drop,
 >(entries: &mut Vec<P>, dst: &mut [u8], value: T, offset: &mut usize, ctx: Ctx) -> Result<(), E>
-    ensures entered { OnOk result ((entry : P) × (entries.new.items ≡ entries.old.items ++ entry ∷ [])
+    ensures entered { OnOk result ((entry : P)
+        × (entries.new.items ≡ entries.old.items ++ entry ∷ [])
         × (P.place entry ≡ offset.old) × P.describes entry value) }
     ensures wrote { OnOk result ((size : ℕ) × (offset.new ≡ offset.old + size)
         × WritesAt (T.TryIntoCtx.writes ctx value) dst.old offset.old dst.new size) }

@@ -38,7 +38,8 @@ impl Place {
 
     // Returns the cursor after a command that succeeded and ended at the offset `end`.
     fn cursor_after(self, cursor: usize, end: usize) -> usize
-        ensures { (size : ℕ) → end ≡ offset_of self cursor + size → result ≡ moved self cursor size }
+        ensures { (size : ℕ) → end ≡ offset_of self cursor + size
+            → result ≡ moved self cursor size }
     {
         match self {
             Place::At(_) => cursor,
