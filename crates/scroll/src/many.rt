@@ -317,6 +317,7 @@ pub fn write_placed<
 }
 
 // Writes a value like `write_kept`, and appends an entry to `entries`, which says where it stands.
+#[inline(always)]
 fn write_entered<
     Ctx: Copy,
     E: From<Error>,

@@ -1,5 +1,5 @@
 // The reads of a run.
-ghost use Rattle.std.specs.Prelude.{◌≡◌, String, ℕ, ℤ, [], ◌∷◌, IfOk, IfErr, IsOk, OnErr};
+ghost use Rattle.std.specs.Prelude.{◌≡◌, ℕ, ℤ, [], ◌∷◌, IfOk, IfErr, IsOk, OnErr};
 ghost use Rattle.std.specs.String.{string_bytes};
 ghost use Rattle.scroll.specs.Runs.{Copies, ReadsKind, FailsKind, ReadStep, ReadsWide, is_signed, bytes_in};
 ghost use Rattle.scroll.specs.Arrays.{ReadsArray, RefusesArray};
