@@ -1,6 +1,6 @@
 -- Runs of commands. The contract of `runner::run`: what each command returns over one buffer, and
 -- what the list leaves.
-use Rattle.std.specs.Prelude.{◌≡◌, ◌<◌, ℕ, ◌+◌, ◌++◌, Bool, true, false, List, [], ◌∷◌, length, take, map, Ok, Err, ⊤}
+use Rattle.std.specs.Prelude.{◌≡◌, ◌<◌, ℕ, ◌+◌, ◌++◌, Bool, true, false, List, [], ◌∷◌, length, take, map, Ok, Err, ⊤, ◌⊎◌}
 use Rattle.std.specs.String.{string_bytes}
 use Rattle.scroll.specs.Arrays.{ReadsArray, RefusesArray}
 use Rattle.scroll.specs.Bytes.{RefusesShort}
@@ -158,10 +158,10 @@ abbrev pub RefusesHere : {E : Type 0} → (List ℕ → E → Type 0) → (ℕ �
 RefusesHere refuses past_end buffer cursor at e after =
     RefusesAt refuses past_end buffer (offset_of at cursor) e × (after ≡ cursor)
 
--- `UnlessNoMemory fact e`: `fact` holds of the error, unless it is `NoMemory`
-abbrev pub UnlessNoMemory : (Error → Type 0) → Error → Type 0
-UnlessNoMemory fact NoMemory = ⊤
-UnlessNoMemory fact e = fact e
+-- a read at an offset fails as the relation of its type says, or there is no memory for its copy
+abbrev pub FailsKind : Kind → List ℕ → ℕ → Error → Type 0
+FailsKind what buffer offset e =
+    RefusesAt (RefusesKind what) IsBadOffset buffer offset e ⊎ (Copies what × (e ≡ NoMemory))
 
 -- `ReadStep buffer cursor at what a after`: the result `a` of one read, and the cursor `after` it
 abbrev pub ReadStep : List ℕ → ℕ → Place → Kind → Answer → ℕ → Type 0

@@ -6,7 +6,7 @@ use crate::ctx::TryFromCtx;
 use crate::error::Error;
 use crate::leb128::Uleb128;
 use crate::located::At;
-use crate::pread::Pread;
+use crate::many::read_next;
 
 /// A value of a list that a mark ends, such as a zero or a pair of zeros.
 ///
@@ -97,25 +97,13 @@ pub fn append_until<
 {
     let start = *offset;
     loop {
-        let begin = *offset;
-        if let Some(end) = end_at::<Ctx, T>(from, begin) {
+        if let Some(end) = end_at::<Ctx, T>(from, *offset) {
             *offset = end;
             return Ok(&from[start..end]);
         }
-        let value: T = match from.gread_with(offset, ctx) {
-            Ok(value) => value,
-            Err(error) => {
-                return Err(At {
-                    offset: begin,
-                    error,
-                });
-            }
-        };
-        if values.push(value).is_err() {
-            *offset = begin;
-            let error = E::from(Error::NoMemory);
+        if let Err(error) = read_next(values, from, offset, ctx) {
             return Err(At {
-                offset: begin,
+                offset: *offset,
                 error,
             });
         }

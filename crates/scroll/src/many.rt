@@ -1,9 +1,9 @@
 //! Many values, one after another.
-ghost use Rattle.std.specs.Prelude.{◌≡◌, ◌≤◌, ◌+◌, ℕ, List, length, take, IfOk, IfErr, OnOk, OnErr, ◌↔◌, ◌++◌, ◌⊎◌, IsTrue};
+ghost use Rattle.std.specs.Prelude.{◌≡◌, ◌≤◌, ◌<◌, ◌+◌, ◌∷◌, [], ℕ, List, length, take, IfOk, IfErr, OnOk, OnErr, ◌↔◌, ◌++◌, ◌⊎◌, IsTrue};
 ghost use Rattle.scroll.specs.Arrays.{WritesAll};
 ghost use Rattle.std.specs.List.{All};
-ghost use Rattle.scroll.specs.Many.{RefusesMany, RefusesToEnd, FailsMany, ChangesBetween, KeepsOne, KeepsAll, StopsBefore, KeepsPlaced};
-ghost use Rattle.scroll.specs.Reads.{ReadsAll, ReadsBetween};
+ghost use Rattle.scroll.specs.Many.{RefusesMany, RefusesSize, RefusesToEnd, FailsMany, ChangesBetween, KeepsOne, KeepsAll, StopsBefore, KeepsPlaced};
+ghost use Rattle.scroll.specs.Reads.{ReadsAll, ReadsBetween, RefusesAt};
 ghost use Rattle.scroll.specs.Errors.{PastEnd};
 ghost use Rattle.scroll.specs.Writes.{WritesAt, RefusesWriteAt};
 ghost use Rattle.scroll.specs.Tagged.{WritesTagged, FailsTagged};
@@ -50,25 +50,38 @@ pub fn read_many<'a, Ctx: Copy, E: From<Error>, T: TryFromCtx<'a, Ctx, Error = E
 {
     let mut values = Vec::new(alloc);
     for _i in 0..count {
-        let start = *offset;
-        let value: T = match from.gread_with(offset, ctx) {
-            Ok(value) => value,
-            Err(error) => {
-                return Err(At {
-                    offset: start,
-                    error,
-                });
-            }
-        };
-        if values.push(value).is_err() {
-            *offset = start;
+        if let Err(error) = read_next(&mut values, from, offset, ctx) {
             return Err(At {
-                offset: start,
-                error: E::from(Error::NoMemory),
+                offset: *offset,
+                error,
             });
         }
     }
     Ok(values)
+}
+
+// Reads a value at the cursor, and appends it to `values`. On an error neither has changed.
+#[inline(always)]
+pub(crate) fn read_next<'a, Ctx: Copy, E: From<Error>, T: TryFromCtx<'a, Ctx, Error = E> + Drop>(
+    values: &mut Vec<T>,
+    from: &'a [u8],
+    offset: &mut usize,
+    ctx: Ctx,
+) -> Result<(), E>
+    ensures read { OnOk result ((value : T) × (values.new.items ≡ values.old.items ++ value ∷ [])
+        × ReadsBetween (T.reads ctx) from.now offset.old offset.new value) }
+    ensures refused { IfErr result (λ e. RefusesAt (T.refuses ctx) (PastEnd E.from_gives)
+        from.now offset.old e ⊎ E.from_gives NoMemory e) }
+    ensures same { OnErr result (values.new.items ≡ values.old.items) }
+    ensures stays { OnErr result (offset.new ≡ offset.old) }
+{
+    let start = *offset;
+    let value: T = from.gread_with(offset, ctx)?;
+    if values.push(value).is_err() {
+        *offset = start;
+        return Err(E::from(Error::NoMemory));
+    }
+    Ok(())
 }
 
 /// Reads values, one after another from the cursor `offset`, and advances it to the end of the
@@ -103,27 +116,7 @@ pub fn read_to_end<'a, Ctx: Copy, E: From<Error>, T: TryFromCtx<'a, Ctx, Error =
     let mut end = *offset;
     while end != from.len() {
         let start = end;
-        let value: T = match from.gread_with(&mut end, ctx) {
-            Ok(value) => value,
-            Err(error) => {
-                return Err(At {
-                    offset: start,
-                    error,
-                });
-            }
-        };
-        if end == start || end > from.len() {
-            let error = E::from(Error::BadInput {
-                size: end - start,
-                msg: "a value of no bytes, or past the end",
-            });
-            return Err(At {
-                offset: start,
-                error,
-            });
-        }
-        if values.push(value).is_err() {
-            let error = E::from(Error::NoMemory);
+        if let Err(error) = read_some(&mut values, from, &mut end, ctx) {
             return Err(At {
                 offset: start,
                 error,
@@ -132,6 +125,36 @@ pub fn read_to_end<'a, Ctx: Copy, E: From<Error>, T: TryFromCtx<'a, Ctx, Error =
     }
     *offset = end;
     Ok(values)
+}
+
+// Reads a value of at least one byte, within the source, at the cursor, and appends it to `values`.
+#[inline(always)]
+fn read_some<'a, Ctx: Copy, E: From<Error>, T: TryFromCtx<'a, Ctx, Error = E> + Drop>(
+    values: &mut Vec<T>,
+    from: &'a [u8],
+    offset: &mut usize,
+    ctx: Ctx,
+) -> Result<(), E>
+    ensures read { OnOk result ((value : T) × (values.new.items ≡ values.old.items ++ value ∷ [])
+        × ReadsBetween (T.reads ctx) from.now offset.old offset.new value) }
+    ensures forward { OnOk result (offset.old < offset.new) }
+    ensures inside { OnOk result (offset.new ≤ length from.now) }
+    ensures refused { IfErr result (λ e. RefusesAt (T.refuses ctx) (PastEnd E.from_gives)
+        from.now offset.old e ⊎ E.from_gives NoMemory e
+        ⊎ RefusesSize (T.reads ctx) E.from_gives from.now offset.old e) }
+{
+    let start = *offset;
+    let value: T = from.gread_with(offset, ctx)?;
+    if *offset == start || *offset > from.len() {
+        return Err(E::from(Error::BadInput {
+            size: *offset - start,
+            msg: "a value of no bytes, or past the end",
+        }));
+    }
+    if values.push(value).is_err() {
+        return Err(E::from(Error::NoMemory));
+    }
+    Ok(())
 }
 
 /// Writes values, one after another from the cursor `offset`, and advances it past the last one.
@@ -283,35 +306,43 @@ pub fn write_placed<
 {
     let mut entries = Vec::new(alloc);
     for k in 0..values.len() {
-        let start = *offset;
-        let value = values[k];
-        let entry = match P::entry_of(&value, start) {
-            Ok(entry) => entry,
-            Err(error) => {
-                return Err(At {
-                    offset: start,
-                    error,
-                });
-            }
-        };
-        if entries.push(entry).is_err() {
-            let error = E::from(Error::NoMemory);
+        if let Err(error) = write_entered(&mut entries, dst, values[k], offset, ctx) {
             return Err(At {
-                offset: start,
+                offset: *offset,
                 error,
             });
         }
-        match write_kept(dst, value, offset, ctx) {
-            Ok(_size) => (),
-            Err(error) => {
-                return Err(At {
-                    offset: start,
-                    error,
-                });
-            }
-        }
     }
     Ok(entries)
+}
+
+// Writes a value like `write_kept`, and appends an entry to `entries`, which says where it stands.
+#[inline(always)]
+fn write_entered<
+    Ctx: Copy,
+    E: From<Error>,
+    T: Kept<Ctx> + TryIntoCtx<Ctx, Error = E> + Drop,
+    P: EntryOf<T, Error = E> + Drop,
+>(entries: &mut Vec<P>, dst: &mut [u8], value: T, offset: &mut usize, ctx: Ctx) -> Result<(), E>
+    ensures entered { OnOk result ((entry : P)
+        × (entries.new.items ≡ entries.old.items ++ entry ∷ [])
+        × (P.place entry ≡ offset.old) × P.describes entry value) }
+    ensures wrote { OnOk result ((size : ℕ) × (offset.new ≡ offset.old + size)
+        × WritesAt (T.TryIntoCtx.writes ctx value) dst.old offset.old dst.new size) }
+    ensures kept { OnOk result
+        (KeepsOne (T.Kept.reads ctx) dst.new offset.old value offset.new) }
+    ensures others { OnOk result (ChangesBetween offset.old offset.new dst.old dst.new) }
+    ensures refused { IfErr result (λ e. RefusesWriteAt (T.TryIntoCtx.refuses ctx value)
+        (PastEnd E.from_gives) dst.old offset.old dst.new e
+        ⊎ ((dst.new ≡ dst.old) × (P.misplaced offset.old e ⊎ E.from_gives NoMemory e))) }
+    ensures stays { OnErr result (offset.new ≡ offset.old) }
+{
+    let entry = P::entry_of(&value, *offset)?;
+    if entries.push(entry).is_err() {
+        return Err(E::from(Error::NoMemory));
+    }
+    write_kept(dst, value, offset, ctx)?;
+    Ok(())
 }
 
 // Does nothing, and says that each of the values fits.

@@ -1,9 +1,9 @@
 //! Lists of commands over one buffer and one cursor.
 //!
 //! Their results and all that they leave are stated over the history of what was written.
-ghost use Rattle.std.specs.Prelude.{◌≡◌, ◌+◌, ◌≤◌, length, vec_len, vec_capacity, OnOk, OnErr, IfOk, IfErr, IsOk};
+ghost use Rattle.std.specs.Prelude.{◌≡◌, ℕ, ◌+◌, ◌≤◌, length, vec_len, vec_capacity, OnOk, OnErr, IfOk, IfErr, IsOk};
 ghost use Rattle.std.specs.List.{All};
-ghost use Rattle.scroll.specs.Runs.{IsStep, IsRun, IsPrefixRun, CopiesNothing};
+ghost use Rattle.scroll.specs.Runs.{IsStep, IsRun, IsPrefixRun, CopiesNothing, offset_of, moved};
 ghost use Rattle.scroll.specs.declared.error.Error.TheVariants.{NoMemory};
 
 use crate::cstr::CStr;
@@ -23,6 +23,29 @@ pub enum Place {
     At(usize),
     /// At the cursor. A command that succeeds advances it by its size.
     Cursor,
+}
+
+impl Place {
+    // Returns the offset at which a command acts.
+    fn offset(self, cursor: usize) -> usize
+        ensures { result ≡ offset_of self cursor }
+    {
+        match self {
+            Place::At(offset) => offset,
+            Place::Cursor => cursor,
+        }
+    }
+
+    // Returns the cursor after a command that succeeded and ended at the offset `end`.
+    fn cursor_after(self, cursor: usize, end: usize) -> usize
+        ensures { (size : ℕ) → end ≡ offset_of self cursor + size
+            → result ≡ moved self cursor size }
+    {
+        match self {
+            Place::At(_) => cursor,
+            Place::Cursor => end,
+        }
+    }
 }
 
 /// The type of a number.

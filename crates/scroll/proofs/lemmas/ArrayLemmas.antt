@@ -10,8 +10,6 @@ use Rattle.std.specs.Iterator.{Yields, CallableAtEachTurn}
 use Rattle.std.specs.Array.{index_steps, IsFromFnResultFrom, IsFromFnResult}
 use Rattle.scroll.specs.Arrays.{RefusesArray, OverwritesValue, OverwritesAll, WritesAll, WritesArray, FailsArray}
 use Rattle.scroll.specs.Reads.{ReadsAll, RefusesAt, ReadsBetween}
-use Rattle.scroll.specs.Runs.{offset_of, RefusesHere}
-use Rattle.scroll.specs.declared.runner.Place.{Place}
 use Rattle.std.proofs.Math.Nat.{mul-suc}
 use Rattle.scroll.proofs.lemmas.callers.Cursors.{ReadsAll-push}
 use Rattle.scroll.specs.Writes.{WritesAt, FailsAt}
@@ -99,18 +97,12 @@ RefusesAt-by : {E : Type 0} (refuses refuses' : List ℕ → E → Type 0) (past
 RefusesAt-by refuses refuses' past_end by buffer offset e (inl h) = inl h
 RefusesAt-by refuses refuses' past_end by buffer offset e (inr h) = inr (h.0, by (drop offset buffer) e h.1)
 
--- an array whose read fails where a command acts
-RefusesHere-map : {V W E : Type 0} (f : V → W) (reads : List ℕ → W → ℕ → Type 0) (refuses : List ℕ → E → Type 0) (past_end : ℕ → E → Type 0) (count : ℕ) (buffer : List ℕ) (cursor : ℕ) (at : Place) (e : E) (after : ℕ) → RefusesHere (RefusesArray (λ s v n. reads s (f v) n) refuses past_end count) past_end buffer cursor at e after → RefusesHere (RefusesArray reads refuses past_end count) past_end buffer cursor at e after
-RefusesHere-map f reads refuses past_end count buffer cursor at e after h = (
-  RefusesAt-by (RefusesArray (λ s v n. reads s (f v) n) refuses past_end count) (RefusesArray reads refuses past_end count) past_end
-      (RefusesArray-map f reads refuses past_end count) buffer (offset_of at cursor) e h.0,
-  h.1,
-)
-
--- the same for the error of a result
-pub err-map : {T V W E : Type 0} (f : V → W) (reads : List ℕ → W → ℕ → Type 0) (refuses : List ℕ → E → Type 0) (past_end : ℕ → E → Type 0) (count : ℕ) (buffer : List ℕ) (cursor : ℕ) (at : Place) (after : ℕ) (r : Result T E) → IfErr r (λ e. RefusesHere (RefusesArray (λ s v n. reads s (f v) n) refuses past_end count) past_end buffer cursor at e after) → IfErr r (λ e. RefusesHere (RefusesArray reads refuses past_end count) past_end buffer cursor at e after)
-err-map f reads refuses past_end count buffer cursor at after (Ok x) h = tt
-err-map f reads refuses past_end count buffer cursor at after (Err e) h = RefusesHere-map f reads refuses past_end count buffer cursor at e after h
+-- an array whose read fails at an offset, where its error is that of a result
+pub err-map : {T V W E : Type 0} (f : V → W) (reads : List ℕ → W → ℕ → Type 0) (refuses : List ℕ → E → Type 0) (past_end : ℕ → E → Type 0) (count : ℕ) (buffer : List ℕ) (offset : ℕ) (r : Result T E) → IfErr r (RefusesAt (RefusesArray (λ s v n. reads s (f v) n) refuses past_end count) past_end buffer offset) → IfErr r (RefusesAt (RefusesArray reads refuses past_end count) past_end buffer offset)
+err-map f reads refuses past_end count buffer offset (Ok x) h = tt
+err-map f reads refuses past_end count buffer offset (Err e) h =
+    RefusesAt-by (RefusesArray (λ s v n. reads s (f v) n) refuses past_end count) (RefusesArray reads refuses past_end count) past_end
+    (RefusesArray-map f reads refuses past_end count) buffer offset e h
 
 -- lists that agree from one index on agree from the next
 pub drop-next : {X : Type 0} (i : ℕ) (xs ys : List X) → drop i xs ≡ drop i ys → drop (i + 1) xs ≡ drop (i + 1) ys

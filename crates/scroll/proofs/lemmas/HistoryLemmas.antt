@@ -4,7 +4,7 @@ use Rattle.std.proofs.Common.{◌≡◌, ℕ, ◌<◌, ◌++◌, List, [], ◌�
 use Rattle.std.proofs.lemmas.Grind.{same_number_lists}
 use Rattle.std.proofs.lemmas.List.FromFn.{length-map-range_with_len, get_or-map-range_with_len}
 use Rattle.std.specs.Option.{option_or}
-use Rattle.scroll.specs.History.{Piece, byte_of, last_byte, seen, pieces, left_over, refusal}
+use Rattle.scroll.specs.History.{Piece, byte_of, last_byte, seen, pieces, left_over, refusal, AnswersLeaves}
 use Rattle.std.proofs.lemmas.Bool.{cases_lt}
 use Rattle.std.proofs.lemmas.List.{get_or-take, get_or-drop, get_or_append_left, get_or-append_right, take_more}
 use Rattle.std.proofs.lemmas.Option.{slice_get-get_or, slice_get_past, same_Some}
@@ -16,8 +16,9 @@ use Rattle.scroll.specs.declared.runner.Command.{Command}
 use Rattle.scroll.specs.declared.runner.Command.TheVariants.{Read}
 use Rattle.scroll.specs.declared.runner.Kind.{Kind}
 use Rattle.scroll.specs.declared.runner.Place.{Place}
+use Rattle.std.proofs.lemmas.List.Sums.{sum_by-cons}
 use Rattle.std.proofs.lemmas.List.Elements.{All-nil, All-cons}
-use Rattle.std.specs.List.{All}
+use Rattle.std.specs.List.{All, sum_by}
 use Rattle.scroll.specs.Laws.{RefusesPlainly}
 use Rattle.scroll.specs.Arrays.{RefusesArray}
 use Rattle.scroll.specs.Bytes.{RefusesShort}
@@ -134,6 +135,21 @@ refusal-inside n o ls h = grind arith
 
 pub refusal-past : (n o : ℕ) (ls : List (List ℕ)) → n < o → refusal n o ls ≡ Some (BadOffset o)
 refusal-past n o ls h = grind arith
+
+-- a write of leaves that succeeds ends within the buffer
+left_over-end : (n o : ℕ) (ls : List (List ℕ)) → o ≤ n → left_over n o ls ≡ None → o + sum_by length ls ≤ n
+left_over-end n o [] h e = omega (arith, h)
+left_over-end n o (l ∷ ls) h e = elim (cases_lt n (o + length l)) [
+  | inl k ↦ let wrong = sym (left_over-misfit n o l ls k) ∙ e in absurd (cc wrong)
+  | inr k ↦ let rest = left_over-end n (o + length l) ls k (sym (left_over-fits n o l ls k) ∙ e) in
+      omega (arith, rest, sum_by-cons length l ls)
+]
+
+pub leaves-end : (n o : ℕ) (ls : List (List ℕ)) (size : ℕ) → AnswersLeaves n o ls (Ok size) → o + size ≤ n
+leaves-end n o ls size h = elim (cases_lt n o) [
+  | inl k ↦ let wrong = sym (refusal-past n o ls k) ∙ h.0 in absurd (cc wrong)
+  | inr k ↦ let end = left_over-end n o ls k (sym (refusal-inside n o ls k) ∙ h.0) in omega (arith, end, h.1)
+]
 
 pub pieces-past : (n o : ℕ) (ls : List (List ℕ)) → n < o → pieces n o ls ≡ []
 pieces-past n o [] h = refl

@@ -1,11 +1,11 @@
 // The reads of a run.
-ghost use Rattle.std.specs.Prelude.{◌≡◌, ◌≢◌, ℕ, ℤ, [], ◌∷◌, IfOk, IfErr, IsOk, OnErr};
+ghost use Rattle.std.specs.Prelude.{◌≡◌, ℕ, ℤ, [], ◌∷◌, IfOk, IfErr, IsOk, OnErr};
 ghost use Rattle.std.specs.String.{string_bytes};
-ghost use Rattle.scroll.specs.Runs.{Copies, ReadsKind, RefusesKind, ReadsHere, RefusesHere, ReadStep, UnlessNoMemory, ReadsWide, is_signed, bytes_in};
+ghost use Rattle.scroll.specs.Runs.{Copies, ReadsKind, FailsKind, ReadStep, ReadsWide, is_signed, bytes_in};
 ghost use Rattle.scroll.specs.Arrays.{ReadsArray, RefusesArray};
 ghost use Rattle.scroll.specs.Bytes.{ReadsFixed, RefusesShort};
-ghost use Rattle.scroll.specs.CStrings.{RefusesCString};
-ghost use Rattle.scroll.specs.Errors.{IsBadOffset, PastEnd};
+ghost use Rattle.scroll.specs.Errors.{IsBadOffset};
+ghost use Rattle.scroll.specs.Reads.{ReadsBetween, RefusesAt};
 ghost use Rattle.scroll.specs.Texts.{ReadsText, RefusesText};
 ghost use Rattle.scroll.specs.declared.error.Error.TheVariants.{NoMemory};
 ghost use Rattle.scroll.specs.declared.runner.Kind.TheVariants as kind;
@@ -17,9 +17,7 @@ use crate::ctx::{Plain, StrCtx};
 use crate::endian::Endian;
 use crate::error::{Error, Result};
 use crate::pread::Pread;
-use crate::source::ReadFrom;
 use std::alloc::Global;
-use std::result;
 
 // Runs a read. A read at the cursor advances it by the size of the value, once the answer has been
 // made.
@@ -36,10 +34,10 @@ pub(crate) fn read(
     ensures succeeds { ¬ (Copies kind) → IsOk result }
     ensures stays { OnErr result (cursor.new ≡ cursor.old) }
 {
-    let mut after = *cursor;
-    match read_value(alloc, buffer, &mut after, place, kind) {
+    let mut end = place.offset(*cursor);
+    match read_value(alloc, buffer, &mut end, kind) {
         Ok(value) => {
-            *cursor = after;
+            *cursor = place.cursor_after(*cursor, end);
             Ok(Answer::Read(value))
         }
         Err(Error::NoMemory) => Err(Error::NoMemory),
@@ -47,180 +45,136 @@ pub(crate) fn read(
     }
 }
 
-// Reads a value of a kind, and copies what would borrow the buffer. Returns `NoMemory` on an
-// allocation failure, and only then.
-fn read_value(
-    alloc: Global,
-    buffer: &[u8],
-    cursor: &mut usize,
-    place: Place,
-    kind: Kind,
-) -> Result<Value>
-    ensures read { IfOk result (λ x.
-        ReadsHere (ReadsKind kind) buffer.now cursor.old place x cursor.new) }
-    ensures refused { IfErr result (UnlessNoMemory (λ e.
-        RefusesHere (RefusesKind kind) IsBadOffset buffer.now cursor.old place e cursor.new)) }
-    ensures copies { IfErr result (λ e. ¬ (Copies kind) → e ≢ NoMemory) }
+// Reads a value of a kind at `offset`, and advances that past it. Copies what would borrow the
+// buffer. Returns `NoMemory` on an allocation failure, and only then.
+fn read_value(alloc: Global, buffer: &[u8], offset: &mut usize, kind: Kind) -> Result<Value>
+    ensures read { IfOk result
+        (ReadsBetween (ReadsKind kind) buffer.now offset.old offset.new) }
+    ensures refused { IfErr result (FailsKind kind buffer.now offset.old) }
 {
     match kind {
-        Kind::Number(width, order) => read_number(buffer, cursor, place, width, order),
-        Kind::Text(ctx) => read_text(alloc, buffer, cursor, place, ctx),
-        Kind::Bytes(len) => read_bytes(alloc, buffer, cursor, place, len),
-        Kind::CStr => read_c_str(alloc, buffer, cursor, place),
-        Kind::CString => read_c_string(alloc, buffer, cursor, place),
-        Kind::Uleb => read_at(buffer, cursor, place, ()).map(Value::Uleb),
-        Kind::Sleb => read_at(buffer, cursor, place, ()).map(Value::Sleb),
+        Kind::Number(width, order) => read_number(buffer, offset, width, order),
+        Kind::Text(ctx) => read_text(alloc, buffer, offset, ctx),
+        Kind::Bytes(len) => read_bytes(alloc, buffer, offset, len),
+        Kind::CStr => read_c_str(alloc, buffer, offset),
+        Kind::CString => read_c_string(alloc, buffer, offset),
+        Kind::Uleb => buffer.gread_with(offset, ()).map(Value::Uleb),
+        Kind::Sleb => buffer.gread_with(offset, ()).map(Value::Sleb),
         Kind::U8x0(order) => {
-            let _none: [u8; 0] = read_at(buffer, cursor, place, order)?;
+            let _none: [u8; 0] = buffer.gread_with(offset, order)?;
             Ok(Value::U8x0)
         }
-        Kind::U16x3(order) => read_at(buffer, cursor, place, order).map(Value::U16x3),
-        Kind::Textx2(ctx) => read_texts(alloc, buffer, cursor, place, ctx),
+        Kind::U16x3(order) => buffer.gread_with(offset, order).map(Value::U16x3),
+        Kind::Textx2(ctx) => read_texts(alloc, buffer, offset, ctx),
     }
 }
 
-fn read_text(
-    alloc: Global,
-    buffer: &[u8],
-    cursor: &mut usize,
-    place: Place,
-    ctx: StrCtx,
-) -> Result<Value>
-    ensures read { IfOk result (λ x.
-        ReadsHere (ReadsKind (kind.Text ctx)) buffer.now cursor.old place x cursor.new) }
-    ensures refused { IfErr result (UnlessNoMemory (λ e.
-        RefusesHere (RefusesText ctx) IsBadOffset buffer.now cursor.old place e cursor.new)) }
+fn read_text(alloc: Global, buffer: &[u8], offset: &mut usize, ctx: StrCtx) -> Result<Value>
+    ensures read { IfOk result
+        (ReadsBetween (ReadsKind (kind.Text ctx)) buffer.now offset.old offset.new) }
+    ensures refused { IfErr result (FailsKind (kind.Text ctx) buffer.now offset.old) }
 {
-    let text: &str = read_at(buffer, cursor, place, ctx)?;
+    let text: &str = buffer.gread_with(offset, ctx)?;
     copy_text(alloc, text).map(Value::Text)
 }
 
-fn read_bytes(
-    alloc: Global,
-    buffer: &[u8],
-    cursor: &mut usize,
-    place: Place,
-    len: usize,
-) -> Result<Value>
-    ensures read { IfOk result (λ x.
-        ReadsHere (ReadsKind (kind.Bytes len)) buffer.now cursor.old place x cursor.new) }
-    ensures refused { IfErr result (UnlessNoMemory (λ e.
-        RefusesHere (RefusesShort len) IsBadOffset buffer.now cursor.old place e cursor.new)) }
+fn read_bytes(alloc: Global, buffer: &[u8], offset: &mut usize, len: usize) -> Result<Value>
+    ensures read { IfOk result
+        (ReadsBetween (ReadsKind (kind.Bytes len)) buffer.now offset.old offset.new) }
+    ensures refused { IfErr result (FailsKind (kind.Bytes len) buffer.now offset.old) }
 {
-    let bytes: &[u8] = read_at(buffer, cursor, place, len)?;
+    let bytes: &[u8] = buffer.gread_with(offset, len)?;
     copy_bytes(alloc, bytes).map(Value::Bytes)
 }
 
-fn read_c_str(alloc: Global, buffer: &[u8], cursor: &mut usize, place: Place) -> Result<Value>
-    ensures read { IfOk result (λ x.
-        ReadsHere (ReadsKind kind.CStr) buffer.now cursor.old place x cursor.new) }
-    ensures refused { IfErr result (UnlessNoMemory (λ e.
-        RefusesHere RefusesCString IsBadOffset buffer.now cursor.old place e cursor.new)) }
+fn read_c_str(alloc: Global, buffer: &[u8], offset: &mut usize) -> Result<Value>
+    ensures read { IfOk result
+        (ReadsBetween (ReadsKind kind.CStr) buffer.now offset.old offset.new) }
+    ensures refused { IfErr result (FailsKind kind.CStr buffer.now offset.old) }
 {
-    let text: CStr = read_at(buffer, cursor, place, ())?;
+    let text: CStr = buffer.gread_with(offset, ())?;
     copy_bytes(alloc, text.to_bytes()).map(Value::CStr)
 }
 
-fn read_c_string(alloc: Global, buffer: &[u8], cursor: &mut usize, place: Place) -> Result<Value>
-    ensures read { IfOk result (λ x.
-        ReadsHere (ReadsKind kind.CString) buffer.now cursor.old place x cursor.new) }
-    ensures refused { IfErr result (UnlessNoMemory (λ e.
-        RefusesHere RefusesCString IsBadOffset buffer.now cursor.old place e cursor.new)) }
+fn read_c_string(alloc: Global, buffer: &[u8], offset: &mut usize) -> Result<Value>
+    ensures read { IfOk result
+        (ReadsBetween (ReadsKind kind.CString) buffer.now offset.old offset.new) }
+    ensures refused { IfErr result (FailsKind kind.CString buffer.now offset.old) }
 {
-    let text: CString = read_at(buffer, cursor, place, &alloc)?;
+    let text: CString = buffer.gread_with(offset, &alloc)?;
     copy_bytes(alloc, text.as_bytes()).map(Value::CStr)
 }
 
-fn read_texts(
-    alloc: Global,
-    buffer: &[u8],
-    cursor: &mut usize,
-    place: Place,
-    ctx: StrCtx,
-) -> Result<Value>
-    ensures read { IfOk result (λ x.
-        ReadsHere (ReadsKind (kind.Textx2 ctx)) buffer.now cursor.old place x cursor.new) }
-    ensures refused { IfErr result (UnlessNoMemory (λ e. RefusesHere
-        (RefusesKind (kind.Textx2 ctx)) IsBadOffset buffer.now cursor.old place e cursor.new)) }
+fn read_texts(alloc: Global, buffer: &[u8], offset: &mut usize, ctx: StrCtx) -> Result<Value>
+    ensures read { IfOk result
+        (ReadsBetween (ReadsKind (kind.Textx2 ctx)) buffer.now offset.old offset.new) }
+    ensures refused { IfErr result (FailsKind (kind.Textx2 ctx) buffer.now offset.old) }
 {
-    let (first, second) = borrow_texts(buffer, cursor, place, ctx)?;
+    let (first, second) = borrow_texts(buffer, offset, ctx)?;
     Ok(Value::Textx2(copy_text(alloc, first)?, copy_text(alloc, second)?))
 }
 
-fn read_number(
-    buffer: &[u8],
-    cursor: &mut usize,
-    place: Place,
-    width: Width,
-    order: Endian,
-) -> Result<Value>
-    ensures read { IfOk result (λ x. ReadsHere (ReadsWide (is_signed width)
-        (bytes_in width) order) buffer.now cursor.old place x cursor.new) }
-    ensures refused { IfErr result (λ e. RefusesHere
-        (RefusesShort (bytes_in width)) IsBadOffset buffer.now cursor.old place e cursor.new) }
+fn read_number(buffer: &[u8], offset: &mut usize, width: Width, order: Endian) -> Result<Value>
+    ensures read { IfOk result (ReadsBetween
+        (ReadsWide (is_signed width) (bytes_in width) order) buffer.now offset.old offset.new) }
+    ensures refused { IfErr result
+        (RefusesAt (RefusesShort (bytes_in width)) IsBadOffset buffer.now offset.old) }
 {
     match width {
-        Width::U8 => read_unsigned::<u8>(buffer, cursor, place, order),
-        Width::I8 => read_signed::<i8>(buffer, cursor, place, order),
-        Width::U16 => read_unsigned::<u16>(buffer, cursor, place, order),
-        Width::I16 => read_signed::<i16>(buffer, cursor, place, order),
-        Width::U32 => read_unsigned::<u32>(buffer, cursor, place, order),
-        Width::I32 => read_signed::<i32>(buffer, cursor, place, order),
-        Width::U64 => read_unsigned::<u64>(buffer, cursor, place, order),
-        Width::I64 => read_signed::<i64>(buffer, cursor, place, order),
-        Width::U128 => read_unsigned::<u128>(buffer, cursor, place, order),
-        Width::I128 => read_signed::<i128>(buffer, cursor, place, order),
+        Width::U8 => read_unsigned::<u8>(buffer, offset, order),
+        Width::I8 => read_signed::<i8>(buffer, offset, order),
+        Width::U16 => read_unsigned::<u16>(buffer, offset, order),
+        Width::I16 => read_signed::<i16>(buffer, offset, order),
+        Width::U32 => read_unsigned::<u32>(buffer, offset, order),
+        Width::I32 => read_signed::<i32>(buffer, offset, order),
+        Width::U64 => read_unsigned::<u64>(buffer, offset, order),
+        Width::I64 => read_signed::<i64>(buffer, offset, order),
+        Width::U128 => read_unsigned::<u128>(buffer, offset, order),
+        Width::I128 => read_signed::<i128>(buffer, offset, order),
     }
 }
 
 fn read_unsigned<N: Plain + Into<u128>>(
     buffer: &[u8],
-    cursor: &mut usize,
-    place: Place,
+    offset: &mut usize,
     order: Endian,
 ) -> Result<Value>
     ensures read { IfOk result (λ x. (n : N) × (wide : ℕ) × N.converts n wide
         × (x ≡ value.Unsigned wide)
-        × ReadsHere (ReadsFixed N.width (λ source. N.makes order source 0))
-        buffer.now cursor.old place n cursor.new) }
-    ensures refused { IfErr result (λ e. RefusesHere
-        (RefusesShort N.width) IsBadOffset buffer.now cursor.old place e cursor.new) }
+        × ReadsBetween (ReadsFixed N.width (λ source. N.makes order source 0))
+        buffer.now offset.old offset.new n) }
+    ensures refused { IfErr result
+        (RefusesAt (RefusesShort N.width) IsBadOffset buffer.now offset.old) }
 {
-    let n: N = read_at(buffer, cursor, place, order)?;
+    let n: N = buffer.gread_with(offset, order)?;
     Ok(Value::Unsigned(n.into()))
 }
 
 fn read_signed<N: Plain + Into<i128>>(
     buffer: &[u8],
-    cursor: &mut usize,
-    place: Place,
+    offset: &mut usize,
     order: Endian,
 ) -> Result<Value>
     ensures read { IfOk result (λ x. (n : N) × (wide : ℤ) × N.converts n wide
         × (x ≡ value.Signed wide)
-        × ReadsHere (ReadsFixed N.width (λ source. N.makes order source 0))
-        buffer.now cursor.old place n cursor.new) }
-    ensures refused { IfErr result (λ e. RefusesHere
-        (RefusesShort N.width) IsBadOffset buffer.now cursor.old place e cursor.new) }
+        × ReadsBetween (ReadsFixed N.width (λ source. N.makes order source 0))
+        buffer.now offset.old offset.new n) }
+    ensures refused { IfErr result
+        (RefusesAt (RefusesShort N.width) IsBadOffset buffer.now offset.old) }
 {
-    let n: N = read_at(buffer, cursor, place, order)?;
+    let n: N = buffer.gread_with(offset, order)?;
     Ok(Value::Signed(n.into()))
 }
 
 // Reads an array of two strings, and takes it apart, since a `match` can't bind an array of
 // references.
-fn borrow_texts<'b>(
-    buffer: &'b [u8],
-    cursor: &mut usize,
-    place: Place,
-    ctx: StrCtx,
-) -> Result<(&'b str, &'b str)>
-    ensures read { IfOk result (λ x. ReadsHere (λ source x n. ReadsArray (ReadsText ctx) 2 source
-        (x.0.now ∷ x.1.now ∷ []) n) buffer.now cursor.old place x cursor.new) }
-    ensures refused { IfErr result (λ e. RefusesHere (RefusesArray (ReadsText ctx)
-        (RefusesText ctx) IsBadOffset 2) IsBadOffset buffer.now cursor.old place e cursor.new) }
+fn borrow_texts<'b>(buffer: &'b [u8], offset: &mut usize, ctx: StrCtx) -> Result<(&'b str, &'b str)>
+    ensures read { IfOk result (ReadsBetween (λ source x n. ReadsArray (ReadsText ctx) 2 source
+        (x.0.now ∷ x.1.now ∷ []) n) buffer.now offset.old offset.new) }
+    ensures refused { IfErr result (RefusesAt (RefusesArray (ReadsText ctx)
+        (RefusesText ctx) IsBadOffset 2) IsBadOffset buffer.now offset.old) }
 {
-    read_at(buffer, cursor, place, ctx).map(both)
+    buffer.gread_with(offset, ctx).map(both)
 }
 
 // Returns the two strings of an array.
@@ -247,23 +201,5 @@ fn copy_bytes(alloc: Global, bytes: &[u8]) -> Result<Vec<u8>>
     match Vec::from_slice(alloc, bytes) {
         Ok(copy) => Ok(copy),
         Err(_) => Err(Error::NoMemory),
-    }
-}
-
-// Reads a value of any type at the offset or the cursor of a command.
-fn read_at<'b, Ctx: Copy, E: From<Error>, N: ReadFrom<&'b [u8], Ctx, Error = E>>(
-    buffer: &'b [u8],
-    cursor: &mut usize,
-    place: Place,
-    ctx: Ctx,
-) -> result::Result<N, E>
-    ensures read { IfOk result (λ x.
-        ReadsHere (N.reads ctx) buffer.now cursor.old place x cursor.new) }
-    ensures refused { IfErr result (λ e. RefusesHere (N.refuses ctx)
-        (PastEnd E.from_gives) buffer.now cursor.old place e cursor.new) }
-{
-    match place {
-        Place::At(offset) => buffer.pread_with(offset, ctx),
-        Place::Cursor => buffer.gread_with(cursor, ctx),
     }
 }

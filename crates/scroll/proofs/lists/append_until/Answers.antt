@@ -1,6 +1,5 @@
 -- One more value was read and appended.
-use Rattle.std.proofs.Common.{◌≡◌, ◌++◌, ◌∷◌, [], ◌-◌, refl, arith, append_assoc, length-drop}
-use Rattle.std.proofs.lemmas.Grind.{common_steps}
+use Rattle.std.proofs.Common.{◌++◌, ◌∷◌, [], ◌-◌, refl, arith, append_assoc, length-drop}
 use Rattle.scroll.proofs.lemmas.callers.Cursors.{listed-next}
 use Rattle.scroll.proofs.lemmas.callers.SpanLemmas.{prefix-stands}
 use Rattle.scroll.proofs.lists.append_until.Goals as goal
@@ -8,15 +7,23 @@ use Rattle.scroll.proofs.lists.append_until.Goals as goal
 pub loop-end-preserved : goal.loop-end-preserved
 loop-end-preserved g c =
     let h = c.loop-end.invariant.0 in
-    let v = c.in-Ok.value in
-    let pushed : c.push.new.self.items ≡ c.loop-end.values.items ++ v ∷ [] = grind (arith, common_steps) in (
+    let next = c.in_default-read_next.ensures.read in (
       record {
-        values = h.values ++ v ∷ [];
-        each = listed-next _ _ h.values h.each c.in-Ok.ensures.read c.in_default.ensures.none;
-        appended = rw (pushed, h.appended) (append_assoc c.args.values.now.items h.values (v ∷ []));
+        values = h.values ++ next.0 ∷ [];
+        each = listed-next _ _ h.values h.each next.2 c.in_default.ensures.none;
+        appended = rw (next.1, h.appended) (append_assoc c.args.values.now.items h.values (next.0 ∷ []));
       },
-      omega (arith, c.loop-end.invariant.1, c.in-Ok.ensures.read.1),
+      omega (arith, c.loop-end.invariant.1, next.2.1),
     )
+
+pub returns-in-Err-clause-refused : goal.returns-in-Err-clause-refused
+returns-in-Err-clause-refused g c =
+    let failed = c.in-Err.ensures in
+    rw (failed.same, failed.stays) record {
+      values = c.loop-end.invariant.0;
+      more = c.in_default.ensures.none;
+      error = failed.refused;
+    }
 
 pub returns-in-Some-clause-read : goal.returns-in-Some-clause-read
 returns-in-Some-clause-read g c =

@@ -1,9 +1,16 @@
 -- One more value was read.
-use Rattle.std.proofs.Common.{arith}
-use Rattle.std.proofs.lemmas.Grind.{common_steps}
 use Rattle.scroll.proofs.lemmas.callers.Cursors.{ReadsAll-pushed}
 use Rattle.scroll.proofs.many.read_to_end.Goals as goal
 
+pub returns-in-Err-clause-refused : goal.returns-in-Err-clause-refused
+returns-in-Err-clause-refused g c = record {
+  values = c.loop-end.values.items;
+  each = c.loop-end.invariant;
+  more = c.loop-end-test.true;
+  error = c.in-Err.ensures.refused;
+}
+
 pub loop-end-preserved : goal.loop-end-preserved
 loop-end-preserved g c =
-    ReadsAll-pushed _ _ c.loop-end.invariant c.in-Ok.ensures.read (grind (arith, common_steps))
+    let next = c.in_default.ensures.read in
+    ReadsAll-pushed _ _ c.loop-end.invariant next.2 next.1

@@ -1,24 +1,22 @@
 -- One more value is written, where its entry says.
-use Rattle.std.proofs.Common.{◌≡◌, ◌++◌, ◌∷◌, [], inl, inr, arith, subst}
+use Rattle.std.proofs.Common.{length, inl, inr, ap, arith, subst}
 use Rattle.std.specs.List.{AllZip}
-use Rattle.std.proofs.lemmas.List.{take_all}
+use Rattle.std.proofs.lemmas.List.{length_push, take_all}
 use Rattle.scroll.specs.Arrays.{WritesAll}
 use Rattle.scroll.specs.Many.{StandsAs}
-use Rattle.std.proofs.lemmas.Grind.{common_steps}
 use Rattle.scroll.proofs.lemmas.callers.ManyLemmas.{WritesAll-item, FailsMany-item, StopsBefore-item, AllZip-item, changes-next, changes-before}
 use Rattle.scroll.proofs.many.write_placed.Goals as goal
 
 pub returns-in-Err-clause-refused : goal.returns-in-Err-clause-refused
 returns-in-Err-clause-refused g c =
-    inr (StopsBefore-item _ _ c.args.values.now c.loop-k.k c.loop-k-test.true c.loop-k.invariant.wrote (inl c.in-Err.ensures.misplaced))
-
-pub returns-then-is_err-clause-refused : goal.returns-then-is_err-clause-refused
-returns-then-is_err-clause-refused g c =
-    inr (StopsBefore-item _ _ c.args.values.now c.loop-k.k c.loop-k-test.true c.loop-k.invariant.wrote (inr c.from-error.ensures))
-
-pub returns-in-Err-write_kept-clause-refused : goal.returns-in-Err-write_kept-clause-refused
-returns-in-Err-write_kept-clause-refused g c =
-    inl (FailsMany-item _ _ _ c.args.values.now c.loop-k.k c.index-values-k.result c.loop-k-test.true c.index-values-k.is c.loop-k.invariant.wrote c.in-Err-write_kept.ensures.refused)
+    let l = c.loop-k in
+    let vs = c.args.values.now in
+    let inside = c.loop-k-test.true in
+    let failed = c.in-Err.ensures in
+    rw failed.stays (elim failed.refused [
+      | inl r ↦ inl (FailsMany-item _ _ _ vs l.k c.index-values-k.result inside c.index-values-k.is l.invariant.wrote r)
+      | inr r ↦ inr (rw r.0 (StopsBefore-item _ _ vs l.k inside l.invariant.wrote r.1))
+    ])
 
 pub loop-k-preserved : goal.loop-k-preserved
 loop-k-preserved g c =
@@ -27,17 +25,16 @@ loop-k-preserved g c =
     let v = c.index-values-k.result in
     let inside = c.loop-k-test.true in
     let is = c.index-values-k.is in
-    let w = c.in-Ok-write_kept.ensures in
-    let entry = c.in-Ok.ensures in
-    let pushed : c.push.new.self.items ≡ l.entries.items ++ c.in-Ok.entry ∷ [] = grind (arith, common_steps) in
+    let next = c.in_default.ensures in
+    let entry = next.entered in
     record {
-      wrote = WritesAll-item _ _ _ vs l.k v _ _ _ inside is l.invariant.wrote w.wrote w.moves;
-      others = changes-next l.invariant.others w.others;
+      wrote = WritesAll-item _ _ _ vs l.k v _ _ _ inside is l.invariant.wrote next.wrote.2 next.wrote.1;
+      others = changes-next l.invariant.others next.others;
       kept = λ later same.
-          let read = w.kept later same in
-          rw pushed
-          (AllZip-item _ l.entries.items c.in-Ok.entry vs l.k v inside is (l.invariant.kept later (changes-before later w.others same)) (record { there = (read.0, rw entry.place read.2); is = entry.describes }));
-      count = grind (arith, common_steps, l.invariant.count);
+          let read = next.kept later same in
+          rw entry.1
+          (AllZip-item _ l.entries.items entry.0 vs l.k v inside is (l.invariant.kept later (changes-before later next.others same)) (record { there = (read.0, rw entry.2 read.2); is = entry.3 }));
+      count = omega (arith, ap length entry.1, length_push l.entries.items entry.0, l.invariant.count);
     }
 
 pub returns-clause-wrote : goal.returns-clause-wrote
