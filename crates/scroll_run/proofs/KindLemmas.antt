@@ -1,5 +1,7 @@
 -- Lemmas on the words of what is read, by the first of them.
-use Rattle.std.proofs.Common.{◌≡◌, ◌≢◌, ◌≤◌, ◌<◌, ◌^◌, Bor, ℕ, List, [], ◌∷◌, codes, get_or, length, arith, ap, subst}
+use Rattle.std.proofs.Common.{◌≡◌, ◌≢◌, ◌≤◌, ◌<◌, ◌^◌, Bor, ℕ, false, refl, List, [], ◌∷◌, codes, get_or, length, arith, ap, subst}
+use Rattle.std.proofs.lemmas.Bool.Decides.{nat_tests}
+use Rattle.std.specs.Prelude.{nat_eq}
 use Rattle.scroll.specs.declared.ctx.str_ctx.StrCtx.{StrCtx}
 use Rattle.scroll.specs.declared.ctx.str_ctx.StrCtx.TheVariants as context
 use Rattle.scroll.specs.declared.runner.Kind.{Kind}
@@ -9,6 +11,12 @@ use Rattle.scroll.specs.declared.runner.Width.TheVariants as width
 use Rattle.scroll_run.specs.Kinds.{SpellsEnd, SpellsKind}
 use Rattle.scroll_run.specs.Words.{SpellsByte, SpellsNumber, texts_of, width_word}
 use Rattle.scroll_run.proofs.CommandLemmas.{counted, first_letter, no_word}
+
+-- words that differ at an index
+pub differ : {C : Type 0} (a b : List ℕ) (i : ℕ) → nat_eq (get_or a i 0) (get_or b i 0) ≡ false → a ≡ b → C
+differ a b i unlike e =
+    let same : get_or a i 0 ≡ get_or b i 0 = ap (λ w. get_or w i 0) e in
+    absurd (grind (arith, nat_tests, same, unlike))
 
 -- lists with the same words
 same_second : (a b c : List ℕ) → a ∷ b ∷ [] ≡ a ∷ c ∷ [] → c ≡ b
@@ -61,6 +69,34 @@ short_width width.U64 a e = let n = ap length e in omega (arith, n)
 short_width width.I64 a e = let n = ap length e in omega (arith, n)
 short_width width.U128 a e = let n = ap length e in omega (arith, n)
 short_width width.I128 a e = let n = ap length e in omega (arith, n)
+
+-- `str` is the word of no number type
+no_width : {C : Type 0} (w : Width) → codes "str" ≡ width_word w → C
+no_width width.U8 e = differ _ _ 0 refl e
+no_width width.I8 e = differ _ _ 0 refl e
+no_width width.U16 e = differ _ _ 0 refl e
+no_width width.I16 e = differ _ _ 0 refl e
+no_width width.U32 e = differ _ _ 0 refl e
+no_width width.I32 e = differ _ _ 0 refl e
+no_width width.U64 e = differ _ _ 0 refl e
+no_width width.I64 e = differ _ _ 0 refl e
+no_width width.U128 e = differ _ _ 0 refl e
+no_width width.I128 e = differ _ _ 0 refl e
+
+pub by_str : (end : List (List ℕ)) (what : Kind) → SpellsKind (codes "str" ∷ end) what → (ctx : StrCtx) × SpellsEnd end ctx
+by_str end (kind.Number w order) s = no_width w cc
+by_str end (kind.Text ctx) s =
+    let e = s.1 in
+    let same : s.0 ≡ end = cc in
+    (ctx, subst (λ ws. SpellsEnd ws ctx) same s.2)
+by_str end (kind.Bytes len) s = let e = s.1 in absurd cc
+by_str end kind.CStr s = let e = s in absurd cc
+by_str end kind.CString s = let e = s in absurd cc
+by_str end kind.Uleb s = let e = s in absurd cc
+by_str end kind.Sleb s = let e = s in absurd cc
+by_str end (kind.U8x0 order) s = let e = s in absurd cc
+by_str end (kind.U16x3 order) s = let e = s in absurd cc
+by_str end (kind.Textx2 ctx) s = let e = s.1 in absurd cc
 
 pub by_strx2 : (end : List (List ℕ)) (what : Kind) → SpellsKind (codes "strx2" ∷ end) what → (ctx : StrCtx) × SpellsEnd end ctx
 by_strx2 end (kind.Number w order) s =

@@ -1,8 +1,6 @@
 -- Lemmas on the words of what is written, by the first of them.
-use Rattle.std.proofs.Common.{◌≡◌, ◌≢◌, ◌^◌, Bor, ℕ, ℤ, false, refl, List, [], ◌∷◌, codes, length, get_or, arith, ap, subst}
-use Rattle.std.proofs.lemmas.Bool.Decides.{nat_tests}
+use Rattle.std.proofs.Common.{◌≡◌, ◌≢◌, ◌^◌, Bor, ℕ, ℤ, refl, List, [], ◌∷◌, codes, length, get_or, arith, ap, subst}
 use Rattle.std.specs.List.{AllZip}
-use Rattle.std.specs.Prelude.{nat_eq}
 use Rattle.scroll.specs.CStringTexts.{c_str_text}
 use Rattle.scroll.specs.Leb128.{Counted}
 use Rattle.scroll.specs.declared.endian.Endian.{Endian}
@@ -12,13 +10,7 @@ use Rattle.scroll.specs.declared.runner.Put.TheVariants as put
 use Rattle.scroll_run.specs.Puts.{SpellsCString, SpellsPut, SpellsSleb, SpellsText, SpellsUleb}
 use Rattle.scroll_run.specs.Words.{SpellsBytes, SpellsNumber, order_word, texts_of, width_word}
 use Rattle.scroll_run.proofs.CommandLemmas.{counted}
-use Rattle.scroll_run.proofs.KindLemmas.{short_width}
-
--- words that differ at an index
-differ : {C : Type 0} (a b : List ℕ) (i : ℕ) → nat_eq (get_or a i 0) (get_or b i 0) ≡ false → a ≡ b → C
-differ a b i unlike e =
-    let same : get_or a i 0 ≡ get_or b i 0 = ap (λ w. get_or w i 0) e in
-    absurd (grind (arith, nat_tests, same, unlike))
+use Rattle.scroll_run.proofs.KindLemmas.{differ, short_width}
 
 same_words : (a b c d : List ℕ) → a ∷ b ∷ [] ≡ c ∷ d ∷ [] → (a ≡ c) × (d ≡ b)
 same_words a b c d e = (cc, cc)

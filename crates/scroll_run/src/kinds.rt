@@ -14,8 +14,8 @@ pub fn parse_kind(words: &[&[u8]]) -> Option<Kind>
     match words {
         [name] => parse_kind_of_one(name),
         [name, word] => parse_kind_of_two(name, word),
-        [name, end @ ..] if is(name, b"str") => Some(Kind::Text(parse_end(end)?)),
-        [name, end @ ..] if is(name, b"strx2") => Some(Kind::Textx2(parse_end(end)?)),
+        [name, end @ ..] if is(name, "str") => parse_end(end).map(Kind::Text),
+        [name, end @ ..] if is(name, "strx2") => parse_end(end).map(Kind::Textx2),
         _ => None,
     }
 }
@@ -23,13 +23,13 @@ pub fn parse_kind(words: &[&[u8]]) -> Option<Kind>
 fn parse_kind_of_one(name: &[u8]) -> Option<Kind>
     ensures { Parses (SpellsKind (name.now ∷ [])) result }
 {
-    if is(name, b"cstr") {
+    if is(name, "cstr") {
         Some(Kind::CStr)
-    } else if is(name, b"cstring") {
+    } else if is(name, "cstring") {
         Some(Kind::CString)
-    } else if is(name, b"uleb") {
+    } else if is(name, "uleb") {
         Some(Kind::Uleb)
-    } else if is(name, b"sleb") {
+    } else if is(name, "sleb") {
         Some(Kind::Sleb)
     } else {
         None
@@ -42,11 +42,11 @@ fn parse_kind_of_two(name: &[u8], word: &[u8]) -> Option<Kind>
     if let Some(width) = parse_width(name) {
         return Some(Kind::Number(width, parse_order(word)?));
     }
-    if is(name, b"bytes") {
+    if is(name, "bytes") {
         parse_usize(word).map(Kind::Bytes)
-    } else if is(name, b"u8x0") {
+    } else if is(name, "u8x0") {
         parse_order(word).map(Kind::U8x0)
-    } else if is(name, b"u16x3") {
+    } else if is(name, "u16x3") {
         parse_order(word).map(Kind::U16x3)
     } else {
         None
@@ -66,11 +66,11 @@ fn parse_end(words: &[&[u8]]) -> Option<StrCtx>
 fn parse_end_of_two(name: &[u8], word: &[u8]) -> Option<StrCtx>
     ensures { Parses (SpellsEnd (name.now ∷ word.now ∷ [])) result }
 {
-    if is(name, b"delim") {
+    if is(name, "delim") {
         parse_byte(word).map(StrCtx::Delimiter)
-    } else if is(name, b"len") {
+    } else if is(name, "len") {
         parse_usize(word).map(StrCtx::Length)
-    } else if is(name, b"required") {
+    } else if is(name, "required") {
         parse_byte(word).map(StrCtx::Required)
     } else {
         None
@@ -80,7 +80,7 @@ fn parse_end_of_two(name: &[u8], word: &[u8]) -> Option<StrCtx>
 fn parse_end_of_three(name: &[u8], byte: &[u8], limit: &[u8]) -> Option<StrCtx>
     ensures { Parses (SpellsEnd (name.now ∷ byte.now ∷ limit.now ∷ [])) result }
 {
-    if is(name, b"until") {
+    if is(name, "until") {
         Some(StrCtx::DelimiterUntil(parse_byte(byte)?, parse_usize(limit)?))
     } else {
         None
