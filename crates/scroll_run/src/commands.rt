@@ -64,13 +64,13 @@ fn parse_words<M: Memory>(memory: M, words: &[&[u8]]) -> Result<Option<CommandLi
     let Some((verb, rest)) = words.split_first() else {
         return Ok(None);
     };
-    if is(verb, "pread") {
+    if is(verb, b"pread") {
         Ok(parse_pread(rest))
-    } else if is(verb, "gread") {
+    } else if is(verb, b"gread") {
         Ok(parse_gread(rest))
-    } else if is(verb, "pwrite") {
+    } else if is(verb, b"pwrite") {
         parse_pwrite(memory, rest)
-    } else if is(verb, "gwrite") {
+    } else if is(verb, b"gwrite") {
         parse_gwrite(memory, rest)
     } else {
         Ok(None)

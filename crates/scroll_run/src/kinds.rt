@@ -16,9 +16,9 @@ pub fn parse_kind(words: &[&[u8]]) -> Option<Kind>
         [name, word] => parse_kind_of_two(name, word),
         [name, end @ ..] => {
             let ctx = parse_end(end)?;
-            if is(name, "str") {
+            if is(name, b"str") {
                 Some(Kind::Text(ctx))
-            } else if is(name, "strx2") {
+            } else if is(name, b"strx2") {
                 Some(Kind::Textx2(ctx))
             } else {
                 None
@@ -31,13 +31,13 @@ pub fn parse_kind(words: &[&[u8]]) -> Option<Kind>
 fn parse_kind_of_one(name: &[u8]) -> Option<Kind>
     ensures { Parses (SpellsKind (name.now ∷ [])) result }
 {
-    if is(name, "cstr") {
+    if is(name, b"cstr") {
         Some(Kind::CStr)
-    } else if is(name, "cstring") {
+    } else if is(name, b"cstring") {
         Some(Kind::CString)
-    } else if is(name, "uleb") {
+    } else if is(name, b"uleb") {
         Some(Kind::Uleb)
-    } else if is(name, "sleb") {
+    } else if is(name, b"sleb") {
         Some(Kind::Sleb)
     } else {
         None
@@ -50,11 +50,11 @@ fn parse_kind_of_two(name: &[u8], word: &[u8]) -> Option<Kind>
     if let Some(width) = parse_width(name) {
         return Some(Kind::Number(width, parse_order(word)?));
     }
-    if is(name, "bytes") {
+    if is(name, b"bytes") {
         parse_usize(word).map(Kind::Bytes)
-    } else if is(name, "u8x0") {
+    } else if is(name, b"u8x0") {
         parse_order(word).map(Kind::U8x0)
-    } else if is(name, "u16x3") {
+    } else if is(name, b"u16x3") {
         parse_order(word).map(Kind::U16x3)
     } else {
         None
@@ -74,11 +74,11 @@ fn parse_end(words: &[&[u8]]) -> Option<StrCtx>
 fn parse_end_of_two(name: &[u8], word: &[u8]) -> Option<StrCtx>
     ensures { Parses (SpellsEnd (name.now ∷ word.now ∷ [])) result }
 {
-    if is(name, "delim") {
+    if is(name, b"delim") {
         parse_byte(word).map(StrCtx::Delimiter)
-    } else if is(name, "len") {
+    } else if is(name, b"len") {
         parse_usize(word).map(StrCtx::Length)
-    } else if is(name, "required") {
+    } else if is(name, b"required") {
         parse_byte(word).map(StrCtx::Required)
     } else {
         None
@@ -88,7 +88,7 @@ fn parse_end_of_two(name: &[u8], word: &[u8]) -> Option<StrCtx>
 fn parse_end_of_three(name: &[u8], byte: &[u8], limit: &[u8]) -> Option<StrCtx>
     ensures { Parses (SpellsEnd (name.now ∷ byte.now ∷ limit.now ∷ [])) result }
 {
-    if is(name, "until") {
+    if is(name, b"until") {
         Some(StrCtx::DelimiterUntil(parse_byte(byte)?, parse_usize(limit)?))
     } else {
         None

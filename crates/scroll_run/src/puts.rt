@@ -82,15 +82,15 @@ fn parse_put_of_two<M: Memory>(
     ensures { MatchResult result (Finds IsPutOf (SpellsPut (name.now ∷ word.now ∷ [])))
         (λ _. M.refuses memory) }
 {
-    if is(name, "str") {
+    if is(name, b"str") {
         parse_text(memory, word)
-    } else if is(name, "bytes") {
+    } else if is(name, b"bytes") {
         parse_slice(memory, word)
-    } else if is(name, "cstr") {
+    } else if is(name, b"cstr") {
         parse_c_string(memory, word)
-    } else if is(name, "uleb") {
+    } else if is(name, b"uleb") {
         Ok(parse_uleb(word))
-    } else if is(name, "sleb") {
+    } else if is(name, b"sleb") {
         Ok(parse_sleb(word))
     } else {
         Ok(None)
@@ -110,7 +110,7 @@ fn parse_put_of_three<M: Memory>(
     if let Some((number, order)) = parse_number_put(name, first, second) {
         return Ok(Some(OwnedPut::Plain(Put::Number(number, order))));
     }
-    if is(name, "bytesx2") {
+    if is(name, b"bytesx2") {
         parse_two(memory, first, second)
     } else {
         Ok(None)
@@ -127,7 +127,7 @@ fn parse_put_of_five(
     ensures { Finds IsPutOf (SpellsPut
         (name.now ∷ order.now ∷ first.now ∷ second.now ∷ third.now ∷ [])) result }
 {
-    if is(name, "u16x3") {
+    if is(name, b"u16x3") {
         parse_three(order, first, second, third)
     } else {
         None

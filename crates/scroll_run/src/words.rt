@@ -85,7 +85,7 @@ pub fn parse_bytes<M: Memory>(memory: M, word: &[u8]) -> Result<Option<Vec<u8>>,
     ensures { MatchResult result (ParsesAs (λ bytes. bytes.items) (SpellsBytes word.now))
         (λ _. M.refuses memory) }
 {
-    if is(word, "-") {
+    if is(word, b"-") {
         return Ok(Some(Vec::new(memory.alloc())));
     }
     if word.is_empty() {
@@ -107,35 +107,35 @@ pub fn parse_byte(word: &[u8]) -> Option<u8>
 }
 
 /// Returns whether the word is this one.
-pub fn is(word: &[u8], name: &str) -> bool
+pub fn is(word: &[u8], name: &[u8]) -> bool
     ensures { result ≡ bytes_eq word.now name.now }
 {
-    word == name.as_bytes()
+    word == name
 }
 
 /// Returns the number type that a word names.
 pub fn parse_width(word: &[u8]) -> Option<Width>
     ensures { Parses (λ width. word.now ≡ width_word width) result }
 {
-    if is(word, "u8") {
+    if is(word, b"u8") {
         Some(Width::U8)
-    } else if is(word, "i8") {
+    } else if is(word, b"i8") {
         Some(Width::I8)
-    } else if is(word, "u16") {
+    } else if is(word, b"u16") {
         Some(Width::U16)
-    } else if is(word, "i16") {
+    } else if is(word, b"i16") {
         Some(Width::I16)
-    } else if is(word, "u32") {
+    } else if is(word, b"u32") {
         Some(Width::U32)
-    } else if is(word, "i32") {
+    } else if is(word, b"i32") {
         Some(Width::I32)
-    } else if is(word, "u64") {
+    } else if is(word, b"u64") {
         Some(Width::U64)
-    } else if is(word, "i64") {
+    } else if is(word, b"i64") {
         Some(Width::I64)
-    } else if is(word, "u128") {
+    } else if is(word, b"u128") {
         Some(Width::U128)
-    } else if is(word, "i128") {
+    } else if is(word, b"i128") {
         Some(Width::I128)
     } else {
         None
@@ -146,9 +146,9 @@ pub fn parse_width(word: &[u8]) -> Option<Width>
 pub fn parse_order(word: &[u8]) -> Option<Endian>
     ensures { Parses (λ order. word.now ≡ order_word order) result }
 {
-    if is(word, "le") {
+    if is(word, b"le") {
         Some(Endian::Little)
-    } else if is(word, "be") {
+    } else if is(word, b"be") {
         Some(Endian::Big)
     } else {
         None
