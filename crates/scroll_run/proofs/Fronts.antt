@@ -1,5 +1,5 @@
 -- Lemmas on prefixes of the output.
-use Rattle.std.proofs.Common.{◌≡◌, ℕ, ◌-◌, List, ◌++◌, length, take, drop, sym, ap, ◌∙◌, append_assoc, take-append-drop, Option}
+use Rattle.std.proofs.Common.{◌≡◌, ℕ, ◌-◌, List, [], ◌∷◌, ◌++◌, length, take, drop, arith, sym, ap, ◌∙◌, append-nil, append_assoc, take-append-drop, Option}
 use Rattle.std.proofs.lemmas.List.{take_rest}
 use Rattle.std.proofs.Math.Seq.{take-append_seam}
 use Rattle.std.proofs.KnownBytes.{Appends-trans}
@@ -11,6 +11,11 @@ pub prefix_moves : (all done rest : List ℕ) (n : ℕ) → all ≡ done ++ rest
 prefix_moves all done rest n e =
     e ∙ ap (λ l. done ++ l) (sym (take-append-drop n rest)) ∙ sym (append_assoc done (take n rest) (drop n rest))
     ∙ ap (λ l. (done ++ take n rest) ++ l) (sym (take_rest rest n))
+
+-- where nothing is left of the rest, all of it was written
+pub appends_all : (old new : Option (List ℕ)) (all done rest : List ℕ) → all ≡ done ++ rest → length rest ≡ 0 → Appends old new done → Appends old new all
+appends_all old new all done [] e none h = rw (e ∙ append-nil done) h
+appends_all old new all done (x ∷ rest) e none h = absurd (omega arith)
 
 pub appends_prefix : (old new : Option (List ℕ)) (all done rest : List ℕ) → all ≡ done ++ rest → Appends old new done → AppendsPrefix old new all
 appends_prefix old new all done rest e h =

@@ -1,14 +1,13 @@
 -- Lemmas on the words of what is read, by the first of them.
-use Rattle.std.proofs.Common.{◌≡◌, ◌≢◌, ◌≤◌, ◌<◌, ◌^◌, Bor, ℕ, List, [], ◌∷◌, codes, get_or, length, arith, ap, subst}
+use Rattle.std.proofs.Common.{◌≡◌, ◌≢◌, ◌<◌, ◌^◌, Bor, ℕ, List, [], ◌∷◌, codes, get_or, length, take, drop, ◌-◌, arith, ap, ◌∙◌, sym, subst}
+use Rattle.std.proofs.lemmas.List.{take_rest}
 use Rattle.scroll.specs.declared.ctx.str_ctx.StrCtx.{StrCtx}
 use Rattle.scroll.specs.declared.ctx.str_ctx.StrCtx.TheVariants as context
 use Rattle.scroll.specs.declared.runner.Kind.{Kind}
 use Rattle.scroll.specs.declared.runner.Kind.TheVariants as kind
-use Rattle.scroll.specs.declared.runner.Width.{Width}
-use Rattle.scroll.specs.declared.runner.Width.TheVariants as width
 use Rattle.scroll_run.specs.Kinds.{SpellsEnd, SpellsKind}
-use Rattle.scroll_run.specs.Words.{SpellsByte, SpellsNumber, texts_of, width_word}
-use Rattle.scroll_run.proofs.CommandLemmas.{counted, first_letter, no_word}
+use Rattle.scroll_run.specs.Words.{SpellsByte, SpellsNumber, texts_of}
+use Rattle.scroll_run.proofs.CommandLemmas.{counted, no_word}
 
 -- lists with the same words
 same_second : (a b c : List ℕ) → a ∷ b ∷ [] ≡ a ∷ c ∷ [] → c ≡ b
@@ -49,36 +48,25 @@ no_end words two three (context.DelimiterUntil d limit) = λ s. three (counted w
 no_end words two three (context.Length n) = λ s. two (counted words _ s.1)
 no_end words two three (context.Required d) = λ s. two (counted words _ s.1)
 
--- the word of a number type has at most four bytes
-pub short_width : (w : Width) (a : List ℕ) → a ≡ width_word w → length a ≤ 4
-short_width width.U8 a e = let n = ap length e in omega (arith, n)
-short_width width.I8 a e = let n = ap length e in omega (arith, n)
-short_width width.U16 a e = let n = ap length e in omega (arith, n)
-short_width width.I16 a e = let n = ap length e in omega (arith, n)
-short_width width.U32 a e = let n = ap length e in omega (arith, n)
-short_width width.I32 a e = let n = ap length e in omega (arith, n)
-short_width width.U64 a e = let n = ap length e in omega (arith, n)
-short_width width.I64 a e = let n = ap length e in omega (arith, n)
-short_width width.U128 a e = let n = ap length e in omega (arith, n)
-short_width width.I128 a e = let n = ap length e in omega (arith, n)
+behind : {name : List ℕ} (u : Bor (List ℕ)) (more : List (Bor (List ℕ))) (end : List (List ℕ)) (ctx : StrCtx) → texts_of (u ∷ more) ≡ name ∷ end → SpellsEnd end ctx
+    → SpellsEnd (texts_of (take (length (u ∷ more) - 1) (drop 1 (u ∷ more)))) ctx
+behind u more end ctx e s =
+    let same : end ≡ texts_of more = cc in
+    subst (λ ws. SpellsEnd ws ctx) (same ∙ ap texts_of (sym (take_rest (u ∷ more) 1))) s
 
-pub by_strx2 : (end : List (List ℕ)) (what : Kind) → SpellsKind (codes "strx2" ∷ end) what → (ctx : StrCtx) × SpellsEnd end ctx
-by_strx2 end (kind.Number w order) s =
-    let e : codes "strx2" ≡ width_word w = cc in
-    let n = short_width w _ e in
-    absurd (omega (arith, n))
-by_strx2 end (kind.Text ctx) s = let e = s.1 in absurd cc
-by_strx2 end (kind.Bytes len) s = let n : 115 ≡ 98 = ap first_letter s.1 in absurd (omega (arith, n))
-by_strx2 end kind.CStr s = let e = s in absurd cc
-by_strx2 end kind.CString s = let e = s in absurd cc
-by_strx2 end kind.Uleb s = let e = s in absurd cc
-by_strx2 end kind.Sleb s = let e = s in absurd cc
-by_strx2 end (kind.U8x0 order) s = let e = s in absurd cc
-by_strx2 end (kind.U16x3 order) s = let n : 115 ≡ 117 = ap first_letter s in absurd (omega (arith, n))
-by_strx2 end (kind.Textx2 ctx) s =
-    let e = s.1 in
-    let same : s.0 ≡ end = cc in
-    (ctx, subst (λ ws. SpellsEnd ws ctx) same s.2)
+-- three words or more end with where a text ends
+pub long_end : (words : List (Bor (List ℕ))) → 2 < length words → (what : Kind) → SpellsKind (texts_of words) what → (ctx : StrCtx) × SpellsEnd (texts_of (take (length words - 1) (drop 1 words))) ctx
+long_end [] long what s = absurd (omega (arith, long))
+long_end (u ∷ more) long (kind.Number w order) s = let n = counted (u ∷ more) _ s in absurd (omega (arith, n, long))
+long_end (u ∷ more) long (kind.Text ctx) s = (ctx, behind u more s.0 ctx s.1 s.2)
+long_end (u ∷ more) long (kind.Bytes len) s = let n = counted (u ∷ more) _ s.1 in absurd (omega (arith, n, long))
+long_end (u ∷ more) long kind.CStr s = let n = counted (u ∷ more) _ s in absurd (omega (arith, n, long))
+long_end (u ∷ more) long kind.CString s = let n = counted (u ∷ more) _ s in absurd (omega (arith, n, long))
+long_end (u ∷ more) long kind.Uleb s = let n = counted (u ∷ more) _ s in absurd (omega (arith, n, long))
+long_end (u ∷ more) long kind.Sleb s = let n = counted (u ∷ more) _ s in absurd (omega (arith, n, long))
+long_end (u ∷ more) long (kind.U8x0 order) s = let n = counted (u ∷ more) _ s in absurd (omega (arith, n, long))
+long_end (u ∷ more) long (kind.U16x3 order) s = let n = counted (u ∷ more) _ s in absurd (omega (arith, n, long))
+long_end (u ∷ more) long (kind.Textx2 ctx) s = (ctx, behind u more s.0 ctx s.1 s.2)
 
 -- three words or more spell texts alone
 pub no_kind : (words : List (Bor (List ℕ))) → 2 < length words → (get_or words 0 no_word).now ≢ codes "str" → (get_or words 0 no_word).now ≢ codes "strx2" → (what : Kind) → ¬ (SpellsKind (texts_of words) what)

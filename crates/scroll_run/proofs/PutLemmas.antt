@@ -1,5 +1,5 @@
 -- Lemmas on the words of what is written, by the first of them.
-use Rattle.std.proofs.Common.{◌≡◌, ◌≢◌, ◌^◌, Bor, ℕ, ℤ, false, refl, List, [], ◌∷◌, codes, length, get_or, arith, ap, subst}
+use Rattle.std.proofs.Common.{◌≡◌, ◌≢◌, ◌≤◌, ◌^◌, Bor, ℕ, ℤ, false, refl, List, [], ◌∷◌, codes, length, get_or, arith, ap, subst}
 use Rattle.std.proofs.lemmas.Bool.Decides.{nat_tests}
 use Rattle.std.specs.List.{AllZip}
 use Rattle.std.specs.Prelude.{nat_eq}
@@ -9,10 +9,11 @@ use Rattle.scroll.specs.declared.endian.Endian.{Endian}
 use Rattle.scroll.specs.declared.runner.Number.{Number}
 use Rattle.scroll.specs.declared.runner.Put.{Put}
 use Rattle.scroll.specs.declared.runner.Put.TheVariants as put
+use Rattle.scroll.specs.declared.runner.Width.{Width}
+use Rattle.scroll.specs.declared.runner.Width.TheVariants as width
 use Rattle.scroll_run.specs.Puts.{SpellsCString, SpellsPut, SpellsSleb, SpellsText, SpellsUleb}
 use Rattle.scroll_run.specs.Words.{SpellsBytes, SpellsNumber, order_word, texts_of, width_word}
 use Rattle.scroll_run.proofs.CommandLemmas.{counted}
-use Rattle.scroll_run.proofs.KindLemmas.{short_width}
 
 -- words that differ at an index
 differ : {C : Type 0} (a b : List ℕ) (i : ℕ) → nat_eq (get_or a i 0) (get_or b i 0) ≡ false → a ≡ b → C
@@ -73,6 +74,19 @@ by_u16x3 a b c d (put.U16x3 xs order) s =
     let rest : s.0 ∷ s.1 ∷ s.2 ∷ [] ≡ b ∷ c ∷ d ∷ [] = cc in
     (order, xs, first, subst (λ ws. AllZip (SpellsNumber (2 ^ 16)) ws xs) rest s.4)
 by_u16x3 a b c d (put.Bytesx2 x y) s = let e = s.2 in absurd cc
+
+-- the word of a number type has at most four bytes
+short_width : (w : Width) (a : List ℕ) → a ≡ width_word w → length a ≤ 4
+short_width width.U8 a e = let n = ap length e in omega (arith, n)
+short_width width.I8 a e = let n = ap length e in omega (arith, n)
+short_width width.U16 a e = let n = ap length e in omega (arith, n)
+short_width width.I16 a e = let n = ap length e in omega (arith, n)
+short_width width.U32 a e = let n = ap length e in omega (arith, n)
+short_width width.I32 a e = let n = ap length e in omega (arith, n)
+short_width width.U64 a e = let n = ap length e in omega (arith, n)
+short_width width.I64 a e = let n = ap length e in omega (arith, n)
+short_width width.U128 a e = let n = ap length e in omega (arith, n)
+short_width width.I128 a e = let n = ap length e in omega (arith, n)
 
 pub by_bytesx2 : (b c : List ℕ) (p : Put) → SpellsPut (codes "bytesx2" ∷ b ∷ c ∷ []) p → (x y : List ℕ) × SpellsBytes b x × SpellsBytes c y
 by_bytesx2 b c (put.Number x order) s =

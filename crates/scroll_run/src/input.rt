@@ -1,5 +1,5 @@
 //! The bytes of the input.
-ghost use Rattle.std.specs.Prelude.{◌≡◌, ◌≤◌, ◌<◌, IfOk, IfErr, vec_len};
+ghost use Rattle.std.specs.Prelude.{◌≡◌, ◌≤◌, ◌<◌, ◌++◌, IfOk, IfErr, OnOk, OnErr, vec_len};
 ghost use Rattle.std.specs.Io.KnownBytes.{Consumes, IsAtEnd};
 ghost use Rattle.scroll_run.specs.Input.{EndsReading};
 ghost use Rattle.scroll_run.specs.declared.input.ReadError.TheVariants.{NoMemory};
@@ -53,8 +53,7 @@ pub fn read_input<M: Memory, R: Read>(memory: M, input: &mut R) -> Result<Vec<u8
         match input.read(&mut chunk[..room]) {
             Ok(0) => return Ok(bytes),
             Ok(count) => {
-                memory.reserve(&mut bytes, count)?;
-                bytes.extend_from_slice(&chunk[..count])?;
+                append(memory, &mut bytes, &chunk[..count])?;
                 if bytes.len() == MAX_READ {
                     return Ok(bytes);
                 }
@@ -64,4 +63,13 @@ pub fn read_input<M: Memory, R: Read>(memory: M, input: &mut R) -> Result<Vec<u8
         }
     }
     Err(ReadError::Io(io::Error::from(ErrorKind::Other)))
+}
+
+// Appends the bytes.
+fn append<M: Memory>(memory: M, bytes: &mut Vec<u8>, more: &[u8]) -> Result<(), AllocError>
+    ensures items { OnOk result (bytes.new.items ≡ bytes.old.items ++ more.now) }
+    ensures refused { OnErr result (M.refuses memory) }
+{
+    memory.reserve(bytes, more.len())?;
+    bytes.extend_from_slice(more)
 }

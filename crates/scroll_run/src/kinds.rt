@@ -14,9 +14,17 @@ pub fn parse_kind(words: &[&[u8]]) -> Option<Kind>
     match words {
         [name] => parse_kind_of_one(name),
         [name, word] => parse_kind_of_two(name, word),
-        [name, end @ ..] if is(name, b"str") => Some(Kind::Text(parse_end(end)?)),
-        [name, end @ ..] if is(name, b"strx2") => Some(Kind::Textx2(parse_end(end)?)),
-        _ => None,
+        [name, end @ ..] => {
+            let ctx = parse_end(end)?;
+            if is(name, b"str") {
+                Some(Kind::Text(ctx))
+            } else if is(name, b"strx2") {
+                Some(Kind::Textx2(ctx))
+            } else {
+                None
+            }
+        }
+        [] => None,
     }
 }
 

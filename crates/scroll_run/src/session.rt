@@ -2,7 +2,7 @@
 ghost use Rattle.std.specs.Prelude.{◌≢◌, ℕ, List, IfOk, IfErr, OnErr, MatchResult, string_bytes};
 ghost use Rattle.std.specs.IoError.{error_kind};
 ghost use Rattle.std.specs.Io.KnownBytes.{Appends};
-ghost use Rattle.scroll_run.specs.Answers.{AnswersInput, AnswersSession, BreaksOff, RunsScript};
+ghost use Rattle.scroll_run.specs.Answers.{AnswersInput, AnswersSession, BreaksOff, RunsCommands, RunsScript};
 
 use crate::answers::print_answers;
 use crate::commands::borrow_commands;
@@ -10,6 +10,7 @@ use crate::input::{MAX_READ, ReadError, read_input};
 use crate::lines::{Script, Stop, parse_script};
 use crate::memory::Memory;
 use crate::output::write_output;
+use scroll::runner::Command;
 use std::alloc::AllocError;
 use std::io;
 use std::io::{ErrorKind, Read, Write};
@@ -88,12 +89,27 @@ fn run_script<M: Memory>(memory: M, script: &mut Script) -> Result<String, Alloc
         (λ _. M.refuses memory) }
 {
     let commands = borrow_commands(memory, &script.commands)?;
-    let mut answers = Vec::new(memory.alloc());
-    memory.run(
+    run_commands(
+        memory,
         script.buffer.as_mut_slice(),
-        &mut script.cursor,
+        script.cursor,
         &commands,
-        &mut answers,
-    )?;
-    print_answers(memory, &answers, &script.buffer, script.cursor)
+    )
+}
+
+// Runs the commands over a buffer from a cursor, and prints what they return and leave.
+fn run_commands<M: Memory>(
+    memory: M,
+    buffer: &mut [u8],
+    cursor: usize,
+    commands: &[Command<'_>],
+) -> Result<String, AllocError>
+    ensures { MatchResult result
+        (λ text. RunsCommands buffer.old cursor commands.now (string_bytes text))
+        (λ _. M.refuses memory) }
+{
+    let mut end = cursor;
+    let mut answers = Vec::new(memory.alloc());
+    memory.run(buffer, &mut end, commands, &mut answers)?;
+    print_answers(memory, &answers, buffer, end)
 }

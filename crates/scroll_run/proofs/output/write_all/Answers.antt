@@ -1,6 +1,6 @@
 use Rattle.std.proofs.Common.{◌++◌, take, rules}
 use Rattle.std.proofs.KnownBytes.{Appends-trans, Appends-kept}
-use Rattle.scroll_run.proofs.Fronts.{prefix_moves, appends_prefix, appends_more}
+use Rattle.scroll_run.proofs.Fronts.{prefix_moves, appends_all, appends_prefix, appends_more}
 use Rattle.scroll_run.proofs.output.write_all.Goals as goal
 use Rattle.scroll_run.proofs.output.write_all.Goals.{in-Ok, in-Err}
 
@@ -23,8 +23,22 @@ returns-clause-prefix g c = appends_prefix _ _ _ _ _ c.loop.invariant.whole c.lo
 
 pub returns-in-Ok-eq0-clause-prefix : goal.returns-in-Ok-eq0-clause-prefix
 returns-in-Ok-eq0-clause-prefix g c =
-    appends_more _ _ _ _ _ _ c.in-Ok-eq0.field-0 c.loop.invariant.whole c.loop.invariant.appended (search rules)
+    appends_more _ _ _ _ _ _ c.in-Ok-eq0.field-0 c.loop.invariant.whole c.loop.invariant.appended (rw c.in-Ok-eq0.is at c.write.ensures.bytes)
 
 pub returns-in-Err-2-clause-prefix : goal.returns-in-Err-2-clause-prefix
 returns-in-Err-2-clause-prefix g c =
     appends_prefix _ _ _ _ _ c.loop.invariant.whole (Appends-kept _ _ _ _ c.loop.invariant.appended c.in-Err-2.ensures.bytes)
+
+pub returns-then-is_empty-clause-written : goal.returns-then-is_empty-clause-written
+returns-then-is_empty-clause-written g c =
+    appends_all _ _ _ _ _ c.loop.invariant.whole (search rules) c.loop.invariant.appended
+
+pub returns-then-is_empty-clause-prefix : goal.returns-then-is_empty-clause-prefix
+returns-then-is_empty-clause-prefix g c = appends_prefix _ _ _ _ _ c.loop.invariant.whole c.loop.invariant.appended
+
+pub returns-then-is_empty-2-clause-written : goal.returns-then-is_empty-2-clause-written
+returns-then-is_empty-2-clause-written g c =
+    appends_all _ _ _ _ _ c.loop.invariant.whole (search rules) c.loop.invariant.appended
+
+pub returns-then-is_empty-2-clause-prefix : goal.returns-then-is_empty-2-clause-prefix
+returns-then-is_empty-2-clause-prefix g c = appends_prefix _ _ _ _ _ c.loop.invariant.whole c.loop.invariant.appended

@@ -20,7 +20,7 @@ pub returns-in_err-write_output-clause-broken_off : goal.returns-in_err-write_ou
 returns-in_err-write_output-clause-broken_off g c =
     let outcome : Prints (g.M.Memory.refuses c.args.memory) (g.R.Read.remaining c.args.input.now) (g.R.Read.remaining c.read_input.new.input) c.match-read_input.outcome =
     elim c.match-read_input.branch [
-      | in-Ok w ↦ rw w.outcome-is (prints (g.M.Memory.refuses c.args.memory) (g.R.Read.remaining c.args.input.now) (g.R.Read.remaining c.read_input.new.input) w.in-Ok.bytes.items _ (record { bound = search rules; taken = search rules; whole = search rules }) (rw w.deref.ensures.value at w.answer_input-outcome.ensures))
+      | in-Ok w ↦ rw w.outcome-is (prints (g.M.Memory.refuses c.args.memory) (g.R.Read.remaining c.args.input.now) (g.R.Read.remaining c.read_input.new.input) w.in-Ok.bytes.items _ (record { bound = search rules; taken = w.in-Ok.ensures.taken; whole = search rules }) (rw w.deref.ensures.value at w.answer_input-outcome.ensures))
       | in-Err-NoMemory w ↦ rw w.outcome-is (rw w.in-Err-NoMemory.field-0-is at w.in-Err-NoMemory.ensures.refused)
     ] in
     let answers : AnswersSession (g.M.Memory.refuses c.args.memory) (g.R.Read.remaining c.args.input.now) (g.R.Read.remaining c.read_input.new.input) (c.match-outcome.status.0).now c.match-outcome.status.1 =
@@ -35,7 +35,7 @@ pub returns-clause-answered : goal.returns-clause-answered
 returns-clause-answered g c =
     let outcome : Prints (g.M.Memory.refuses c.args.memory) (g.R.Read.remaining c.args.input.now) (g.R.Read.remaining c.read_input.new.input) c.match-read_input.outcome =
     elim c.match-read_input.branch [
-      | in-Ok w ↦ rw w.outcome-is (prints (g.M.Memory.refuses c.args.memory) (g.R.Read.remaining c.args.input.now) (g.R.Read.remaining c.read_input.new.input) w.in-Ok.bytes.items _ (record { bound = search rules; taken = search rules; whole = search rules }) (rw w.deref.ensures.value at w.answer_input-outcome.ensures))
+      | in-Ok w ↦ rw w.outcome-is (prints (g.M.Memory.refuses c.args.memory) (g.R.Read.remaining c.args.input.now) (g.R.Read.remaining c.read_input.new.input) w.in-Ok.bytes.items _ (record { bound = search rules; taken = w.in-Ok.ensures.taken; whole = search rules }) (rw w.deref.ensures.value at w.answer_input-outcome.ensures))
       | in-Err-NoMemory w ↦ rw w.outcome-is (rw w.in-Err-NoMemory.field-0-is at w.in-Err-NoMemory.ensures.refused)
     ] in
     let answers : AnswersSession (g.M.Memory.refuses c.args.memory) (g.R.Read.remaining c.args.input.now) (g.R.Read.remaining c.read_input.new.input) (c.match-outcome.status.0).now c.match-outcome.status.1 =
