@@ -146,7 +146,7 @@ fn read_format(file: &[u8], offset: &mut usize, order: Endian) -> Result<Format>
     file.gread_with(offset, order)
 }
 
-const FORMAT: Format = Format {
+static FORMAT: Format = Format {
     tag: 1,
     gain: -2,
     rate: 44100,

@@ -13,7 +13,7 @@ use crate::tests::reads::{
     check_no_write, check_read, check_write,
 };
 use crate::tests::results::{Parts, check_eq, check_too_big, check_value};
-use crate::{BE, Endian, LE, NATIVE, NETWORK, Uleb128};
+use crate::{BE, Endian, Error, LE, NATIVE, NETWORK, Uleb128};
 use std::process::Abort;
 
 #[test]
@@ -83,15 +83,27 @@ const SOURCE: &[u8] = b"a\0b";
 
 const PAST: Parts<'static> = ("BadOffset", MOST, 0);
 
+// Checks that a read in this context is refused.
+fn check_past<'a, T: TryFromCtx<'a, Ctx, Error = Error> + Drop, Ctx: Copy>(
+    rt: &impl Abort,
+    ctx: Ctx,
+) {
+    check_no_read::<T, _>(rt, SOURCE, MOST, ctx, PAST);
+}
+
 #[test]
 fn reads(rt: HostRuntime) {
-    let rt = &rt;
-    check_no_read::<u16, _>(rt, SOURCE, MOST, BE, PAST);
-    check_no_read::<u16, _>(rt, SOURCE, MOST, LE, PAST);
-    check_no_read::<&str, _>(rt, SOURCE, MOST, StrCtx::Length(0), PAST);
-    check_no_read::<&[u8], _>(rt, SOURCE, MOST, 0, PAST);
-    check_no_read::<CStr, _>(rt, SOURCE, MOST, (), PAST);
-    check_no_read::<[u8; 0], _>(rt, SOURCE, MOST, LE, PAST);
+    check_past::<u16, _>(&rt, BE);
+    check_past::<u16, _>(&rt, LE);
+    check_past::<&str, _>(&rt, StrCtx::Length(0));
+    check_past::<&[u8], _>(&rt, 0);
+    check_past::<CStr, _>(&rt, ());
+    check_past::<[u8; 0], _>(&rt, LE);
+    check_other_calls(&rt);
+}
+
+// Checks the calls with no context of the caller's.
+fn check_other_calls(rt: &impl Abort) {
     check_no_default_read::<u16, _>(rt, SOURCE, MOST, PAST);
     check_no_number::<u64>(rt, SOURCE, MOST, PAST);
     check_no_number::<i64>(rt, SOURCE, MOST, PAST);

@@ -8,7 +8,7 @@ ghost use Rattle.scroll.specs.Numbers.{WritesNumber};
 ghost use Rattle.scroll.specs.declared.endian.Endian.TheVariants.{Little};
 
 use crate::ctx::{TryFromCtx, TryIntoCtx};
-use crate::tests::results::{check_bad_offset, check_eq, check_too_big, check_value};
+use crate::tests::results::{check_eq, check_error, check_too_big, check_value};
 use crate::{Error, LE, Pread, Pwrite, Result, slice};
 use std::cell::Cell;
 
@@ -106,7 +106,7 @@ fn writes_drop_their_values(rt: HostRuntime) {
     // (the first is written, the second fails, and the third is left)
     check_too_big(rt, target.pwrite(three(drops), 1), 1, 0);
     check_eq(rt, drops.get(), 3);
-    check_bad_offset(rt, target.pwrite(three(drops), 3), 3);
+    check_error(rt, target.pwrite(three(drops), 3), ("BadOffset", 3, 0));
     check_eq(rt, drops.get(), 6);
     check_eq(rt, bytes, [0, 7]);
     let five = Counted { byte: 5, drops };

@@ -1,5 +1,5 @@
 // LEB128 encodings, the readers compared with each other, and encodings that are written.
-ghost use Rattle.std.specs.Prelude.{◌<◌};
+ghost use Rattle.std.specs.Prelude.{◌<◌, ◌≤◌};
 
 use crate::ctx::{TryFromCtx, TryIntoCtx};
 use crate::leb128::{
@@ -272,9 +272,8 @@ fn blocks(rt: HostRuntime) {
 fn check_short_loads(rt: &impl Abort) {
     let mut short = Loads::new(&[0x80, 0x80]);
     check_eq(rt, (short.len(), short.is_empty()), (2, false));
-    check_eq(rt, short.word(), None);
-    check_eq(rt, (short.byte(2), short.byte(1)), (None, Some(0x80)));
-    check_eq(rt, short.made(), 3);
+    let loads = (short.word(), short.byte(2), short.byte(1), short.made());
+    check_eq(rt, loads, (None, None, Some(0x80), 3));
 }
 
 static GREATEST: [u8; 10] = [0xff, 0xff, 0xff, 0xff, 0xff, 0xff, 0xff, 0xff, 0xff, 1];
@@ -303,8 +302,11 @@ fn check_same<N: PartialEq + Debug + Drop>(
     }
 }
 
-// Checks that the readers by loads and those byte by byte return the same for a source.
-fn check_readers(rt: &impl Abort, source: &[u8]) {
+// Checks that the readers by loads and those byte by byte return the same for the first bytes.
+fn check_readers(rt: &impl Abort, bytes: &[u8; 19], len: usize)
+    requires { len ≤ 19 }
+{
+    let source = &bytes[..len];
     let by_loads = uleb_loads(&mut Loads::new(source));
     check_same(rt, by_loads, plain_uleb(source), source.len());
     let by_loads = sleb_loads(&mut Loads::new(source));
@@ -318,9 +320,9 @@ fn check_last(rt: &impl Abort, count: usize, last: u8)
     let mut bytes = [0xffu8; 19];
     bytes[..count].fill(0x80);
     bytes[count] = last;
-    check_readers(rt, &bytes[..count]);
-    check_readers(rt, &bytes[..count + 1]);
-    check_readers(rt, &bytes[..count + 8]);
+    check_readers(rt, &bytes, count);
+    check_readers(rt, &bytes, count + 1);
+    check_readers(rt, &bytes, count + 8);
 }
 
 static LAST: [u8; 6] = [0x00, 0x01, 0x3f, 0x40, 0x7e, 0x7f];

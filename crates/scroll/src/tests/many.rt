@@ -3,6 +3,7 @@
 use crate::ctx::{Delimited, Table, Value, append};
 use crate::tests::results::{check_bad_input, check_eq, check_too_big, check_value, expect_value};
 use crate::{BE, Error, LE, Result, read_many, read_to_end, write_many, write_tagged};
+use std::alloc::Global;
 use std::process::Abort;
 
 static NUMBERS: [u16; 3] = [258, 772, 9];
@@ -30,19 +31,23 @@ fn check_numbers(rt: &impl Abort, values: Result<Vec<u16>>) {
 fn many_values_up_to_the_end(rt: HostRuntime) {
     let (alloc, rt) = (rt.alloc(), &rt);
     let offset = &mut 1;
-    let values: Result<Vec<u16>> = read_to_end(alloc, &BYTES[..7], offset, BE).map_err(Error::from);
-    check_numbers(rt, values);
+    check_numbers(rt, numbers_to_end(alloc, &BYTES[..7], offset));
     check_eq(rt, *offset, 7);
-    let cut: Result<Vec<u16>> = read_to_end(alloc, &BYTES, offset, BE).map_err(Error::from);
-    check_too_big(rt, cut.map(drop), 2, 1);
+    check_too_big(rt, numbers_to_end(alloc, &BYTES, offset), 2, 1);
     check_eq(rt, *offset, 7);
+    check_empty(rt, alloc, offset);
+}
+
+// Reads numbers at a cursor up to the end.
+fn numbers_to_end(alloc: Global, bytes: &[u8], offset: &mut usize) -> Result<Vec<u16>> {
+    read_to_end(alloc, bytes, offset, BE).map_err(Error::from)
+}
+
+// Checks that slices of no bytes are refused.
+fn check_empty(rt: &impl Abort, alloc: Global, offset: &mut usize) {
     let empty: Result<Vec<&[u8]>> = read_to_end(alloc, &BYTES, offset, 0).map_err(Error::from);
-    check_bad_input(
-        rt,
-        empty.map(drop),
-        0,
-        "a value of no bytes, or past the end",
-    );
+    let msg = "a value of no bytes, or past the end";
+    check_bad_input(rt, empty.map(drop), 0, msg);
 }
 
 #[test]
@@ -61,11 +66,10 @@ fn a_table_of_numbers(rt: HostRuntime) {
     let rt = &rt;
     let table: Table<'_, u16> = Table::new(&BYTES[1..]);
     check_eq(rt, table.len(), 3);
-    check_eq(rt, table.get(2, BE), Some(9));
-    check_eq(rt, table.get(3, BE), None);
+    check_eq(rt, [table.get(2, BE), table.get(3, BE)], [Some(9), None]);
     let mut elements = table.elements(BE);
-    check_eq(rt, elements.next(), Some(258));
-    check_eq(rt, elements.next(), Some(772));
+    let first = [elements.next(), elements.next()];
+    check_eq(rt, first, [Some(258), Some(772)]);
     check_eq(rt, elements.count(), 1);
 }
 

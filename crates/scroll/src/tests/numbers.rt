@@ -5,71 +5,41 @@ ghost use Rattle.scroll.specs.Numbers.{number};
 ghost use Rattle.scroll.specs.declared.endian.Endian.TheVariants.{Big};
 
 use crate::ctx::{FromCtx, IntoCtx, SizeWith, TryFromCtx, TryIntoCtx};
-use crate::tests::reads::{check_no_read, check_no_write, check_read, check_write};
+use crate::tests::reads::{
+    check_gread_gwrite, check_no_read, check_no_write, check_read, check_write,
+};
 use crate::tests::results::check_eq;
 use crate::{BE, Cread, Cwrite, Endian, Error, LE};
-use std::fmt::Debug;
 use std::process::Abort;
-
-// Writes a number, and reads it back.
-fn check_roundtrip<'a, N>(
-    rt: &impl Abort,
-    bytes: &'a mut [u8; 8],
-    order: Endian,
-    value: N,
-    size: usize,
-)
-where
-    N: Copy
-        + PartialEq
-        + Debug
-        + TryIntoCtx<Endian, Error = Error>
-        + TryFromCtx<'a, Endian, Error = Error>,
-{
-    check_write(rt, bytes, value, 0, order, size);
-    check_read(rt, bytes, 0, order, value, size);
-}
 
 #[test]
 fn pwrite_and_pread_roundtrip_u16(rt: HostRuntime) {
-    let mut bytes = [0; 8];
-    check_roundtrip(&rt, &mut bytes, LE, 0xbeefu16, 2);
-    check_roundtrip(&rt, &mut bytes, BE, 0xbeefu16, 2);
+    check_gread_gwrite(&rt, &mut [0; 16], 0xbeefu16, 2);
 }
 
 #[test]
 fn pwrite_and_pread_roundtrip_i16(rt: HostRuntime) {
-    let mut bytes = [0; 8];
-    check_roundtrip(&rt, &mut bytes, LE, 0x7eefi16, 2);
-    check_roundtrip(&rt, &mut bytes, BE, 0x7eefi16, 2);
+    check_gread_gwrite(&rt, &mut [0; 16], 0x7eefi16, 2);
 }
 
 #[test]
 fn pwrite_and_pread_roundtrip_u32(rt: HostRuntime) {
-    let mut bytes = [0; 8];
-    check_roundtrip(&rt, &mut bytes, LE, 0xbeefbeefu32, 4);
-    check_roundtrip(&rt, &mut bytes, BE, 0xbeefbeefu32, 4);
+    check_gread_gwrite(&rt, &mut [0; 16], 0xbeefbeefu32, 4);
 }
 
 #[test]
 fn pwrite_and_pread_roundtrip_i32(rt: HostRuntime) {
-    let mut bytes = [0; 8];
-    check_roundtrip(&rt, &mut bytes, LE, 0x7eefbeefi32, 4);
-    check_roundtrip(&rt, &mut bytes, BE, 0x7eefbeefi32, 4);
+    check_gread_gwrite(&rt, &mut [0; 16], 0x7eefbeefi32, 4);
 }
 
 #[test]
 fn pwrite_and_pread_roundtrip_u64(rt: HostRuntime) {
-    let mut bytes = [0; 8];
-    check_roundtrip(&rt, &mut bytes, LE, 0xbeefbeef7eef7eefu64, 8);
-    check_roundtrip(&rt, &mut bytes, BE, 0xbeefbeef7eef7eefu64, 8);
+    check_gread_gwrite(&rt, &mut [0; 16], 0xbeefbeef7eef7eefu64, 8);
 }
 
 #[test]
 fn pwrite_and_pread_roundtrip_i64(rt: HostRuntime) {
-    let mut bytes = [0; 8];
-    check_roundtrip(&rt, &mut bytes, LE, 0x7eefbeef7eef7eefi64, 8);
-    check_roundtrip(&rt, &mut bytes, BE, 0x7eefbeef7eef7eefi64, 8);
+    check_gread_gwrite(&rt, &mut [0; 16], 0x7eefbeef7eef7eefi64, 8);
 }
 
 #[test]

@@ -197,11 +197,8 @@ where
         + TryFromCtx<'a, Endian, Error = Error>,
 {
     let size = usize::from(size);
-    let mut target = &mut bytes[..];
-    let mut offset = 0;
-    check_value(rt, target.gwrite_with(value, &mut offset, LE), size);
-    check_value(rt, target.gwrite_with(value, &mut offset, BE), size);
-    check_eq(rt, offset, 2 * size);
+    check_write(rt, bytes, value, 0, LE, size);
+    check_write(rt, bytes, value, size, BE, size);
     check_read(rt, bytes, 0, LE, value, size);
     check_read(rt, bytes, size, BE, value, 2 * size);
 }

@@ -49,11 +49,6 @@ pub fn check_too_big<T: Drop>(
     check_error(rt, outcome, ("TooBig", wanted_size, wanted_len));
 }
 
-// Checks that a call returned this `BadOffset`.
-pub fn check_bad_offset<T: Drop>(rt: &impl Abort, outcome: Result<T>, wanted: usize) {
-    check_error(rt, outcome, ("BadOffset", wanted, 0));
-}
-
 // Checks that a call returned this `BadInput`.
 pub fn check_bad_input<T: Drop>(
     rt: &impl Abort,

@@ -24,8 +24,8 @@ const TEXTS_COMMANDS: [Command<'static>; 9] = [
     Command::Read(Place::At(3), Kind::Bytes(0)),
 ];
 
-static TEXTS: Run<3> = Run {
-    first: ([0x61, 0x62, 0x63], 0),
+static TEXTS: Run = Run {
+    first: (&[0x61, 0x62, 0x63], 0),
     answers: r#"Read(Text("a"))
 Read(Text("c"))
 Refused(BadOffset(4))
@@ -36,7 +36,7 @@ Refused(BadInput { size: 3, msg: "invalid utf8" })
 Read(Bytes([255, 122]))
 Read(Bytes([]))
 "#,
-    last: ([0x61, 0xff, 0x7a], 4),
+    last: (&[0x61, 0xff, 0x7a], 4),
 };
 
 const SLICES_COMMANDS: [Command<'static>; 3] = [
@@ -45,13 +45,13 @@ const SLICES_COMMANDS: [Command<'static>; 3] = [
     Command::Write(HERE, Put::Bytes(&[])),
 ];
 
-static SLICES: Run<4> = Run {
-    first: ([0; 4], 0),
+static SLICES: Run = Run {
+    first: (&[0; 4], 0),
     answers: r#"Wrote(3)
 Refused(TooBig { size: 2, len: 1 })
 Wrote(0)
 "#,
-    last: ([0x61, 0x62, 0x63, 0], 3),
+    last: (&[0x61, 0x62, 0x63, 0], 3),
 };
 
 #[test]
@@ -108,8 +108,8 @@ fn values_of_each_length(rt: HostRuntime) {
     }
 }
 
-static C_STRINGS: Run<4> = Run {
-    first: ([0xff; 4], 0),
+static C_STRINGS: Run = Run {
+    first: (&[0xff; 4], 0),
     answers: r#"Wrote(3)
 Read(CStr([97, 98]))
 Read(CStr([97, 98]))
@@ -117,7 +117,7 @@ Read(CStr([]))
 Refused(TooBig { size: 3, len: 1 })
 Refused(BadInput { size: 0, msg: "The input doesn't contain a null byte" })
 "#,
-    last: ([0x61, 0x62, 0, 0xff], 3),
+    last: (&[0x61, 0x62, 0, 0xff], 3),
 };
 
 #[test]
@@ -142,15 +142,15 @@ const LEB128_COMMANDS: [Command<'static>; 5] = [
     Command::Read(Place::At(0), Kind::Number(Width::U16, BE)),
 ];
 
-static LEB128: Run<5> = Run {
-    first: ([0x80, 0x00, 0xff, 0x7e, 0x80], 0),
+static LEB128: Run = Run {
+    first: (&[0x80, 0x00, 0xff, 0x7e, 0x80], 0),
     answers: r#"Read(Uleb(Uleb128 { value: 0, count: 2 }))
 Read(Sleb(Sleb128 { value: -129, count: 2 }))
 Refused(TooBig { size: 1, len: 0 })
 Refused(TooBig { size: 1, len: 0 })
 Read(Unsigned(32768))
 "#,
-    last: ([0x80, 0x00, 0xff, 0x7e, 0x80], 4),
+    last: (&[0x80, 0x00, 0xff, 0x7e, 0x80], 4),
 };
 
 const NO_NUMBER_COMMANDS: [Command<'static>; 2] = [
@@ -158,12 +158,12 @@ const NO_NUMBER_COMMANDS: [Command<'static>; 2] = [
     Command::Read(HERE, Kind::Sleb),
 ];
 
-static NO_NUMBER: Run<10> = Run {
-    first: ([0x80; 10], 0),
+static NO_NUMBER: Run = Run {
+    first: (&[0x80; 10], 0),
     answers: r#"Refused(BadInput { size: 10, msg: "failed to parse" })
 Refused(BadInput { size: 10, msg: "failed to parse" })
 "#,
-    last: ([0x80; 10], 0),
+    last: (&[0x80; 10], 0),
 };
 
 #[test]
@@ -172,8 +172,8 @@ fn numbers_in_leb128(rt: HostRuntime) {
     check_run(&rt, rt.alloc(), &NO_NUMBER_COMMANDS, &NO_NUMBER);
 }
 
-static LEB128_WRITTEN: Run<10> = Run {
-    first: ([0xee; 10], 0),
+static LEB128_WRITTEN: Run = Run {
+    first: (&[0xee; 10], 0),
     answers: r#"Wrote(2)
 Wrote(1)
 Wrote(2)
@@ -185,7 +185,7 @@ Wrote(2)
 Read(Uleb(Uleb128 { value: 0, count: 2 }))
 Read(Sleb(Sleb128 { value: -1, count: 2 }))
 "#,
-    last: ([0x80, 0, 0, 0xff, 0x7f, 0x7f, 0xc0, 0, 0xee, 0xee], 8),
+    last: (&[0x80, 0, 0, 0xff, 0x7f, 0x7f, 0xc0, 0, 0xee, 0xee], 8),
 };
 
 fn write_unsigned(place: Place, value: u64) -> Command<'static> {
@@ -223,8 +223,8 @@ const ARRAYS_READ_COMMANDS: [Command<'static>; 7] = [
     Command::Read(Place::At(4), Kind::Textx2(StrCtx::Length(2))),
 ];
 
-static ARRAYS_READ: Run<7> = Run {
-    first: ([1, 0, 2, 0, 0, 0x61, 0], 0),
+static ARRAYS_READ: Run = Run {
+    first: (&[1, 0, 2, 0, 0, 0x61, 0], 0),
     answers: r#"Read(U16x3([1, 2, 24832]))
 Refused(TooBig { size: 2, len: 1 })
 Read(Textx2("a", ""))
@@ -233,7 +233,7 @@ Read(U8x0)
 Refused(BadOffset(8))
 Refused(TooBig { size: 2, len: 1 })
 "#,
-    last: ([1, 0, 2, 0, 0, 0x61, 0], 6),
+    last: (&[1, 0, 2, 0, 0, 0x61, 0], 6),
 };
 
 const ARRAYS_WRITTEN_COMMANDS: [Command<'static>; 3] = [
@@ -242,13 +242,13 @@ const ARRAYS_WRITTEN_COMMANDS: [Command<'static>; 3] = [
     Command::Write(HERE, Put::Bytesx2(&[5], &[6, 7])),
 ];
 
-static ARRAYS_WRITTEN: Run<5> = Run {
-    first: ([0; 5], 0),
+static ARRAYS_WRITTEN: Run = Run {
+    first: (&[0; 5], 0),
     answers: r#"Refused(TooBig { size: 2, len: 1 })
 Refused(TooBig { size: 2, len: 1 })
 Wrote(3)
 "#,
-    last: ([5, 6, 7, 7, 0], 3),
+    last: (&[5, 6, 7, 7, 0], 3),
 };
 
 #[test]

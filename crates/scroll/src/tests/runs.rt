@@ -18,13 +18,18 @@ const WHOLE: Place = Place::At(0);
 const HERE: Place = Place::Cursor;
 
 // The buffer and the cursor before a run, the answers of its commands, a printed line each, and the
-// buffer and the cursor after it.
+// buffer and the cursor after it. A buffer has ten bytes at most.
 #[derive(Clone, Copy)]
-pub struct Run<const N: usize> {
-    pub first: ([u8; N], usize),
+pub struct Run {
+    pub first: State,
     pub answers: &'static str,
-    pub last: ([u8; N], usize),
+    pub last: State,
 }
+
+type State = (&'static [u8], usize);
+
+// Whether all commands of a run ran, and the buffer, with zeros after it, and the cursor then.
+type Left = (bool, [u8; 10], usize);
 
 // Runs the commands, and returns whether all of them ran. Expects that only a lack of memory ends
 // the run before.
@@ -49,63 +54,82 @@ fn print_answers(answers: &[Answer]) -> ArrayString<512> {
     printed
 }
 
-// Returns the buffer and the cursor that a run of these commands leaves, if all of them run.
-fn left_by<const N: usize>(
+// Returns a buffer with zeros after it.
+fn padded(rt: &impl Abort, bytes: &[u8]) -> [u8; 10] {
+    assert!(rt; bytes.len() <= 10);
+    let mut room = [0u8; 10];
+    room[..bytes.len()].copy_from_slice(bytes);
+    room
+}
+
+// Runs the commands, and returns what that leaves.
+fn leave(
     rt: &impl Abort,
     alloc: Global,
-    first: &([u8; N], usize),
+    first: State,
     commands: &[Command<'_>],
-) -> Option<([u8; N], usize)> {
-    let (mut buffer, mut cursor) = *first;
+    answers: &mut Vec<Answer>,
+) -> Left {
+    let (bytes, mut cursor) = first;
+    let mut room = padded(rt, bytes);
+    let buffer = room.get_mut(..bytes.len()).unwrap_or_default();
+    let is_run = run_all(rt, alloc, buffer, &mut cursor, commands, answers);
+    (is_run, room, cursor)
+}
+
+fn left_by(rt: &impl Abort, alloc: Global, first: State, commands: &[Command<'_>]) -> Left {
     let mut answers = Vec::new(alloc);
-    run_all(rt, alloc, &mut buffer, &mut cursor, commands, &mut answers).then_some((buffer, cursor))
+    leave(rt, alloc, first, commands, &mut answers)
 }
 
 // Runs the commands with these answers before theirs, and expects answers that are all printed as
 // the run says. After an allocation failure it expects what the first commands alone return and
 // leave, and that a second run of all commands succeeds, since at most one allocation fails.
-fn check_run_behind<const N: usize>(
+fn check_run_behind(
     rt: &impl Abort,
     alloc: Global,
     answers: &mut Vec<Answer>,
     commands: &[Command<'_>],
-    run: &Run<N>,
+    run: &Run,
 ) {
     let before = answers.len();
-    let (mut buffer, mut cursor) = run.first;
-    if run_all(rt, alloc, &mut buffer, &mut cursor, commands, answers) {
+    let left = leave(rt, alloc, run.first, commands, answers);
+    if left.0 {
         check_eq(rt, print_answers(answers).as_str(), run.answers);
-        check_eq(rt, (buffer, cursor), run.last);
+        check_whole(rt, left, run);
     } else {
         let count = answers.len().wrapping_sub(before);
-        check_part(rt, alloc, commands, run, count, (buffer, cursor));
+        check_part(rt, alloc, commands, run, count, left);
         assert!(rt; run.answers.starts_with(print_answers(answers).as_str()));
     }
 }
 
+// Checks that all commands ran, and what they left.
+fn check_whole(rt: &impl Abort, left: Left, run: &Run) {
+    let (bytes, cursor) = run.last;
+    check_eq(rt, left, (true, padded(rt, bytes), cursor));
+}
+
 // Checks that fewer than all commands ran, that a run of as many leaves this buffer and this
 // cursor, and that all run then.
-fn check_part<const N: usize>(
+fn check_part(
     rt: &impl Abort,
     alloc: Global,
     commands: &[Command<'_>],
-    run: &Run<N>,
+    run: &Run,
     count: usize,
-    left: ([u8; N], usize),
+    left: Left,
 ) {
     assert!(rt; count < commands.len());
     let part = &commands[..count];
-    check_eq(rt, left_by(rt, alloc, &run.first, part), Some(left));
-    check_eq(rt, left_by(rt, alloc, &run.first, commands), Some(run.last));
+    let (_, buffer, cursor) = left;
+    let wanted = (true, buffer, cursor);
+    check_eq(rt, left_by(rt, alloc, run.first, part), wanted);
+    check_whole(rt, left_by(rt, alloc, run.first, commands), run);
 }
 
 // Runs the commands, and expects these answers, as `check_run_behind` does.
-pub fn check_run<const N: usize>(
-    rt: &impl Abort,
-    alloc: Global,
-    commands: &[Command<'_>],
-    run: &Run<N>,
-) {
+pub fn check_run(rt: &impl Abort, alloc: Global, commands: &[Command<'_>], run: &Run) {
     check_run_behind(rt, alloc, &mut Vec::new(alloc), commands, run);
 }
 
@@ -122,8 +146,8 @@ const FOUR_NUMBERS_COMMANDS: [Command<'static>; 10] = [
     Command::Write(WHOLE, Put::Number(Number::U8(255), BE)),
 ];
 
-static FOUR_NUMBERS: Run<8> = Run {
-    first: ([0; 8], 5),
+static FOUR_NUMBERS: Run = Run {
+    first: (&[0; 8], 5),
     answers: r#"Wrote(8)
 Read(Unsigned(578437695752307201))
 Refused(TooBig { size: 4, len: 2 })
@@ -135,7 +159,7 @@ Wrote(4)
 Read(Unsigned(714))
 Wrote(1)
 "#,
-    last: ([255, 2, 0xca, 0xfe, 1, 0, 0, 0], 5),
+    last: (&[255, 2, 0xca, 0xfe, 1, 0, 0, 0], 5),
 };
 
 #[test]
@@ -155,8 +179,8 @@ const AT_THE_CURSOR_COMMANDS: [Command<'static>; 9] = [
     Command::Read(HERE, Kind::Number(Width::U8, BE)),
 ];
 
-static AT_THE_CURSOR: Run<8> = Run {
-    first: ([0; 8], 0),
+static AT_THE_CURSOR: Run = Run {
+    first: (&[0; 8], 0),
     answers: r#"Wrote(4)
 Read(Unsigned(0))
 Refused(TooBig { size: 8, len: 3 })
@@ -167,7 +191,7 @@ Wrote(1)
 Read(Signed(-2))
 Refused(TooBig { size: 1, len: 0 })
 "#,
-    last: ([0x48, 0xf4, 0xff, 0xff, 0, 0xff, 0xff, 0xfe], 8),
+    last: (&[0x48, 0xf4, 0xff, 0xff, 0, 0xff, 0xff, 0xfe], 8),
 };
 
 const PAST_THE_END_COMMANDS: [Command<'static>; 2] = [
@@ -175,12 +199,12 @@ const PAST_THE_END_COMMANDS: [Command<'static>; 2] = [
     Command::Write(HERE, Put::Number(Number::U128(0), LE)),
 ];
 
-static PAST_THE_END: Run<1> = Run {
-    first: ([1], usize::MAX),
+static PAST_THE_END: Run = Run {
+    first: (&[1], usize::MAX),
     answers: r#"Refused(BadOffset(18446744073709551615))
 Refused(BadOffset(18446744073709551615))
 "#,
-    last: ([1], usize::MAX),
+    last: (&[1], usize::MAX),
 };
 
 #[test]
@@ -189,10 +213,10 @@ fn numbers_at_the_cursor(rt: HostRuntime) {
     check_run(&rt, rt.alloc(), &PAST_THE_END_COMMANDS, &PAST_THE_END);
 }
 
-static NO_COMMANDS: Run<2> = Run {
-    first: ([7; 2], usize::MAX),
+static NO_COMMANDS: Run = Run {
+    first: (&[7; 2], usize::MAX),
     answers: "",
-    last: ([7; 2], usize::MAX),
+    last: (&[7; 2], usize::MAX),
 };
 
 #[test]
@@ -221,11 +245,11 @@ const COMMANDS: [Command<'static>; 3] = [
 
 // The buffer 61 00 00 and the cursor 0, after none of these commands, after the first, after two
 // and after all three.
-static LEFT: [([u8; 3], usize); 4] = [
-    ([0x61, 0, 0], 0),
-    ([0x62, 0, 0], 1),
-    ([0x62, 0, 0], 2),
-    ([0x62, 0, 0], 2),
+static LEFT: [State; 4] = [
+    (&[0x61, 0, 0], 0),
+    (&[0x62, 0, 0], 1),
+    (&[0x62, 0, 0], 2),
+    (&[0x62, 0, 0], 2),
 ];
 
 // Returns the answers from `start` to 3.

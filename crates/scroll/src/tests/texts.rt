@@ -5,7 +5,7 @@ use crate::tests::reads::{
     check_bulk, check_default_read, check_default_write, check_no_default_read,
     check_no_default_write, check_no_read, check_read,
 };
-use crate::tests::results::check_eq;
+use crate::tests::results::{Parts, check_eq};
 use crate::{BE, LE, Pread, Result};
 use std::alloc::Global;
 use std::process::Abort;
@@ -116,31 +116,22 @@ fn pread_str_weird(rt: HostRuntime) {
 
 #[test]
 fn texts_at_the_cursor(rt: HostRuntime) {
-    let rt = &rt;
     for &(bytes, from, ctx, wanted, to) in &READ {
-        check_read(rt, bytes, from, ctx, wanted, to);
+        check_read(&rt, bytes, from, ctx, wanted, to);
     }
 }
 
+static REFUSED: [(&[u8], StrCtx, Parts<'static>); 3] = [
+    (b"a\0c", StrCtx::DelimiterUntil(NULL, 4), ("TooBig", 4, 3)),
+    (b"\xffa\0", StrCtx::Delimiter(NULL), ("invalid utf8", 3, 0)),
+    (b"\xc3\xa9", StrCtx::Length(1), ("invalid utf8", 2, 0)),
+];
+
 #[test]
 fn refused_texts(rt: HostRuntime) {
-    let rt = &rt;
-    let limit = StrCtx::DelimiterUntil(NULL, 4);
-    check_no_read::<&str, _>(rt, b"a\0c", 0, limit, ("TooBig", 4, 3));
-    check_no_read::<&str, _>(
-        rt,
-        b"\xffa\0",
-        0,
-        StrCtx::Delimiter(NULL),
-        ("invalid utf8", 3, 0),
-    );
-    check_no_read::<&str, _>(
-        rt,
-        b"\xc3\xa9",
-        0,
-        StrCtx::Length(1),
-        ("invalid utf8", 2, 0),
-    );
+    for &(bytes, ctx, error) in &REFUSED {
+        check_no_read::<&str, _>(&rt, bytes, 0, ctx, error);
+    }
 }
 
 #[test]
@@ -314,17 +305,23 @@ const REQUIRED: StrCtx = StrCtx::Required(0);
 
 const MISSING: &str = "missing delimiter";
 
+// Bytes with no string at an offset, and the error of its read.
+static NOT_DELIMITED: [(&[u8], usize, Parts<'static>); 4] = [
+    (b"ab\0", 3, (MISSING, 0, 0)),
+    (b"ab", 0, (MISSING, 2, 0)),
+    (b"\xffa", 0, (MISSING, 2, 0)),
+    (b"\xff\0", 0, ("invalid utf8", 2, 0)),
+];
+
 #[test]
 fn texts(rt: HostRuntime) {
     let rt = &rt;
     check_eq(rt, (REQUIRED.len(), REQUIRED.is_empty()), (1, false));
-    let source: &[u8] = b"ab\0";
-    check_read(rt, source, 0, REQUIRED, "ab", 3);
-    check_no_read::<&str, _>(rt, source, 3, REQUIRED, (MISSING, 0, 0));
-    check_no_read::<&str, _>(rt, b"ab", 0, REQUIRED, (MISSING, 2, 0));
+    check_read(rt, b"ab\0", 0, REQUIRED, "ab", 3);
     check_read(rt, b"ab", 0, StrCtx::Delimiter(0), "ab", 3);
-    check_no_read::<&str, _>(rt, b"\xffa", 0, REQUIRED, (MISSING, 2, 0));
-    check_no_read::<&str, _>(rt, b"\xff\0", 0, REQUIRED, ("invalid utf8", 2, 0));
+    for &(bytes, from, error) in &NOT_DELIMITED {
+        check_no_read::<&str, _>(rt, bytes, from, REQUIRED, error);
+    }
 }
 
 #[test]

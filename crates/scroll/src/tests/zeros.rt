@@ -2,9 +2,7 @@
 ghost use Rattle.std.specs.Prelude.{◌<◌};
 
 use crate::ctx::Zeros;
-use crate::tests::results::{
-    check_bad_input, check_bad_offset, check_eq, check_too_big, check_value,
-};
+use crate::tests::results::{check_bad_input, check_eq, check_error, check_too_big, check_value};
 use crate::{Pread, slice};
 use std::process::Abort;
 
@@ -39,7 +37,8 @@ fn zeros_for_which_there_is_no_room(rt: HostRuntime) {
     check_too_big(rt, slice::pwrite_with(&mut bytes, Zeros, 1, 5), 5, 4);
     check_too_big(rt, slice::pwrite_with(&mut bytes, Zeros, 1, 6), 6, 4);
     check_too_big(rt, slice::pwrite_with(&mut bytes, Zeros, 1, most), most, 4);
-    check_bad_offset(rt, slice::pwrite_with(&mut bytes, Zeros, 6, 0), 6);
+    let past = slice::pwrite_with(&mut bytes, Zeros, 6, 0);
+    check_error(rt, past, ("BadOffset", 6, 0));
     check_eq(rt, bytes, [9, 9, 9, 9, 9]);
 }
 
