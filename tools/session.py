@@ -56,18 +56,20 @@ UNUSED_WORDS = """
 ROOTS = ("lib.rt", "main.rt", "Lib.antt")
 # The copy is one crate, in which the library is a module, since its proof takes less time than two proofs and the build of a
 # library between them. So files of the library get other paths, their modules other names, and three files of the program a line.
+# (rattle proves functions in the order of their names. With the library's first, of which the others call some, it takes a round less.)
 PROGRAM = Path("crates") / "scroll_run"
-PATHS = {"src/lib.rt": "src/scroll.rt", "specs/Lib.antt": "specs/scroll.antt"}
+MODULE = "a_scroll"
+PATHS = {"src/lib.rt": f"src/{MODULE}.rt", "specs/Lib.antt": f"specs/{MODULE}.antt"}
 NAMES = {
-    r"\bRattle\.scroll\.specs\.declared\.": "Rattle.scroll_run.specs.declared.scroll.",
+    r"\bRattle\.scroll\.specs\.declared\.": f"Rattle.scroll_run.specs.declared.{MODULE}.",
     r"\bRattle\.scroll\.proofs\.lemmas\b": "Rattle.scroll_run.proofs.lemmas",
-    r"\bRattle\.scroll\.(specs|proofs)\b": r"Rattle.scroll_run.\1.scroll",
+    r"\bRattle\.scroll\.(specs|proofs)\b": rf"Rattle.scroll_run.\1.{MODULE}",
 }
 ITEMS = {"scroll": r"\bcrate::(?!proofs::)", "scroll_run": r"(?<![\w:.])scroll::"}
-LINES = {"src/main.rt": "mod scroll;\n", "specs/Lib.antt": "pub mod scroll\n", "proofs/Lib.antt": "pub mod lemmas\n"}
+LINES = {"src/main.rt": f"mod {MODULE};\n", "specs/Lib.antt": f"pub mod {MODULE}\n", "proofs/Lib.antt": "pub mod lemmas\n"}
 # A first guess of the seconds that the proof takes, and its share until the first functions are counted.
-GUESS = 165
-FIRST_SHARE = 0.58
+GUESS = 170
+FIRST_SHARE = 0.5
 FAR = re.compile(r"^(?:so far: |checked .*, )(\d+) of (\d+)\b")
 PAUSE = 10
 
@@ -108,12 +110,12 @@ def path_in_copy(crate: str, part: str, path: Path) -> Path:
     """The path that a file of a crate has in the copy's crate."""
     if crate == "scroll_run" or (part, path.parts[0].partition(".")[0]) == ("proofs", "lemmas"):
         return Path(part) / path
-    return Path(PATHS.get(f"{part}/{path}") or Path(part) / "scroll" / path)
+    return Path(PATHS.get(f"{part}/{path}") or Path(part) / MODULE / path)
 
 
 def text_in_copy(crate: str, path: Path, text: str) -> str:
     """The text that a file of a crate has in the copy's crate."""
-    for old, new in {**NAMES, ITEMS[crate]: "crate::scroll::"}.items():
+    for old, new in {**NAMES, ITEMS[crate]: f"crate::{MODULE}::"}.items():
         text = re.sub(old, new, text)
     return text.replace("#![tactic(auto)]\n", "") if crate == "scroll" else text + LINES.get(str(path), "")
 
