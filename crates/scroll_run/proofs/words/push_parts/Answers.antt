@@ -1,4 +1,4 @@
-use Rattle.std.proofs.Common.{rules, tests, ap, ◌==◌, ◌++◌, ◌∷◌, [], ◌∙◌, arith, append_assoc, length-append}
+use Rattle.std.proofs.Common.{rules, tests, ap, ◌==◌, ◌++◌, ◌∙◌, arith}
 use Rattle.std.proofs.lemmas.Iterator.Consumers.{YieldsList-end, YieldsList-turn}
 use Rattle.std.proofs.lemmas.Iterator.Splits.{YieldsList-from_slice_split}
 use Rattle.std.proofs.lemmas.List.{map-append}
@@ -28,13 +28,3 @@ returns-in_err-push-clause-full c =
     let capacity = c.loop-part.invariant.capacity in
     let p = err_from_is_err_and c.from_residual.result c.from_residual.ensures.1 in
     rw p.1 (omega (arith, turn.0))
-
-pub loop-part-preserved : goal.loop-part-preserved
-loop-part-preserved c =
-    let pushed = c.in_ok-push.ensures in
-    let part = c.in-Some.part ∷ [] in
-    record {
-      items = pushed.items ∙ ap (λ parts. parts ++ part) c.loop-part.invariant.items ∙ append_assoc c.args.parts.now.items c.loop-part.yielded part;
-      len = omega (arith, pushed.len, c.loop-part.invariant.len, length-append c.loop-part.yielded part);
-      capacity = omega (arith, pushed.capacity, c.loop-part.invariant.capacity);
-    }
