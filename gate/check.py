@@ -17,14 +17,13 @@ Several of these words may be given; .ci/run gives `all verdict`. The steps are:
     clients.py      each client of the library, proved and tested as a crate of its own
     prove.sh        what tools/derive/derive.sh prints for the structs of tools/derive/shapes/, proved and tested likewise
     embed.py        the library of embed/ in C and Python, and in Rust where cargo is, on real files and on damaged ones
-    depending.py    a repository that depends on the library, made by README's lines
+    depending.py    a repository that depends on the library, made by README's lines; with `first`, README's first command
     misuse.py       what must not compile
     sessions.py     the stored sessions, whole and with their buffers cut, by the program that was proved
     limits.py       long inputs, at which that program must not run out of memory
     faults.py       the sessions and the tests where memory is refused and streams fail, by what was proved
     compare/run.sh  random sessions and calls beside the Rust crate, where cargo finds it
     edits.py        the edits, many in one check; limits.py --edits, those that only long inputs and tests tell
-    depending.py first
 
 Steps run side by side, and a step starts when those that it needs have ended. In all they have two jobs more than there are
 workers (gate/step.py), since parts of a check run on one processor. The tests of the library and rt ci run in copies of

@@ -56,7 +56,7 @@ UNUSED_WORDS = """
 ROOTS = ("lib.rt", "main.rt", "Lib.antt")
 # The copy is one crate, in which the library is a module, since its proof takes less time than two proofs and the build of a
 # library between them. So files of the library get other paths, their modules other names, and three files of the program a line.
-# (rattle proves functions in the order of their names. With the library's first, of which the others call some, it takes a round less.)
+# (rattle proves functions in rounds, in the order of their names. By this name of the module there is a round less than by `scroll`.)
 PROGRAM = Path("crates") / "scroll_run"
 MODULE = "a_scroll"
 PATHS = {"src/lib.rt": f"src/{MODULE}.rt", "specs/Lib.antt": f"specs/{MODULE}.antt"}
@@ -167,11 +167,10 @@ class Clock:
     def read(self, line: str) -> None:
         """Reads off a line how far the proof is."""
         found = FAR.search(line)
-        if found:
-            if not self.done and found[1] != "0":
+        if found and found[1] != "0":
+            if not self.done:
                 self.whole = (time.time() - self.begun) / FIRST_SHARE
-            if found[1] != "0":
-                self.done = f"{found[1]} of {found[2]} functions are proved"
+            self.done = f"{found[1]} of {found[2]} functions are proved"
         if line.startswith("rt: running"):
             self.ended.set()
 
