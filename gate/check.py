@@ -23,7 +23,8 @@ Several of these words may be given; .ci/run gives `all verdict`. The steps are:
     limits.py       long inputs, at which that program must not run out of memory
     faults.py       the sessions and the tests where memory is refused and streams fail, by what was proved
     compare/run.sh  random sessions and calls beside the Rust crate, where cargo finds it
-    edits.py        the edits, many in one check; limits.py --edits, those that only long inputs and tests tell
+    edits.py        the edits, many in one check; embed.py edits, those of embed/; limits.py --edits, those that only long inputs
+                    and tests tell
 
 Steps run side by side, and a step starts when those that it needs have ended. In all they have two jobs more than there are
 workers (gate/step.py), since parts of a check run on one processor. The tests of the library and rt ci run in copies of
@@ -205,7 +206,7 @@ def list_steps(groups: Sequence[str], workers: int, anew: str) -> List[Step]:
         steps.append(Step("sh compare/run.sh --gate", 1, (program,)))
     if "edits" in groups:
         steps.append(Step("python3 gate/edits.py", workers, tuple(it.command for it in steps if it.jobs)))
-        steps.append(Step("python3 gate/limits.py --edits", 1, ("python3 gate/edits.py",)))
+        steps += [Step(f"python3 gate/{it}", 1, ("python3 gate/edits.py",)) for it in ("embed.py edits", "limits.py --edits")]
     if "first" in groups:
         steps.append(Step("python3 gate/depending.py first", workers, tuple(it.command for it in steps if it.jobs)))
     return steps

@@ -2,14 +2,16 @@
 """Makes the library of embed/ for C, Rust and Python, and tries it in each:
 
     python3 gate/embed.py [COUNT]
+    python3 gate/embed.py edits
 
 The proved crate of embed/scroll_formats has the layout of `rt fmt`. embed/list.c, compiled with warnings as errors, with sanitizers
 and without, and the Python module read real files, and say what `readelf`, `zipinfo` and Python's `zipfile` say; the module writes
 an archive again as it was. embed/damage.c, with sanitizers, compares the answers for COUNT files that are cut and damaged (5,000),
 in four threads, and tries the arguments that the border refuses and memory that is refused; a few files are read under the
 sanitizer of threads. cargo runs the Rust crate's documentation tests, one of which must not compile. `nm` finds no names in the
-libraries but those of the header, and nothing that is written there. The command refuses the exports that make no library, and the
-prover a bug in each function (gate/edits.py says how edits are judged).
+libraries but those of the header, and nothing that is written there. The command refuses the exports that make no library. With
+`edits` the prover refuses a bug in each function (gate/edits.py says how edits are judged), in the workspace in embed/out/, where the
+library was made before.
 
 Without a C compiler all is skipped; without `readelf`, `zipinfo` or cargo, what needs it.
 """
@@ -28,6 +30,7 @@ from edit_judge import Judge, parse
 from step import TOP, Step, Stop, count_workers, run_step
 
 sys.path.insert(0, str(TOP / "embed"))
+MADE = TOP / "embed" / "out"
 WARNINGS = ("-std=c11", "-Wall", "-Wextra", "-Werror")
 SANITIZERS = ("-g", "-O1", "-fsanitize=address,undefined", "-fno-sanitize-recover=all")
 DAMAGE = ("-pthread", "-Wl,--wrap=malloc,--wrap=realloc")
@@ -246,23 +249,22 @@ def try_rust(step: Step, out: Path) -> None:
     step.count("the Rust crate", ran.end(40) if ran.status or tests < 4 else None)
 
 
-def work(step: Step, count: int) -> None:
-    cc = os.environ.get("CC", "cc").split()
-    if not shutil.which(cc[0]):
-        step.tell("there is no C compiler, so the library for C, Rust and Python is not tried")
-        step.skipped += 1
-        return
-    import library
-
-    try_refusals(step, library)
-    try_page(step, library)
-    os.environ.setdefault("JOBS", str(count_workers()))
-    out = step.room / "out"
+def make(step: Step, library: Any, out: Path) -> Path:
+    """Makes the library in a new workspace, and returns its crate."""
+    shutil.rmtree(MADE, ignore_errors=True)
     try:
         library.run_lib(TOP / "crates" / "scroll")
-        crate = library.embed_formats(step.room / "tree", out)
+        crate: Path = library.embed_formats(MADE, out)
     except library.Refused as why:
         raise Stop(str(why)) from why
+    return crate
+
+
+def try_library(step: Step, library: Any, cc: List[str], count: int) -> None:
+    try_refusals(step, library)
+    try_page(step, library)
+    out = step.room / "out"
+    crate = make(step, library, out)
     step.count("the layout of embed/scroll_formats", step.layout_fault(crate))
     sample = step.room / "sample.o"
     built = step.run(step.room, *cc, "-g", "-ffunction-sections", "-c", TOP / "bench" / "sample.c", "-o", sample)
@@ -274,8 +276,25 @@ def work(step: Step, count: int) -> None:
     try_names(step, out)
     try_python(step, out, objects, archives)
     try_rust(step, out)
-    try_edits(step, crate, [it.name for it in library.read_crate(crate).exports])
+
+
+def work(step: Step, words: List[str]) -> None:
+    cc = os.environ.get("CC", "cc").split()
+    if not shutil.which(cc[0]):
+        step.tell("there is no C compiler, so the library for C, Rust and Python is not tried")
+        step.skipped += 1
+        return
+    import library
+
+    os.environ.setdefault("JOBS", str(count_workers()))
+    if words == ["edits"]:
+        crate = MADE / "crates" / library.FORMATS
+        if not crate.is_dir():
+            crate = make(step, library, step.room / "out")
+        try_edits(step, crate, [it.name for it in library.read_crate(crate).exports])
+    else:
+        try_library(step, library, cc, int(words[0]) if words else 5000)
 
 
 if __name__ == "__main__":
-    sys.exit(run_step("embed", lambda step: work(step, int(sys.argv[1]) if len(sys.argv) > 1 else 5000)))
+    sys.exit(run_step("embed", lambda step: work(step, sys.argv[1:])))

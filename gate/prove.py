@@ -21,7 +21,7 @@ import time
 from pathlib import Path
 from typing import Callable, List, Optional
 
-from step import TOP, Ran, Step, Stop, check_command, count_workers, run_step, uses_of
+from step import TOP, Ran, Step, Stop, check_command, count_workers, run_step
 
 UNWANTED = re.compile(r"^logic=proved.* (?:main|foreign|hides|partial|bugs|may-abort|may-wait|may-serve)=", re.M)
 
@@ -31,15 +31,21 @@ def prove(step: Step, crate: Path) -> Optional[str]:
 
 
 def prove_anew(step: Step, crate: Path) -> Optional[str]:
+    """Proves a crate from nothing, in the run that builds it. Where `rt` begins with what a check in another checkout on this
+    machine kept, or takes its build, rattle proves it instead."""
     kept = crate / "out" / "incremental"
-    shutil.rmtree(kept, ignore_errors=True)
+    shutil.rmtree(crate / "out", ignore_errors=True)
     kept.mkdir(parents=True)
-    for rlib in uses_of(crate.name).values():
-        if TOP in rlib.parents:
-            ran = step.run(rlib.parents[2], "rt", "lib")
-            if ran.status:
-                return ran.end(40, 300)
-    return proof_fault(step.run(crate, *check_command(crate.name, kept, count_workers())))
+    ran = step.run(crate, "rt", "run" if is_program(crate) else "lib", "--jobs", count_workers())
+    if "begins with what a check kept" in ran.said or not ran.status and "logic=proved" not in ran.said:
+        shutil.rmtree(kept)
+        kept.mkdir()
+        ran = step.run(crate, *check_command(crate.name, kept, count_workers()))
+    return proof_fault(ran)
+
+
+def is_program(crate: Path) -> bool:
+    return (crate / "src" / "main.rt").is_file()
 
 
 def proof_fault(ran: Ran) -> Optional[str]:
@@ -76,14 +82,13 @@ def show(ran: Ran) -> None:
 def try_crate(step: Step, words: List[str]) -> None:
     name = words[0] if words else ""
     crate = TOP / "crates" / name
-    is_program = (crate / "src" / "main.rt").is_file()
-    if not name or not is_program and not (crate / "src" / "lib.rt").is_file():
+    if not name or not is_program(crate) and not (crate / "src" / "lib.rt").is_file():
         raise Stop(f"there is no crate '{name}'")
     if words[1:] not in ([], ["anew"], ["tests"]):
         raise Stop(f"'{' '.join(words[1:])}' is neither `anew` nor `tests`")
     checks: "list[tuple[str, Callable[[Step, Path], Optional[str]]]]" = [("its tests are proved and pass", test)]
     if words[1:] != ["tests"]:
-        last = ("its stored run prints what it must", run_program) if is_program else ("it is built for the crates above it", build)
+        last = ("its stored run prints what it must", run_program) if is_program(crate) else ("it is built for the crates above it", build)
         checks = [("it is laid out by rt fmt", Step.layout_fault), ("it is proved", prove_anew if words[1:] else prove), last]
     for what, check in checks:
         begun = time.time()

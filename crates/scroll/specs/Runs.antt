@@ -158,7 +158,8 @@ abbrev pub RefusesHere : {E : Type 0} → (List ℕ → E → Type 0) → (ℕ �
 RefusesHere refuses past_end buffer cursor at e after =
     RefusesAt refuses past_end buffer (offset_of at cursor) e × (after ≡ cursor)
 
--- a read at an offset fails as the relation of its type says, or there is no memory for its copy
+-- `FailsKind what buffer offset e`: a read of `what` at an offset fails with `e`, as the relation
+-- of its type says, or there is no memory for its copy
 abbrev pub FailsKind : Kind → List ℕ → ℕ → Error → Type 0
 FailsKind what buffer offset e =
     RefusesAt (RefusesKind what) IsBadOffset buffer offset e ⊎ (Copies what × (e ≡ NoMemory))

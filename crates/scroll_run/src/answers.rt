@@ -59,7 +59,7 @@ fn print_value<M: Memory>(memory: M, text: &mut String, value: &Value) -> Result
         (λ _. M.refuses memory) }
 {
     match value {
-        Value::Unsigned(number) => print_line(memory, text, "number", *number),
+        Value::Unsigned(number) => print_line(memory, text, "number", number),
         Value::Signed(number) => print_line(memory, text, "number", number),
         Value::Text(found) => print_bytes_line(memory, text, "text", found.as_bytes()),
         Value::Bytes(found) => print_bytes_line(memory, text, "bytes", found),

@@ -3,7 +3,7 @@
 ghost use Rattle.std.specs.Prelude.{◌<◌};
 
 use crate::tests::reads::{
-    check_bulk, check_default_read, check_default_write, check_gread_gwrite, check_no_default_read,
+    check_bulk, check_default_read, check_default_write, check_both_orders, check_no_default_read,
     check_no_default_write, check_no_slice_write, check_read, check_slice_write,
 };
 use crate::tests::results::{check_eq, check_value};
@@ -60,32 +60,32 @@ fn simple_gread_i64(rt: HostRuntime) {
 
 #[test]
 fn gread_gwrite_i64_1(rt: HostRuntime) {
-    check_gread_gwrite(&rt, &mut [0; 16], 0i64, 8);
+    check_both_orders(&rt, &mut [0; 16], 0i64, 8);
 }
 
 #[test]
 fn gread_gwrite_i64_2(rt: HostRuntime) {
-    check_gread_gwrite(&rt, &mut [0; 16], -1213213211111i64, 8);
+    check_both_orders(&rt, &mut [0; 16], -1213213211111i64, 8);
 }
 
 #[test]
 fn gread_gwrite_i64_3(rt: HostRuntime) {
-    check_gread_gwrite(&rt, &mut [0; 16], -3000i64, 8);
+    check_both_orders(&rt, &mut [0; 16], -3000i64, 8);
 }
 
 #[test]
 fn gread_gwrite_i32_1(rt: HostRuntime) {
-    check_gread_gwrite(&rt, &mut [0; 16], 0i32, 4);
+    check_both_orders(&rt, &mut [0; 16], 0i32, 4);
 }
 
 #[test]
 fn gread_gwrite_i32_2(rt: HostRuntime) {
-    check_gread_gwrite(&rt, &mut [0; 16], -1213213232i32, 4);
+    check_both_orders(&rt, &mut [0; 16], -1213213232i32, 4);
 }
 
 #[test]
 fn gread_gwrite_i32_3(rt: HostRuntime) {
-    check_gread_gwrite(&rt, &mut [0; 16], -3000i32, 4);
+    check_both_orders(&rt, &mut [0; 16], -3000i32, 4);
 }
 
 #[test]

@@ -4,7 +4,7 @@ ghost use Rattle.std.specs.Prelude.{◌≤◌};
 
 use crate::ctx::{FromCtx, IntoCtx, SizeWith, TryFromCtx, TryIntoCtx};
 use crate::tests::reads::{
-    check_bulk, check_gread_gwrite, check_no_read, check_no_write, check_read, check_write,
+    check_bulk, check_both_orders, check_no_read, check_no_write, check_read, check_write,
 };
 use crate::tests::results::{check_eq, check_value, expect_value};
 use crate::tests::streams::{check_ended, put_number, take_number};
@@ -26,32 +26,32 @@ fn gread_f64(rt: HostRuntime) {
 
 #[test]
 fn gread_gwrite_f64_1(rt: HostRuntime) {
-    check_gread_gwrite(&rt, &mut [0; 16], 0.25f64, 8);
+    check_both_orders(&rt, &mut [0; 16], 0.25f64, 8);
 }
 
 #[test]
 fn gread_gwrite_f64_2(rt: HostRuntime) {
-    check_gread_gwrite(&rt, &mut [0; 16], 0.5f64, 8);
+    check_both_orders(&rt, &mut [0; 16], 0.5f64, 8);
 }
 
 #[test]
 fn gread_gwrite_f64_3(rt: HostRuntime) {
-    check_gread_gwrite(&rt, &mut [0; 16], 0.064f64, 8);
+    check_both_orders(&rt, &mut [0; 16], 0.064f64, 8);
 }
 
 #[test]
 fn gread_gwrite_f32_1(rt: HostRuntime) {
-    check_gread_gwrite(&rt, &mut [0; 16], 0.25f32, 4);
+    check_both_orders(&rt, &mut [0; 16], 0.25f32, 4);
 }
 
 #[test]
 fn gread_gwrite_f32_2(rt: HostRuntime) {
-    check_gread_gwrite(&rt, &mut [0; 16], 0.5f32, 4);
+    check_both_orders(&rt, &mut [0; 16], 0.5f32, 4);
 }
 
 #[test]
 fn gread_gwrite_f32_3(rt: HostRuntime) {
-    check_gread_gwrite(&rt, &mut [0; 16], 0.0f32, 4);
+    check_both_orders(&rt, &mut [0; 16], 0.0f32, 4);
 }
 
 // Floats and their bytes, as the Rust crate writes them in big-endian order: zeros of both signs,

@@ -6,7 +6,7 @@ ghost use Rattle.scroll.specs.declared.endian.Endian.TheVariants.{Big};
 
 use crate::ctx::{FromCtx, IntoCtx, SizeWith, TryFromCtx, TryIntoCtx};
 use crate::tests::reads::{
-    check_gread_gwrite, check_no_read, check_no_write, check_read, check_write,
+    check_both_orders, check_no_read, check_no_write, check_read, check_write,
 };
 use crate::tests::results::check_eq;
 use crate::{BE, Cread, Cwrite, Endian, Error, LE};
@@ -14,32 +14,32 @@ use std::process::Abort;
 
 #[test]
 fn pwrite_and_pread_roundtrip_u16(rt: HostRuntime) {
-    check_gread_gwrite(&rt, &mut [0; 16], 0xbeefu16, 2);
+    check_both_orders(&rt, &mut [0; 16], 0xbeefu16, 2);
 }
 
 #[test]
 fn pwrite_and_pread_roundtrip_i16(rt: HostRuntime) {
-    check_gread_gwrite(&rt, &mut [0; 16], 0x7eefi16, 2);
+    check_both_orders(&rt, &mut [0; 16], 0x7eefi16, 2);
 }
 
 #[test]
 fn pwrite_and_pread_roundtrip_u32(rt: HostRuntime) {
-    check_gread_gwrite(&rt, &mut [0; 16], 0xbeefbeefu32, 4);
+    check_both_orders(&rt, &mut [0; 16], 0xbeefbeefu32, 4);
 }
 
 #[test]
 fn pwrite_and_pread_roundtrip_i32(rt: HostRuntime) {
-    check_gread_gwrite(&rt, &mut [0; 16], 0x7eefbeefi32, 4);
+    check_both_orders(&rt, &mut [0; 16], 0x7eefbeefi32, 4);
 }
 
 #[test]
 fn pwrite_and_pread_roundtrip_u64(rt: HostRuntime) {
-    check_gread_gwrite(&rt, &mut [0; 16], 0xbeefbeef7eef7eefu64, 8);
+    check_both_orders(&rt, &mut [0; 16], 0xbeefbeef7eef7eefu64, 8);
 }
 
 #[test]
 fn pwrite_and_pread_roundtrip_i64(rt: HostRuntime) {
-    check_gread_gwrite(&rt, &mut [0; 16], 0x7eefbeef7eef7eefi64, 8);
+    check_both_orders(&rt, &mut [0; 16], 0x7eefbeef7eef7eefi64, 8);
 }
 
 #[test]

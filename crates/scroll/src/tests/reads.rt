@@ -188,7 +188,7 @@ pub fn check_no_default_write<T: TryIntoCtx<Ctx, Error = Error> + Copy, Ctx: Cop
 }
 
 // Writes a number in one order and, after it, in the other, and reads both back.
-pub fn check_gread_gwrite<'a, N>(rt: &impl Abort, bytes: &'a mut [u8; 16], value: N, size: u8)
+pub fn check_both_orders<'a, N>(rt: &impl Abort, bytes: &'a mut [u8; 16], value: N, size: u8)
 where
     N: Copy
         + PartialEq
