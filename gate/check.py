@@ -28,7 +28,7 @@ Several of these words may be given; .ci/run gives `all verdict`. The steps are:
 
 Steps run side by side, and a step starts when those that it needs have ended. In all they have two jobs more than there are
 workers (gate/step.py), since parts of a check run on one processor. The tests of the library and rt ci run in copies of
-their own; rt ci, which nothing waits for, runs at a low priority.
+their own. rt ci proves and runs the tests of both crates too, so beside it prove.py doesn't.
 
 Each crate is proved from nothing once, by prove.py with `anew`: rt check itself would begin with what a check in another
 checkout on this machine kept. The steps after it go on with what that proof keeps, and the copies that they make have its
@@ -62,8 +62,9 @@ WORDS = {"all": ("stands", "edits", "first"), "kept": ("stands",)}
 COUNTS = re.compile(r"(\d+) passed, (\d+) failed(?:, (\d+) skipped)?")
 PROVE = "python3 gate/prove.py scroll"
 PROGRAM = "python3 gate/prove.py scroll_run"
-# A step is a group of processes, which is ended as one. (In a session of its own it would share the processors evenly with the
-# other sessions, whatever its priority.)
+FAULTS = "python3 gate/faults.py"
+TESTS = "crates/scroll/out/scroll_tests"
+# A step is a group of processes, which is ended as one.
 GROUP: Dict[str, Any] = {"process_group": 0} if sys.version_info >= (3, 11) else {"start_new_session": True}
 
 
@@ -125,10 +126,9 @@ class Gate:
     def start(self, step: Step) -> None:
         tree = self.copy_files(step.tree)
         variables = {**os.environ, "WORKERS": str(step.jobs)} if step.jobs else dict(os.environ)
-        command = step.command.split() if step.jobs else ["nice", *step.command.split()]
         begun = time.time()
         process = subprocess.Popen(
-            command,
+            step.command.split(),
             cwd=tree,
             env=variables,
             text=True,
@@ -184,28 +184,31 @@ def list_steps(groups: Sequence[str], workers: int, anew: str) -> List[Step]:
     library, program = PROVE + anew, PROGRAM + anew
     steps = []
     if "verdict" in groups:
-        steps.append(Step("rt ci", 0, tree="verdict"))
+        steps.append(Step("rt ci", 0, tree="verdict", brings=TESTS))
     if "stands" in groups:
         steps += [Step("python3 gate/docs.py", 1), Step("python3 gate/pages.py", 1), Step("sh tools/derive/check.sh", 1)]
         clients = {it: f"python3 gate/clients.py {it}" for it in list_clients()}
         # (embed.py goes on with what the proofs of two clients kept)
         embedded = tuple(clients.pop(it) for it in ("zip", "object_files"))
         # (the longest first, where each has those that wait for it; and most with one job, so that the last leave no processor idle)
+        tested, tests = "rt ci", []
+        if "verdict" not in groups:
+            tested = f"{PROVE} tests"
+            tests = [Step(tested, half, (library,), "tests", TESTS), Step(f"{PROGRAM} tests", 1, (program,))]
         steps += [
             Step(library, workers),
-            Step(f"{PROVE} tests", half, (library,), "tests", "crates/scroll/out/scroll_tests"),
+            *tests,
             Step("sh tools/derive/prove.sh", half, (library,)),
             *(Step(it, 1, (library,)) for it in (embedded[0], program, embedded[1])),
             Step("python3 gate/embed.py", 1, embedded),
             *(Step(it, 1, (library,)) for it in clients.values()),
-            Step(f"{PROGRAM} tests", 1, (program,)),
-            Step("python3 gate/faults.py", half, (program, f"{PROVE} tests")),
+            Step(FAULTS, half, (program, tested)),
             Step("python3 gate/misuse.py", 1, (library,)),
             *(Step(f"python3 gate/{it}.py", 1, (program,)) for it in ("depending", "sessions", "limits")),
         ]
         steps.append(Step("sh compare/run.sh --gate", 1, (program,)))
     if "edits" in groups:
-        steps.append(Step("python3 gate/edits.py", workers, tuple(it.command for it in steps if it.jobs)))
+        steps.append(Step("python3 gate/edits.py", workers, tuple(it.command for it in steps if it.jobs and it.command != FAULTS)))
         steps += [Step(f"python3 gate/{it}", 1, ("python3 gate/edits.py",)) for it in ("embed.py edits", "limits.py --edits")]
     if "first" in groups:
         steps.append(Step("python3 gate/depending.py first", workers, tuple(it.command for it in steps if it.jobs)))

@@ -4,8 +4,9 @@ the examples of the library's documentation. With `first`, runs the program by R
 
     python3 gate/depending.py [first]
 
-The commands and the files are README's own blocks. What `rt test` prints last must be README's text. The examples of the
-documentation are the tests of the crate `documented`, which gate/documented.py makes and `rt try` runs without a proof.
+The commands and the files are README's own blocks, and one check proves the first file with the reader of its format. What `rt test`
+prints last must be README's text. The examples of the documentation are the tests of the crate `documented`, which
+gate/documented.py makes and `rt try` runs without a proof.
 
 The library is proved in this repository first, by `rt lib` over what its out/ keeps, and its build is then copied too, so that
 it isn't proved twice; with FROM_NOTHING=1 it is proved only in the new repository. The first command proves a crate of its own, which
@@ -77,24 +78,20 @@ def work(step: Step) -> None:
     copied = copied and not any((scroll / it).exists() for it in LEFT_OUT)
     count(step, "copy the library", not ran.status and copied, ran)
 
-    root = first / "src" / "lib.rt"
-    root.write_text(blocks_of("rust", FIRST)[0])
     if os.environ.get("FROM_NOTHING") != "1":
         ran = step.run(TOP / "crates" / "scroll", "rt", "lib")
         if not ran.status:
             copy_kept(TOP / "crates" / "scroll" / "out", scroll / "out", ["incremental"])
         count(step, "build the library", not ran.status, ran)
-    ran = step.run(first, "rt", "test")
-    count(step, "prove and run the first file", not ran.status and ran.said.endswith(blocks_of("text", FIRST)[0]), ran)
-
     struct, reader = blocks_of("rust", OWN)
     (first / "src" / "wav.rt").write_text(struct)
     ran = step.run(own, "sh", "-euc", blocks_of("sh", OWN)[0], env=shell)
     count(step, "derive a format", not ran.status, ran)
-    head, _, rest = root.read_text().partition("\n\n")
-    root.write_text(f"{head}\n\n{reader}\n{rest}")
-    ran = step.run(first, "rt", "check")
-    count(step, "prove its reader", not ran.status, ran)
+    head, _, rest = blocks_of("rust", FIRST)[0].partition("\n\n")
+    (first / "src" / "lib.rt").write_text(f"{head}\n\n{reader}\n{rest}")
+    ran = step.run(first, "rt", "test")
+    count(step, "prove and run the first file", not ran.status and ran.said.endswith(blocks_of("text", FIRST)[0]), ran)
+    count(step, "prove its reader", not ran.status and "\nfn first::sample_rate: proved\n" in ran.said, ran)
 
     examples = own / "crates" / "documented"
     (examples / "src").mkdir(parents=True)
