@@ -17,7 +17,8 @@ Several of these words may be given; .ci/run gives `all verdict`. The steps are:
     clients.py      each client of the library, proved and tested as a crate of its own
     prove.sh        what tools/derive/derive.sh prints for the structs of tools/derive/shapes/, proved and tested likewise
     embed.py        the library of embed/ in C and Python, and in Rust where cargo is, on real files and on damaged ones
-    depending.py    a repository that depends on the library, made by README's lines; with `first`, README's first command
+    depending.py    a repository that depends on the library, made by README's lines; `unproved`, the documentation's examples,
+                    and what README's first command proves, read; `first`, that command
     misuse.py       what must not compile
     sessions.py     the stored sessions, whole and with their buffers cut, by the program that was proved
     limits.py       long inputs, at which that program must not run out of memory
@@ -186,7 +187,9 @@ def list_steps(groups: Sequence[str], workers: int, anew: str) -> List[Step]:
     if "verdict" in groups:
         steps.append(Step("rt ci", 0, tree="verdict", brings=TESTS))
     if "stands" in groups:
-        steps += [Step("python3 gate/docs.py", 1), Step("python3 gate/pages.py", 1), Step("sh tools/derive/check.sh", 1)]
+        # (beside the library's proof, which leaves processors idle)
+        early = ("python3 gate/depending.py unproved", "python3 gate/docs.py", "python3 gate/pages.py", "sh tools/derive/check.sh")
+        steps += [Step(library, workers), *(Step(it, 1) for it in early)]
         clients = {it: f"python3 gate/clients.py {it}" for it in list_clients()}
         # (embed.py goes on with what the proofs of two clients kept)
         embedded = tuple(clients.pop(it) for it in ("zip", "object_files"))
@@ -196,7 +199,6 @@ def list_steps(groups: Sequence[str], workers: int, anew: str) -> List[Step]:
             tested = f"{PROVE} tests"
             tests = [Step(tested, half, (library,), "tests", TESTS), Step(f"{PROGRAM} tests", 1, (program,))]
         steps += [
-            Step(library, workers),
             *tests,
             Step("sh tools/derive/prove.sh", half, (library,)),
             *(Step(it, 1, (library,)) for it in (embedded[0], program, embedded[1])),

@@ -1,12 +1,13 @@
 #!/usr/bin/env python3
-"""Does what README says: in an empty folder copies the library, pastes the first file, derives a format, and proves it all; and runs
-the examples of the library's documentation. With `first`, runs the program by README's first command.
+"""Does what README says.
 
-    python3 gate/depending.py [first]
+    python3 gate/depending.py             in an empty folder copies the library, pastes the first file, derives a format, and proves it all
+    python3 gate/depending.py unproved    what needs no proof: runs the examples of the documentation, and reads what the first command proves
+    python3 gate/depending.py first       runs the program by the first command, from nothing
 
 The commands and the files are README's own blocks, and one check proves the first file with the reader of its format. What `rt test`
 prints last must be README's text. The examples of the documentation are the tests of the crate `documented`, which
-gate/documented.py makes and `rt try` runs without a proof.
+gate/documented.py makes and `rt try` runs.
 
 The library is proved in this repository first, by `rt lib` over what its out/ keeps, and its build is then copied too, so that
 it isn't proved twice; with FROM_NOTHING=1 it is proved only in the new repository. The first command proves a crate of its own, which
@@ -16,6 +17,7 @@ can't go on with these proofs; so without `first` rattle only reads that crate, 
 import os
 import subprocess
 import sys
+from pathlib import Path
 from typing import List
 
 import documented
@@ -64,35 +66,21 @@ def run_program(step: Step) -> None:
     count(step, "run the first command", is_well and ran.proved("functions") > 0, ran)
 
 
-def work(step: Step) -> None:
-    if sys.argv[1:] == ["first"]:
-        run_program(step)
-        return
-    read_copy(step)
+def copy_library(step: Step) -> Path:
+    """Makes a new repository with a copy of the library, and returns its folder."""
     own = step.room / "own"
     own.mkdir()
-    scroll, first = own / "crates" / "scroll", own / "crates" / "first"
-    shell = {**os.environ, "SCROLL": str(TOP)}
-    ran = step.run(own, "sh", "-euc", blocks_of("sh", FIRST)[0], env=shell)
+    ran = step.run(own, "sh", "-euc", blocks_of("sh", FIRST)[0], env={**os.environ, "SCROLL": str(TOP)})
+    scroll = own / "crates" / "scroll"
     copied = (scroll / "src" / "lib.rt").is_file() and (own / "HANDLES").is_file()
     copied = copied and not any((scroll / it).exists() for it in LEFT_OUT)
     count(step, "copy the library", not ran.status and copied, ran)
+    return own
 
-    if os.environ.get("FROM_NOTHING") != "1":
-        ran = step.run(TOP / "crates" / "scroll", "rt", "lib")
-        if not ran.status:
-            copy_kept(TOP / "crates" / "scroll" / "out", scroll / "out", ["incremental"])
-        count(step, "build the library", not ran.status, ran)
-    struct, reader = blocks_of("rust", OWN)
-    (first / "src" / "wav.rt").write_text(struct)
-    ran = step.run(own, "sh", "-euc", blocks_of("sh", OWN)[0], env=shell)
-    count(step, "derive a format", not ran.status, ran)
-    head, _, rest = blocks_of("rust", FIRST)[0].partition("\n\n")
-    (first / "src" / "lib.rt").write_text(f"{head}\n\n{reader}\n{rest}")
-    ran = step.run(first, "rt", "test")
-    count(step, "prove and run the first file", not ran.status and ran.said.endswith(blocks_of("text", FIRST)[0]), ran)
-    count(step, "prove its reader", not ran.status and "\nfn first::sample_rate: proved\n" in ran.said, ran)
 
+def run_examples(step: Step) -> None:
+    """The examples of the documentation pass as tests."""
+    own = copy_library(step)
     examples = own / "crates" / "documented"
     (examples / "src").mkdir(parents=True)
     (examples / "src" / "lib.rt").write_text(documented.crate())
@@ -101,6 +89,36 @@ def work(step: Step) -> None:
     ran = step.run(examples, "rt", "try", "--test")
     passed = f"test result: ok. {len(list(documented.examples()))} passed; 0 failed; 0 ignored"
     count(step, "run the examples of the documentation", not ran.status and passed in ran.said, ran)
+
+
+def prove_files(step: Step) -> None:
+    """The first file and the reader of its format are proved, and the file's tests pass."""
+    own = copy_library(step)
+    scroll, first = own / "crates" / "scroll", own / "crates" / "first"
+    if os.environ.get("FROM_NOTHING") != "1":
+        ran = step.run(TOP / "crates" / "scroll", "rt", "lib")
+        if not ran.status:
+            copy_kept(TOP / "crates" / "scroll" / "out", scroll / "out", ["incremental"])
+        count(step, "build the library", not ran.status, ran)
+    struct, reader = blocks_of("rust", OWN)
+    (first / "src" / "wav.rt").write_text(struct)
+    ran = step.run(own, "sh", "-euc", blocks_of("sh", OWN)[0], env={**os.environ, "SCROLL": str(TOP)})
+    count(step, "derive a format", not ran.status, ran)
+    head, _, rest = blocks_of("rust", FIRST)[0].partition("\n\n")
+    (first / "src" / "lib.rt").write_text(f"{head}\n\n{reader}\n{rest}")
+    ran = step.run(first, "rt", "test")
+    count(step, "prove and run the first file", not ran.status and ran.said.endswith(blocks_of("text", FIRST)[0]), ran)
+    count(step, "prove its reader", not ran.status and "\nfn first::sample_rate: proved\n" in ran.said, ran)
+
+
+def work(step: Step) -> None:
+    if sys.argv[1:] == ["first"]:
+        run_program(step)
+    elif sys.argv[1:] == ["unproved"]:
+        run_examples(step)
+        read_copy(step)
+    else:
+        prove_files(step)
 
 
 if __name__ == "__main__":

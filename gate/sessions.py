@@ -98,15 +98,25 @@ def prefix(digits: str, length: int) -> str:
     return digits[: 2 * length] or "-"
 
 
-def read_block(subject: str, lines: List[str]) -> Session:
-    """Reads the lines of one session."""
-    name = NAME.fullmatch(lines[0])
-    if not name:
+def read_block(subject: str, lines: List[str]) -> Iterator[Session]:
+    """Reads the lines of a session, or of one for each `?` line."""
+    head = NAME.fullmatch(lines[0])
+    if not head:
         raise Malformed(f"`{lines[0]}` is no line `# NAME`, with a name of small letters, digits and `_`")
-    session = Session(subject, name[1])
+    texts = [it[2:] for it in lines if it.startswith("? ")]
+    if not texts:
+        yield read_session(subject, head[1], lines[1:])
+    plain = [it for it in lines[1:] if not it.startswith("? ")]
+    for number, text in enumerate(texts, 1):
+        yield read_session(subject, f"{head[1]}_{number}", [it.replace("{}", text) if it[:1] == "<" else it for it in plain])
+
+
+def read_session(subject: str, name: str, lines: List[str]) -> Session:
+    """Reads the lines of one session."""
+    session = Session(subject, name)
     inputs: List[bytes] = []
     outputs: List[bytes] = []
-    for line in lines[1:]:
+    for line in lines:
         if not (line.isascii() and line.isprintable()) or line.endswith(" "):
             raise Malformed(f"{line!r} has a byte that is no printable ASCII, or a space at its end: write `\\xHH`")
         mark, _, text = line.partition(" ")
@@ -161,10 +171,10 @@ def read_sessions(failures: List[str]) -> List[Session]:
     for path in sorted(SESSIONS.glob("*.txt")):
         for block in path.read_bytes().decode().rstrip("\n").split("\n\n"):
             try:
-                session = read_block(path.stem, block.split("\n"))
-                if session.name in sessions:
-                    raise Malformed("the name stands twice")
-                sessions[session.name] = session
+                for session in read_block(path.stem, block.split("\n")):
+                    if session.name in sessions:
+                        raise Malformed("the name stands twice")
+                    sessions[session.name] = session
             except Malformed as why:
                 head = block.partition("\n")[0]
                 failures.append(f"{path.relative_to(TOP)}, {head}: {why}")

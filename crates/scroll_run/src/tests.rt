@@ -1,4 +1,2 @@
-// Whole sessions.
-mod commands;
-mod sessions;
+// Sessions over streams. (Those of the program are in sessions/.)
 mod streams;
