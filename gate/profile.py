@@ -45,9 +45,9 @@ class Clock:
 
     def look(self) -> None:
         ticks = 0
-        for stat in Path("/proc").glob("[0-9]*/stat"):
+        for name in filter(str.isdigit, os.listdir("/proc")):
             try:
-                fields = stat.read_text().rpartition(") ")[2].split()
+                fields = Path("/proc", name, "stat").read_text().rpartition(") ")[2].split()
             except OSError:
                 continue
             if int(fields[2]) == self.group:
