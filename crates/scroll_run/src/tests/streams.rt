@@ -5,10 +5,11 @@ use std::io::{ErrorKind, Read, Write};
 use std::process::Abort;
 use std::{io, result};
 
-const INPUT: &[u8] = b"buffer deadbeef\ncursor 0\npread 0 u32 be\npread 0 u32 le\npread 1 u16 be\n";
+static INPUT: [u8; 70] =
+    *b"buffer deadbeef\ncursor 0\npread 0 u32 be\npread 0 u32 le\npread 1 u16 be\n";
 
-const OUTPUT: &[u8] =
-    b"number 3735928559\nnumber 4022250974\nnumber 44478\nbuffer deadbeef\ncursor 0\n";
+static OUTPUT: [u8; 74] =
+    *b"number 3735928559\nnumber 4022250974\nnumber 44478\nbuffer deadbeef\ncursor 0\n";
 
 // An error of a stream: its number, if it is one of the operating system, and its kind.
 type Cause = (Option<i32>, ErrorKind);
@@ -117,14 +118,14 @@ type Run = (result::Result<u8, Cause>, [usize; 2], Option<usize>, bool);
 
 // The calls that read the whole input a byte at a time, the last of which finds its end, and those
 // that write the whole output so, and flush it.
-const READS: usize = INPUT.len() + 1;
+const READS: usize = 71;
 
-const WRITES: usize = OUTPUT.len() + 1;
+const WRITES: usize = 75;
 
 // Runs a session with a reader and a writer of so many bytes per call, which fail so.
 fn run(alloc: Global, reader: (usize, Fault), writer: (usize, Fault)) -> Run {
     let mut input = Source {
-        rest: INPUT,
+        rest: &INPUT,
         step: reader.0,
         fault: reader.1,
         calls: 0,
