@@ -8,8 +8,8 @@ ghost use Rattle.scroll.specs.Numbers.{WritesNumber};
 ghost use Rattle.scroll.specs.declared.endian.Endian.TheVariants.{Little};
 
 use crate::ctx::{TryFromCtx, TryIntoCtx};
-use crate::tests::results::{check_eq, check_error, check_too_big, check_value};
-use crate::{Error, LE, Pread, Pwrite, Result, slice};
+use crate::tests::results::{check_eq, check_error, check_too_big};
+use crate::{Error, LE, Pread, Pwrite, Result};
 use std::cell::Cell;
 
 // A byte that counts its drops.
@@ -109,8 +109,4 @@ fn writes_drop_their_values(rt: HostRuntime) {
     check_error(rt, target.pwrite(three(drops), 3), ("BadOffset", 3, 0));
     check_eq(rt, drops.get(), 6);
     check_eq(rt, bytes, [0, 7]);
-    let five = Counted { byte: 5, drops };
-    check_value(rt, slice::gwrite(&mut bytes, five, &mut 1), 1);
-    check_eq(rt, drops.get(), 7);
-    check_eq(rt, bytes, [0, 5]);
 }
