@@ -4,10 +4,10 @@ ghost use Rattle.std.specs.Prelude.{◌≡◌, ◌+◌, ◌≤◌, length, drop}
 ghost use Rattle.scroll.specs.Numbers.{number};
 ghost use Rattle.scroll.specs.declared.endian.Endian.TheVariants.{Big};
 
-use crate::ctx::{FromCtx, IntoCtx, SizeWith, TryFromCtx, TryIntoCtx};
+use crate::ctx::{FromCtx, IntoCtx, SizeWith};
 use crate::tests::reads::{check_both_orders, check_read, check_write};
 use crate::tests::results::check_eq;
-use crate::{BE, Cread, Cwrite, Endian, Error, LE};
+use crate::{BE, Cread, Cwrite, Endian, LE};
 use std::process::Abort;
 
 #[test]
