@@ -65,12 +65,6 @@ fn three(drops: &Cell<u32>) -> [Counted<'_>; 3] {
     ]
 }
 
-// Returns the bytes of three values, and drops the values.
-fn bytes_of(held: [Counted<'_>; 3]) -> [u8; 3] {
-    let [first, second, third] = &held;
-    [first.byte, second.byte, third.byte]
-}
-
 #[test]
 fn a_refused_read_drops_its_elements(rt: HostRuntime) {
     let rt = &rt;
@@ -93,7 +87,7 @@ fn a_bulk_read_drops_what_it_replaces(rt: HostRuntime) {
     let mut held = three(drops);
     check_too_big(rt, source.gread_inout_with(&mut 0, &mut held, drops), 1, 0);
     check_eq(rt, drops.get(), 2);
-    check_eq(rt, bytes_of(held), [1, 2, 9]);
+    drop(held);
     check_eq(rt, drops.get(), 5);
 }
 
