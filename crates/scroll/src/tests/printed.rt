@@ -15,10 +15,6 @@ fn check_line<E: Display + Drop>(rt: &impl Abort, error: E, wanted: &str) {
     check_eq(rt, line.as_str(), wanted);
 }
 
-fn ended() -> io::Error {
-    io::Error::from(ErrorKind::UnexpectedEof)
-}
-
 // An allocation failure ends the test.
 #[test]
 fn lines_of_errors(rt: HostRuntime) {
@@ -32,8 +28,8 @@ fn lines_of_errors(rt: HostRuntime) {
     check_line(rt, bad, "bad input invalid utf8 (3)");
     check_line(rt, Error::Custom(text), "no such field");
     check_line(rt, Error::NoMemory, "out of memory");
-    check_line(rt, ended(), "unexpected end of file");
-    check_line(rt, Error::from(ended()), "unexpected end of file");
+    let ended = io::Error::from(ErrorKind::UnexpectedEof);
+    check_line(rt, Error::from(ended), "unexpected end of file");
 }
 
 // Each small error prints the line of the error that it becomes, and is what that error becomes

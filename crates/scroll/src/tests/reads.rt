@@ -44,21 +44,8 @@ pub fn check_no_read<'a, T: TryFromCtx<'a, Ctx, Error = Error> + Drop, Ctx: Copy
     check_eq(rt, offset, from);
 }
 
-// Checks the same in the default context.
-pub fn check_no_default_read<'a, T: TryFromCtx<'a, Ctx, Error = Error> + Drop, Ctx: Copy + Default>(
-    rt: &impl Abort,
-    bytes: &'a [u8],
-    from: usize,
-    wanted: Parts<'_>,
-) {
-    check_error(rt, bytes.pread::<T>(from), wanted);
-    let mut offset = from;
-    check_error(rt, bytes.gread::<T>(&mut offset), wanted);
-    check_eq(rt, offset, from);
-}
-
-// Checks the result of bulk reads in the default context, which is given or left out, and what the
-// elements and the cursor are then.
+// Checks the result of a bulk read in the default context, and what the elements and the cursor are
+// then.
 pub fn check_bulk<
     'a,
     T: TryFromCtx<'a, Ctx, Error = Error> + Copy + PartialEq + Debug + Drop,
@@ -76,13 +63,6 @@ pub fn check_bulk<
     let (mut values, mut offset) = (first, from);
     check_error(rt, bytes.gread_inout(&mut offset, &mut values), outcome);
     check_eq(rt, (values, offset), (last, to));
-    let (mut values, mut offset) = (first, from);
-    check_error(
-        rt,
-        bytes.gread_inout_with(&mut offset, &mut values, Ctx::default()),
-        outcome,
-    );
-    check_eq(rt, (values, offset), (last, to));
 }
 
 // Checks that a write of a value has this size, at an offset and at a cursor.
@@ -97,43 +77,6 @@ pub fn check_write<T: TryIntoCtx<Ctx, Error = Error> + Copy, Ctx: Copy>(
     check_value(rt, target.pwrite_with(value, from, ctx), size);
     let mut offset = from;
     check_value(rt, target.gwrite_with(value, &mut offset, ctx), size);
-    check_eq(rt, offset, from.wrapping_add(size));
-}
-
-// Checks the same of the functions of `slice`.
-pub fn check_slice_write<T: TryIntoCtx<Ctx, Error = Error> + Copy, Ctx: Copy>(
-    rt: &impl Abort,
-    target: &mut [u8],
-    value: T,
-    from: usize,
-    ctx: Ctx,
-    size: usize,
-) {
-    check_value(rt, slice::pwrite_with(target, value, from, ctx), size);
-    let mut offset = from;
-    check_value(
-        rt,
-        slice::gwrite_with(target, value, &mut offset, ctx),
-        size,
-    );
-    check_eq(rt, offset, from.wrapping_add(size));
-}
-
-// Checks the same of all four in the default context.
-pub fn check_default_write<T: TryIntoCtx<Ctx, Error = Error> + Copy, Ctx: Copy + Default>(
-    rt: &impl Abort,
-    mut target: &mut [u8],
-    value: T,
-    from: usize,
-    size: usize,
-) {
-    check_value(rt, slice::pwrite(target, value, from), size);
-    check_value(rt, target.pwrite(value, from), size);
-    let mut offset = from;
-    check_value(rt, target.gwrite(value, &mut offset), size);
-    check_eq(rt, offset, from.wrapping_add(size));
-    let mut offset = from;
-    check_value(rt, slice::gwrite(target, value, &mut offset), size);
     check_eq(rt, offset, from.wrapping_add(size));
 }
 
@@ -168,22 +111,6 @@ pub fn check_no_slice_write<T: TryIntoCtx<Ctx, Error = Error> + Copy, Ctx: Copy>
         slice::gwrite_with(target, value, &mut offset, ctx),
         wanted,
     );
-    check_eq(rt, offset, from);
-}
-
-// Checks the same of all four in the default context.
-pub fn check_no_default_write<T: TryIntoCtx<Ctx, Error = Error> + Copy, Ctx: Copy + Default>(
-    rt: &impl Abort,
-    mut target: &mut [u8],
-    value: T,
-    from: usize,
-    wanted: Parts<'_>,
-) {
-    check_error(rt, slice::pwrite(target, value, from), wanted);
-    check_error(rt, target.pwrite(value, from), wanted);
-    let mut offset = from;
-    check_error(rt, target.gwrite(value, &mut offset), wanted);
-    check_error(rt, slice::gwrite(target, value, &mut offset), wanted);
     check_eq(rt, offset, from);
 }
 

@@ -199,11 +199,10 @@ fn streams_of_one_byte_a_call(rt: HostRuntime) {
     }
 }
 
-// Checks streams that are as long as the number, or longer.
+// Checks streams that are as long as the number.
 fn check_whole(rt: &impl Abort, fault: Fault, order: Option<Endian>, number: u32, held: &[u8; 5]) {
     check_eq(rt, read_slowly(&BYTES, fault, order).0, Ok(number));
     check_eq(rt, write_slowly(4, fault, order).0, Ok(*held));
-    check_eq(rt, write_slowly(5, fault, order).0, Ok(*held));
 }
 
 // Checks streams that end before the number does.
@@ -245,14 +244,6 @@ fn each_error_of_a_stream(rt: HostRuntime) {
     }
 }
 
-// Checks that a call failed with an error of this kind.
-pub fn check_kind<T: Drop>(rt: &impl Abort, outcome: io::Result<T>, wanted: ErrorKind) {
-    match outcome {
-        Err(error) => check_eq(rt, error.kind(), wanted),
-        Ok(_) => panic!(rt; "expected {wanted:?}, got a value"),
-    }
-}
-
 // Checks the next number of a source, and returns what is left.
 pub fn take_number<'a, N: FromCtx<Endian> + SizeWith<Endian> + PartialEq + Debug + Drop>(
     rt: &impl Abort,
@@ -279,7 +270,8 @@ pub fn check_ended<N: FromCtx<Endian> + SizeWith<Endian> + Drop>(
 {
     let mut source = bytes;
     let read: io::Result<N> = read_number(&mut source, order);
-    check_kind(rt, read, ErrorKind::UnexpectedEof);
+    let kind = read.err().expect(rt, "an end").kind();
+    check_eq(rt, kind, ErrorKind::UnexpectedEof);
 }
 
 // Checks that a number is written.
@@ -304,7 +296,6 @@ fn numbers_from_memory(rt: HostRuntime) {
     let source = take_number(rt, source, None, 176u8);
     check_last(rt, source, Some(BE), 4277001901u32);
     check_last(rt, &[0xef, 0xbe], None, 48879u16);
-    check_eight_and_four(rt, &[1, 0, 0, 0, 0, 0, 0, 0, 0xef, 0xbe, 0, 0]);
     check_last(rt, &[0; 16], Some(LE), 0u128);
 }
 
@@ -323,49 +314,17 @@ fn check_last<N: FromCtx<Endian> + SizeWith<Endian> + PartialEq + Debug + Drop>(
     check_ended::<u8>(rt, rest, None);
 }
 
-// Checks two numbers, and that there is no other of eight bytes after the first.
-fn check_eight_and_four(rt: &impl Abort, bytes: &[u8]) {
-    check_last(rt, take_number(rt, bytes, None, 1u64), None, 48879u32);
-    let rest = take_number(rt, bytes, Some(LE), 1u64);
-    check_eq(rt, rest.len(), 4);
-    check_ended::<u64>(rt, rest, Some(LE));
-}
-
-// Checks what is held after a write of 0xdeadbeef.
-fn check_held(rt: &impl Abort, order: Option<Endian>, held: &[u8; 5]) {
-    let mut bytes = [0x11u8; 5];
-    let mut target: &mut [u8] = &mut bytes;
-    put_number(rt, &mut target, order, 0xdeadbeefu32);
-    check_eq(rt, &bytes, held);
-}
-
-// Checks a write for which there is no room.
-fn check_full(rt: &impl Abort) {
-    let mut bytes = [0u8; 5];
-    let mut target: &mut [u8] = &mut bytes;
-    put_number(rt, &mut target, None, 0xdeadbeefu32);
-    check_kind(
-        rt,
-        write_number(&mut target, 1u16, None),
-        ErrorKind::WriteZero,
-    );
-    check_eq(rt, &bytes[..4], &[0xef, 0xbe, 0xad, 0xde]);
-}
-
 #[test]
 fn numbers_to_memory(rt: HostRuntime) {
     let rt = &rt;
-    let mut bytes = [0u8; 10];
+    let mut bytes = [7u8; 26];
     let mut target: &mut [u8] = &mut bytes;
     check_value(rt, target.write_all(b"hello"), ());
     put_number(rt, &mut target, Some(BE), 0xdeadbeefu32);
-    check_eq(rt, &bytes, b"hello\xde\xad\xbe\xef\0");
-    for (order, _, held) in &ORDERS {
-        check_held(rt, *order, held);
-    }
-    check_full(rt);
-    let mut bytes = [7u8; 16];
-    let mut target: &mut [u8] = &mut bytes;
-    put_number(rt, &mut target, Some(LE), 0u128);
-    check_eq(rt, bytes, [0; 16]);
+    put_number(rt, &mut target, None, 0u128);
+    check_eq(
+        rt,
+        &bytes,
+        b"hello\xde\xad\xbe\xef\0\0\0\0\0\0\0\0\0\0\0\0\0\0\0\0\x07",
+    );
 }

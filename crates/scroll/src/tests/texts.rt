@@ -1,10 +1,7 @@
 // Strings, byte slices and measures: the calls for them, which bytes are strings, and strings whose
 // delimiter the source must contain.
 use crate::ctx::{MeasureWith, NULL, RET, SPACE, StrCtx, TAB};
-use crate::tests::reads::{
-    check_bulk, check_default_read, check_default_write, check_no_default_read,
-    check_no_default_write, check_no_read, check_read,
-};
+use crate::tests::reads::{check_default_read, check_no_read, check_read, check_write};
 use crate::tests::results::{Parts, check_eq};
 use crate::{BE, LE, Pread, Result};
 use std::alloc::Global;
@@ -66,7 +63,7 @@ fn pread_slice(rt: HostRuntime) {
     check_no_read::<&str, _>(rt, bytes, 0, StrCtx::Length(3), ("TooBig", 3, 2));
     let none: &[u8] = &[];
     check_default_read(rt, bytes, 1, none, 1);
-    check_no_default_read::<&[u8], _>(rt, bytes, 3, ("BadOffset", 3, 0));
+    check_no_read::<&[u8], _>(rt, bytes, 3, 0, ("BadOffset", 3, 0));
 }
 
 #[test]
@@ -79,20 +76,6 @@ fn gread_slice(rt: HostRuntime) {
 }
 
 const HELLO: &[u8] = b"hello, world!\0some_other_things";
-
-// Texts that are read: the bytes, the cursor, the context, the text, and the cursor after it.
-static READ: [(&[u8], usize, StrCtx, &str, usize); 10] = [
-    (HELLO, 7, StrCtx::Delimiter(NULL), "world!", 14),
-    (HELLO, 14, StrCtx::Delimiter(TAB), "some_other_things", 32),
-    (b"more\0bytes", 0, StrCtx::Delimiter(NULL), "more", 5),
-    (b"more\0bytes", 5, StrCtx::Delimiter(NULL), "bytes", 11),
-    (b"ab", 0, StrCtx::Delimiter(NULL), "ab", 3),
-    (b"abcd", 0, StrCtx::DelimiterUntil(NULL, 2), "ab", 3),
-    (b"abc", 0, StrCtx::DelimiterUntil(b'b', 3), "a", 2),
-    (b"abc", 2, StrCtx::DelimiterUntil(b'b', 1), "c", 4),
-    (b"a\xff", 0, StrCtx::Length(1), "a", 1),
-    (b"\xc3\xa9", 0, StrCtx::Length(2), "\u{e9}", 2),
-];
 
 #[test]
 fn pread_str(rt: HostRuntime) {
@@ -115,61 +98,15 @@ fn pread_str_weird(rt: HostRuntime) {
 }
 
 #[test]
-fn texts_at_the_cursor(rt: HostRuntime) {
-    for &(bytes, from, ctx, wanted, to) in &READ {
-        check_read(&rt, bytes, from, ctx, wanted, to);
-    }
-}
-
-static REFUSED: [(&[u8], StrCtx, Parts<'static>); 3] = [
-    (b"a\0c", StrCtx::DelimiterUntil(NULL, 4), ("TooBig", 4, 3)),
-    (b"\xffa\0", StrCtx::Delimiter(NULL), ("invalid utf8", 3, 0)),
-    (b"\xc3\xa9", StrCtx::Length(1), ("invalid utf8", 2, 0)),
-];
-
-#[test]
-fn refused_texts(rt: HostRuntime) {
-    for &(bytes, ctx, error) in &REFUSED {
-        check_no_read::<&str, _>(&rt, bytes, 0, ctx, error);
-    }
-}
-
-#[test]
 fn pwrite_str_and_bytes(rt: HostRuntime) {
     let rt = &rt;
     let bytes: &[u8] = b"more\0bytes";
     let text = "lol hello_world lal\0ala imabytes";
     let mut buffer = [0u8; 33];
-    check_default_write(rt, &mut buffer, text, 0, 32);
+    check_write(rt, &mut buffer, text, 0, (), 32);
     check_read(rt, &buffer, 4, StrCtx::Delimiter(SPACE), "hello_world", 16);
-    check_default_write(rt, &mut buffer, bytes, 0, 10);
+    check_write(rt, &mut buffer, bytes, 0, (), 10);
     check_read(rt, &buffer, 8, StrCtx::Length(6), "esworl", 14);
-}
-
-#[test]
-fn bulk_read_of_texts(rt: HostRuntime) {
-    let rt = &rt;
-    let bytes: &[u8] = b"ab\0cd";
-    let texts = ["as", "before", "this"];
-    check_bulk(
-        rt,
-        bytes,
-        0,
-        texts,
-        ("BadOffset", 6, 0),
-        ["ab", "cd", "this"],
-        6,
-    );
-}
-
-#[test]
-fn short_targets(rt: HostRuntime) {
-    let rt = &rt;
-    let two: &[u8] = &[1, 2];
-    let mut bytes = [0xffu8; 3];
-    check_no_default_write(rt, &mut bytes, "ab", 2, ("TooBig", 2, 1));
-    check_no_default_write(rt, &mut bytes, two, 3, ("TooBig", 2, 0));
-    check_eq(rt, bytes, [0xff; 3]);
 }
 
 // Checks that reading these bytes whole as a string returns these, or is refused where these are
@@ -177,63 +114,6 @@ fn short_targets(rt: HostRuntime) {
 fn check_text(rt: &impl Abort, bytes: &[u8], wanted: &[u8]) {
     let text: Result<&str> = bytes.pread_with(0, StrCtx::Length(bytes.len()));
     check_eq(rt, text.unwrap_or_default().as_bytes(), wanted);
-}
-
-// Bytes that are one character, and bytes that are none, as Rust's `str::from_utf8` says.
-static CHARACTERS: [&[u8]; 12] = [
-    b"\0",
-    b"\x7f",
-    b"\xc2\x80",
-    b"\xc3\xa9",
-    b"\xdf\xbf",
-    b"\xe0\xa0\x80",
-    b"\xed\x9f\xbf",
-    b"\xee\x80\x80",
-    b"\xef\xbf\xbf",
-    b"\xf0\x90\x80\x80",
-    b"\xf3\xbf\xbf\xbf",
-    b"\xf4\x8f\xbf\xbf",
-];
-
-static NOT_CHARACTERS: [&[u8]; 25] = [
-    // longer than necessary
-    b"\xc0\x80",
-    b"\xc1\xbf",
-    b"\xe0\x80\x80",
-    b"\xe0\x9f\xbf",
-    b"\xf0\x80\x80\x80",
-    b"\xf0\x8f\xbf\xbf",
-    // surrogates, and values above the last one
-    b"\xed\xa0\x80",
-    b"\xed\xbf\xbf",
-    b"\xf4\x90\x80\x80",
-    b"\xf5\x80\x80\x80",
-    b"\xf8\x80\x80\x80",
-    b"\xfe",
-    b"\xff",
-    // no first byte, and truncated
-    b"\x80",
-    b"\xbf",
-    b"\xc2",
-    b"\xe0\xa0",
-    b"\xe1",
-    b"\xe1\x80",
-    b"\xf0",
-    b"\xf0\x90",
-    b"\xf0\x90\x80",
-    b"\xf4",
-    b"\xf4\x8f",
-    b"\xf4\x8f\xbf",
-];
-
-#[test]
-fn edges_of_utf8(rt: HostRuntime) {
-    for &bytes in &CHARACTERS {
-        check_text(&rt, bytes, bytes);
-    }
-    for &bytes in &NOT_CHARACTERS {
-        check_text(&rt, bytes, b"");
-    }
 }
 
 // The forms of a character, as in table 3-7 of the Unicode Standard: the range of each of its
@@ -318,7 +198,6 @@ fn texts(rt: HostRuntime) {
     let rt = &rt;
     check_eq(rt, (REQUIRED.len(), REQUIRED.is_empty()), (1, false));
     check_read(rt, b"ab\0", 0, REQUIRED, "ab", 3);
-    check_read(rt, b"ab", 0, StrCtx::Delimiter(0), "ab", 3);
     for &(bytes, from, error) in &NOT_DELIMITED {
         check_no_read::<&str, _>(rt, bytes, from, REQUIRED, error);
     }
@@ -326,8 +205,5 @@ fn texts(rt: HostRuntime) {
 
 #[test]
 fn arrays_of_texts(rt: HostRuntime) {
-    let rt = &rt;
-    check_read(rt, b"a\0b\0", 0, REQUIRED, ["a", "b"], 4);
-    check_no_read::<[&str; 2], _>(rt, b"a\0", 0, REQUIRED, (MISSING, 0, 0));
-    check_read(rt, b"a\0", 0, StrCtx::Delimiter(0), ["a", ""], 3);
+    check_read(&rt, b"a\0b\0", 0, REQUIRED, ["a", "b"], 4);
 }
