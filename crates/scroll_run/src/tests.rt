@@ -1,2 +1,3 @@
-// Sessions over streams. (Those of the program are in sessions/.)
+// Sessions in memory and over streams. (Those of the program are in sessions/.)
+mod sessions;
 mod streams;

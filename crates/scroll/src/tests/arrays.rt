@@ -3,9 +3,9 @@ ghost use Rattle.std.specs.Prelude.{◌≡◌, ◌≤◌, ◌++◌, length, drop
 ghost use Rattle.std.proofs.Common.{rules};
 ghost use Rattle.scroll.specs.Numbers.{number, number_bytes, signed_number};
 
-use crate::ctx::{Record, SizeWith, TryFromCtx, TryIntoCtx};
+use crate::ctx::{Record, SizeWith, StrCtx, TryFromCtx, TryIntoCtx};
 use crate::laws::fixed_size_is_kept;
-use crate::tests::reads::{check_no_read, check_read, check_write};
+use crate::tests::reads::{check_no_read, check_no_write, check_read, check_write};
 use crate::tests::results::{check_eq, check_value};
 use crate::{BE, Cread, Endian, Error, LE, Pread, Result};
 use std::result;
@@ -16,7 +16,21 @@ fn numbers_in_arrays_and_in_arrays_of_arrays(rt: HostRuntime) {
     let source: &[u8] = &[1, 0, 2, 0, 3, 0, 4, 0];
     check_read(rt, source, 2, BE, [0x200u16, 0x300, 0x400], 8);
     check_read(rt, source, 0, LE, [[1u16, 2], [3, 4]], 8);
-    check_no_read::<[u16; 3], _>(rt, source, 6, LE, ("TooBig", 2, 0));
+    check_no_read::<[[u16; 2]; 2], _>(rt, &source[..6], 0, LE, ("TooBig", 2, 0));
+}
+
+#[test]
+fn a_refused_write_leaves_its_first_elements(rt: HostRuntime) {
+    let pairs: [[u16; 2]; 2] = [[1, 2], [3, 4]];
+    let mut bytes = [0xffu8; 7];
+    check_no_write(&rt, &mut bytes, pairs, 0, BE, ("TooBig", 2, 1));
+    check_eq(&rt, bytes, [0, 1, 0, 2, 0, 3, 0xff]);
+}
+
+#[test]
+fn a_bad_offset_counts_from_its_own_array(rt: HostRuntime) {
+    let words = StrCtx::Delimiter(0);
+    check_no_read::<[[&str; 2]; 2], _>(&rt, b"a\0b\0c", 0, words, ("BadOffset", 2, 0));
 }
 
 #[test]

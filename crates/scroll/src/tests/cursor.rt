@@ -43,13 +43,48 @@ fn simple_gread_u16(rt: HostRuntime) {
 }
 
 #[test]
+fn simple_gread_u32(rt: HostRuntime) {
+    check_read(&rt, &BYTES, 0, LE, 185470479u32, 4);
+}
+
+#[test]
+fn simple_gread_u64(rt: HostRuntime) {
+    check_read(&rt, &BYTES, 0, LE, 940700423303335439u64, 8);
+}
+
+#[test]
+fn simple_gread_i64(rt: HostRuntime) {
+    check_read(&rt, &BYTES, 0, LE, 940700423303335439i64, 8);
+}
+
+#[test]
 fn gread_gwrite_i64_1(rt: HostRuntime) {
     check_both_orders(&rt, &mut [0; 16], 0i64, 8);
 }
 
 #[test]
+fn gread_gwrite_i64_2(rt: HostRuntime) {
+    check_both_orders(&rt, &mut [0; 16], -1213213211111i64, 8);
+}
+
+#[test]
+fn gread_gwrite_i64_3(rt: HostRuntime) {
+    check_both_orders(&rt, &mut [0; 16], -3000i64, 8);
+}
+
+#[test]
 fn gread_gwrite_i32_1(rt: HostRuntime) {
     check_both_orders(&rt, &mut [0; 16], 0i32, 4);
+}
+
+#[test]
+fn gread_gwrite_i32_2(rt: HostRuntime) {
+    check_both_orders(&rt, &mut [0; 16], -1213213232i32, 4);
+}
+
+#[test]
+fn gread_gwrite_i32_3(rt: HostRuntime) {
+    check_both_orders(&rt, &mut [0; 16], -3000i32, 4);
 }
 
 #[test]

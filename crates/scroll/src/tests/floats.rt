@@ -26,8 +26,28 @@ fn gread_gwrite_f64_1(rt: HostRuntime) {
 }
 
 #[test]
+fn gread_gwrite_f64_2(rt: HostRuntime) {
+    check_both_orders(&rt, &mut [0; 16], 0.5f64, 8);
+}
+
+#[test]
+fn gread_gwrite_f64_3(rt: HostRuntime) {
+    check_both_orders(&rt, &mut [0; 16], 0.064f64, 8);
+}
+
+#[test]
 fn gread_gwrite_f32_1(rt: HostRuntime) {
     check_both_orders(&rt, &mut [0; 16], 0.25f32, 4);
+}
+
+#[test]
+fn gread_gwrite_f32_2(rt: HostRuntime) {
+    check_both_orders(&rt, &mut [0; 16], 0.5f32, 4);
+}
+
+#[test]
+fn gread_gwrite_f32_3(rt: HostRuntime) {
+    check_both_orders(&rt, &mut [0; 16], 0.0f32, 4);
 }
 
 // Floats and their bytes, as the Rust crate writes them in big-endian order: zeros of both signs,

@@ -82,7 +82,12 @@ fn sleb128(rt: HostRuntime) {
     let number: Sleb128 = read(&rt, &[0xff, 0x7e]);
     check_eq(&rt, i64::from(number), -129);
     check_value(&rt, Sleb128::read(&[0xff, 0x7e], &mut 0), -129);
+    let number: Sleb128 = read(&rt, &EIGHT_GROUPS);
+    let wanted = (-72057594037927936, 9);
+    check_eq(&rt, (*number.as_ref(), number.size()), wanted);
 }
+
+static EIGHT_GROUPS: [u8; 9] = [0x80, 0x80, 0x80, 0x80, 0x80, 0x80, 0x80, 0x80, 0x7f];
 
 #[test]
 fn reads_with_an_offset(rt: HostRuntime) {
@@ -120,13 +125,23 @@ fn cuts(rt: HostRuntime) {
 }
 
 // Eight bytes, and what both types read of them.
-static BLOCKS: [([u8; 8], Option<(u64, usize)>, Option<(i64, usize)>); 3] = [
+static BLOCKS: [([u8; 8], Option<(u64, usize)>, Option<(i64, usize)>); 5] = [
     ([0x82, 1, 0, 0, 0, 0, 0, 0], Some((130, 2)), Some((130, 2))),
     ([0x80; 8], None, None),
+    (
+        [0xff, 0xff, 0xff, 0xff, 0xff, 0xff, 0xff, 0x7f],
+        Some((72057594037927935, 8)),
+        Some((-1, 8)),
+    ),
     (
         [0x80, 0x80, 0x80, 0x80, 0x80, 0x80, 0x80, 0x40],
         Some((36028797018963968, 8)),
         Some((-36028797018963968, 8)),
+    ),
+    (
+        [0x80, 0x80, 0x80, 0x80, 0x80, 0x80, 0x80, 0x3f],
+        Some((35465847065542656, 8)),
+        Some((35465847065542656, 8)),
     ),
 ];
 
@@ -228,5 +243,14 @@ fn shortest_texts(rt: HostRuntime) {
         (),
         ("TooBig", 2, 1),
     );
-    check_eq(rt, bytes, [0x89, 0x9b, 0x96, 0xc2, 2, 0xff, 0x7e, 0xee]);
+    check_write(rt, &mut bytes, Uleb128::shortest(0), 7, (), 1);
+    check_eq(rt, bytes, [0x89, 0x9b, 0x96, 0xc2, 2, 0xff, 0x7e, 0]);
+}
+
+#[test]
+fn an_array_without_room_for_its_second_number(rt: HostRuntime) {
+    let mut bytes = [0u8; 2];
+    let numbers = [Uleb128::shortest(1), Uleb128::shortest(128)];
+    check_no_write(&rt, &mut bytes, numbers, 0, (), ("TooBig", 2, 1));
+    check_eq(&rt, bytes, [1, 0]);
 }

@@ -126,9 +126,26 @@ fn references_write_as_their_numbers(rt: HostRuntime) {
 
 #[test]
 fn with_room_made_sure_of(rt: HostRuntime) {
-    let bytes: [u8; 12] = [1, 0, 0, 0, 0, 0, 0, 0, 0xde, 0xad, 0xbe, 0xef];
-    let read: (i64, u32) = (bytes.cread(0), bytes.cread_with(8, BE));
-    check_eq(&rt, read, (1, 0xdeadbeef));
+    let bytes: [u8; 12] = [1, 0, 0, 0, 0, 0, 0, 0, 0xef, 0xbe, 0, 0];
+    let read: (i64, u32) = (bytes.cread(0), bytes.cread(8));
+    check_eq(&rt, read, (1, 48879));
+}
+
+#[test]
+fn with_room_made_sure_of_by_order(rt: HostRuntime) {
+    let bytes: [u8; 12] = [
+        0x7f, 255, 255, 255, 255, 255, 255, 255, 0xef, 0xbe, 0xad, 0xde,
+    ];
+    let read: (i64, u32) = (bytes.cread_with(0, BE), bytes.cread_with(8, LE));
+    check_eq(&rt, read, (9223372036854775807, 3735928559));
+}
+
+#[test]
+fn writes_with_room_made_sure_of_by_order(rt: HostRuntime) {
+    let mut out = [0u8; 16];
+    let mut target = &mut out[..];
+    target.cwrite_with(0xdeadbeefu32, 8, BE);
+    check_eq(&rt, out.cread_with::<u32>(8, LE), 4022250974);
 }
 
 #[test]
@@ -136,8 +153,9 @@ fn writes_with_room_made_sure_of(rt: HostRuntime) {
     let mut out = [0u8; 12];
     let mut target = &mut out[..];
     target.cwrite(42i64, 0);
-    target.cwrite_with(&0xdeadbeefu32, 8, BE);
-    check_eq(&rt, out, [42, 0, 0, 0, 0, 0, 0, 0, 0xde, 0xad, 0xbe, 0xef]);
+    target.cwrite(&0xdeadbeefu32, 8);
+    let read: (i64, u32) = (out.cread(0), out.cread(8));
+    check_eq(&rt, read, (42, 0xdeadbeef));
 }
 
 // Returns the value after the first one of its type, big-endian.

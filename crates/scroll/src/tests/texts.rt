@@ -1,7 +1,7 @@
 // Strings, byte slices and measures: the calls for them, which bytes are strings, and strings whose
 // delimiter the source must contain.
 use crate::ctx::{MeasureWith, NULL, RET, SPACE, StrCtx, TAB};
-use crate::tests::reads::{check_default_read, check_no_read, check_read, check_write};
+use crate::tests::reads::{check_bulk, check_default_read, check_no_read, check_read, check_write};
 use crate::tests::results::{Parts, check_eq};
 use crate::{BE, LE, Pread, Result};
 use std::alloc::Global;
@@ -107,6 +107,16 @@ fn pwrite_str_and_bytes(rt: HostRuntime) {
     check_read(rt, &buffer, 4, StrCtx::Delimiter(SPACE), "hello_world", 16);
     check_write(rt, &mut buffer, bytes, 0, (), 10);
     check_read(rt, &buffer, 8, StrCtx::Length(6), "esworl", 14);
+    check_default_read(rt, bytes, 0, "more", 5);
+    check_default_read(rt, bytes, 5, "bytes", 11);
+}
+
+#[test]
+fn bulk_read_of_texts(rt: HostRuntime) {
+    let before = ["as", "before", "this"];
+    let after = ["ab", "cd", "this"];
+    let past = ("BadOffset", 6, 0);
+    check_bulk(&rt, b"ab\0cd", 0, before, past, after, 6);
 }
 
 // Checks that reading these bytes whole as a string returns these, or is refused where these are
