@@ -28,8 +28,8 @@ Several of these words may be given; .ci/run gives `all verdict`. The steps are:
                     and tests tell
 
 Steps run side by side, and a step starts when those that it needs have ended. In all they have two jobs more than there are
-workers (gate/step.py), since parts of a check run on one processor. The tests of the library and rt ci run in copies of
-their own. rt ci proves and runs the tests of both crates too, so beside it prove.py doesn't.
+workers (gate/step.py), since parts of a check run on one processor. The tests of both crates and rt ci run in copies of
+their own, since one `rt` works in a crate at a time. rt ci proves and runs the tests of both crates too, so beside it prove.py doesn't.
 
 Each crate is proved from nothing once, by prove.py with `anew`: rt check itself would begin with what a check in another
 checkout on this machine kept. The steps after it go on with what that proof keeps, and the copies that they make have its
@@ -115,7 +115,7 @@ class Gate:
         tree = self.room / name
         if tree.exists():
             return tree
-        if name == "tests":
+        if name in ("tests", "program"):
             copy_kept(self.room / "tree", tree)
             return tree
         copy_kept(TOP, tree, (".git", "out"))
@@ -197,7 +197,7 @@ def list_steps(groups: Sequence[str], workers: int, anew: str) -> List[Step]:
         tested, tests = "rt ci", []
         if "verdict" not in groups:
             tested = f"{PROVE} tests"
-            tests = [Step(tested, half, (library,), "tests", TESTS), Step(f"{PROGRAM} tests", 1, (program,))]
+            tests = [Step(tested, half, (library,), "tests", TESTS), Step(f"{PROGRAM} tests", 1, (program,), "program")]
         steps += [
             *tests,
             Step("sh tools/derive/prove.sh", half, (library,)),

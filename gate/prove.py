@@ -21,7 +21,7 @@ import time
 from pathlib import Path
 from typing import Callable, List, Optional
 
-from step import TOP, Ran, Step, Stop, check_command, count_workers, run_step
+from step import TOP, Ran, Step, Stop, check_command, count_workers, run_step, uses_of
 
 UNWANTED = re.compile(r"^logic=proved.* (?:main|foreign|hides|partial|bugs|may-abort|may-wait|may-serve)=", re.M)
 
@@ -31,17 +31,24 @@ def prove(step: Step, crate: Path) -> Optional[str]:
 
 
 def prove_anew(step: Step, crate: Path) -> Optional[str]:
-    """Proves a crate from nothing, in the run that builds it. Where `rt` begins with what a check in another checkout on this
-    machine kept, or takes its build, rattle proves it instead."""
+    """Proves a crate from nothing: a library in the run that builds it, a program by rattle itself, since `rt run` would keep the
+    other steps from the library. So is a library if `rt` begins with what a check in another checkout on this machine kept, or
+    takes its build."""
     kept = crate / "out" / "incremental"
     shutil.rmtree(crate / "out", ignore_errors=True)
     kept.mkdir(parents=True)
-    ran = step.run(crate, "rt", "run" if is_program(crate) else "lib", "--jobs", count_workers())
-    if "begins with what a check kept" in ran.said or not ran.status and "logic=proved" not in ran.said:
+    if not is_program(crate):
+        ran = step.run(crate, "rt", "lib", "--jobs", count_workers())
+        if ran.status or "logic=proved" in ran.said and "begins with what a check kept" not in ran.said:
+            return proof_fault(ran)
         shutil.rmtree(kept)
         kept.mkdir()
-        ran = step.run(crate, *check_command(crate.name, kept, count_workers()))
-    return proof_fault(ran)
+    for rlib in uses_of(crate.name).values():
+        if TOP in rlib.parents:
+            ran = step.run(rlib.parents[2], "rt", "lib")
+            if ran.status:
+                return ran.end(40, 300)
+    return proof_fault(step.run(crate, *check_command(crate.name, kept, count_workers())))
 
 
 def is_program(crate: Path) -> bool:
