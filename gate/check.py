@@ -198,10 +198,10 @@ def list_steps(groups: Sequence[str], workers: int, anew: str) -> List[Step]:
         if "verdict" not in groups:
             tested = f"{PROVE} tests"
             tests = [Step(tested, half, (library,), "tests", TESTS), Step(f"{PROGRAM} tests", 1, (program,), "program")]
+        longest = (embedded[0], program, "sh tools/derive/prove.sh", clients.pop("examples"), embedded[1])
         steps += [
             *tests,
-            Step("sh tools/derive/prove.sh", half, (library,)),
-            *(Step(it, 1, (library,)) for it in (embedded[0], program, embedded[1])),
+            *(Step(it, 1, (library,)) for it in longest),
             Step("python3 gate/embed.py", 1, embedded),
             *(Step(it, 1, (library,)) for it in clients.values()),
             Step(FAULTS, half, (program, tested)),
