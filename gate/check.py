@@ -29,7 +29,7 @@ Several of these words may be given; .ci/run gives `all verdict`. The steps are:
 
 Steps run side by side, and a step starts when those that it needs have ended. In all they have two jobs more than there are
 workers (gate/step.py), since parts of a check run on one processor. The tests of both crates and rt ci run in copies of
-their own, since one `rt` works in a crate at a time. rt ci proves and runs the tests of both crates too, so beside it prove.py doesn't.
+their own, since one `rt` works in a crate at a time. rt ci proves and runs these tests too, so beside it prove.py doesn't.
 
 Each crate is proved from nothing once, by prove.py with `anew`: rt check itself would begin with what a check in another
 checkout on this machine kept. The steps after it go on with what that proof keeps, and the copies that they make have its
@@ -193,11 +193,11 @@ def list_steps(groups: Sequence[str], workers: int, anew: str) -> List[Step]:
         clients = {it: f"python3 gate/clients.py {it}" for it in list_clients()}
         # (embed.py goes on with what the proofs of two clients kept)
         embedded = tuple(clients.pop(it) for it in ("zip", "object_files"))
-        # (the longest first, where each has those that wait for it; and most with one job, so that the last leave no processor idle)
         tested, tests = "rt ci", []
         if "verdict" not in groups:
             tested = f"{PROVE} tests"
             tests = [Step(tested, half, (library,), "tests", TESTS), Step(f"{PROGRAM} tests", 1, (program,), "program")]
+        # (these first, since they take longest or others wait for them; most with one job, so that the last leave no processor idle)
         longest = (embedded[0], program, "sh tools/derive/prove.sh", clients.pop("examples"), embedded[1])
         steps += [
             *tests,

@@ -1,8 +1,8 @@
 #!/usr/bin/env python3
 """Does what README says.
 
-    python3 gate/depending.py             in an empty folder copies the library, pastes the first file, derives a format, and proves it all
-    python3 gate/depending.py unproved    what needs no proof: runs the examples of the documentation, and reads what the first command proves
+    python3 gate/depending.py             copies the library to an empty folder, pastes the first file, derives a format, proves all
+    python3 gate/depending.py unproved    runs the examples of the documentation, and reads what the first command proves
     python3 gate/depending.py first       runs the program by the first command, from nothing
 
 The commands and the files are README's own blocks, and one check proves the first file with the reader of its format. What `rt test`

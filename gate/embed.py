@@ -10,8 +10,8 @@ an archive again as it was. embed/damage.c, with sanitizers, compares the answer
 in four threads, and tries the arguments that the border refuses and memory that is refused; a few files are read under the
 sanitizer of threads. cargo runs the Rust crate's documentation tests, one of which must not compile. `nm` finds no names in the
 libraries but those of the header, and nothing that is written there. The command refuses the exports that make no library. With
-`edits` the prover refuses a bug in each function (gate/edits.py says how edits are judged), in the workspace in embed/out/, where the
-library was made before.
+`edits` the prover refuses a bug in each function (gate/edits.py says how edits are judged), in the workspace in embed/out/ where the
+library was made, unless a file that it is made of is newer.
 
 Without a C compiler all is skipped; without `readelf`, `zipinfo` or cargo, what needs it.
 """
@@ -260,6 +260,14 @@ def make(step: Step, library: Any, out: Path) -> Path:
     return crate
 
 
+def is_current(crate: Path) -> bool:
+    """Returns whether the library is made, and no file that it is made of is newer."""
+    made = crate / "out" / f"lib{crate.name}.a"
+    files = [it for part in ("embed", "clients", "crates/scroll") for it in (TOP / part).rglob("*.*t*") if it.is_file()]
+    sources = [it for it in files if "out" not in it.relative_to(TOP).parts]
+    return made.is_file() and all(it.stat().st_mtime <= made.stat().st_mtime for it in sources)
+
+
 def try_library(step: Step, library: Any, cc: List[str], count: int) -> None:
     try_refusals(step, library)
     try_page(step, library)
@@ -289,7 +297,7 @@ def work(step: Step, words: List[str]) -> None:
     os.environ.setdefault("JOBS", str(count_workers()))
     if words == ["edits"]:
         crate = MADE / "crates" / library.FORMATS
-        if not crate.is_dir():
+        if not is_current(crate):
             crate = make(step, library, step.room / "out")
         try_edits(step, crate, [it.name for it in library.read_crate(crate).exports])
     else:

@@ -91,7 +91,7 @@ fn answers_from(rt: &impl Abort, alloc: Global, start: usize) -> Vec<Answer> {
 
 // Checks the answers from `start` on, and what as many commands leave as have an answer.
 fn check_left(rt: &impl Abort, answers: &[Answer], start: usize, left: ([u8; 3], usize))
-    requires { start < 5 }
+    requires start_in { start < 5 }
 {
     let done = answers.len().wrapping_add(start).wrapping_sub(4);
     let &(end, buffer, cursor) = LEFT.get(done).expect(rt, "at most three commands");

@@ -13,7 +13,7 @@ fn expect_session(rt: &impl Abort, alloc: Global, input: &[u8], wanted: &str, st
 }
 
 // Inputs, outputs and statuses.
-static SESSIONS: [(&str, &str, u8); 12] = [
+static SESSIONS: [(&str, &str, u8); 11] = [
     ("", "bad line 1\n", 2),
     ("buffer -\n", "bad line 2\n", 2),
     ("buffer -\ncursor 0\n", "buffer -\ncursor 0\n", 0),
@@ -44,11 +44,6 @@ static SESSIONS: [(&str, &str, u8); 12] = [
         "buffer 0000000000000000\ncursor 0\npwrite 0 u64 be 72623859790382856\npread 0 u64 le\npread 6 u32 be\npread 8 u8 le\npwrite 9 u8 le 0\n",
         "wrote 8\nnumber 578437695752307201\nerror type is too big (4) for 2\nerror type is too big (1) for 0\nerror bad offset 9\nbuffer 0102030405060708\ncursor 0\n",
         0,
-    ),
-    (
-        "buffer ffffffff\ncursor 0\ngwrite cstr 6162\npread 0 cstring\nread 0 u8 le\n",
-        "bad line 5\n",
-        2,
     ),
 ];
 
