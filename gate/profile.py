@@ -10,7 +10,9 @@ check used between the file of the module before it and its own.
 
 FILE, or gate/results/CRATE.txt or CRATE_tests.txt, gets the sum, and then the kinds of modules, the functions and the modules
 that take a second or more, the longest first. A function's modules are those of its code (`Lts` and `Tie` are the largest of
-these), its `Proof`, which is the search for what no answer proves, and its files in proofs/.
+these), its `Proof`, which is the search for what no answer proves, and its files in proofs/. rattle may divide a long check among
+copies of itself, one after another; a row with the name of a module, as `proofs.cstr.CString.new`, then has what such a copy loads
+as it begins.
 """
 
 import os
