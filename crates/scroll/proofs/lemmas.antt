@@ -1,7 +1,9 @@
+pub mod Buffers
 pub mod NumberLemmas
+pub mod OneAnswer
+pub mod Leaves
 pub mod ArrayLemmas
 pub mod TextLemmas
-pub mod ZerosLemmas
 pub mod WordLemmas
 pub mod SearchLemmas
 pub mod HistoryLemmas

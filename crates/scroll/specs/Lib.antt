@@ -9,21 +9,16 @@ pub mod Bytes
 pub mod Numbers
 pub mod Fixed
 pub mod Errors
-pub mod SmallErrors
 pub mod Reads
 pub mod Writes
 pub mod Texts
 pub mod CStrings
 pub mod CStringTexts
-pub mod Zeros
 pub mod Arrays
 pub mod History
 pub mod Streams
-pub mod Tagged
 pub mod Leb128
-pub mod Lists
 pub mod Encoding
-pub mod Many
 pub mod Runs
 pub mod Laws
 -- Lemmas, and no definitions: the implementations cite them for the laws of their traits, which may

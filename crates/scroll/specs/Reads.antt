@@ -2,9 +2,7 @@
 -- source may give, and `refuses` which error. Here they speak of the rest of a buffer at an offset;
 -- `past_end` says which error an offset past the end may give. Callers that read or write one value
 -- after another speak of the bytes between two offsets.
-use Rattle.std.specs.Prelude.{◌≡◌, ◌≤◌, ◌<◌, ◌+◌, ℕ, List, [], ◌∷◌, length, take, drop, ◌⊎◌, ◌-◌, ◌++◌, nat_lt, if◌then◌else◌}
-use Rattle.scroll.specs.declared.error.Error.{Error}
-use Rattle.scroll.specs.declared.error.Error.TheVariants.{TooBig}
+use Rattle.std.specs.Prelude.{◌≡◌, ◌≤◌, ◌<◌, ◌+◌, ℕ, List, [], ◌∷◌, length, take, drop, ◌⊎◌, nat_lt, if◌then◌else◌}
 
 -- each size is at most one more than the source's length
 abbrev pub IsBounded : {V : Type 0} → (List ℕ → V → ℕ → Type 0) → Type 0
@@ -54,30 +52,6 @@ pub record StopsAt {V E : Type 0} (reads : List ℕ → V → ℕ → Type 0) (r
 -- `fact` holds of some context that may be the default; a number's is `Little` alone
 abbrev pub ByDefault : {C : Type 0} → (C → Type 0) → (C → Type 0) → Type 0
 ByDefault {C} is_default fact = (ctx : C) × is_default ctx × fact ctx
-
--- the bytes of the buffer between two offsets are `text`
-pub record Stands (text buffer : List ℕ) (from to : ℕ) : Type 0 where
-  pub inside : to ≤ length buffer
-  pub size : to ≡ from + length text
-  pub is : drop from buffer ≡ text ++ drop to buffer
-
--- `text` is written between two offsets, and all other bytes are unchanged
-pub record Puts (text old new : List ℕ) (from to : ℕ) : Type 0 where
-  pub inside : to ≤ length old
-  pub size : to ≡ from + length text
-  pub is : new ≡ take from old ++ (text ++ drop to old)
-
--- a prefix of `text` is written at the offset `from`, and the write of the next part fails: it has
--- more bytes than are left, and the error is `TooBig` with its length and the number of bytes left
-pub record PutsPrefix (text old new : List ℕ) (from : ℕ) (e : Error) : Type 0 where
-  pub prefix : List ℕ
-  pub part : List ℕ
-  pub rest : List ℕ
-  pub parts : text ≡ prefix ++ (part ++ rest)
-  pub to : ℕ
-  pub put : Puts prefix old new from to
-  pub short : length old < to + length part
-  pub error : e ≡ TooBig (length part) (length old - to)
 
 -- the bytes of a `Loads`, and how many loads were made
 pub record Loading : Type 0 where

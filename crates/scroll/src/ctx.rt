@@ -35,30 +35,17 @@ ghost use Rattle.scroll.specs.Reads.{IsBounded};
 mod arrays;
 mod bytes;
 mod c_strings;
-mod encode;
 mod fixed;
 mod measure;
 mod numbers;
-mod optional;
 mod std_c_strings;
 mod str_ctx;
-mod table;
 mod text;
 mod tuples;
-mod until;
-mod zeros;
 
 pub use arrays::array_fits;
-pub use encode::{
-    Checked, Delimited, Each, Encode, Gap, Padded, Value, append, append_checked, put_at,
-    put_whole, read_fixed,
-};
 pub use fixed::{Fixed, Plain, Record, RoundTrip, Written};
-pub use optional::When;
 pub use str_ctx::{NULL, RET, SPACE, StrCtx, TAB};
-pub use table::{Elements, Table};
-pub use until::{Until, Values};
-pub use zeros::{Zeros, padding};
 
 /// A type that can be read from bytes in a context.
 ///
@@ -162,27 +149,6 @@ pub trait TryIntoCtx<Ctx: Copy>: Sized {
     // The bytes after those that were written are unchanged.
     ghost writes_keeps: { (ctx : Ctx) (x : Self) (old new : List ℕ) (n : ℕ) → writes ctx x old new n
         → drop n new ≡ drop n old };
-}
-
-/// A type whose values read back as they were written, whatever follows them.
-///
-/// [`write_kept`](crate::write_kept), [`write_many_kept`](crate::write_many_kept) and
-/// [`write_placed`](crate::write_placed) say so of what they write. `tools/derive` prints the
-/// implementation for most structs, as in `clients/zip/src/entry.rt.txt`.
-pub trait Kept<Ctx: Copy>: TryIntoCtx<Ctx> + Copy {
-    // Holds of a context, a source, and each value and size that a read of them may return.
-    ghost reads: { Ctx → List ℕ → Self → ℕ → Type 0 };
-
-    // Holds of each value of the type.
-    ghost fits: { Self → Type 0 };
-
-    /// Does nothing, and says that the value fits.
-    fn fit(self)
-        ensures { fits self };
-
-    // What was written reads back.
-    ghost back: { (ctx : Ctx) (x : Self) (old new rest : List ℕ) (n : ℕ) → fits x
-        → Self.TryIntoCtx.writes ctx x old new n → reads ctx (take n new ++ rest) x n };
 }
 
 /// A type that can be read infallibly from enough bytes in a context.

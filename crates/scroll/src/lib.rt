@@ -18,8 +18,7 @@
 //! [`Pread`] and [`Pwrite`] check that there is room, and return an error where there is none.
 //! [`Cread`] and [`Cwrite`] return no error: the caller ensures that there is room, and the prover
 //! checks it. Any type that implements the traits of [`ctx`] can be read and written: the ten
-//! integer types, `f32` and `f64`, strings, byte slices, C strings, numbers in LEB128, zeros,
-//! arrays, and your own types. [`runner`] runs lists of such reads and writes, and [`laws`] states
+//! integer types, `f32` and `f64`, strings, byte slices, C strings, numbers in LEB128, arrays, and your own types. [`runner`] runs lists of such reads and writes, and [`laws`] states
 //! laws of the definitions that the contracts use.
 //!
 //! `docs/GUIDE.md` of the repository shows callers and types of your own with their proofs.
@@ -35,16 +34,12 @@ mod greater;
 pub mod laws;
 mod leb128;
 mod lesser;
-mod lists;
 mod loads;
-mod located;
-mod many;
 mod pread;
 mod pwrite;
 pub mod runner;
 mod search;
 pub mod slice;
-mod small_error;
 mod source;
 #[cfg(test)]
 mod tests;
@@ -53,17 +48,11 @@ pub use crate::endian::{BE, Endian, LE, NATIVE, NETWORK};
 pub use crate::error::{Error, Result, check_room};
 pub use crate::greater::{Cread, Cwrite};
 pub use crate::leb128::{
-    Sleb128, Uleb128, plain_sleb, plain_uleb, sleb_block, sleb_loads, uleb_block, uleb_loads,
+    Leb128, LebNumber, Sleb128, Uleb128, plain_sleb, plain_uleb, sleb_block, sleb_loads,
+    uleb_block, uleb_loads,
 };
 pub use crate::lesser::{IOread, IOwrite};
-pub use crate::lists::{Ends, append_until, two_zeros_size, zero_size};
 pub use crate::loads::Loads;
-pub use crate::located::{At, LocateError};
-pub use crate::many::{
-    EntryOf, read_many, read_to_end, write_kept, write_many, write_many_kept, write_placed,
-    write_tagged,
-};
 pub use crate::pread::Pread;
 pub use crate::pwrite::Pwrite;
-pub use crate::small_error::SmallError;
 pub use crate::source::{ReadFrom, Source};

@@ -11,7 +11,7 @@ use Rattle.std.specs.Array.{index_steps, IsFromFnResultFrom, IsFromFnResult}
 use Rattle.scroll.specs.Arrays.{RefusesArray, OverwritesValue, OverwritesAll, WritesAll, WritesArray, FailsArray}
 use Rattle.scroll.specs.Reads.{ReadsAll, RefusesAt, ReadsBetween}
 use Rattle.std.proofs.Math.Nat.{mul-suc}
-use Rattle.scroll.proofs.lemmas.callers.Cursors.{ReadsAll-push}
+use Rattle.scroll.proofs.lemmas.Buffers.{ReadsAll-push}
 use Rattle.scroll.specs.Writes.{WritesAt, FailsAt}
 use Rattle.std.proofs.lemmas.Grind.{flat_map-append}
 use Rattle.std.proofs.lemmas.Bool.{cases_lt}

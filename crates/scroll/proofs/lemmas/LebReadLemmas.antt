@@ -16,7 +16,7 @@ use Rattle.scroll.specs.Laws.{IsLocal, SameError, AllowsOne}
 use Rattle.scroll.specs.Leb128.{end_of, count_of, group, groups_value, unsigned_of, signed_of, IsComplete, IsTruncated, ReadsLeb, ReadsUleb, ReadsSleb, ReadsGroups, RefusesLeb, RefusesUleb, RefusesSleb}
 use Rattle.scroll.specs.declared.error.Error.{Error}
 use Rattle.scroll.specs.declared.error.Error.TheVariants.{TooBig, BadInput}
-use Rattle.scroll.proofs.lemmas.callers.OneAnswer.{one-Ok, one-Err, same-too_big}
+use Rattle.scroll.proofs.lemmas.OneAnswer.{one-Ok, one-Err, same-too_big}
 use Rattle.scroll.proofs.lemmas.TextLemmas.{same-bad_input}
 use Rattle.scroll.proofs.lemmas.LebLemmas.{groups_lt, groups_more, groups_same, end_at, end_below, late_end, open_before, sign_is_top, less_whole}
 

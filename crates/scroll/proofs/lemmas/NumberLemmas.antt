@@ -14,13 +14,14 @@ use Rattle.scroll.specs.Numbers.{number_bytes, number, signed_number, signed_byt
 use Rattle.scroll.specs.declared.endian.Endian.TheVariants.{Little, Big}
 use Rattle.scroll.specs.lemmas.NumberLemmas.{sum_below-same, sum_below-backwards, complement-back}
 use Rattle.std.specs.Prelude.{int_lt, nat_lt, if◌then◌else◌}
-use Rattle.scroll.proofs.lemmas.callers.RoundTrips.{number-begins, number-back}
+use Rattle.scroll.specs.lemmas.NumberLemmas.{number-begins}
+use Rattle.scroll.specs.lemmas.FixedLemmas.{number-back}
 use Rattle.scroll.specs.lemmas.Frames.{length-number_bytes, length-signed_bytes}
 use Rattle.scroll.specs.declared.endian.Endian.{Endian}
 use Rattle.std.specs.Float.{Format, NotNan}
 use Rattle.std.specs.Float.Ieee.{top}
 use lib.Ieee.Bits.{to_bits-of_bits}
-use Rattle.scroll.proofs.lemmas.callers.Cursors.{number-bound}
+use Rattle.scroll.specs.lemmas.FixedLemmas.{number-bound}
 -- lists with the same first w bytes have the same number there
 pub use Rattle.scroll.specs.lemmas.NumberLemmas.{number-same, signed-same}
 -- a list that begins with the bytes of a float begins with that float

@@ -12,7 +12,7 @@ use Rattle.std.proofs.lemmas.Bool.{cases_lt, cases_Bool}
 use Rattle.std.proofs.lemmas.Str.{IsUtf8-from_is_utf8, is_utf8-from_IsUtf8, IsUtf8-from_ascii}
 use Rattle.std.specs.Str.{is_utf8}
 use Rattle.scroll.proofs.lemmas.NumberLemmas.{begins-length, begins-split, take-same}
-use Rattle.scroll.proofs.lemmas.callers.OneAnswer.{one-Ok, one-Err, same-too_big}
+use Rattle.scroll.proofs.lemmas.OneAnswer.{one-Ok, one-Err, same-too_big}
 use Rattle.scroll.specs.Errors.{IsBadInput}
 use Rattle.scroll.specs.Laws.{IsLocal, IsWithin, SameError, AllowsOne}
 use Rattle.scroll.specs.declared.error.Error.{Error}
@@ -21,10 +21,17 @@ use Rattle.std.proofs.lemmas.Grind.{common_steps}
 use Rattle.std.proofs.lemmas.List.Sums.{position_or_len_is, fails_before_first, passes_at_first, prefix_len_passes, prefix_len_stops}
 use Rattle.scroll.specs.CStrings.{IsCString, ReadsCString, RefusesCString}
 use Rattle.std.specs.Ffi.{IsNulTerminated}
-use Rattle.std.proofs.lemmas.List.Elements.{All-from_get_or}
+use Rattle.std.proofs.lemmas.List.Elements.{All-from_get_or, All-head, All-tail}
 use Rattle.std.specs.List.{All}
 use Rattle.scroll.specs.Bytes.{WritesPrefix}
-use Rattle.scroll.proofs.lemmas.callers.RoundTrips.{offset-behind}
+
+-- where the first delimiter is, after bytes that are not the delimiter
+pub offset-behind : (d : ℕ) (t rest : List ℕ) → All (λ b. b ≢ d) t → index_of d (t ++ d ∷ rest) ≡ length t
+offset-behind d [] rest h = grind arith
+offset-behind d (b ∷ bs) rest h =
+    let hb = All-head (λ x. x ≢ d) b bs h in
+    let ih = offset-behind d bs rest (All-tail (λ x. x ≢ d) b bs h) in
+    grind (arith, ih, hb)
 
 -- in the first k bytes of a list it is the same, or k if it is k or more
 pub index_of-take : (d k : ℕ) (s : List ℕ) → index_of d (take k s) ≡ min k (index_of d s)

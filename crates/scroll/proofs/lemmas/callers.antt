@@ -1,9 +1,3 @@
-pub mod ByteArrays
 pub mod Cursors
-pub mod Leaves
-pub mod OneAnswer
+pub mod OwnTypes
 pub mod RoundTrips
-pub mod Sequences
-pub mod SpanLemmas
-pub mod ManyLemmas
-pub mod TaggedLemmas

@@ -8,10 +8,8 @@ ghost use Rattle.scroll.specs.Laws.{IsLocal, IsWithin, IsReader, IsReaderWithin}
 ghost use Rattle.scroll.specs.Leb128.{ReadsUleb, ReadsSleb, ReadsCountedUleb, ReadsCountedSleb, RefusesUleb, RefusesSleb};
 ghost use Rattle.scroll.specs.Reads.{IsBounded};
 ghost use Rattle.scroll.specs.Texts.{ReadsText, RefusesText, ReadsSlice};
-ghost use Rattle.scroll.specs.Zeros.{ReadsZeros, RefusesZeros};
 ghost use Rattle.scroll.specs.declared.ctx.str_ctx.StrCtx.{StrCtx};
 ghost use Rattle.scroll.specs.declared.ctx.str_ctx.StrCtx.TheVariants.{Length};
-ghost use Rattle.scroll.specs.declared.ctx.zeros.Zeros.{Zeros};
 
 use crate::ctx::TryFromCtx;
 use crate::error::Error;
@@ -32,8 +30,6 @@ pub fn reads_keep_their_laws()
     ensures sleb { IsReaderWithin ReadsSleb RefusesSleb }
     ensures counted_uleb { IsReaderWithin ReadsCountedUleb RefusesUleb }
     ensures counted_sleb { IsReaderWithin ReadsCountedSleb RefusesSleb }
-    ensures zeros { (n : ℕ)
-        → IsReaderWithin (λ source (_ : Zeros) size. ReadsZeros n source size) (RefusesZeros n) }
     ensures slices { (n : ℕ) (counts : List ℕ) → IsReader (ReadsNested (ReadsSlice n) counts)
         (RefusesNested (ReadsSlice n) (RefusesShort n) IsBadOffset counts) }
     ensures texts { (ctx : StrCtx) (counts : List ℕ) → IsReader (ReadsNested (ReadsText ctx) counts)

@@ -1,6 +1,6 @@
 use Rattle.std.proofs.Common.{[], length, drop, sym, ap, subst, ◌∙◌, arith, length-append}
-use Rattle.scroll.proofs.lemmas.callers.Leaves.{prefix-leaf}
-use Rattle.scroll.proofs.lemmas.callers.OneAnswer.{one-made, reader-within}
+use Rattle.scroll.proofs.lemmas.Leaves.{prefix-leaf}
+use Rattle.scroll.proofs.lemmas.OneAnswer.{one-made, reader-within}
 use Rattle.scroll.proofs.lemmas.NumberLemmas.{local-made}
 use Rattle.scroll.specs.Bytes.{ReadsFixed, RefusesShort}
 use Rattle.scroll.specs.lemmas.Frames.{drop-prefix}

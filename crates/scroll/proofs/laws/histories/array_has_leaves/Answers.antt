@@ -1,4 +1,4 @@
-use Rattle.scroll.proofs.lemmas.callers.Leaves.{nested-leaves}
+use Rattle.scroll.proofs.lemmas.Leaves.{nested-leaves}
 use Rattle.scroll.proofs.laws.histories.array_has_leaves.Goals as goal
 
 pub returns : goal.returns

@@ -1,4 +1,4 @@
-use Rattle.scroll.proofs.lemmas.callers.Leaves.{call-leaves}
+use Rattle.scroll.proofs.lemmas.Leaves.{call-leaves}
 use Rattle.scroll.proofs.laws.histories.write_is_of_its_leaves.Goals as goal
 
 pub returns : goal.returns

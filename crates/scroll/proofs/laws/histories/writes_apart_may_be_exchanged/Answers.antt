@@ -1,4 +1,4 @@
-use Rattle.scroll.proofs.lemmas.callers.Leaves.{leaves-exchange}
+use Rattle.scroll.proofs.lemmas.Leaves.{leaves-exchange}
 use Rattle.scroll.proofs.laws.histories.writes_apart_may_be_exchanged.Goals as goal
 
 pub returns : goal.returns

@@ -1,5 +1,5 @@
 use Rattle.std.proofs.Common.{◌++◌, [], ◌∷◌}
-use Rattle.scroll.proofs.lemmas.callers.Leaves.{bytes-leaves, uleb-leaves, sleb-leaves}
+use Rattle.scroll.proofs.lemmas.Leaves.{bytes-leaves, uleb-leaves, sleb-leaves}
 use Rattle.scroll.proofs.laws.histories.writes_have_leaves.Goals as goal
 
 pub returns-clause-bytes : goal.returns-clause-bytes

@@ -1,4 +1,4 @@
-use Rattle.scroll.proofs.lemmas.callers.OneAnswer.{local-nested, bounded-nested, within-nested}
+use Rattle.scroll.proofs.lemmas.OneAnswer.{local-nested, bounded-nested, within-nested}
 use Rattle.scroll.proofs.laws.reads.array_depends_on_its_bytes.Goals as goal
 
 pub returns-clause-local : goal.returns-clause-local

@@ -1,4 +1,4 @@
-use Rattle.scroll.proofs.lemmas.callers.OneAnswer.{reader-nested}
+use Rattle.scroll.proofs.lemmas.OneAnswer.{reader-nested}
 use Rattle.scroll.proofs.laws.reads.arrays_keep_their_laws.Goals as goal
 
 pub returns : goal.returns

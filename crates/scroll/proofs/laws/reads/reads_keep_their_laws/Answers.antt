@@ -1,16 +1,13 @@
 use Rattle.std.proofs.Common.{ℕ, arith, take}
-use Rattle.scroll.proofs.lemmas.callers.OneAnswer.{one-at, one-prefix, reader-within, reader-sized, reader-nested}
+use Rattle.scroll.proofs.lemmas.OneAnswer.{one-at, one-prefix, reader-within, reader-sized, reader-nested}
 use Rattle.scroll.proofs.lemmas.LebReadLemmas.{local-uleb, local-sleb, one-uleb, one-sleb}
-use Rattle.scroll.proofs.lemmas.ZerosLemmas.{local-zeros, one-zeros, within-zeros}
 use Rattle.scroll.proofs.lemmas.TextLemmas.{local-c_string, within-c_string, one-c_string, local-slice, local-text, within-length, one-text}
 use Rattle.scroll.specs.Bytes.{RefusesShort}
 use Rattle.scroll.specs.CStrings.{ReadsCString, RefusesCString}
 use Rattle.scroll.specs.Laws.{IsReader, IsReaderWithin}
 use Rattle.scroll.specs.Leb128.{ReadsUleb, ReadsSleb, RefusesUleb, RefusesSleb}
 use Rattle.scroll.specs.Texts.{ReadsText, RefusesText, ReadsSlice}
-use Rattle.scroll.specs.Zeros.{ReadsZeros, RefusesZeros}
 use Rattle.scroll.specs.declared.ctx.str_ctx.StrCtx.{StrCtx}
-use Rattle.scroll.specs.declared.ctx.zeros.Zeros.{Zeros}
 use Rattle.scroll.specs.lemmas.Frames.{ReadsText-bounded}
 use Rattle.scroll.proofs.laws.reads.reads_keep_their_laws.Goals as goal
 
@@ -50,9 +47,6 @@ returns-clause-counted_uleb c = reader-sized ReadsUleb RefusesUleb local-uleb (�
 
 pub returns-clause-counted_sleb : goal.returns-clause-counted_sleb
 returns-clause-counted_sleb c = reader-sized ReadsSleb RefusesSleb local-sleb (λ s x n r. omega (arith, r.complete.0, r.size)) one-sleb
-
-pub returns-clause-zeros : goal.returns-clause-zeros
-returns-clause-zeros c n = reader-within (λ s (_ : Zeros) m. ReadsZeros n s m) (RefusesZeros n) (local-zeros n) (within-zeros n) (one-zeros n)
 
 pub returns-clause-slices : goal.returns-clause-slices
 returns-clause-slices c n counts = reader-nested (ReadsSlice n) (RefusesShort n) (slice-reader n).reader counts

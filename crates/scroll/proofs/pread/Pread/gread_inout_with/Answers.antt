@@ -2,7 +2,7 @@ use Rattle.std.proofs.Common.{◌+◌, ◌<◌, length, arith, ◌∙◌}
 use Rattle.std.proofs.lemmas.List.{take_more_set, drop-set-lt, take_all}
 use Rattle.std.proofs.Math.ListN.{length-set}
 use Rattle.scroll.proofs.lemmas.ArrayLemmas.{drop-next}
-use Rattle.scroll.proofs.lemmas.callers.Cursors.{ReadsAll-push}
+use Rattle.scroll.proofs.lemmas.Buffers.{ReadsAll-push}
 use Rattle.scroll.proofs.pread.Pread.gread_inout_with.Goals as goal
 
 pub loop-i-preserved : goal.loop-i-preserved

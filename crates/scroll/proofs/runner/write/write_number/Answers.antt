@@ -1,6 +1,6 @@
 use Rattle.std.proofs.Common.{rules}
 use Rattle.std.specs.Int.{w8, w16, w32, w64, w128}
-use Rattle.scroll.proofs.lemmas.callers.Leaves.{number-leaf, signed-leaf}
+use Rattle.scroll.proofs.lemmas.Leaves.{number-leaf, signed-leaf}
 use Rattle.scroll.proofs.runner.write.write_number.Goals as goal
 
 pub returns-in-U8 : goal.returns-in-U8

@@ -1,5 +1,5 @@
 use Rattle.std.proofs.Common.{rules, [], ◌∷◌}
-use Rattle.scroll.proofs.lemmas.callers.Leaves.{bytes-leaf, uleb-leaf, sleb-leaf, numbers-leaves, slices-leaves}
+use Rattle.scroll.proofs.lemmas.Leaves.{bytes-leaf, uleb-leaf, sleb-leaf, numbers-leaves, slices-leaves}
 use Rattle.scroll.proofs.runner.write.write_value.Goals as goal
 
 pub returns-in-Number : goal.returns-in-Number

@@ -1,5 +1,5 @@
 -- The second value of a pair comes after the first.
-use Rattle.scroll.proofs.lemmas.callers.Cursors.{Begins, grow}
+use Rattle.scroll.proofs.lemmas.Buffers.{Begins, grow}
 use Rattle.scroll.proofs.ctx.tuples.Tuple2Fixed.write_prefix.Goals as goal
 
 pub returns : goal.returns

@@ -2,8 +2,8 @@ use Rattle.std.proofs.Common.{rules, ◌≡◌, ◌+◌, ◌*◌, ◌<◌, ◌++
 use Rattle.std.proofs.Math.Nat.{mul-add}
 use Rattle.std.proofs.lemmas.List.{take_all}
 use Rattle.std.specs.List.{flat_map}
-use Rattle.scroll.proofs.lemmas.callers.Cursors.{Begins}
-use Rattle.scroll.proofs.lemmas.callers.RoundTrips.{grow-next}
+use Rattle.scroll.proofs.lemmas.Buffers.{Begins}
+use Rattle.scroll.proofs.lemmas.Buffers.{grow-next}
 use Rattle.scroll.specs.Fixed.{exactly}
 use Rattle.scroll.specs.lemmas.FixedLemmas.{exactly-all, length-elements}
 use Rattle.scroll.proofs.ctx.fixed.arrays.ArrayFixed.write_prefix.Goals as goal

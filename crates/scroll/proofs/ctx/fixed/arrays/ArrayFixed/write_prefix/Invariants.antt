@@ -1,6 +1,6 @@
 use Rattle.std.proofs.Common.{◌≡◌, ◌*◌, length, take}
 use Rattle.std.specs.List.{flat_map}
-use Rattle.scroll.proofs.lemmas.callers.Cursors.{Begins}
+use Rattle.scroll.proofs.lemmas.Buffers.{Begins}
 use Rattle.scroll.proofs.ctx.fixed.arrays.ArrayFixed.write_prefix.Given as goal
 
 -- the elements so far are written

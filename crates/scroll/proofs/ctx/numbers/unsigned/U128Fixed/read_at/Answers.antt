@@ -1,6 +1,6 @@
 use Rattle.std.proofs.Common.{drop, ◌∙◌, ap, arith}
 use Rattle.std.specs.Int.{w128, from_le_bytes, from_be_bytes}
-use Rattle.scroll.proofs.lemmas.callers.Cursors.{number-take}
+use Rattle.scroll.proofs.lemmas.Buffers.{number-take}
 use Rattle.scroll.specs.declared.endian.Endian.TheVariants.{Little, Big}
 use Rattle.scroll.proofs.ctx.numbers.unsigned.U128Fixed.read_at.Goals as goal
 

@@ -1,6 +1,0 @@
-use Rattle.std.proofs.Common.{arith}
-use Rattle.std.proofs.lemmas.Grind.{common_steps}
-use Rattle.scroll.proofs.ctx.table.Table.get.Goals as goal
-
-pub returns-clause-element : goal.returns-clause-element
-returns-clause-element g c = grind (arith, common_steps)

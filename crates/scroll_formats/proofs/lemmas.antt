@@ -1,0 +1,4 @@
+pub mod SpanLemmas
+pub mod ManyLemmas
+pub mod ZerosLemmas
+pub mod callers
