@@ -4,17 +4,15 @@
 use Rattle.std.proofs.Common.{◌≡◌, ℕ, ℤ, ◌+◌, ◌-◌, ◌≤◌, ◌<◌, ◌++◌, List, [], ◌∷◌, length, drop, map, arith, refl, sym, ◌∙◌, ap, subst, inl, inr, ◌⊎◌, Some, Result, Ok, Err, IfOk, IfErr, FitsSigned, to_z, of_z}
 use Rattle.std.proofs.lemmas.Int.{to_z-of_z}
 use Rattle.std.specs.Borrow.{Bor}
-use Rattle.std.specs.Float.{Format}
 use Rattle.std.specs.Int.{Width}
 use Rattle.std.specs.List.{sum_by, flat_map}
-use Rattle.std.specs.Prelude.{to_bits}
 use Rattle.scroll.proofs.lemmas.ArrayLemmas.{leaves-of-array}
 use Rattle.scroll.proofs.lemmas.HistoryLemmas.{pieces-fits, pieces-misfit, pieces-past, left_over-fits, left_over-misfit, left_over-drop, refusal-inside, refusal-past, seen-rest, prefix-piece, length-seen, seen-append, seen-nil}
 use Rattle.scroll.proofs.lemmas.StandLemmas.{seen-exchange, pieces-behind}
 use Rattle.scroll.specs.Arrays.{WritesArray, FailsArray}
 use Rattle.scroll.specs.Bytes.{WritesPrefix, FailsShort}
 use Rattle.scroll.specs.Errors.{IsBadOffset}
-use Rattle.scroll.specs.Numbers.{float_width, float_bytes, WritesFloat, number_bytes, signed_bytes, WritesNumber, WritesSigned}
+use Rattle.scroll.specs.Numbers.{number_bytes, signed_bytes, WritesNumber, WritesSigned}
 use Rattle.scroll.specs.History.{seen, pieces, AnswersLeaves, WritesLeaves, HasLeaves}
 use Rattle.scroll.specs.Laws.{Apart, WritesNested, FailsNested, leaves_nested}
 use Rattle.scroll.specs.Leb128.{Counted}

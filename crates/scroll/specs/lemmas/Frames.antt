@@ -2,7 +2,7 @@
 -- its source, a write ends within its target, and the bytes after those that it wrote stay. The
 -- implementations cite these lemmas for the laws of their traits. They are proved, and promise
 -- nothing.
-use Rattle.std.proofs.Common.{ℕ, ◌+◌, ◌≤◌, ◌==◌, not, List, [], ◌∷◌, length, drop, arith, length-drop, ◌≡◌, ℤ, max, ◌*◌, ◌-◌, ◌/◌, ◌%◌, ◌^◌, ◌++◌, take, length-take, refl, sym, ap, ◌∙◌, rules}
+use Rattle.std.proofs.Common.{ℕ, ◌+◌, ◌≤◌, ◌==◌, not, List, [], ◌∷◌, length, drop, arith, length-drop, ◌≡◌, ℤ, max, ◌*◌, ◌-◌, ◌/◌, ◌%◌, ◌^◌, ◌++◌, take, length-take, refl, sym, ap, ◌∙◌}
 use Rattle.std.proofs.lemmas.List.Sums.{prefix_len-le-length}
 use Rattle.scroll.specs.Arrays.{ReadsArray, WritesAll, WritesArray, OverwritesAll, FillsArray}
 use Rattle.scroll.specs.CStrings.{ReadsCString}
