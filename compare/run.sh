@@ -5,7 +5,7 @@
 #     sh compare/run.sh --gate
 #
 # COUNT sessions (10000) go through the program and through the Rust crate, which answers them as crates/scroll_run/README.md says
-# (compare/src/spoken.rs), and ten times as many calls through the library (compare/calls) and through the crate. SEED (1)
+# (compare/src/spoken.rs), and ten times as many calls through the library (crates/compare_calls) and through the crate. SEED (1)
 # is what all of them are made from. Their sizes grow: calls up to buffers of a megabyte, and sessions up to an input of
 # 65,536 bytes; longer ones, up to a megabyte or a hundred thousand commands, go through a copy of the program that is
 # proved with a limit of 64 MiB. With --faults, sampled sessions run again with each allocation, read and write refused in

@@ -2,7 +2,7 @@
 """Makes a library for C, Rust and Python of a crate that is a static library:
 
     python3 embed/library.py CRATE OUT       of a crate of your own, a folder in a workspace (its line in crates.txt: NAME staticlib: DEP ..)
-    python3 embed/library.py OUT             of embed/scroll_formats, in a temporary workspace with the clients that it uses
+    python3 embed/library.py OUT             of embed/scroll_ffi, in a temporary workspace with the clients that it uses
 
 `rt lib` proves the crate and builds it. OUT then has
 
@@ -29,7 +29,7 @@ from pathlib import Path
 from typing import Dict, List, NamedTuple, Tuple
 
 TOP = Path(__file__).resolve().parents[1]
-FORMATS = "scroll_formats"
+FORMATS = "scroll_ffi"
 # A number's type in Rattle and Rust, in C, and in Python's ctypes.
 NUMBERS = {
     **{f"{kind}{bits}": (f"{c}{bits}_t", f"c_{c}{bits}") for kind, c in (("u", "uint"), ("i", "int")) for bits in (8, 16, 32, 64)},
@@ -358,7 +358,7 @@ def embed(folder: Path, out: Path) -> None:
 
 
 def embed_formats(tree: Path, out: Path) -> Path:
-    """Makes the library of embed/scroll_formats in a new workspace, with the library's build and two clients, and returns its folder."""
+    """Makes the library of embed/scroll_ffi in a new workspace, with the library's build and two clients, and returns its folder."""
     run(sys.executable, TOP / "gate" / "clients.py", "--unpack", tree, "object_files", "zip")
     crate = tree / "crates" / FORMATS
     sys.path.insert(0, str(TOP / "gate"))

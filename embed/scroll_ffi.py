@@ -1,10 +1,10 @@
 """The sections of ELF files and the stored files of ZIP archives, read by code that is proved.
 
-    for section in scroll_formats.sections(open("a.o", "rb").read()):
+    for section in scroll_ffi.sections(open("a.o", "rb").read()):
         print(section.name, section.size)
 
 A buffer is bytes, a bytearray, an mmap, or anything else whose bytes lie in one piece. The library and its declarations are in the
-folder that the variable SCROLL_FORMATS names, or beside this file.
+folder that the variable SCROLL_FFI names, or beside this file.
 """
 
 import ctypes
@@ -14,12 +14,12 @@ from contextlib import contextmanager
 from pathlib import Path
 from typing import Any, Iterator, NamedTuple, Tuple
 
-_FOLDER = Path(os.environ.get("SCROLL_FORMATS") or Path(__file__).resolve().parent)
-_SPEC = importlib.util.spec_from_file_location("scroll_formats_raw", _FOLDER / "scroll_formats_raw.py")
+_FOLDER = Path(os.environ.get("SCROLL_FFI") or Path(__file__).resolve().parent)
+_SPEC = importlib.util.spec_from_file_location("scroll_ffi_raw", _FOLDER / "scroll_ffi_raw.py")
 assert _SPEC and _SPEC.loader
 raw: Any = importlib.util.module_from_spec(_SPEC)
 _SPEC.loader.exec_module(raw)
-_LIBRARY = raw.load(_FOLDER / "libscroll_formats.so")
+_LIBRARY = raw.load(_FOLDER / "libscroll_ffi.so")
 
 
 class _Buffer(ctypes.Structure):
@@ -41,7 +41,7 @@ class Error(Exception):
 
     def __init__(self, code: int, offset: int, value: int) -> None:
         self.code, self.offset, self.value = code, offset, value
-        super().__init__(f"offset {offset}: {_LIBRARY.scroll_formats_text(code).decode()}")
+        super().__init__(f"offset {offset}: {_LIBRARY.scroll_ffi_text(code).decode()}")
 
 
 class Section(NamedTuple):

@@ -4,7 +4,7 @@
     python3 gate/embed.py [COUNT]
     python3 gate/embed.py edits
 
-The proved crate of embed/scroll_formats has the layout of `rt fmt`. embed/list.c, compiled with warnings as errors, with sanitizers
+The proved crate of embed/scroll_ffi has the layout of `rt fmt`. embed/list.c, compiled with warnings as errors, with sanitizers
 and without, and the Python module read real files, and say what `readelf`, `zipinfo` and Python's `zipfile` say; the module writes
 an archive again as it was. embed/damage.c, with sanitizers, compares the answers for COUNT files that are cut and damaged (5,000),
 in four threads, and tries the arguments that the border refuses and memory that is refused; a few files are read under the
@@ -69,7 +69,7 @@ def list_sections(step: Step, path: Path) -> List[Tuple[str, ...]]:
 def try_c(step: Step, cc: List[str], out: Path, objects: List[Path], archives: List[Path]) -> None:
     for kind, flags in (("", ("-O2",)), (" with sanitizers", SANITIZERS)):
         program = step.room / f"list{kind[-10:]}"
-        built = step.run(step.room, *cc, *WARNINGS, *flags, "-I", out, TOP / "embed" / "list.c", out / "libscroll_formats.a", "-o", program)
+        built = step.run(step.room, *cc, *WARNINGS, *flags, "-I", out, TOP / "embed" / "list.c", out / "libscroll_ffi.a", "-o", program)
         step.count(f"list.c{kind}", built.end() if built.status else None)
         if built.status:
             continue
@@ -88,7 +88,7 @@ def try_c(step: Step, cc: List[str], out: Path, objects: List[Path], archives: L
 def try_damage(step: Step, cc: List[str], out: Path, files: List[Path], count: int) -> None:
     for kind, flags, number in (("", SANITIZERS, count), (" with the sanitizer of threads", ("-g", "-O1", "-fsanitize=thread"), 80)):
         program = step.room / f"damage{number}"
-        source = (TOP / "embed" / "damage.c", out / "libscroll_formats.a", *DAMAGE)
+        source = (TOP / "embed" / "damage.c", out / "libscroll_ffi.a", *DAMAGE)
         built = step.run(step.room, *cc, *WARNINGS, *flags, "-I", out, *source, "-o", program)
         step.count(f"damage.c{kind}", built.end() if built.status else None)
         if not built.status:
@@ -99,12 +99,12 @@ def try_damage(step: Step, cc: List[str], out: Path, files: List[Path], count: i
 
 def try_names(step: Step, out: Path) -> None:
     """Tries what `nm` says of the libraries: the names that they export, and what is written there."""
-    header = (out / "scroll_formats.h").read_text(encoding="utf-8")
+    header = (out / "scroll_ffi.h").read_text(encoding="utf-8")
     names = sorted(re.findall(r"(?m)^(?:const )?\w+ \*?(\w+)\(.*\);$", header))
-    for file, flag in (("libscroll_formats.a", "-g"), ("libscroll_formats.so", "-D")):
+    for file, flag in (("libscroll_ffi.a", "-g"), ("libscroll_ffi.so", "-D")):
         said = step.run(out, "nm", flag, "--defined-only", file).said
         step.count(f"the names of {file}", differ(sorted(re.findall(r"(?m)^[0-9a-f]+ \w (\S+)$", said)), names))
-    written = re.findall(r"(?m) [bBcCdD] (\S+)$", step.run(out, "nm", "libscroll_formats.a").said)
+    written = re.findall(r"(?m) [bBcCdD] (\S+)$", step.run(out, "nm", "libscroll_ffi.a").said)
     # (the kit's address of an allocation of no bytes)
     step.count("nothing is written in the library", differ(sorted({*written} - {"nothing"}), []))
 
@@ -164,8 +164,8 @@ def write_again(formats: Any, archive: bytes) -> bytes:
 
 
 def try_python(step: Step, out: Path, objects: List[Path], archives: List[Path]) -> None:
-    os.environ["SCROLL_FORMATS"] = str(out)
-    import scroll_formats as formats
+    os.environ["SCROLL_FFI"] = str(out)
+    import scroll_ffi as formats
 
     for path in archives:
         archive = path.read_bytes()
@@ -243,7 +243,7 @@ def try_rust(step: Step, out: Path) -> None:
         return
     crate = step.room / "rust"
     shutil.copytree(TOP / "embed" / "rust", crate)
-    variables = {**os.environ, "SCROLL_FORMATS": str(out), "CARGO_TARGET_DIR": str(step.room / "target"), "RUSTFLAGS": "-D warnings"}
+    variables = {**os.environ, "SCROLL_FFI": str(out), "CARGO_TARGET_DIR": str(step.room / "target"), "RUSTFLAGS": "-D warnings"}
     ran = step.run(crate, "cargo", "test", "--offline", "--quiet", env=variables)
     tests = sum(int(it) for it in re.findall(r"test result: ok\. (\d+) passed; 0 failed; 0 ignored", ran.said))
     step.count("the Rust crate", ran.end(40) if ran.status or tests < 4 else None)
@@ -273,12 +273,12 @@ def try_library(step: Step, library: Any, cc: List[str], count: int) -> None:
     try_page(step, library)
     out = step.room / "out"
     crate = make(step, library, out)
-    step.count("the layout of embed/scroll_formats", step.layout_fault(crate))
+    step.count("the layout of embed/scroll_ffi", step.layout_fault(crate))
     sample = step.room / "sample.o"
     built = step.run(step.room, *cc, "-g", "-ffunction-sections", "-c", TOP / "bench" / "sample.c", "-o", sample)
     if built.status:
         raise Stop(f"bench/sample.c is not compiled\n{built.end()}")
-    objects, archives = [sample, out / "libscroll_formats.so"], write_archives(step.room)
+    objects, archives = [sample, out / "libscroll_ffi.so"], write_archives(step.room)
     try_c(step, cc, out, objects, archives)
     try_damage(step, cc, out, [*objects, *archives], count)
     try_names(step, out)

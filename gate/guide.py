@@ -6,7 +6,7 @@ head, and `all` is the file without its tests; `-- file: PATH` is that part of a
 proofs/lemmas/callers/.
 
 The blocks in the library's doc comments and in docs/FROM-RUST.md below a line that begins with a file's name, such as
-"From `clients/examples/src/chunk.rt.txt`", have the parts of that file in the same order. The checks of the tests, which callers
+"From `crates/examples/src/chunk.rt`", have the parts of that file in the same order. The checks of the tests, which callers
 copy from the client `examples`, are those of the library too. A block is a check, and so are the checks of the tests.
 """
 
@@ -123,9 +123,9 @@ def try_guide(step: Step, is_writing: bool) -> int:
 
 def try_all(step: Step, is_writing: bool) -> None:
     library = (TOP / "crates/scroll/src/tests/results.rt").read_text(encoding="utf-8")
-    copy = (TOP / "clients/examples/src/results.rt.txt").read_text(encoding="utf-8")
+    copy = (TOP / "crates/examples/src/results.rt").read_text(encoding="utf-8")
     is_copy = copy == library.replace("\nuse crate::", "\nuse scroll::")
-    step.count("clients/examples/src/results.rt.txt is no copy of src/tests/results.rt", None if is_copy else "")
+    step.count("crates/examples/src/results.rt is no copy of src/tests/results.rt", None if is_copy else "")
     count = try_guide(step, is_writing)
     step.count("docs/GUIDE.md has no block", None if count else "")
     pages: List[Path] = [TOP / "docs" / "FROM-RUST.md", *sorted(TOP.glob("crates/scroll/src/**/*.rt"))]

@@ -1,4 +1,4 @@
-"""Makes the columns of lines in clients/README.md from the files of the clients, and compares them: each client is a check. Of them
+"""Makes the columns of lines in crates/README.md from the files of the clients, and compares them: each client is a check. Of them
 README has those of code and of proof; it also has the version of the kit, which `rt version` prints, and the times of whole jobs, from
 the table in docs/SPEED.md. Contracts, definitions and comments have at most 100 columns; imports, the strings of tests and examples in
 comments may have more.
@@ -73,11 +73,11 @@ def try_all(step: Step, is_writing: bool) -> None:
         if is_writing:
             cells[2:] = wanted
             lines[index] = f"| {' | '.join(cells)} |"
-        step.count(f"clients/README.md:{index + 1}: {name} has {wanted} lines", None if cells[2:] == wanted else "")
+        step.count(f"crates/README.md:{index + 1}: {name} has {wanted} lines", None if cells[2:] == wanted else "")
     for it in {*clients.list_clients()} ^ {*names}:
-        step.count(f"clients/README.md: {it} has a row and no files, or files and no row", "")
+        step.count(f"crates/README.md: {it} has a row and no files, or files and no row", "")
     if is_writing:
         PAGE.write_text("\n".join(lines), encoding="utf-8")
     try_readme(step, is_writing)
     try_widths(step)
-    step.tell(f"{len(names)} clients have their lines in clients/README.md")
+    step.tell(f"{len(names)} clients have their lines in crates/README.md")

@@ -3,7 +3,7 @@
 //! A context says how the bytes of a value are interpreted: in which byte order, up to which
 //! delimiter, or how many of them.
 //!
-//! From `clients/examples/src/sized_fields.rt.txt`, a context of its own:
+//! From `crates/examples/src/sized_fields.rt`, a context of its own:
 //!
 //! ```rust
 //! struct Context {
@@ -66,7 +66,7 @@ pub use zeros::{Zeros, padding};
 /// which errors. A generic caller knows these two of a read, and that its size is at most one byte
 /// more than the source has.
 ///
-/// From `clients/examples/src/errors.rt.txt`, with an error of its own:
+/// From `crates/examples/src/errors.rt`, with an error of its own:
 ///
 /// ```rust
 /// impl<'a> TryFromCtx<'a, Endian> for Foo {
@@ -113,7 +113,7 @@ pub trait TryFromCtx<'a, Ctx: Copy>: Sized {
 /// which target and error. A generic caller knows these two of a write, that its size is at most
 /// the length of the target, and that the bytes after it are unchanged.
 ///
-/// From `clients/examples/src/errors.rt.txt`, whose error has a text:
+/// From `crates/examples/src/errors.rt`, whose error has a text:
 ///
 /// ```rust
 /// impl<'g> TryIntoCtx<(Endian, &'g Global)> for Number {
@@ -168,7 +168,7 @@ pub trait TryIntoCtx<Ctx: Copy>: Sized {
 ///
 /// [`write_kept`](crate::write_kept), [`write_many_kept`](crate::write_many_kept) and
 /// [`write_placed`](crate::write_placed) say so of what they write. `tools/derive` prints the
-/// implementation for most structs, as in `clients/zip/src/entry.rt.txt`.
+/// implementation for most structs, as in `crates/zip/src/entry.rt`.
 pub trait Kept<Ctx: Copy>: TryIntoCtx<Ctx> + Copy {
     // Holds of a context, a source, and each value and size that a read of them may return.
     ghost reads: { Ctx → List ℕ → Self → ℕ → Type 0 };
