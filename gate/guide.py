@@ -2,7 +2,7 @@
 
 Above each block of the guide is a comment `<!-- code: FILE | ITEM | ITEM .. -->`: the block has these items of the file, in this
 order. An item is named by the start of its first line of code, such as `pub fn read_length`; `imports` are the lines of `use` at the
-head, and `all` is the file without its tests; `-- file: PATH` is that part of a client's proofs. `python3 gate/docs.py write` writes the blocks, and the list of the files in
+head, and `all` is the file without its tests. `python3 gate/docs.py write` writes the blocks, and the list of the files in
 proofs/lemmas/callers/.
 
 The blocks in the library's doc comments and in docs/FROM-RUST.md below a line that begins with a file's name, such as
@@ -51,14 +51,11 @@ def block(file: str, names: str) -> str:
     path = TOP / file
     if not path.is_file():
         raise Bad(f"there is no file {file}")
-    is_proof = file.endswith(".antt.txt")
+    is_proof = file.endswith(".antt")
     text = path.read_text(encoding="utf-8")
     items = items_of(text, is_proof)
     picked: List[str] = []
     for name in names.split(" | "):
-        if name.startswith("-- file: "):
-            items = items_of(text.partition(f"{name}\n")[2].partition("-- file: ")[0], is_proof)
-            continue
         if name == "all":
             picked += [it for it in items if "#[test]" not in it]
         elif name == "imports":

@@ -1,4 +1,4 @@
-// Links what `python3 embed/library.py OUT` made, which the variable SCROLL_FFI names.
+// Links what `python3 embed/library.py crates/scroll_ffi OUT` made, which the variable SCROLL_FFI names.
 use std::env;
 
 fn main() {

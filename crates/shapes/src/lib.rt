@@ -1,5 +1,5 @@
 //! Structs of the shapes in the documentation of the Rust crate's derives, one of seventeen fields,
-//! and structs of any size. `tools/derive/derive.sh` printed what stands after each, and their files
+//! and structs of any size. `tools/derive/derive.sh` printed what stands after each, and the files
 //! of `specs/`.
 #![tactic(auto)]
 
