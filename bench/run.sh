@@ -73,19 +73,23 @@ quietly() {
     }
 }
 
-# Proves and builds the library in the tree itself, and the loops over it as a static library in a separate workspace.
-build_loops() {
-    echo "bench: the library is proved and built" >&2
-    cd "$top/crates/scroll" || exit 1
-    quietly rt lib ${JOBS:+--jobs "$JOBS"}
-    tree=$room/tree
+# Proves and builds libraries in the tree itself, and copies the crates into a workspace, with one more, `loops`, over these
+# libraries. (rt takes their builds over.)
+make_workspace() {
+    for library in "$@"; do
+        cd "$top/crates/$library" || exit 1
+        quietly rt lib ${JOBS:+--jobs "$JOBS"}
+    done
     loops=$tree/crates/loops
-    mkdir -p "$loops/src" "$loops/specs" && rm -rf "$tree/crates/scroll" || exit 1
-    tar -C "$top/crates" --exclude=scroll/must-fail --exclude=scroll/out/incremental -cf - scroll | tar -C "$tree/crates" -xf - || exit 1
-    cp "$top/HANDLES" "$tree/" || exit 1
-    { grep '^scroll:' "$top/crates.txt" && echo 'loops staticlib: scroll'; } >"$tree/crates.txt" || exit 1
-    rm -f "$loops"/src/*.rt
-    : >"$loops/specs/Lib.antt"
+    mkdir -p "$loops" && cp "$top/HANDLES" "$tree/" || exit 1
+    find "$tree/crates" -mindepth 2 -maxdepth 2 ! -name out -exec rm -rf {} + || exit 1
+    tar -C "$top" --exclude=out -cf - crates | tar -C "$tree" -xf - && mkdir "$loops/src" || exit 1
+    { cat "$top/crates.txt" && echo "loops staticlib: $*"; } >"$tree/crates.txt" || exit 1
+}
+
+build_loops() {
+    echo "bench: the library and the loops over it are proved and built" >&2
+    make_workspace scroll
     {
         echo '//! Loops over the library, whose time is taken.'
         echo '#![tactic(auto)]'
@@ -95,16 +99,13 @@ build_loops() {
             cp "$here/sets/$set.rt.txt" "$loops/src/$set.rt" || exit 1
         done
     } >"$loops/src/lib.rt"
-    echo "bench: the loops are proved and built" >&2
     cd "$loops" || exit 1
-    quietly rt check ${JOBS:+--jobs "$JOBS"}
-    quietly rt lib
+    quietly rt lib ${JOBS:+--jobs "$JOBS"}
 }
 
 # Builds the program with both sides, once for each layout.
 build_programs() {
     echo "bench: cargo builds the loops in Rust, in four layouts" >&2
-    side=$room/side
     mkdir -p "$side/src" && cp "$here"/src/*.rs "$side/src/" && cp "$here/build.rs" "$side/" || exit 1
     if [ -n "${CRATE:-}" ]; then
         folder=$(cd "$top" && cd -- "$CRATE" && pwd) || fail "CRATE=$CRATE is no folder"
@@ -136,22 +137,10 @@ make_sample() {
 
 # Builds the jobs over the clients as a static library, and the records that bench/jobs/records.py writes.
 build_jobs() {
-    echo "bench: the library and the clients are proved and built" >&2
-    clients='debug_tables object_files git_index packets zip'
-    tree=$room/jobs_tree
-    loops=$tree/crates/loops
-    rm -rf "$tree"
-    # shellcheck disable=SC2086 # words
-    (cd "$top" && quietly python3 gate/clients.py --unpack "$tree" $clients) || exit 1
-    mkdir -p "$loops/src" "$loops/specs" "$side/src" || exit 1
-    echo "loops staticlib: scroll $clients" >>"$tree/crates.txt"
-    : >"$loops/specs/Lib.antt"
-    cp "$here/jobs/jobs.rt.txt" "$loops/src/lib.rt" || exit 1
+    echo "bench: the library, the clients and the jobs are proved and built" >&2
+    make_workspace scroll debug_tables object_files git_index packets zip
+    mkdir -p "$side/src" && cp "$here/jobs/jobs.rt.txt" "$loops/src/lib.rt" || exit 1
     quietly python3 "$here/jobs/records.py" "$loops/src" "$side/src/records.rs"
-    for client in $clients; do
-        cd "$tree/crates/$client" || exit 1
-        quietly rt lib ${JOBS:+--jobs "$JOBS"}
-    done
     cd "$loops" || exit 1
     quietly rt lib ${JOBS:+--jobs "$JOBS"}
 }
@@ -226,11 +215,14 @@ END
 
 if [ "$sets" = jobs ]; then
     side=$room/jobs_side
+    tree=$room/jobs_tree
     build_jobs
     build_job_programs
     make_files
     export SECTIONS="$room/many.o" ARCHIVE="$room/archive.zip"
 else
+    side=$room/side
+    tree=$room/tree
     build_loops
     build_programs
 fi

@@ -3,8 +3,8 @@ use std::env;
 
 fn main() {
     println!("cargo:rerun-if-env-changed=CALLS");
-    let folder = env::var("CALLS").expect("CALLS: the folder of libcalls.a");
-    println!("cargo:rerun-if-changed={folder}/libcalls.a");
+    let folder = env::var("CALLS").expect("CALLS: the folder of libcompare_calls.a");
+    println!("cargo:rerun-if-changed={folder}/libcompare_calls.a");
     println!("cargo:rustc-link-search={folder}");
-    println!("cargo:rustc-link-lib=static=calls");
+    println!("cargo:rustc-link-lib=static=compare_calls");
 }

@@ -5,7 +5,7 @@
 #     sh compare/run.sh --gate
 #
 # COUNT sessions (10000) go through the program and through the Rust crate, which answers them as crates/scroll_run/README.md says
-# (compare/src/spoken.rs), and ten times as many calls through the library (compare/calls) and through the crate. SEED (1)
+# (compare/src/spoken.rs), and ten times as many calls through the library (crates/compare_calls) and through the crate. SEED (1)
 # is what all of them are made from. Their sizes grow: calls up to buffers of a megabyte, and sessions up to an input of
 # 65,536 bytes; longer ones, up to a megabyte or a hundred thousand commands, go through a copy of the program that is
 # proved with a limit of 64 MiB. With --faults, sampled sessions run again with each allocation, read and write refused in
@@ -116,57 +116,24 @@ fetch() {
     (cd "$side" && cargo fetch) >"$room/said" 2>&1
 }
 
-# Proves and builds the program and the library in the tree itself; and in a workspace of their own the program with a
-# higher limit, and the calls as a static library.
+# Proves and builds the program and the calls in the tree itself.
 build_ours() {
-    echo "compare: the library and the program are proved and built" >&2
-    cd "$top/crates/scroll" || exit 1
-    quietly rt lib ${JOBS:+--jobs "$JOBS"}
+    echo "compare: the library, the program and the calls are proved and built" >&2
     cd "$top/crates/scroll_run" || exit 1
     printf 'buffer -\ncursor 0\n' >"$room/shortest"
     quietly rt run ${JOBS:+--jobs "$JOBS"} <"$room/shortest"
-    tree=$room/tree
-    mkdir -p "$tree" && cp "$top/HANDLES" "$tree/" || exit 1
-    { grep '^scroll:' "$top/crates.txt" && echo 'calls staticlib: scroll'; } >"$tree/crates.txt" || exit 1
-    copy_crate scroll incremental
-    echo "compare: the calls are proved and built" >&2
-    build_calls
-    if [ -z "$gate" ]; then
-        echo "compare: the program is proved with a higher limit, and built" >&2
-        build_long
-    fi
-}
-
-# Copies a crate into the workspace; what its out/ keeps too, except for a folder, if the workspace has none yet.
-copy_crate() {
-    rm -rf "$tree/crates/$1/src" "$tree/crates/$1/specs" "$tree/crates/$1/proofs" && mkdir -p "$tree/crates" || exit 1
-    kept="$1/out/$2"
-    [ "$1" = scroll ] || [ ! -d "$tree/crates/$1/out" ] || kept=$1/out
-    tar -C "$top/crates" --exclude="$1/must-fail" --exclude="$1/bugs" --exclude="$kept" -cf - "$1" | tar -C "$tree/crates" -xf - || exit 1
-}
-
-build_calls() {
-    calls=$tree/crates/calls
-    rm -rf "$calls/src" && mkdir -p "$calls/src" "$calls/specs" || exit 1
-    : >"$calls/specs/Lib.antt"
-    for file in "$here"/calls/*.rt.txt; do
-        name=${file##*/}
-        cp "$file" "$calls/src/${name%.txt}" || exit 1
-    done
-    structs=$here/calls/structs.rt.txt
-    for struct in $(sed -n 's/^pub struct \([A-Za-z]*\) {$/\1/p' "$structs"); do
-        sh "$top/tools/derive/derive.sh" "$structs" "$struct" || exit 1
-    done >"$room/derived" || exit 1
-    # (two structs import the same names)
-    awk '!/^(ghost )?use / || !seen[$0]++' "$room/derived" >>"$calls/src/structs.rt" || exit 1
-    cd "$calls" || exit 1
+    cd "$top/crates/compare_calls" || exit 1
     quietly rt lib ${JOBS:+--jobs "$JOBS"}
 }
 
-# The limit stands in the code, in its contracts and in their definitions.
+# Proves and builds in a workspace the program with a higher limit, which stands in the code, in its contracts and in their
+# definitions.
 build_long() {
-    copy_crate scroll_run scroll_run
-    grep '^scroll_run:' "$top/crates.txt" >>"$tree/crates.txt" || exit 1
+    echo "compare: the program is proved with a higher limit, and built" >&2
+    tree=$room/tree
+    mkdir -p "$tree/crates" && cp "$top/HANDLES" "$tree/" && grep -E '^scroll(_run)?:' "$top/crates.txt" >"$tree/crates.txt" || exit 1
+    find "$tree/crates" -mindepth 2 -maxdepth 2 ! -name out -exec rm -rf {} + || exit 1
+    tar -C "$top/crates" --exclude=out -cf - scroll scroll_run | tar -C "$tree/crates" -xf - || exit 1
     cd "$tree/crates/scroll_run" || exit 1
     grep -rlE '65_?53[67]' src specs proofs | grep -v '^src/tests' >"$room/limits"
     xargs sed -i 's/65_537/67_108_865/; s/65537/67108865/g; s/65536/67108864/g' <"$room/limits" || exit 1
@@ -177,7 +144,7 @@ build_long() {
 build_side() {
     echo "compare: cargo builds the Rust side" >&2
     cd "$side" || exit 1
-    export CALLS="$calls/out" CARGO_TARGET_DIR="$side/target"
+    export CALLS="$top/crates/compare_calls/out" CARGO_TARGET_DIR="$side/target"
     quietly cargo build --release ${features:+--features "$features"}
 }
 
@@ -211,6 +178,7 @@ run_gate() {
 find_crate
 long=
 build_ours
+[ -n "$gate" ] || build_long
 build_side
 workers=${WORKERS:-$(getconf _NPROCESSORS_ONLN)}
 if [ -n "$gate" ]; then

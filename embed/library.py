@@ -1,9 +1,9 @@
 #!/usr/bin/env python3
 """Makes a library for C, Rust and Python of a crate that is a static library:
 
-    python3 embed/library.py CRATE OUT       of a crate of your own, a folder in a workspace (its line in crates.txt: NAME staticlib: DEP ..)
-    python3 embed/library.py OUT             of embed/scroll_formats, in a temporary workspace with the clients that it uses
+    python3 embed/library.py CRATE OUT
 
+CRATE is its folder, as crates/scroll_ffi of this repository; its line in crates.txt is NAME staticlib: DEP ..
 `rt lib` proves the crate and builds it. OUT then has
 
     libNAME.a, libNAME.so    the crate, the kit's object files that it needs, and the border: the C functions that callers see
@@ -16,7 +16,7 @@ border tests each reference, and returns -1, NAME_BAD_ARGUMENT, where the call w
 constants, as `pub const NAME: i32 = -2;`, whose doc comments are their texts.
 
 The command fails where it finds an export that has another form, a name that is exported beside these, or a function that is needed
-and is none of malloc, realloc, free and of the C library's on memory. The variable JOBS sets the jobs of each check.
+and is none of malloc, realloc, free and of the C library's on memory. The variable JOBS sets the jobs of the proof.
 """
 
 import os
@@ -28,8 +28,6 @@ from dataclasses import dataclass, field
 from pathlib import Path
 from typing import Dict, List, NamedTuple, Tuple
 
-TOP = Path(__file__).resolve().parents[1]
-FORMATS = "scroll_formats"
 # A number's type in Rattle and Rust, in C, and in Python's ctypes.
 NUMBERS = {
     **{f"{kind}{bits}": (f"{c}{bits}_t", f"c_{c}{bits}") for kind, c in (("u", "uint"), ("i", "int")) for bits in (8, 16, 32, 64)},
@@ -305,11 +303,6 @@ def run(*words: object, **how: object) -> str:
     return ran.stdout
 
 
-def run_lib(folder: Path) -> None:
-    """Proves and builds a crate, with the jobs that the variable JOBS says."""
-    run("rt", "lib", *(["--jobs", os.environ["JOBS"]] if "JOBS" in os.environ else []), cwd=folder)
-
-
 def names_of(file: Path, *flags: str) -> "set[str]":
     return {line.split()[-1] for line in run("nm", *flags, file).splitlines() if line and not line.endswith(":")}
 
@@ -345,7 +338,7 @@ def link(crate: Crate, folder: Path, out: Path, room: Path) -> None:
 
 def embed(folder: Path, out: Path) -> None:
     """Makes the library of a crate."""
-    run_lib(folder)
+    run("rt", "lib", *(["--jobs", os.environ["JOBS"]] if "JOBS" in os.environ else []), cwd=folder)
     crate = read_crate(folder)
     out.mkdir(parents=True, exist_ok=True)
     for name, text in ((f"{crate.name}.h", header(crate)), (f"{crate.name}.rs", rust(crate)), (f"{crate.name}_raw.py", python(crate))):
@@ -357,34 +350,12 @@ def embed(folder: Path, out: Path) -> None:
     print(f"library: {len(crate.exports) + 1} functions: {' '.join(it.name for it in crate.exports)} {crate.name}_text")
 
 
-def embed_formats(tree: Path, out: Path) -> Path:
-    """Makes the library of embed/scroll_formats in a new workspace, with the library's build and two clients, and returns its folder."""
-    run(sys.executable, TOP / "gate" / "clients.py", "--unpack", tree, "object_files", "zip")
-    crate = tree / "crates" / FORMATS
-    sys.path.insert(0, str(TOP / "gate"))
-    from clients import copy_client
-
-    copy_client(TOP / "embed" / FORMATS, crate)
-    with open(tree / "crates.txt", "a", encoding="utf-8") as lines:
-        lines.write(f"{FORMATS} staticlib: object_files zip scroll\n")
-    for low in ("object_files", "zip"):
-        run_lib(crate.parent / low)
-    embed(crate, out)
-    return crate
-
-
 def main(words: List[str]) -> int:
-    if len(words) not in (1, 2):
+    if len(words) != 2:
         print(__doc__)
         return 2
-    out = Path(words[-1]).resolve()
     try:
-        if len(words) == 2:
-            embed(Path(words[0]).resolve(), out)
-            return 0
-        run_lib(TOP / "crates" / "scroll")
-        with tempfile.TemporaryDirectory(prefix="embed-") as tree:
-            embed_formats(Path(tree), out)
+        embed(*(Path(it).resolve() for it in words))
         return 0
     except Refused as why:
         print(f"library: {why}", file=sys.stderr)

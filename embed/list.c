@@ -1,10 +1,10 @@
 /* Lists the sections of ELF files and the stored files of ZIP archives, one a line: number or offset, size, name. */
-#include "scroll_formats.h"
+#include "scroll_ffi.h"
 #include <stdio.h>
 #include <stdlib.h>
 
 static int tell(const char *path, const scroll_error *error) {
-    fprintf(stderr, "%s: offset %llu: %s\n", path, (unsigned long long)error->offset, scroll_formats_text(error->code));
+    fprintf(stderr, "%s: offset %llu: %s\n", path, (unsigned long long)error->offset, scroll_ffi_text(error->code));
     return 1;
 }
 

@@ -18,7 +18,7 @@ import results  # noqa: E402
 SOURCES = TOP / "crates" / "scroll" / "src"
 SETS = TOP / "bench" / "sets"
 # A client whose reads and writes are whole jobs of the bench.
-JOBS = TOP / "clients" / "debug_tables" / "src"
+JOBS = TOP / "crates" / "debug_tables" / "src"
 # Files of the sources without calls for others.
 INNER = ("tests", "tests.rt", "laws", "laws.rt", "search", "search.rt", "runner", "runner.rt")
 
@@ -49,7 +49,7 @@ def public_calls() -> Set[str]:
 
 def try_all(step: Step) -> None:
     calls = public_calls()
-    files = [*sorted(SETS.glob("*.rt.txt")), TOP / "bench" / "jobs" / "jobs.rt.txt", JOBS / "lib.rt.txt", JOBS / "declaration.rt.txt"]
+    files = [*sorted(SETS.glob("*.rt.txt")), TOP / "bench" / "jobs" / "jobs.rt.txt", JOBS / "lib.rt", JOBS / "declaration.rt"]
     timed = USE.sub("", "\n".join(path.read_text(encoding="utf-8") for path in files))
     for name in sorted(calls - CONSTANT):
         is_called = re.search(rf"\b{THROUGH.get(name, name)}(::<[^()]*>)?[(,]", timed)

@@ -24,7 +24,7 @@ FOREIGN = set("""
 BoxedSlice CowSlice I Self::Units array::try_from_fn array::from_fn cause collect c3 core::mem core::result f64 memchr scroll_derive
 x86-64-v2
 HEX HH ORD SESSION crates/first crates/first/src crates/first/src/lib.rt export description AsRef This RangeFrom memmove Proof Lts Tie
-SCROLL byteorder pandoc gimli goblin object zerocopy grind rw debug_line libscroll_formats in_ok-entry fence
+SCROLL byteorder pandoc gimli goblin object zerocopy grind rw debug_line libscroll_ffi in_ok-entry fence
 """.split())
 # Paths into std begin so.
 STD = re.compile(r"(?:std|core|io|fmt|str|array|ffi|result)::[\w:]+")
@@ -44,7 +44,7 @@ COMMAND = re.compile(r"\(?(?:cd|rt|python3|sh|cargo|git|cc) ")
 VALUE = re.compile(r"\b([A-Z]\w*) \{\s*([^{}]*)\}")
 # A path from the top of the repository, which may be that of README's `SCROLL`; a file by its name.
 PATH = re.compile(
-    r"(?<![\w/.-])(?:\$SCROLL/|\.\./)*((?:gate|tools|crates|clients|embed|bench|compare|docs|sessions)/[\w./-]*[\w/])"
+    r"(?<![\w/.-])(?:\$SCROLL/|\.\./)*((?:gate|tools|crates|embed|bench|compare|docs|sessions)/[\w./-]*[\w/])"
     r"|(?<![\w/.-])([a-z][\w-]*\.(?:py|sh|txt|md|c|rs|csv|svg|edits))\b(?!\.)"
 )
 LINK = re.compile(r"\]\(([^()\s]+)\)")
@@ -64,7 +64,7 @@ BEFORE = re.compile(rf"clauses? (`[a-z_]+`(?:(?:, | and )`[a-z_]+`)*) of (?:the 
 
 
 def documents() -> List[Path]:
-    patterns = ("*.md", "docs/*.md", "clients/*.md", "embed/*.md", "crates/*/*.md", "crates/*/bugs/**/*.edits", "crates/*/must-fail/*.edit")
+    patterns = ("*.md", "docs/*.md", "crates/*.md", "embed/*.md", "crates/*/*.md", "crates/*/bugs/**/*.edits", "crates/*/must-fail/*.edit")
     return sorted(path for pattern in patterns for path in TOP.glob(pattern))
 
 
@@ -87,7 +87,7 @@ def names_in(span: str) -> List[str]:
 def fields_of_sources() -> Dict[str, List[Set[str]]]:
     """Returns for each name that stands before fields the words of these, wherever it does."""
     found: Dict[str, List[Set[str]]] = {}
-    for path in [*TOP.glob("crates/*/src/**/*.rt"), *TOP.glob("clients/*/src/**/*.rt.txt")]:
+    for path in TOP.glob("crates/*/src/**/*.rt"):
         for name, fields in VALUE.findall(path.read_text(encoding="utf-8")):
             found.setdefault(name, []).append({*WORD.findall(fields)})
     return found
@@ -112,7 +112,7 @@ def commands(document: Path) -> Iterator[Tuple[int, str]]:
 def is_gone(path: str, document: Path) -> bool:
     if path in FOREIGN or path.startswith("crates/first/") or re.search(r"\b[A-Z]{2,}\b(?!\.md)", path) or "out" in path.split("/"):
         return False
-    return not any((folder / path).exists() for folder in (TOP, document.parent, *TOP.glob("crates/*"), *TOP.glob("crates/*/src"), *TOP.glob("clients/*")))
+    return not any((folder / path).exists() for folder in (TOP, document.parent, *TOP.glob("crates/*"), *TOP.glob("crates/*/src")))
 
 
 def leads_nowhere(link: str, document: Path) -> bool:

@@ -1,4 +1,4 @@
-"""The declarations of the crates and of the clients: each module, type, trait and function with its members and the names of its
+"""The declarations of the crates: each module, type, trait and function with its members and the names of its
 clauses, and where it stands. gate/cited.py resolves what the documents cite against them, and gate/promises.py links to them.
 """
 
@@ -42,7 +42,7 @@ class Declarations:
         self.in_traits: Set[Tuple[Path, int]] = set()
         # What is exported under another path, and the other names of types.
         self.aliases: Dict[str, str] = {}
-        for path in sorted([*TOP.glob("crates/*/src/**/*.rt"), *TOP.glob("clients/*/src/**/*.rt.txt"), *TOP.glob("embed/*/src/*.rt.txt")]):
+        for path in sorted(TOP.glob("crates/*/src/**/*.rt")):
             self.read(path)
 
     def read(self, path: Path) -> None:

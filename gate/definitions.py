@@ -17,6 +17,7 @@ from dataclasses import dataclass
 from pathlib import Path
 from typing import Dict, Iterator, List, Set, Tuple
 
+from layers import list_clients
 from step import TOP, Step
 
 PAGE = TOP / "docs" / "DEFINITIONS.md"
@@ -125,7 +126,7 @@ def cited_names(meanings: Dict[str, str]) -> Set[str]:
     """The definitions that a user meets: those that are cited, and those that the meaning of one of these names."""
     src = TOP / "crates" / "scroll" / "src"
     files = [it for it in src.rglob("*.rt") if "tests" not in it.relative_to(src).parts]
-    files += [*TOP.glob("clients/*/src/**/*.rt.txt"), *TOP.glob("clients/*/specs/*.txt"), *TOP.glob("tools/derive/*.*")]
+    files += [it for name in list_clients() for it in (TOP / "crates" / name).glob("s*/**/*.*t")] + [*TOP.glob("tools/derive/*.*")]
     words = {it for path in files for it in WORD.findall(INNER.sub("", path.read_text(encoding="utf-8")))}
     left, found = [it for it in meanings if it in words], set()
     while left:

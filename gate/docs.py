@@ -8,8 +8,8 @@
 The code in docs/GUIDE.md is put there from clients and proofs (gate/guide.py). The names and clauses that the documents cite are
 declared, and their links lead somewhere (gate/cited.py). docs/API.md has the library's doc comments (gate/api.py), and
 docs/DEFINITIONS.md what the comments in specs/ say (gate/definitions.py). docs/PROVED.md has the promises of gate/promises.txt, each
-with its clauses and how many edits there are for it (gate/promises.py). clients/README.md has the lines of each client
-and README's numbers (gate/sizes.py). The bench has a row for each public call, and docs/SPEED.md the summary of its times (gate/benched.py).
+with its clauses and how many edits there are for it (gate/promises.py). crates/README.md has the lines of each client
+and README's numbers (gate/sizes.py). A crate names no proofs of another but those for callers (gate/layers.py). The bench has a row for each public call, and docs/SPEED.md the summary of its times (gate/benched.py).
 """
 
 import sys
@@ -20,6 +20,7 @@ import benched
 import guide
 import cited
 import definitions
+import layers
 import promises
 import sizes
 from step import Step, Stop, run_step
@@ -35,6 +36,7 @@ def work(step: Step, words: List[str]) -> None:
     guide.try_all(step, words == ["write"])
     cited.try_all(step)
     benched.try_all(step)
+    layers.try_all(step)
 
 
 if __name__ == "__main__":

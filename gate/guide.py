@@ -2,11 +2,11 @@
 
 Above each block of the guide is a comment `<!-- code: FILE | ITEM | ITEM .. -->`: the block has these items of the file, in this
 order. An item is named by the start of its first line of code, such as `pub fn read_length`; `imports` are the lines of `use` at the
-head, and `all` is the file without its tests; `-- file: PATH` is that part of a client's proofs. `python3 gate/docs.py write` writes the blocks, and the list of the files in
+head, and `all` is the file without its tests. `python3 gate/docs.py write` writes the blocks, and the list of the files in
 proofs/lemmas/callers/.
 
 The blocks in the library's doc comments and in docs/FROM-RUST.md below a line that begins with a file's name, such as
-"From `clients/examples/src/chunk.rt.txt`", have the parts of that file in the same order. The checks of the tests, which callers
+"From `crates/examples/src/chunk.rt`", have the parts of that file in the same order. The checks of the tests, which callers
 copy from the client `examples`, are those of the library too. A block is a check, and so are the checks of the tests.
 """
 
@@ -51,14 +51,11 @@ def block(file: str, names: str) -> str:
     path = TOP / file
     if not path.is_file():
         raise Bad(f"there is no file {file}")
-    is_proof = file.endswith(".antt.txt")
+    is_proof = file.endswith(".antt")
     text = path.read_text(encoding="utf-8")
     items = items_of(text, is_proof)
     picked: List[str] = []
     for name in names.split(" | "):
-        if name.startswith("-- file: "):
-            items = items_of(text.partition(f"{name}\n")[2].partition("-- file: ")[0], is_proof)
-            continue
         if name == "all":
             picked += [it for it in items if "#[test]" not in it]
         elif name == "imports":
@@ -123,9 +120,9 @@ def try_guide(step: Step, is_writing: bool) -> int:
 
 def try_all(step: Step, is_writing: bool) -> None:
     library = (TOP / "crates/scroll/src/tests/results.rt").read_text(encoding="utf-8")
-    copy = (TOP / "clients/examples/src/results.rt.txt").read_text(encoding="utf-8")
+    copy = (TOP / "crates/examples/src/results.rt").read_text(encoding="utf-8")
     is_copy = copy == library.replace("\nuse crate::", "\nuse scroll::")
-    step.count("clients/examples/src/results.rt.txt is no copy of src/tests/results.rt", None if is_copy else "")
+    step.count("crates/examples/src/results.rt is no copy of src/tests/results.rt", None if is_copy else "")
     count = try_guide(step, is_writing)
     step.count("docs/GUIDE.md has no block", None if count else "")
     pages: List[Path] = [TOP / "docs" / "FROM-RUST.md", *sorted(TOP.glob("crates/scroll/src/**/*.rt"))]

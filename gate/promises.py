@@ -11,6 +11,7 @@ from typing import Dict, List, NamedTuple, Optional
 
 from declared import Declarations
 from edit_files import Edit, read_edits
+from layers import PRODUCT
 from step import TOP, Step
 
 PAGE = TOP / "docs" / "PROVED.md"
@@ -61,7 +62,7 @@ def cited(text: str, declared: Declarations) -> str:
     for clause in clauses:
         if clause not in declared.clauses(name):
             raise Bad(f"`{name}` has no clause `{clause}`")
-    best = max(places, key=lambda it: ("/crates/" in str(it[0]), bool(set(clauses) & it[2])))
+    best = max(places, key=lambda it: (it[0].relative_to(TOP).parts[1] in PRODUCT, bool(set(clauses) & it[2])))
     line = best[1]
     for it in declared.found(name):
         if (it.file, it.line) == best[:2] and clauses and clauses[0] in it.clauses:

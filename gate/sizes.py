@@ -1,18 +1,18 @@
-"""Makes the columns of lines in clients/README.md from the files of the clients, and compares them: each client is a check. Of them
-README has those of code and of proof; it also has the version of the kit, which `rt version` prints, and the times of whole jobs, from
-the table in docs/SPEED.md. Contracts, definitions and comments have at most 100 columns; imports, the strings of tests and examples in
-comments may have more.
+"""Makes the columns of lines in crates/README.md from the files of the clients, and compares them: each client is a check, and so is
+that the page names each crate. Of the columns README has those of code and of proof; it also has the version of the kit, which
+`rt version` prints, and the times of whole jobs, from the table in docs/SPEED.md. The product's contracts, definitions and comments have
+at most 100 columns; imports, the strings of tests and examples in comments may have more.
 """
 
 import re
+from pathlib import Path
+from typing import Dict, Iterable, List
 
-from typing import Dict, List
-
-import clients
 import markdown
+from layers import PRODUCT, list_clients, list_crates
 from step import TOP, Step
 
-PAGE = TOP / "clients" / "README.md"
+PAGE = TOP / "crates" / "README.md"
 COLUMNS = 5
 README, SPEED = TOP / "README.md", TOP / "docs" / "SPEED.md"
 # Where README has the version of the kit, and what is made of rows; the columns of SPEED's jobs; and what jobs of one kind differ in.
@@ -23,8 +23,18 @@ WIDTH = 100
 MAY_BE_WIDE = re.compile(r"(?:ghost )?use |//[/!]     |#\[")
 
 
+def count_parts(crate: Path) -> List[str]:
+    """Returns the lines that aren't empty of code without the tests, of definitions and of proof."""
+
+    def count(files: Iterable[Path]) -> str:
+        return str(sum(bool(line) for it in files if it.name != "Lib.antt" for line in it.read_text(encoding="utf-8").split("\n")))
+
+    code = [it for it in crate.glob("src/**/*.rt") if "tests" not in it.parts and it.name != "tests.rt"]
+    return [count(code), count(crate.glob("specs/**/*.antt")), count(crate.glob("proofs/**/*.antt"))]
+
+
 def try_widths(step: Step) -> None:
-    files = [it for crate in TOP.glob("crates/*") for part in ("src/**/*.rt", "specs/**/*.antt") for it in crate.glob(part)]
+    files = [it for crate in PRODUCT for part in ("src/**/*.rt", "specs/**/*.antt") for it in (TOP / "crates" / crate).glob(part)]
     for path in files:
         if path.relative_to(TOP).parts[3] == "tests":
             continue
@@ -62,22 +72,25 @@ def try_readme(step: Step, is_writing: bool) -> None:
 
 
 def try_all(step: Step, is_writing: bool) -> None:
-    lines = PAGE.read_text(encoding="utf-8").split("\n")
+    text = PAGE.read_text(encoding="utf-8")
+    lines = text.split("\n")
     names = []
     for index, cells in markdown.read(PAGE).rows():
         if len(cells) != COLUMNS or cells[0] == "client":
             continue
         name = cells[0].strip("`")
         names.append(name)
-        wanted = [str(it) for it in clients.count_parts(PAGE.parent / name)]
+        wanted = count_parts(PAGE.parent / name)
         if is_writing:
             cells[2:] = wanted
             lines[index] = f"| {' | '.join(cells)} |"
-        step.count(f"clients/README.md:{index + 1}: {name} has {wanted} lines", None if cells[2:] == wanted else "")
-    for it in {*clients.list_clients()} ^ {*names}:
-        step.count(f"clients/README.md: {it} has a row and no files, or files and no row", "")
+        step.count(f"crates/README.md:{index + 1}: {name} has {wanted} lines", None if cells[2:] == wanted else "")
+    for it in {*list_clients()} ^ {*names}:
+        step.count(f"crates/README.md: {it} has a row and is no client, or is one and has no row", "")
+    left = [it for it in list_crates() if f"`{it}`" not in text]
+    step.count("the crates that crates/README.md names", f"    not {' '.join(left)}" if left else None)
     if is_writing:
         PAGE.write_text("\n".join(lines), encoding="utf-8")
     try_readme(step, is_writing)
     try_widths(step)
-    step.tell(f"{len(names)} clients have their lines in clients/README.md")
+    step.tell(f"{len(names)} clients have their lines in crates/README.md")

@@ -27,7 +27,7 @@ PAGES = {
     "docs/FROM-RUST.md": "From Rust",
     "docs/PROVED.md": "Proved",
     "docs/SPEED.md": "Speed",
-    "clients/README.md": "Clients",
+    "crates/README.md": "Clients",
     "embed/README.md": "Embedding",
     "crates/scroll_run/README.md": "Program",
     "docs/DECISIONS.md": "Decisions",

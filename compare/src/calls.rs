@@ -8,7 +8,7 @@ use crate::spoken::hex;
 use crate::theirs;
 
 /// Which value is read or written, where, by which form of the call, and two numbers that make the context: as in
-/// compare/calls/call.rt.txt.
+/// crates/compare_calls/src/call.rt.
 #[repr(C)]
 #[derive(Clone, Copy)]
 pub struct Asked {

@@ -1,4 +1,4 @@
-//! The structs of compare/calls, with the derives of the crate `scroll_derive`.
+//! The structs of crates/compare_calls, with the derives of the crate `scroll_derive`.
 //!
 //! What is told of them: a derive reads and writes field after field, so that a source or a target which is too short is
 //! refused by the first field without room, and the fields before it are then written. The library's implementations look

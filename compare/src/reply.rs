@@ -1,4 +1,4 @@
-//! What the Rust crate's calls return, encoded as compare/calls/call.rt.txt does.
+//! What the Rust crate's calls return, encoded as crates/compare_calls/src/call.rt does.
 
 use crate::spoken::{Required, size_of_uleb};
 use scroll::{Error, Result, Sleb128, Uleb128};

@@ -1,4 +1,4 @@
-//! The same calls of the Rust crate, in the order in which compare/calls numbers them.
+//! The same calls of the Rust crate, in the order in which crates/compare_calls numbers them.
 
 use crate::calls::Asked;
 use crate::reply::{Made, Reply, Show};

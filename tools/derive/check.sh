@@ -1,6 +1,6 @@
 #!/bin/sh
-# Compares the implementations that tools/derive/derive.sh prints with those in the files below, which the gate proves, and
-# tries files in which they differ, forms of structs, and input that has to be refused:
+# Compares the implementations that tools/derive/derive.sh prints with those in the crates, which the gate proves, and tries files
+# in which they differ, forms of structs, and input that has to be refused:
 #
 #     sh tools/derive/check.sh
 #
@@ -59,37 +59,22 @@ END
     grep '^derive: ' "$1/out"
 }
 
-# Tests whether each file has the implementation for a struct: FILE STRUCT.
-while read -r file name; do
-    sh tools/derive/derive.sh --check "$file" "$name"
-    count $?
-done <<'END'
-clients/examples/src/format.rt.txt Format
-clients/examples/src/format.rt.txt Data
-clients/examples/src/stream.rt.txt Foo
-clients/examples/src/arrays.rt.txt Point
-clients/examples/src/arrays.rt.txt Triangle
-clients/object_files/src/sections.rt.txt Section
-clients/debug_tables/src/declaration.rt.txt Attribute
-clients/debug_tables/src/declaration.rt.txt Children
-clients/debug_tables/src/declaration.rt.txt Declaration
-clients/packets/src/packet.rt.txt DnsHeader
-clients/packets/src/packet.rt.txt UdpHeader
-clients/packets/src/packet.rt.txt Packet
-clients/packets/src/log.rt.txt Record
-clients/zip/src/file.rt.txt StoredFile
-clients/zip/src/end.rt.txt EndRecord
-clients/git_index/src/entry.rt.txt Stat
-clients/git_index/src/entry.rt.txt Entry
-clients/git_index/src/header.rt.txt Header
-clients/zip/src/entry.rt.txt Entry
-clients/png/src/chunk.rt.txt Chunk
+# Tests whether the files of the crates have what is printed for a struct: for each `Record`, and for what has a specs/STRUCTFormat.antt.
+tell_of "$room" <<'END'
+import re
+
+for file in Path("crates").glob("*/src/**/*.rt"):
+    crate, text = Path(*file.parts[:2]), file.read_text(encoding="utf-8")
+    for kind, name in re.findall(r"(?m)^impl(?:<'a>)? (Record|TryFromCtx)(?:<'a, Endian>)? for (\w+)", text):
+        if "tests" not in file.parts and (kind == "Record" or (crate / "specs" / f"{name}Format.antt").exists()):
+            status, out, err = call("--check", str(file), name)
+            tell(not status, f"{out}{err}")
 END
 
 # Tests whether a file in which one line of the implementation differs is found out: --check ends with 1 and one line.
 tell_of "$room" <<'END'
 file = room / "format.rt"
-lines = Path("clients/examples/src/format.rt.txt").read_text(encoding="utf-8").split("\n")
+lines = Path("crates/examples/src/format.rt").read_text(encoding="utf-8").split("\n")
 first = next(at for at, it in enumerate(lines) if it.startswith("impl Record"))
 for at in range(first, lines.index("}", first) + 1):
     file.write_text("\n".join([*lines[:at], f"{lines[at]}!", *lines[at + 1 :]]), encoding="utf-8")
@@ -100,29 +85,29 @@ END
 
 # The same for the files of a struct of any size: a line of its implementations, of its definitions and of its proof.
 while IFS='|' read -r file old words; do
-    rm -rf "$room/zip" && cp -R clients/zip "$room/zip"
-    sed "s/$old/other/" "clients/zip/$file" >"$room/zip/$file"
-    said=$(sh tools/derive/derive.sh --check "$room/zip/src/end.rt.txt" EndRecord 2>&1)
+    rm -rf "$room/zip" && mkdir "$room/zip" && cp -R crates/zip/src crates/zip/specs "$room/zip"
+    sed "s/$old/other/" "crates/zip/$file" >"$room/zip/$file"
+    said=$(sh tools/derive/derive.sh --check "$room/zip/src/end.rt" EndRecord 2>&1)
     status=$?
-    ! cmp -s "clients/zip/$file" "$room/zip/$file" && [ "$status" -eq 1 ] && [ "$said" = "$room/zip/src/end.rt.txt: $words" ]
+    ! cmp -s "crates/zip/$file" "$room/zip/$file" && [ "$status" -eq 1 ] && [ "$said" = "$room/zip/src/end.rt: $words" ]
     result=$?
     [ "$result" -eq 0 ] || echo "derive: with another '$old' --check ended with $status and '$said'"
     count "$result"
 done <<'END'
-src/end.rt.txt|check_room(22|the implementation for EndRecord is not what tools/derive/derive.sh prints
-src/end.rt.txt|put_whole(dst|the implementation for EndRecord is not what tools/derive/derive.sh prints
-specs/EndRecordFormat.antt.txt|◌≢◌|specs/EndRecordFormat.antt.txt is not what tools/derive/derive.sh prints for EndRecord
-specs/EndRecordFormat.antt.txt|whole|specs/EndRecordFormat.antt.txt is not what tools/derive/derive.sh prints for EndRecord
-specs/EndRecordBack.antt.txt|p7|specs/EndRecordBack.antt.txt is not what tools/derive/derive.sh prints for EndRecord
+src/end.rt|check_room(22|the implementation for EndRecord is not what tools/derive/derive.sh prints
+src/end.rt|put_whole(dst|the implementation for EndRecord is not what tools/derive/derive.sh prints
+specs/EndRecordFormat.antt|◌≢◌|specs/EndRecordFormat.antt is not what tools/derive/derive.sh prints for EndRecord
+specs/EndRecordFormat.antt|whole|specs/EndRecordFormat.antt is not what tools/derive/derive.sh prints for EndRecord
+specs/EndRecordBack.antt|p7|specs/EndRecordBack.antt is not what tools/derive/derive.sh prints for EndRecord
 END
 
 # A file with one of the two traits alone.
 for trait in TryFromCtx TryIntoCtx; do
-    rm -rf "$room/zip" && cp -R clients/zip "$room/zip"
-    awk -v trait="$trait" '/^impl/ { left = index($0, trait) } !left { print } /^}/ { left = 0 }' clients/zip/src/end.rt.txt >"$room/zip/src/end.rt.txt"
-    said=$(sh tools/derive/derive.sh --check "$room/zip/src/end.rt.txt" EndRecord 2>&1)
+    rm -rf "$room/zip" && mkdir "$room/zip" && cp -R crates/zip/src crates/zip/specs "$room/zip"
+    awk -v trait="$trait" '/^impl/ { left = index($0, trait) } !left { print } /^}/ { left = 0 }' crates/zip/src/end.rt >"$room/zip/src/end.rt"
+    said=$(sh tools/derive/derive.sh --check "$room/zip/src/end.rt" EndRecord 2>&1)
     status=$?
-    [ "$status" -eq 1 ] && [ "$said" = "$room/zip/src/end.rt.txt: the implementation for EndRecord is not what tools/derive/derive.sh prints" ]
+    [ "$status" -eq 1 ] && [ "$said" = "$room/zip/src/end.rt: the implementation for EndRecord is not what tools/derive/derive.sh prints" ]
     result=$?
     [ "$result" -eq 0 ] || echo "derive: without $trait --check ended with $status and '$said'"
     count "$result"

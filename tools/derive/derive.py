@@ -23,9 +23,8 @@ OPTIONS = ("--check", "--specs", "--back")
 def check_specs(path: str, name: str, texts: List[str]) -> int:
     """Compares the files of specs/ with what is printed."""
     specs = next(folder for folder in Path(path).resolve().parents if folder.name == "src").with_name("specs")
-    ending = ".antt.txt" if path.endswith(".txt") else ".antt"
     for kind, text in zip(("Format", "Back"), texts):
-        file = specs / f"{name}{kind}{ending}"
+        file = specs / f"{name}{kind}.antt"
         if not file.exists() or file.read_text(encoding="utf-8") != f"{text}\n":
             print(f"{path}: specs/{file.name} is not what tools/derive/derive.sh prints for {name}")
             return 1

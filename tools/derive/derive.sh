@@ -7,8 +7,8 @@
 #     sh tools/derive/derive.sh --specs FILE STRUCT     the definitions of a struct of any size
 #     sh tools/derive/derive.sh --back FILE STRUCT      the proofs of its round trips
 #
-# (It needs Python 3.8.) FILE is a .rt file (or the .rt.txt of a client), and STRUCT a struct in it. The fields follow one
-# another in the order of the struct, with nothing between them.
+# (It needs Python 3.8.) FILE is a .rt file, and STRUCT a struct in it. The fields follow one another in the order of the struct,
+# with nothing between them.
 #
 # A struct of a fixed size has fields with names or is a tuple. A field is a number, an array of numbers, of arrays or of
 # structs, whose length is a literal or a constant of FILE, or a struct of FILE for which the same was printed. It gets `Record`,

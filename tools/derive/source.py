@@ -95,7 +95,7 @@ class Source:
 
     def __init__(self, path: str) -> None:
         self.path = path
-        if not path.endswith((".rt", ".rt.txt")):
+        if not path.endswith(".rt"):
             raise BadInput(f"{path}: not a .rt file")
         try:
             self.text = Path(path).read_text(encoding="utf-8")
@@ -209,7 +209,7 @@ def read_error(source: Source, raw: RawStruct, text: str) -> OwnError:
         return OwnError(text, "", "Rattle.scroll.specs.declared.small_error.SmallError", ())
     name, sign, variant = text.partition("::")
     folder = next(it for it in Path(source.path).resolve().parents if it.name == "src")
-    for path in sorted(it for it in folder.rglob("*") if it.name.endswith((".rt", ".rt.txt"))):
+    for path in sorted(folder.rglob("*.rt")):
         other = Source(str(path))
         if re.search(rf"\benum\s+{re.escape(name)}\b", other.code):
             variants = tuple(field.name for field in other.find_struct(name).fields)

@@ -3,7 +3,7 @@
 //! A context says how the bytes of a value are interpreted: in which byte order, up to which
 //! delimiter, or how many of them.
 //!
-//! From `clients/examples/src/sized_fields.rt.txt`, a context of its own:
+//! From `crates/examples/src/sized_fields.rt`, a context of its own:
 //!
 //! ```rust
 //! struct Context {
@@ -37,14 +37,15 @@ mod bytes;
 mod c_strings;
 mod fixed;
 mod measure;
+mod memory;
 mod numbers;
 mod std_c_strings;
 mod str_ctx;
 mod text;
 mod tuples;
 
-pub use arrays::array_fits;
 pub use fixed::{Fixed, Plain, Record, RoundTrip, Written};
+pub use memory::array_fits;
 pub use str_ctx::{NULL, RET, SPACE, StrCtx, TAB};
 
 /// A type that can be read from bytes in a context.
@@ -53,7 +54,7 @@ pub use str_ctx::{NULL, RET, SPACE, StrCtx, TAB};
 /// which errors. A generic caller knows these two of a read, and that its size is at most one byte
 /// more than the source has.
 ///
-/// From `clients/examples/src/errors.rt.txt`, with an error of its own:
+/// From `crates/examples/src/errors.rt`, with an error of its own:
 ///
 /// ```rust
 /// impl<'a> TryFromCtx<'a, Endian> for Foo {
@@ -100,7 +101,7 @@ pub trait TryFromCtx<'a, Ctx: Copy>: Sized {
 /// which target and error. A generic caller knows these two of a write, that its size is at most
 /// the length of the target, and that the bytes after it are unchanged.
 ///
-/// From `clients/examples/src/errors.rt.txt`, whose error has a text:
+/// From `crates/examples/src/errors.rt`, whose error has a text:
 ///
 /// ```rust
 /// impl<'g> TryIntoCtx<(Endian, &'g Global)> for Number {

@@ -11,7 +11,7 @@ use crate::source::Source;
 /// The caller ensures that the offset plus the number of bytes that the type needs is at most the
 /// length of the slice; [`Pread`](crate::Pread) checks this, and returns an error.
 ///
-/// From `clients/examples/src/overview.rt.txt`:
+/// From `crates/examples/src/overview.rt`:
 ///
 /// ```rust
 /// impl FromCtx<Endian> for Bar {
@@ -71,7 +71,7 @@ impl<'a, Ctx: Copy> Cread<Ctx> for &'a [u8] {
 /// The caller ensures room as for [`Cread`]. The bytes before the offset, and those after the bytes
 /// that the type needs, are unchanged.
 ///
-/// From `clients/examples/src/overview.rt.txt`:
+/// From `crates/examples/src/overview.rt`:
 ///
 /// ```rust
 /// impl IntoCtx<Endian> for Bar {

@@ -21,7 +21,7 @@ const SMALL: usize = 16;
 /// An error is the reader's own, or one of kind `UnexpectedEof` where the reader ends too early;
 /// how many bytes were then taken is not specified. An interrupted call is repeated.
 ///
-/// From `clients/examples/src/stream.rt.txt`, of a struct that is a [`Record`](crate::ctx::Record):
+/// From `crates/examples/src/stream.rt`, of a struct that is a [`Record`](crate::ctx::Record):
 ///
 /// ```rust
 /// // Reads the next twelve bytes of a source.

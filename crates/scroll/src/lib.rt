@@ -22,7 +22,7 @@
 //! laws of the definitions that the contracts use.
 //!
 //! `docs/GUIDE.md` of the repository shows callers and types of your own with their proofs.
-//! `clients/examples/src` of the repository has them whole, and the examples of the Rust crate's
+//! `crates/examples/src` of the repository has them whole, and the examples of the Rust crate's
 //! documentation.
 #![tactic(auto)]
 

@@ -2,7 +2,7 @@
 //!
 //! ```
 //! # let file = std::fs::read(std::env::current_exe()?)?;
-//! for section in scroll_formats::Sections::open(&file)? {
+//! for section in scroll_ffi::Sections::open(&file)? {
 //!     let section = section?;
 //!     println!("{} {}", section.name.escape_ascii(), section.entry.size);
 //! }
@@ -13,7 +13,7 @@
 //!
 //! ```compile_fail,E0505
 //! let file = std::fs::read("a.o").unwrap();
-//! let section = scroll_formats::Sections::open(&file).unwrap().next();
+//! let section = scroll_ffi::Sections::open(&file).unwrap().next();
 //! drop(file);
 //! println!("{section:?}");
 //! ```
@@ -23,7 +23,7 @@ use std::iter::FusedIterator;
 
 /// The C functions, and the structs that they fill.
 pub mod raw {
-    include!(env!("SCROLL_FORMATS_RS"));
+    include!(env!("SCROLL_FFI_RS"));
 }
 
 /// Why a read or a write failed, and where.
@@ -33,7 +33,7 @@ pub struct Error(pub raw::ScrollError);
 impl fmt::Display for Error {
     fn fmt(&self, to: &mut fmt::Formatter<'_>) -> fmt::Result {
         // SAFETY: the function returns a text that is never freed.
-        let text = unsafe { CStr::from_ptr(raw::scroll_formats_text(self.0.code)) };
+        let text = unsafe { CStr::from_ptr(raw::scroll_ffi_text(self.0.code)) };
         write!(to, "offset {}: {}", self.0.offset, text.to_string_lossy())
     }
 }
@@ -157,12 +157,12 @@ impl<'a> Entries<'a> {
     ///
     /// ```
     /// let empty = b"PK\x05\x06\0\0\0\0\0\0\0\0\0\0\0\0\0\0\0\0\x02\0hi";
-    /// let entries = scroll_formats::Entries::open(empty)?;
+    /// let entries = scroll_ffi::Entries::open(empty)?;
     /// assert_eq!(entries.comment(), b"hi");
     /// assert_eq!(entries.count(), 0);
-    /// let error = scroll_formats::Entries::open(b"no archive").unwrap_err();
-    /// assert_eq!(error.0.code, scroll_formats::raw::SCROLL_TRUNCATED);
-    /// # Ok::<(), scroll_formats::Error>(())
+    /// let error = scroll_ffi::Entries::open(b"no archive").unwrap_err();
+    /// assert_eq!(error.0.code, scroll_ffi::raw::SCROLL_TRUNCATED);
+    /// # Ok::<(), scroll_ffi::Error>(())
     /// ```
     pub fn open(archive: &'a [u8]) -> Result<Self, Error> {
         let mut end = raw::ScrollZipEnd::default();
@@ -217,11 +217,11 @@ impl FusedIterator for Entries<'_> {}
 /// ```
 /// let mut archive = [0; 34];
 /// let mut offset = 0;
-/// scroll_formats::put_entry(&mut archive, &mut offset, &Default::default(), b"a", b"", b"hi!")?;
+/// scroll_ffi::put_entry(&mut archive, &mut offset, &Default::default(), b"a", b"", b"hi!")?;
 /// assert_eq!(offset, 34);
-/// assert!(scroll_formats::put_entry(&mut archive, &mut offset, &Default::default(), b"b", b"", b"").is_err());
+/// assert!(scroll_ffi::put_entry(&mut archive, &mut offset, &Default::default(), b"b", b"", b"").is_err());
 /// assert_eq!((offset, &archive[30..]), (34, &b"ahi!"[..]));
-/// # Ok::<(), scroll_formats::Error>(())
+/// # Ok::<(), scroll_ffi::Error>(())
 /// ```
 pub fn put_entry(
     archive: &mut [u8],

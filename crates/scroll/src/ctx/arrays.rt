@@ -1,44 +1,16 @@
 // Arrays of values that can be read or written, in the context of the elements.
-ghost use Rattle.std.specs.Prelude.{◌≡◌, ℕ, ◌+◌, ◌*◌, ◌<◌, ◌≤◌, List, length, drop, map, max, Some, None, IfOk, IfErr, IsTrue, slice_index_or, slice_set};
-ghost use Rattle.std.specs.Mem.{FitsInMemory};
-ghost use Rattle.scroll.specs.Arrays.{OptionFits, SlotsFit, ItemsFit, HoldersFit, ReadsArray, RefusesArray, WritesArray, FailsArray, MakesArray, OverwritesValue, FillsArray};
+ghost use Rattle.std.specs.Prelude.{◌≡◌, ℕ, ◌+◌, ◌*◌, ◌<◌, ◌≤◌, List, length, drop, map, max, Some, None, IfOk, IfErr, slice_index_or, slice_set};
+ghost use Rattle.scroll.specs.Arrays.{SlotsFit, ItemsFit, ReadsArray, RefusesArray, WritesArray, FailsArray, MakesArray, OverwritesValue, FillsArray};
 ghost use Rattle.scroll.specs.lemmas.Frames.{ReadsArray-bounded, WritesArray-bounded, WritesArray-keeps, FillsArray-keeps};
 ghost use Rattle.scroll.specs.Writes.{WritesAt, FailsAt};
 ghost use Rattle.scroll.specs.Errors.{PastEnd};
 
+use crate::ctx::memory::fits;
 use crate::ctx::{FromCtx, IntoCtx, SizeWith, TryFromCtx, TryIntoCtx};
 use crate::error::{Error, Result};
 use crate::pread::Pread;
 use arrayvec::ArrayVec;
 use std::{array, mem, result};
-
-// Whether a value of type `X` fits in memory, as every value that exists does.
-fn fits<X>() -> bool
-    ensures fits { IsTrue result → FitsInMemory X.row }
-    ensures small { OptionFits X.row → IsTrue result }
-{
-    let none: Option<X> = None;
-    let small = mem::size_of_val(&none) <= isize::MAX as usize;
-    match none {
-        None => small,
-        Some(_x) => unreachable!(),
-    }
-}
-
-/// Returns whether an array of `N` values of type `T` fits in memory, together with the storage for
-/// its elements while it is read or written. It does wherever such an array exists, and the
-/// compiler knows the result.
-///
-/// The contracts of arrays state their errors under this condition: a caller that is generic over
-/// `T` or `N` may test it, or require it of its own caller. For a concrete type the prover knows
-/// that it holds.
-pub fn array_fits<T, const N: usize>() -> bool
-    ensures read { IsTrue result → SlotsFit T.row N.row }
-    ensures written { IsTrue result → ItemsFit T.row N.row }
-    ensures found { HoldersFit T.row N.row → IsTrue result }
-{
-    fits::<Option<ArrayVec<Option<T>, N>>>() && fits::<Option<array::IntoIter<T, N>>>()
-}
 
 // Takes the element at `index` and leaves `None` in its place.
 fn take_slot<T: Drop, const N: usize>(slots: &mut ArrayVec<Option<T>, N>, index: usize) -> T
@@ -84,7 +56,7 @@ fn write_next<Ctx: Copy, T: TryIntoCtx<Ctx, Error = Error> + Drop>(
 /// Reads the elements one after another. One that would start past the end returns
 /// `E::from(Error::BadOffset(offset))`, where the offset counts from the start of the array; every
 /// other error is that of the first element that fails. The contract states the errors of arrays
-/// that fit in memory: see [`array_fits`].
+/// that fit in memory: see [`array_fits`](crate::ctx::array_fits).
 ///
 /// ```rust
 /// let source: &[u8] = &[1, 0, 2, 0, 3, 0];

@@ -1,11 +1,11 @@
 // The printed lines.
-use crate::tests::results::check_eq;
 use crate::Error;
+use crate::tests::results::check_eq;
 use arrayvec::ArrayString;
 use std::fmt::{Display, Write};
+use std::io;
 use std::io::ErrorKind;
 use std::process::Abort;
-use std::io;
 
 // Checks the line that an error prints. What doesn't fit is cut off, and then differs from what is
 // expected.

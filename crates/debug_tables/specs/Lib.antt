@@ -1,0 +1,7 @@
+pub mod AttributeBack
+pub mod AttributeFormat
+pub mod ChildrenBack
+pub mod ChildrenFormat
+pub mod DeclarationBack
+pub mod DeclarationFormat
+pub mod Tables

@@ -1,0 +1,88 @@
+//! Tables of abbreviations, as in the section `.debug_abbrev` of an object file (DWARF 5, section
+//! 7.5.3).
+//!
+//! A read keeps the value and the length of each number, and a declaration borrows the bytes of its
+//! attributes. So a table is written back byte for byte, even if its numbers are padded.
+#![tactic(auto)]
+
+mod declaration;
+#[cfg(test)]
+mod tests;
+
+ghost use Rattle.std.specs.Prelude.{◌≡◌, List, ℕ, IfOk, IfErr, OnOk, OnErr};
+ghost use Rattle.std.specs.List.{slice_range};
+ghost use Rattle.scroll_formats.specs.Spans.{Puts, Stands};
+ghost use Rattle.debug_tables.specs.Tables.{ReadsTable, RefusesTable, FailsPut};
+
+pub use crate::declaration::{Attribute, Children, Declaration, TableError};
+use scroll_formats::put_at;
+use scroll::{Error, LE, Result};
+use scroll_formats::append_until;
+use std::alloc::Global;
+
+/// A table of abbreviations.
+#[derive(Debug, Drop)]
+pub struct Table<'a> {
+    pub declarations: Vec<Declaration<'a>>,
+    /// The bytes of the table, with the code of zero after the declarations.
+    pub bytes: &'a [u8],
+}
+
+/// Reads the table at the cursor `offset`, and advances the cursor past it. On an error the cursor
+/// is unchanged.
+///
+/// A truncated table returns `Read` with a `TooBig`, a number that doesn't fit a `u64` or an `i64`
+/// with a `BadInput`, and an offset past the end with a `BadOffset`. A byte for the children other
+/// than 0 and 1 returns `BadChildren`.
+pub fn read_table<'a>(
+    alloc: Global,
+    bytes: &'a [u8],
+    offset: &mut usize,
+) -> std::result::Result<Table<'a>, TableError>
+    ensures read { IfOk result (λ table. ReadsTable bytes.now offset.old offset.new table) }
+    ensures refused { IfErr result (λ e. RefusesTable bytes.now offset.old e) }
+    ensures stays { OnErr result (offset.new ≡ offset.old) }
+{
+    let mut at = *offset;
+    let mut declarations = Vec::new(alloc);
+    match append_until(&mut declarations, bytes, &mut at, LE) {
+        Ok(bytes) => {
+            *offset = at;
+            Ok(Table {
+                declarations,
+                bytes,
+            })
+        }
+        Err(located) => Err(located.error),
+    }
+}
+
+/// Writes the bytes of a table at the cursor `offset`, and advances the cursor past them. So a table
+/// that was read is written back byte for byte. `scroll::write_many` writes other declarations.
+///
+/// Without room for the table, the error is a `TooBig` with its size, and with the cursor past the
+/// end a `BadOffset`. Then nothing is written, and the cursor is unchanged.
+pub fn write_table(target: &mut [u8], offset: &mut usize, table: &Table) -> Result<()>
+    ensures wrote { OnOk result (Puts table.now.bytes.now target.old target.new offset.old offset.new) }
+    ensures back { OnOk result ((source : List ℕ) (from to : ℕ)
+        → Stands table.now.bytes.now source from to
+        → slice_range target.new offset.old offset.new ≡ slice_range source from to) }
+    ensures refused { IfErr result (FailsPut table.now.bytes.now target.old offset.old) }
+    ensures stays { OnErr result (offset.new ≡ offset.old) }
+    ensures unchanged { OnErr result (target.new ≡ target.old) }
+{
+    let at = *offset;
+    if at > target.len() {
+        return Err(Error::BadOffset(at));
+    }
+    match put_at(target, at, table.bytes, LE) {
+        Ok(to) => {
+            *offset = to;
+            Ok(())
+        }
+        Err(size) => Err(Error::TooBig {
+            size,
+            len: target.len() - at,
+        }),
+    }
+}

@@ -1,0 +1,3 @@
+pub mod EntryBack
+pub mod EntryFormat
+pub mod Indexes

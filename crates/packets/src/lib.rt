@@ -1,0 +1,85 @@
+//! DNS messages over UDP: the headers of [RFC 768](https://www.rfc-editor.org/rfc/rfc768) and of
+//! [RFC 1035](https://www.rfc-editor.org/rfc/rfc1035), section 4.1.1, read from bytes and written
+//! to them.
+//!
+//! A packet is a datagram from its UDP header on, without the IP header before it. Its questions
+//! and records are kept as bytes, and its checksum isn't checked. Both round trips are clauses of
+//! [`read_packet`] and [`write_packet`]: a packet that was read is written back byte for byte, and
+//! one that was written is read again equal.
+//!
+//! ```rust
+//! let query = read_packet(bytes)?;
+//! let answer = Packet {
+//!     dns: DnsHeader {
+//!         flags: query.dns.flags | 0x8000,
+//!         ..query.dns
+//!     },
+//!     ..query
+//! };
+//! let size = write_packet(&mut out, answer)?;
+//! ```
+//!
+//! The module [`log`] reads and writes logs of such packets, or of anything else.
+#![tactic(auto)]
+
+ghost use Rattle.std.specs.Prelude.{◌≡◌, ◌≤◌, length, take, IfOk, IfErr, IsOk, OnOk, OnErr};
+ghost use Rattle.scroll.specs.declared.endian.Endian.TheVariants.{Big};
+ghost use Rattle.packets.specs.Headers.{field};
+ghost use Rattle.packets.specs.PacketFormat.{ReadsPacket, RefusesPacket, WritesPacket, KeepsPacket, packet_bytes};
+ghost use Rattle.packets.specs.Packets.{IsPacket, WritesHeaders, RefusesHeaders};
+
+use scroll::{Endian, NETWORK, Pread, slice};
+use scroll_formats::write_kept;
+
+pub mod log;
+mod packet;
+#[cfg(test)]
+mod tests;
+
+pub use crate::packet::{DnsHeader, Packet, PacketError, UdpHeader};
+
+/// Reads the packet at the start of some bytes. The bytes after its UDP length are ignored.
+pub fn read_packet(bytes: &[u8]) -> Result<Packet, PacketError>
+    ensures read { IfOk result (IsPacket bytes.now) }
+    ensures back { IfOk result (λ packet. packet_bytes Big packet ≡ take packet.udp.len bytes.now) }
+    ensures refused { IfErr result (RefusesPacket Big bytes.now) }
+    ensures accepted { 20 ≤ field 4 bytes.now → field 4 bytes.now ≤ length bytes.now → IsOk result }
+{
+    read_in(bytes, NETWORK)
+}
+
+// Reads a packet in a byte order that is a parameter, since the prover doesn't find the lemma for
+// `back` at a constant one.
+#[tactic(auto, using(crate::specs::PacketBack::packet_written_back))]
+fn read_in(bytes: &[u8], order: Endian) -> Result<Packet, PacketError>
+    ensures read { IfOk result (λ packet. ReadsPacket order bytes.now packet packet.udp.len) }
+    ensures back { IfOk result (λ packet. packet_bytes order packet ≡ take packet.udp.len bytes.now) }
+    ensures refused { IfErr result (RefusesPacket order bytes.now) }
+{
+    bytes.pread_with(0, order)
+}
+
+/// Writes a packet to the start of `target`, and returns its size in bytes. On an error the target
+/// is unchanged.
+pub fn write_packet(target: &mut [u8], packet: Packet) -> Result<usize, PacketError>
+    ensures wrote { IfOk result (WritesPacket Big packet.entry target.old target.new) }
+    ensures again { OnOk result (IsPacket target.new packet.entry) }
+    ensures refused { IfErr result (KeepsPacket Big packet.entry target.old target.new) }
+    ensures stays { OnErr result (target.new ≡ target.old) }
+{
+    write_kept(target, packet, &mut 0, NETWORK)
+}
+
+/// Writes the two headers before a body that starts at offset 20: the message's first, since the
+/// length of a datagram is known last. The other order leaves the same bytes. On an error the
+/// target is unchanged.
+pub fn write_headers(target: &mut [u8], udp: UdpHeader, dns: DnsHeader) -> Result<(), PacketError>
+    ensures either_order { OnOk result (WritesHeaders udp dns target.old target.new) }
+    ensures refused { IfErr result (RefusesHeaders target.old) }
+    ensures stays { OnErr result (target.new ≡ target.old) }
+    ensures accepted { 20 ≤ length target.old → IsOk result }
+{
+    slice::pwrite_with(target, dns, 8, NETWORK)?;
+    slice::pwrite_with(target, udp, 0, NETWORK)?;
+    Ok(())
+}

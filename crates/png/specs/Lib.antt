@@ -1,0 +1,3 @@
+pub mod ChunkBack
+pub mod ChunkFormat
+pub mod Chunks

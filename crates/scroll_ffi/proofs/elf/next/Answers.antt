@@ -1,0 +1,20 @@
+-- The entry and its name, in the file.
+use Rattle.std.proofs.Common.{rules, arith, refl, ap, take}
+use Rattle.std.proofs.lemmas.List.{take_rest}
+use Rattle.scroll_ffi.proofs.Filled.{entry_at, name_at, same_name}
+use Rattle.scroll_ffi.proofs.elf.next.Goals as goal
+
+pub returns-in-Ok-clause-entry : goal.returns-in-Ok-clause-entry
+returns-in-Ok-clause-entry c =
+    entry_at c.in_ok-order.order c.args.file.now c.args.sections.now c.section_at.result c.section_at.ensures.fields c.in_ok-order.ensures.order c.in_ok-check_part-2.ensures.room
+
+pub returns-in-Ok-clause-name : goal.returns-in-Ok-clause-name
+returns-in-Ok-clause-name c =
+    let same = same_name c.in_ok-order.order c.args.file.now c.args.sections.now.next c.section_at.result c.cread_with-name.result c.section_at.ensures.fields c.cread_with-name.ensures in
+    name_at c.args.file.now _ c.args.sections.now c.section_at.result c.cread_with-name.result c.in-Ok.len c.in-Ok.ensures.name (ap (take c.args.sections.now.names_size) (take_rest c.args.file.now c.args.sections.now.names_offset)) same c.section_at.ensures.len (search rules) c.in_ok-check_part.ensures.room
+
+pub returns-in-Ok-clause-passes : goal.returns-in-Ok-clause-passes
+returns-in-Ok-clause-passes c = refl
+
+pub returns-in-Ok-clause-fewer : goal.returns-in-Ok-clause-fewer
+returns-in-Ok-clause-fewer c = omega (arith, c.requires)

@@ -1,0 +1,45 @@
+// The bytes are those of Python's `struct.pack` and of its texts.
+use crate::tests::{check_eq, check_read, check_written, expect_value};
+use crate::{FormatError, Map, Parted, Tiny};
+use scroll::{BE, Endian, Error, LE, Pread};
+use scroll_formats::SmallError;
+use std::process::Abort;
+
+static MAP_LITTLE: [u8; 47] = [
+    0x4d, 0x41, 0x50, 0x00, 0x02, 0x00, 0x03, 0x00, 0x00, 0x00, 0x00, 0x00, 0xc0, 0x3f, 0x01, 0x00,
+    0x34, 0x12, 0x03, 0x00, 0xff, 0xff, 0x02, 0x00, 0x02, 0x48, 0x69, 0x02, 0x01, 0x67, 0x61, 0x2f,
+    0x62, 0x00, 0x00, 0x00, 0x01, 0x00, 0x02, 0x00, 0x03, 0x00, 0xfc, 0xff, 0x78, 0x79, 0x7a,
+];
+
+static MAP_BIG: [u8; 47] = [
+    0x00, 0x50, 0x41, 0x4d, 0x00, 0x02, 0x00, 0x00, 0x00, 0x03, 0x3f, 0xc0, 0x00, 0x00, 0x00, 0x01,
+    0x12, 0x34, 0x00, 0x03, 0xff, 0xff, 0x00, 0x02, 0x02, 0x48, 0x69, 0x02, 0x01, 0x67, 0x61, 0x2f,
+    0x62, 0x00, 0x00, 0x00, 0x00, 0x01, 0x00, 0x02, 0x00, 0x03, 0xff, 0xfc, 0x78, 0x79, 0x7a,
+];
+
+// Checks a map that is read, and that it is written back.
+fn check_map(rt: &impl Abort, bytes: &[u8], order: Endian) {
+    let map: Map = expect_value(rt, bytes.pread_with(0, order));
+    let parts = (map.center.y, map.title.text, map.corners.len(), map.image);
+    check_eq(rt, parts, (2, "Hi", 2, b"xyz"));
+    check_written(rt, map, bytes, order);
+}
+
+#[test]
+fn a_field_of_every_kind(rt: HostRuntime) {
+    check_map(&rt, &MAP_LITTLE, LE);
+    check_map(&rt, &MAP_BIG, BE);
+}
+
+// A chunk and a title, and a title and a number.
+static PARTED: [u8; 11] = [0x4b, 0x4e, 0x48, 0x43, 0, 1, 1, 9, 2, b'h', b'i'];
+
+static TINY: [u8; 7] = [2, b'h', b'i', 7, 0, 0, 0];
+
+#[test]
+fn structs_of_any_size_in_another(rt: HostRuntime) {
+    check_read::<Parted, FormatError>(&rt, &PARTED, BE, ("Ok", 0, 0));
+    check_read::<Parted, FormatError>(&rt, &PARTED[..10], BE, ("TooBig", 2, 1));
+    check_read::<Tiny, SmallError>(&rt, &TINY, LE, ("Ok", 0, 0));
+    check_read::<Tiny, SmallError>(&rt, &TINY, BE, ("mark is not 7", 0x07000000, 0));
+}
