@@ -49,12 +49,12 @@ MODULES = [
     ("Rattle.scroll.specs.Encoding", ["HasEncoding", "HasSignedEncoding", "unsigned_form", "uleb_text", "sleb_text"]),
     ("Rattle.scroll.specs.Fixed", ["exactly"]),
     ("Rattle.std.specs.Prelude", ["⊤", "◌==◌", "is_some", "MatchOption"]),
-    ("Rattle.scroll.specs.Lists", ["zero_size", "two_zeros_size", "ReadsUntil", "ReadsOptional", "optional_bytes"]),
+    ("Rattle.scroll_formats.specs.Lists", ["zero_size", "two_zeros_size", "ReadsUntil", "ReadsOptional", "optional_bytes"]),
     ("Rattle.scroll.specs.Numbers", ["float", "float_bytes", "ReadsFloat", "number", "number_bytes", "signed_number", "signed_bytes", "ReadsNumber", "ReadsSigned"]),
     ("Rattle.scroll.specs.Reads", ["ReadsAt", "ReadsBetween", "ReadsAll"]),
     ("Rattle.scroll.specs.Leb128", ["ReadsCountedUleb", "ReadsCountedSleb"]),
     ("Rattle.scroll.specs.Texts", ["ReadsSlice", "ReadsText"]),
-    ("Rattle.scroll.specs.Zeros", ["padding_len", "zeros", "ReadsZeros"]),
+    ("Rattle.scroll_formats.specs.Zeros", ["padding_len", "zeros", "ReadsZeros"]),
     ("Rattle.scroll.specs.lemmas.FixedLemmas", ["length-exactly"]),
     ("Rattle.scroll.specs.lemmas.Frames", ["length-number_bytes", "length-signed_bytes", "length-encoding", "ReadsCString-bounded"]),
     ("Rattle.scroll.specs.lemmas.NumberLemmas", ["number-begins", "signed-begins", "float-begins"]),
@@ -65,7 +65,7 @@ MODULES = [
         ["all-back", "fits-from", "number-there", "signed-there", "there-next", "required-back"],
     ),
     (
-        "Rattle.scroll.proofs.lemmas.callers.Sequences",
+        "Rattle.scroll_formats.proofs.lemmas.callers.Sequences",
         ["Rest", "rest-start", "rest-next", "rest-first", "rest-open", "rest-last", "rest-before", "rest-makes", "rest-reads", "fixed-begins", "array-begins"]
         + ["slice-begins", "text-begins", "uleb-begins", "sleb-begins", "c_string-begins", "required-begins", "zeros-begin"]
         + ["optional-begins", "optional-inside", "uleb-text-begins", "sleb-text-begins", "uleb-inside", "sleb-inside"],

@@ -3,7 +3,7 @@
 from __future__ import annotations
 
 import re
-from typing import Dict, List
+from typing import Dict, List, Set
 
 from counts import in_code
 from format_reads import is_needed
@@ -393,34 +393,44 @@ def format_blocks(form: Format) -> str:
     return "\n".join([*read_block(form), "", *ends_block(form), *parts, *write_block(form), *(kept_block(form) if is_kept(form) else [])])
 
 
+# What the implementations use of the two libraries, and what is called of a trait.
+PORT = ("Cread", "Endian", "Error", "Pread", "Result", "Sleb128", "Uleb128", "check_room")
+FORMATS = ("Checked", "Delimited", "Encode", "Ends", "Gap", "Kept", "Padded", "SmallError", "Table", "Until", "Value", "When", "Zeros")
+FORMATS += ("padding", "put_whole", "read_fixed", "two_zeros_size", "write_tagged", "zero_size")
+CALLS = {"Cread": "cread_with", "Pread": "gread_with"}
+
+
+def library_uses(names: Set[str]) -> List[str]:
+    """Returns the `use` lines of names of the two libraries."""
+    groups = {"scroll::ctx": names - {*PORT, *FORMATS}, "scroll": names & {*PORT}, "scroll_formats": names & {*FORMATS}}
+    lists = {path: ", ".join(sorted(it)) for path, it in groups.items() if it}
+    return [f"use {path}::{{{it}}};" if "," in it else f"use {path}::{it};" for path, it in lists.items()]
+
+
 def format_uses(form: Format) -> List[str]:
     """Returns the `use` lines that the implementations need."""
     name, snake = form.name, form.snake
     block = format_blocks(form)
     ghosts = [f"{it}{name}" for it in ("Reads", "Refuses", "Agrees", "Differs", "Writes", "Keeps") if f"{it}{name} " in block]
-    frames = [it for it in ("WritesPrefix-keeps", "WritesPrefix-back", f"{form.mark}-inside") if it in block]
+    frames = [it for it in ("WritesPrefix-keeps", "WritesPrefix-back") if it in block]
+    marks = [f"{form.mark}-inside"] * bool(form.mark)
     backs = [it for it in (f"Fits{name}", f"{snake}-bounded", f"{snake}-back", f"{snake}-some") if it in block]
     prelude = ["◌≡◌"] * bool(form.mark) + ["⊤"] * ("⊤" in block)
     words = set(re.findall(r"\w+", block))
-    known = ("Checked", "Delimited", "Encode", "Gap", "Kept", "Padded", "StrCtx", "Table", "TryFromCtx", "TryIntoCtx")
-    known += ("Until", "Value", "When", "Zeros", "padding", "put_whole", "read_fixed")
-    contexts = [it for it in known if it in words or it == "Encode" or (it == "Checked" and ".check()" in block)]
-    calls = {"Cread": "cread_with", "Pread": "gread_with"}
-    ours = ("Cread", "Endian", "Ends", "Error", "Pread", "Result", "Sleb128", "Uleb128", "check_room", "two_zeros_size", "zero_size")
-    ours = [it for it in ours if calls.get(it, it) in words and not (it == "Result" and form.error)]
-    if form.error and not re.search(r"\bError::", block):
-        ours.remove("Error")
-    if form.error and not form.error.variant:
-        ours = sorted([*ours, "SmallError"], key=lambda it: (it.islower(), it))
+    used = {it for it in (*PORT, *FORMATS, "StrCtx", "TryFromCtx", "TryIntoCtx") if CALLS.get(it, it) in words} | {"Encode"}
+    used |= {"Checked"} if ".check()" in block else set()
+    if form.error:
+        used -= {"Result"} | ({"Error"} if not re.search(r"\bError::", block) else set())
+        used |= {"SmallError"} if not form.error.variant else set()
     return [
         *([f"ghost use Rattle.std.specs.Prelude.{{{', '.join(prelude)}}};"] if prelude else []),
         "ghost use Rattle.std.proofs.Common.{rules};",
         f"ghost use Rattle.scroll.specs.lemmas.Frames.{{{', '.join(frames)}}};",
-        *([f"ghost use Rattle.scroll.specs.Lists.{{{form.mark}}};"] if form.mark else []),
+        *([f"ghost use Rattle.scroll_formats.specs.Lists.{{{form.mark}}};"] if form.mark else []),
+        *([f"ghost use Rattle.scroll_formats.specs.lemmas.Marks.{{{', '.join(marks)}}};"] if marks else []),
         f"ghost use Rattle.{form.crate}.specs.{name}Back.{{{', '.join(backs)}}};",
         f"ghost use Rattle.{form.crate}.specs.{name}Format.{{{', '.join(ghosts)}, {snake}_bytes}};",
         "",
-        f"use scroll::ctx::{{{', '.join(contexts)}}};",
-        f"use scroll::{{{', '.join(ours)}}};",
+        *library_uses(used),
         *(["use std::ffi::CStr;"] if "CStr" in words else []),
     ]

@@ -206,7 +206,7 @@ def module_of(path: Path) -> Tuple[str, Tuple[str, ...]]:
 def read_error(source: Source, raw: RawStruct, text: str) -> OwnError:
     """Returns an error type, from the variant that holds an error of the library."""
     if text == "SmallError":
-        return OwnError(text, "", "Rattle.scroll.specs.declared.small_error.SmallError", ())
+        return OwnError(text, "", "Rattle.scroll_formats.specs.declared.small_error.SmallError", ())
     name, sign, variant = text.partition("::")
     folder = next(it for it in Path(source.path).resolve().parents if it.name == "src")
     for path in sorted(folder.rglob("*.rt")):

@@ -8,7 +8,7 @@ from typing import List
 from fixed import made
 from format_back import MODULES as BACK_MODULES
 from format_back import fixed_begins, fixed_length, struct_lemmas
-from format_code import error_name, impl_of, refusal, result_of, signature
+from format_code import error_name, impl_of, library_uses, refusal, result_of, signature
 from format_words import structs_of
 from kinds import width_of
 from variants import Choice, Variant, bytes_of, choice_imports, fit, has_own, message, named_uses, reads, tag_bytes
@@ -18,7 +18,7 @@ MODULES = [
     *(it for it in BACK_MODULES if it[0] != "Rattle.std.specs.Prelude"),
     ("Rattle.scroll.specs.Bytes", ["WritesPrefix"]),
     ("Rattle.scroll.specs.lemmas.Frames", ["WritesPrefix-keeps"]),
-    ("Rattle.scroll.proofs.lemmas.callers.TaggedLemmas", ["tagged-wrote", "tag-back", "tagged-back"]),
+    ("Rattle.scroll_formats.proofs.lemmas.callers.TaggedLemmas", ["tagged-wrote", "tag-back", "tagged-back"]),
 ]
 
 
@@ -178,14 +178,13 @@ def choice_uses(choice: Choice) -> List[str]:
     ghosts = [f"{it}{name}" for it in ("Reads", "Refuses", *(["Agrees", "Differs"] if choice.has_own else []), "Writes", "Keeps")]
     words = {"Cread": "cread_with", "Pread": "gread_with", "Error": " Error::", "write_tagged": "write_tagged(", "Result": "-> Result<"}
     block = block.replace("(Error::", " Error::")
-    ours = [it for it in ("Cread", "Endian", "Error", "Pread", "Result", "SmallError", "check_room", "write_tagged") if words.get(it, it) in block]
-    ours += ["Error"] if not choice.error and "Error" not in ours else []
+    used = {it for it in ("Cread", "Endian", "Error", "Pread", "Result", "SmallError", "check_room", "write_tagged") if words.get(it, it) in block}
+    used |= {"Encode", "TryFromCtx", "TryIntoCtx", "Value", *(["Checked"] if choice.has_own else []), *([] if choice.error else ["Error"])}
     return [
         f"ghost use Rattle.{choice.crate}.specs.{name}Back.{{{snake}-bounded, {snake}-within, {snake}-keeps}};",
         f"ghost use Rattle.{choice.crate}.specs.{name}Format.{{{', '.join(ghosts)}, {snake}_bytes}};",
         "",
-        f"use scroll::ctx::{{{'Checked, ' if choice.has_own else ''}Encode, TryFromCtx, TryIntoCtx, Value}};",
-        f"use scroll::{{{', '.join(ours)}}};",
+        *library_uses(used),
     ]
 
 

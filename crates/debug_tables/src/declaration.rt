@@ -13,9 +13,8 @@ ghost use Rattle.std.proofs.Common.{rules};
 ghost use Rattle.std.specs.Prelude.{◌≡◌};
 
 use scroll::ctx::{TryFromCtx, TryIntoCtx};
-use scroll_formats::{Encode, Until, Value, When};
 use scroll::{Cread, Endian, Error, Pread, Sleb128, Uleb128, check_room};
-use scroll_formats::{Ends, two_zeros_size, zero_size};
+use scroll_formats::{Encode, Ends, Until, Value, When, two_zeros_size, zero_size};
 
 /// Why reading a table failed.
 #[derive(Debug, Drop)]

@@ -15,9 +15,8 @@ ghost use Rattle.scroll_formats.specs.Spans.{Puts, Stands};
 ghost use Rattle.debug_tables.specs.Tables.{ReadsTable, RefusesTable, FailsPut};
 
 pub use crate::declaration::{Attribute, Children, Declaration, TableError};
-use scroll_formats::put_at;
 use scroll::{Error, LE, Result};
-use scroll_formats::append_until;
+use scroll_formats::{append_until, put_at};
 use std::alloc::Global;
 
 /// A table of abbreviations.

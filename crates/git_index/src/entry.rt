@@ -8,8 +8,8 @@ ghost use Rattle.git_index.specs.EntryBack.{entry-bounded};
 ghost use Rattle.git_index.specs.EntryFormat.{ReadsEntry, RefusesEntry, WritesEntry, KeepsEntry, entry_bytes};
 
 use scroll::ctx::{Record, TryFromCtx, TryIntoCtx, Written};
-use scroll_formats::{Encode, Padded, Value, Zeros, padding, put_whole};
 use scroll::{Cread, Endian, Error, Pread, Result, check_room};
+use scroll_formats::{Encode, Padded, Value, Zeros, padding, put_whole};
 use std::ffi::CStr;
 
 /// What an entry says of its file before the path.

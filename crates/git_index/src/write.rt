@@ -8,8 +8,8 @@ ghost use Rattle.git_index.specs.Indexes.{IsIndex, index_bytes, RefusesWrite};
 use crate::SIGNATURE;
 use crate::entry::Entry;
 use crate::header::Header;
-use scroll_formats::{Each, Value, put_at};
 use scroll::{BE, Error};
+use scroll_formats::{Each, Value, put_at};
 
 /// Why writing an index failed.
 #[derive(Debug, Drop)]

@@ -6,8 +6,8 @@ use crate::{
     section_name, symbol_name,
 };
 use scroll::cstr::CStr;
-use scroll_formats::Table;
 use scroll::{LE, Pread};
+use scroll_formats::Table;
 use std::alloc::Global;
 use std::fmt::Debug;
 use std::process::Abort;

@@ -18,9 +18,10 @@ ghost use Rattle.packets.specs.RecordFormat.{ReadsRecord, RefusesRecord, AgreesR
 ghost use Rattle.packets.specs.Logs.{IsLog, RefusesLog, WritesLog, FailsLog, log_bytes};
 
 use scroll::ctx::{StrCtx, TryFromCtx, TryIntoCtx};
-use scroll_formats::{Checked, Delimited, Encode, Kept, Value, put_whole};
 use scroll::{Cread, Endian, Error, Pread, Result, check_room};
-use scroll_formats::{At, read_to_end, write_many_kept};
+use scroll_formats::{
+    At, Checked, Delimited, Encode, Kept, Value, put_whole, read_to_end, write_many_kept,
+};
 use std::alloc::Global;
 
 /// A record.

@@ -8,8 +8,8 @@ ghost use Rattle.packets.specs.PacketFormat.{ReadsPacket, RefusesPacket, AgreesP
 ghost use Rattle.packets.specs.declared.packet.PacketError.TheVariants.{Short};
 
 use scroll::ctx::{Record, TryFromCtx, TryIntoCtx};
-use scroll_formats::{Checked, Encode, Kept, Value, put_whole};
 use scroll::{Cread, Endian, Error, Pread, check_room};
+use scroll_formats::{Checked, Encode, Kept, Value, put_whole};
 
 /// The header of a UDP datagram.
 #[derive(Clone, Copy, Debug)]

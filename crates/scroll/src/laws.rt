@@ -13,8 +13,7 @@
 //! - **Tests**: one call at an offset says what every other call there returns
 //!   ([`reads_keep_their_laws`]).
 //! - **Types of your own**: a struct that is a `Record` has the laws of `Fixed`. For other types
-//!   the lemmas of `OneAnswer` and `Leaves` say the same of every relation, which a clause can't
-//!   quantify over.
+//!   the lemmas of `OwnTypes` say the same of every relation, which a clause can't quantify over.
 //!
 //! Errors are compared by `SameError`: the message of a `BadInput` by its bytes, and not by its
 //! address. A value that borrows, such as a `&str`, has an address too, which the relations leave

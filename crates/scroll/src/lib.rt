@@ -18,8 +18,10 @@
 //! [`Pread`] and [`Pwrite`] check that there is room, and return an error where there is none.
 //! [`Cread`] and [`Cwrite`] return no error: the caller ensures that there is room, and the prover
 //! checks it. Any type that implements the traits of [`ctx`] can be read and written: the ten
-//! integer types, `f32` and `f64`, strings, byte slices, C strings, numbers in LEB128, arrays, and your own types. [`runner`] runs lists of such reads and writes, and [`laws`] states
-//! laws of the definitions that the contracts use.
+//! integer types, `f32` and `f64`, strings, byte slices, C strings, numbers in LEB128, arrays, and
+//! your own types. [`runner`] runs lists of such reads and writes, and [`laws`] states laws of the
+//! definitions that the contracts use. The crate `scroll_formats` has what formats of any size need
+//! beside this.
 //!
 //! `docs/GUIDE.md` of the repository shows callers and types of your own with their proofs.
 //! `crates/examples/src` of the repository has them whole, and the examples of the Rust crate's

@@ -17,9 +17,11 @@ ghost use Rattle.shapes.specs.NoteBack.{FitsNote, note-bounded, note-back};
 ghost use Rattle.shapes.specs.NoteFormat.{ReadsNote, RefusesNote, AgreesNote, DiffersNote, WritesNote, KeepsNote, note_bytes};
 
 use scroll::ctx::{Record, TryFromCtx, TryIntoCtx, Written};
-use scroll_formats::{Checked, Encode, Gap, Kept, Padded, Table, Value, Zeros, padding, put_whole, read_fixed};
 use scroll::{Cread, Endian, Error, Pread, Result, Sleb128, check_room};
-use scroll_formats::SmallError;
+use scroll_formats::{
+    Checked, Encode, Gap, Kept, Padded, SmallError, Table, Value, Zeros, padding, put_whole,
+    read_fixed,
+};
 use std::ffi::CStr;
 
 /// A number in LEB128 between others.

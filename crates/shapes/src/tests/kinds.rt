@@ -4,9 +4,8 @@ use crate::tests::{
     check_both_ways, check_eq, check_no_write, check_read, check_written, expect_value,
 };
 use crate::{Arrays, Extent, Gapped, Least, Lebs, Lines, Note};
-use scroll_formats::append_checked;
 use scroll::{BE, Endian, Error, LE, Pread};
-use scroll_formats::SmallError;
+use scroll_formats::{SmallError, append_checked};
 use std::process::Abort;
 
 static ARRAYS_LITTLE: [u8; 15] = [
