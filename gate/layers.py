@@ -15,7 +15,7 @@ PROOF = re.compile(r"\b(\w+)(?:\.|::)proofs\b(?!(?:\.|::)lemmas(?:\.|::)callers\
 
 
 def list_crates() -> List[str]:
-    return re.findall(r"(?m)^(\w+)[^:\n]*:", (TOP / "crates.txt").read_text(encoding="utf-8"))
+    return re.findall(r"(?m)^(\w+)[^:#\n]*:", (TOP / "crates.txt").read_text(encoding="utf-8"))
 
 
 def list_clients() -> List[str]:

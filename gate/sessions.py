@@ -226,11 +226,9 @@ def is_current() -> bool:
     if not os.access(PROGRAM, os.X_OK):
         return False
     built = PROGRAM.stat().st_mtime
-    for folder, folders, names in os.walk(TOP / "crates"):
-        folders[:] = [it for it in folders if it != "out"]
-        if any(it.endswith((".rt", ".antt")) and (Path(folder) / it).stat().st_mtime > built for it in names):
-            return False
-    return (TOP / "crates.txt").stat().st_mtime <= built
+    parts = [TOP / "crates" / crate / part for crate in ("scroll", "scroll_run") for part in ("src", "specs", "proofs")]
+    sources = [it for part in parts for it in part.rglob("*.*t")]
+    return all(it.stat().st_mtime <= built for it in [TOP / "crates.txt", *sources])
 
 
 def find_program(given: Optional[str]) -> Optional[str]:

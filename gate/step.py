@@ -133,7 +133,7 @@ def copy_kept(source: Path, to: Path, left_out: Iterable[str] = ()) -> None:
 def uses_of(crate: str) -> Dict[str, Path]:
     """Returns the libraries that a crate of crates.txt uses, with their builds: those of the repository, and those of the kit."""
     kit = Path(os.path.realpath(shutil.which("rt") or "rt")).parents[1]
-    uses = dict(line.split("#")[0].split(":") for line in (TOP / "crates.txt").read_text().splitlines() if ":" in line)
+    uses = dict(re.findall(r"(?m)^(\w+)[^:#\n]*:([^#\n]*)", (TOP / "crates.txt").read_text()))
     own = {name: TOP / "crates" / name / "out" / "rlib" / f"{name}.rlib" for name in uses}
     return {name: own.get(name, kit / "rlibs" / f"{name}.rlib") for name in ("std", *uses[crate].split())}
 

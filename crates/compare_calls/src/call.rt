@@ -155,19 +155,53 @@ pub trait Show {
     fn show(&self, answer: &mut Answer);
 }
 
-macro_rules! show {
-    ($call:ident, $wide:ty, $($number:ty),*) => {
-        $(impl Show for $number {
-            fn show(&self, answer: &mut Answer) {
-                answer.$call(<$wide>::from(*self));
-            }
-        })*
-    };
+impl Show for u8 {
+    fn show(&self, answer: &mut Answer) {
+        answer.number(u128::from(*self));
+    }
 }
 
-show!(number, u128, u8, u16, u32, u64);
+impl Show for u16 {
+    fn show(&self, answer: &mut Answer) {
+        answer.number(u128::from(*self));
+    }
+}
 
-show!(signed, i128, i8, i16, i32, i64);
+impl Show for u32 {
+    fn show(&self, answer: &mut Answer) {
+        answer.number(u128::from(*self));
+    }
+}
+
+impl Show for u64 {
+    fn show(&self, answer: &mut Answer) {
+        answer.number(u128::from(*self));
+    }
+}
+
+impl Show for i8 {
+    fn show(&self, answer: &mut Answer) {
+        answer.signed(i128::from(*self));
+    }
+}
+
+impl Show for i16 {
+    fn show(&self, answer: &mut Answer) {
+        answer.signed(i128::from(*self));
+    }
+}
+
+impl Show for i32 {
+    fn show(&self, answer: &mut Answer) {
+        answer.signed(i128::from(*self));
+    }
+}
+
+impl Show for i64 {
+    fn show(&self, answer: &mut Answer) {
+        answer.signed(i128::from(*self));
+    }
+}
 
 impl Show for u128 {
     fn show(&self, answer: &mut Answer) {
