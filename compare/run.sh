@@ -23,6 +23,7 @@
 #     VENDORED=FOLDER   the folder of crates that cargo takes in place of its registry, as `cargo vendor` and Debian's
 #                       librust-*-dev make them; structs are compared if it or the registry has `scroll_derive`
 #     ROOM=FOLDER       a folder that keeps the build for the next run
+#     PROGRAM=FILE      a proved program, from the top of the repository on, instead of the one that rt run makes
 #     JOBS=N            the jobs of each check, instead of rt's own choice
 #     WORKERS=N         how many cases are tried at a time, instead of one for each processor
 #
@@ -122,9 +123,11 @@ build_ours() {
     echo "compare: the library and the program are proved and built" >&2
     cd "$top/crates/scroll" || exit 1
     quietly rt lib ${JOBS:+--jobs "$JOBS"}
-    cd "$top/crates/scroll_run" || exit 1
     printf 'buffer -\ncursor 0\n' >"$room/shortest"
-    quietly rt run ${JOBS:+--jobs "$JOBS"} <"$room/shortest"
+    if [ -z "${PROGRAM:-}" ]; then
+        cd "$top/crates/scroll_run" || exit 1
+        quietly rt run ${JOBS:+--jobs "$JOBS"} <"$room/shortest"
+    fi
     tree=$room/tree
     mkdir -p "$tree" && cp "$top/HANDLES" "$tree/" || exit 1
     { grep '^scroll:' "$top/crates.txt" && echo 'calls staticlib: scroll'; } >"$tree/crates.txt" || exit 1
@@ -185,7 +188,7 @@ build_side() {
 compare() {
     sessions=$1
     shift
-    "$side/target/release/compare" "$@" "$top/crates/scroll_run/out/scroll_run" "$seed" "$sessions" "$workers"
+    "$side/target/release/compare" "$@" "$top/${PROGRAM:-crates/scroll_run/out/scroll_run}" "$seed" "$sessions" "$workers"
 }
 
 # A run of at most so long, and one with the crate's answers wrong at one place.
