@@ -23,6 +23,7 @@
 #     VENDORED=FOLDER   the folder of crates that cargo takes in place of its registry, as `cargo vendor` and Debian's
 #                       librust-*-dev make them; structs are compared if it or the registry has `scroll_derive`
 #     ROOM=FOLDER       a folder that keeps the build for the next run
+#     PROGRAM=FILE      a proved program, from the top of the repository on, instead of the one that rt run makes
 #     JOBS=N            the jobs of each check, instead of rt's own choice
 #     WORKERS=N         how many cases are tried at a time, instead of one for each processor
 #
@@ -119,9 +120,11 @@ fetch() {
 # Proves and builds the program and the calls in the tree itself.
 build_ours() {
     echo "compare: the library, the program and the calls are proved and built" >&2
-    cd "$top/crates/scroll_run" || exit 1
     printf 'buffer -\ncursor 0\n' >"$room/shortest"
-    quietly rt run ${JOBS:+--jobs "$JOBS"} <"$room/shortest"
+    if [ -z "${PROGRAM:-}" ]; then
+        cd "$top/crates/scroll_run" || exit 1
+        quietly rt run ${JOBS:+--jobs "$JOBS"} <"$room/shortest"
+    fi
     cd "$top/crates/compare_calls" || exit 1
     quietly rt lib ${JOBS:+--jobs "$JOBS"}
 }
@@ -152,7 +155,7 @@ build_side() {
 compare() {
     sessions=$1
     shift
-    "$side/target/release/compare" "$@" "$top/crates/scroll_run/out/scroll_run" "$seed" "$sessions" "$workers"
+    "$side/target/release/compare" "$@" "$top/${PROGRAM:-crates/scroll_run/out/scroll_run}" "$seed" "$sessions" "$workers"
 }
 
 # A run of at most so long, and one with the crate's answers wrong at one place.

@@ -1,39 +1,30 @@
 #!/usr/bin/env python3
-"""Runs the checks of the repository over copies of its files, and shows what each says.
+"""Proves all from nothing and runs the other checks of the repository, over copies of its files, and shows what each says.
 
-    python3 gate/check.py             what holds: the proofs from nothing, the tests, the sessions, the clients
+    python3 gate/check.py             what holds
     python3 gate/check.py edits       the bugs that the prover must refuse
-    python3 gate/check.py first       README's first command, from nothing
-    python3 gate/check.py verdict     the toolchain's own verdict, rt ci, over the files without the edits
-    python3 gate/check.py all         what holds, the edits, and README's first command
-    python3 gate/check.py kept        what holds, where the proofs may be those that checks on this machine kept
+    python3 gate/check.py all         both
 
-Several of these words may be given; .ci/run gives `all verdict`. The steps are:
+The steps are:
 
+    rt ci           the toolchain's own gate: proves each crate and its tests from nothing, builds them, runs the tests, and the program
+                    as two compilers build it
     docs.py         the documents: their code, names and links are those of the sources, and what is made of these is current
     pages.py        the documents as a site: its links and its search, where `pandoc` is
     check.sh        what tools/derive/derive.sh prints is in the files that were proved
-    prove.py        each crate is proved from nothing and built, its tests are proved and run, and its stored run
-    clients.py      each client of the library, proved and tested as a crate of its own
-    prove.sh        what tools/derive/derive.sh prints for the structs of tools/derive/shapes/, proved and tested likewise
-    embed.py        the library of embed/ in C and Python, and in Rust where cargo is, on real files and on damaged ones
-    depending.py    a repository that depends on the library, made by README's lines; `unproved`, the documentation's examples,
-                    and what README's first command proves, read; `first`, that command
+    seeds.py        proves again what misuse.py, embed.py, compare/run.sh and edits.py begin with
     misuse.py       what must not compile
-    sessions.py     the stored sessions, whole and with their buffers cut, by the program that was proved
+    embed.py        the library of embed/ in C and Python, and in Rust where cargo is, on real files and on damaged ones
+    depending.py    README's first command, its lines for a repository of one's own, and the documentation's examples
+    sessions.py     the stored sessions, whole and with their buffers cut, by the program that rt ci proved
     limits.py       long inputs, at which that program must not run out of memory
-    faults.py       the sessions and the tests where memory is refused and streams fail, by what was proved
+    faults.py       the sessions and the tests of all crates where memory is refused and streams fail, by what rt ci proved
     compare/run.sh  random sessions and calls beside the Rust crate, where cargo finds it
-    edits.py        the edits, many in one check; embed.py edits, those of embed/; limits.py --edits, those that only long inputs
-                    and tests tell
+    edits.py        the edits of each crate, many in one check; limits.py --edits, those that only long inputs and tests tell
 
-Steps run side by side, and a step starts when those that it needs have ended. In all they have two jobs more than there are
-workers (gate/step.py), since parts of a check run on one processor. The tests of both crates and rt ci run in copies of
-their own, since one `rt` works in a crate at a time. rt ci proves and runs these tests too, so beside it prove.py doesn't.
-
-Each crate is proved from nothing once, by prove.py with `anew`: rt check itself would begin with what a check in another
-checkout on this machine kept. The steps after it go on with what that proof keeps, and the copies that they make have its
-files, under second names.
+rt ci runs in a copy without the edits, which edits.py tries faster, and it proves what it hasn't yet passed on this machine. The steps
+that need its program and its tests run in that copy too. Steps run side by side, and a step starts when those that it needs have
+ended. In all they have two jobs more than there are workers (gate/step.py), since parts of a check run on one processor.
 
 A step's time and the processor time that it took are printed at its end, and again in a table at the end of all. The last line
 is `N passed, M failed`, the sums of the counts, with `, K skipped` after it where something was left out. A step that ends
@@ -43,7 +34,6 @@ without its counts, or that fails without counting a failure, is one failure mor
 import contextlib
 import os
 import re
-import shutil
 import signal
 import subprocess
 import sys
@@ -55,30 +45,26 @@ from pathlib import Path
 from queue import Queue
 from typing import Any, Dict, List, Sequence, Tuple
 
-from clients import list_clients
-from step import TOP, copy_kept, count_workers
+from step import FOLDERS, TOP, copy_kept, count_workers, read_crates
 
-GROUPS = ("stands", "edits", "first", "verdict")
-WORDS = {"all": ("stands", "edits", "first"), "kept": ("stands",)}
+WORDS = {"stands": ("stands",), "edits": ("edits",), "all": ("stands", "edits")}
 COUNTS = re.compile(r"(\d+) passed, (\d+) failed(?:, (\d+) skipped)?")
-PROVE = "python3 gate/prove.py scroll"
-PROGRAM = "python3 gate/prove.py scroll_run"
-FAULTS = "python3 gate/faults.py"
-TESTS = "crates/scroll/out/scroll_tests"
+CI = "rt ci"
+EMBED = "python3 gate/embed.py"
+# Where the program is that rt ci built, from the top of another copy.
+PROGRAM = "../ci/crates/scroll_run/out/scroll_run"
 # A step is a group of processes, which is ended as one.
 GROUP: Dict[str, Any] = {"process_group": 0} if sys.version_info >= (3, 11) else {"start_new_session": True}
 
 
 @dataclass
 class Step:
-    """A command in a copy of the files. It takes so many of the jobs, 0 for one that runs beside them all; it starts when the
-    commands that it needs have ended; and it brings a file into the first copy, for those after it."""
+    """A command in a copy of the files. It takes so many of the jobs, and starts when the commands that it needs have ended."""
 
     command: str
     jobs: int
     needs: Tuple[str, ...] = ()
     tree: str = "tree"
-    brings: str = ""
     said: str = ""
     status: int = 1
     seconds: float = 0
@@ -111,27 +97,19 @@ class Gate:
     ended: "Queue[Step]" = field(default_factory=Queue)
 
     def copy_files(self, name: str) -> Path:
-        """A copy of the files without what git and earlier checks keep; for the tests, of what was proved."""
+        """A copy of the files without what git and earlier checks keep; for rt ci, without the edits too."""
         tree = self.room / name
-        if tree.exists():
-            return tree
-        if name in ("tests", "program"):
-            copy_kept(self.room / "tree", tree)
-            return tree
-        copy_kept(TOP, tree, (".git", "out"))
-        if name == "verdict":
-            for edit in tree.glob("crates/*/must-fail/*.edit"):
-                edit.unlink()
+        if not tree.exists():
+            copy_kept(TOP, tree, (".git", "out", *(FOLDERS if name == "ci" else ())))
         return tree
 
     def start(self, step: Step) -> None:
         tree = self.copy_files(step.tree)
-        variables = {**os.environ, "WORKERS": str(step.jobs)} if step.jobs else dict(os.environ)
         begun = time.time()
         process = subprocess.Popen(
             step.command.split(),
             cwd=tree,
-            env=variables,
+            env={**os.environ, "WORKERS": str(step.jobs)},
             text=True,
             errors="replace",
             stdin=subprocess.DEVNULL,
@@ -166,8 +144,6 @@ class Gate:
             left.remove(step.command)
             self.free += step.jobs
             step.count()
-            if step.brings and (self.room / step.tree / step.brings).exists():
-                shutil.copy2(self.room / step.tree / step.brings, self.room / "tree" / step.brings)
             print(f"== {step.command}\n{step.said}check: {step.seconds:.0f} s, {step.processor:.0f} processor s, {len(left)} steps left", flush=True)
 
     def stop(self) -> None:
@@ -180,52 +156,40 @@ class Gate:
             del self.running[self.ended.get().command]
 
 
-def list_steps(groups: Sequence[str], workers: int, anew: str) -> List[Step]:
-    half = max(1, workers // 2)
-    library, program = PROVE + anew, PROGRAM + anew
+def list_steps(groups: Sequence[str], workers: int) -> List[Step]:
+    """Returns the steps, in the order in which they start where they can."""
+    half, crates = max(1, workers // 2), read_crates()
+    edited = [name for name, it in crates.items() if it.is_edited and "edits" in groups]
+    begun_with = ["scroll", *(name for name, it in crates.items() if it.is_static)] if "stands" in groups else []
+    seeds = f"python3 gate/seeds.py {' '.join(dict.fromkeys([*edited, *begun_with]))}"
     steps = []
-    if "verdict" in groups:
-        steps.append(Step("rt ci", 0, tree="verdict", brings=TESTS))
     if "stands" in groups:
-        # (beside the library's proof, which leaves processors idle)
-        early = ("python3 gate/depending.py unproved", "python3 gate/docs.py", "python3 gate/pages.py", "sh tools/derive/check.sh")
-        steps += [Step(library, workers), *(Step(it, 1) for it in early)]
-        clients = {it: f"python3 gate/clients.py {it}" for it in list_clients()}
-        # (embed.py goes on with what the proofs of two clients kept)
-        embedded = tuple(clients.pop(it) for it in ("zip", "object_files"))
-        tested, tests = "rt ci", []
-        if "verdict" not in groups:
-            tested = f"{PROVE} tests"
-            tests = [Step(tested, half, (library,), "tests", TESTS), Step(f"{PROGRAM} tests", 1, (program,), "program")]
-        # (these first, since they take longest or others wait for them; most with one job, so that the last leave no processor idle)
-        longest = (embedded[0], program, "sh tools/derive/prove.sh", clients.pop("examples"), embedded[1])
-        steps += [
-            *tests,
-            *(Step(it, 1, (library,)) for it in longest),
-            Step("python3 gate/embed.py", 1, embedded),
-            *(Step(it, 1, (library,)) for it in clients.values()),
-            Step(FAULTS, half, (program, tested)),
-            Step("python3 gate/misuse.py", 1, (library,)),
-            *(Step(f"python3 gate/{it}.py", 1, (program,)) for it in ("depending", "sessions", "limits")),
-        ]
-        steps.append(Step("sh compare/run.sh --gate", 1, (program,)))
+        steps.append(Step(CI, workers, tree="ci"))
+        steps += [Step(it, 1) for it in ("python3 gate/docs.py", "sh tools/derive/check.sh", "python3 gate/pages.py")]
+    steps.append(Step(seeds, half))
+    # (one job for most, so that the last leave no processor idle)
+    for name in edited:
+        # (embed.py builds the library whose files edits.py copies)
+        needs = (seeds, EMBED) if crates[name].is_static and "stands" in groups else (seeds,)
+        steps.append(Step(f"python3 gate/edits.py {name}", half, needs))
     if "edits" in groups:
-        steps.append(Step("python3 gate/edits.py", workers, tuple(it.command for it in steps if it.jobs and it.command != FAULTS)))
-        steps += [Step(f"python3 gate/{it}", 1, ("python3 gate/edits.py",)) for it in ("embed.py edits", "limits.py --edits")]
-    if "first" in groups:
-        steps.append(Step("python3 gate/depending.py first", workers, tuple(it.command for it in steps if it.jobs)))
+        steps.append(Step("python3 gate/limits.py --edits", 1))
+    if "stands" in groups:
+        steps += [Step(it, 1, (seeds,)) for it in (EMBED, "python3 gate/depending.py", "python3 gate/misuse.py")]
+        steps.append(Step("python3 gate/faults.py", half, (CI,), "ci"))
+        steps.append(Step(f"env PROGRAM={PROGRAM} sh compare/run.sh --gate", 1, (CI, seeds)))
+        steps += [Step(f"python3 gate/{it}.py", 1, (CI,), "ci") for it in ("sessions", "limits")]
     return steps
 
 
 def main(words: List[str]) -> int:
-    groups = [group for word in words or ["stands"] for group in WORDS.get(word, (word,))]
-    for group in groups:
-        if group not in GROUPS:
-            print(f"check: '{group}' is none of stands, edits, first, verdict, all and kept\n0 passed, 1 failed")
-            return 1
+    if {*words} - {*WORDS}:
+        print(f"check: '{' '.join(words)}' is none of {', '.join(WORDS)}\n0 passed, 1 failed")
+        return 1
+    groups = [group for word in words or ["stands"] for group in WORDS[word]]
     begun = time.time()
     workers = count_workers()
-    steps = list_steps(groups, workers, "" if "kept" in words else " anew")
+    steps = list_steps(groups, workers)
     with tempfile.TemporaryDirectory(prefix="check-") as room:
         gate = Gate(Path(room), workers + 2)
         for number in (signal.SIGHUP, signal.SIGINT, signal.SIGTERM):

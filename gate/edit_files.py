@@ -23,7 +23,8 @@ from dataclasses import dataclass
 from pathlib import Path
 from typing import Dict, Iterable, Iterator, List, NamedTuple, Set, Tuple
 
-FOLDERS = ("must-fail", "bugs")
+from step import FOLDERS
+
 # How an edit is named: by its file, or by the first line of its block.
 TITLES = {"must-fail": re.compile(r"([A-Za-z0-9_-][A-Za-z0-9_.-]*)\.edit"), "bugs": re.compile(r"# ([A-Za-z0-9_-][A-Za-z0-9_.-]*)")}
 HEAD = re.compile(r"^([ \t]*)(?:pub(?:\([a-z]+\))? )?(?:final )?(?:const )?(?:unsafe )?(?:extern \"C\" )?fn (\w+)", re.M)

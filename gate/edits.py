@@ -30,11 +30,11 @@ import time
 from concurrent.futures import FIRST_COMPLETED, Future, ThreadPoolExecutor, wait
 from dataclasses import dataclass
 from pathlib import Path
-from typing import Dict, List, Optional, Set, Tuple
+from typing import Dict, Iterable, List, Optional, Set, Tuple
 
-from edit_files import FOLDERS, Edit, Function, Texts, read_edits
+from edit_files import Edit, Function, Texts, read_edits
 from edit_judge import Judge, Said, parse
-from step import TOP, Step, Stop, copy_kept, count_workers, run_step
+from step import TOP, Step, Stop, copy_crate, count_workers, read_crates, run_step
 
 # The number of jobs of a check.
 JOBS = 2
@@ -42,7 +42,7 @@ JOBS = 2
 
 @dataclass
 class Gate:
-    """The copies in which edits are tried. `base` holds the tree with what its checks kept."""
+    """The copies in which edits are tried. `base` has a workspace for each crate, with what the check of it as it is kept."""
 
     step: Step
     base: Path
@@ -52,15 +52,6 @@ class Gate:
         """Runs `rt` in a folder, and returns its status and its output."""
         return self.step.run(folder, "rt", *words)
 
-    def copy(self, crate: str, to: Path) -> None:
-        """Copies a crate with what its checks kept, and the builds of the repository's libraries."""
-        for name in ("crates.txt", "HANDLES"):
-            to.mkdir(exist_ok=True)
-            shutil.copy(self.base / name, to / name)
-        for folder in sorted((self.base / "crates").iterdir()):
-            left_out = [*FOLDERS, "rlib" if folder.name == crate else "incremental"]
-            copy_kept(folder, to / "crates" / folder.name, left_out)
-
     def check(self, judge: Judge, batch: List[Edit]) -> Tuple[Dict[str, Set[Function]], Said, float]:
         """Checks a copy of the crate with the edits of a batch applied."""
         if self.step.is_ended:
@@ -68,10 +59,9 @@ class Gate:
         start = time.time()
         self.count += 1
         tree = self.step.room / f"batch{self.count}"
-        self.copy(judge.crate.name, tree)
+        crate = copy_crate(judge.crate.name, tree, self.base / judge.crate.name)
         try:
             texts, places = judge.texts.after(batch)
-            crate = tree / "crates" / judge.crate.name
             for file, text in texts.items():
                 (crate / file).write_text(text, encoding="utf-8")
             _, said = self.run_rt(crate, "check", "--jobs", str(JOBS))
@@ -106,15 +96,14 @@ def try_all(gate: Gate, judges: Dict[str, Judge], edits: List[Edit], workers: in
                 submit(more)
 
 
-def prepare(step: Step, crates: List[Path], workers: int) -> Optional[Gate]:
-    """Copies the tree with what its checks kept, and checks there that each crate is proved without an edit."""
+def prepare(step: Step, names: Iterable[str], workers: int) -> Optional[Gate]:
+    """Copies the crates with what their checks kept, and checks there that each is proved without an edit."""
     gate = Gate(step, step.room / "base")
-    copy_kept(TOP, gate.base, (".git", *FOLDERS))
-    for crate in crates:
-        ran = step.run(gate.base / "crates" / crate.name, "rt", "check", "--jobs", JOBS * workers)
+    for name in names:
+        ran = step.run(copy_crate(name, gate.base / name), "rt", "check", "--jobs", JOBS * workers)
         if ran.status:
             print(ran.end())
-            step.count(f"{crate.name}: it is not proved without an edit", "")
+            step.count(f"{name}: it is not proved without an edit", "")
             return None
     return gate
 
@@ -135,7 +124,7 @@ def main() -> int:
     words.add_argument("--self-test", action="store_true", help="tries the judge itself")
     words.add_argument("names", nargs="*", metavar="CRATE|CRATE/EDIT")
     given = words.parse_args()
-    names = given.names or sorted(it.parent.name for it in TOP.glob("crates/*/must-fail"))
+    names = given.names or [name for name, it in read_crates().items() if it.is_edited]
     if given.self_test:
         from edits_test import self_test
 
@@ -166,7 +155,7 @@ def work(step: Step, names: List[str]) -> None:
     for failure in failures:
         step.count(failure, "")
     judges = {name: Judge(TOP / "crates" / name, Texts(TOP / "crates" / name)) for name in sorted({it.crate for it in edits})}
-    gate = prepare(step, [it.crate for it in judges.values()], workers)
+    gate = prepare(step, judges, workers)
     if gate:
         step.tell(f"the copy and the crates without an edit took {time.time() - start:.0f} s")
         try_all(gate, judges, edits, workers)

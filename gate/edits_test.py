@@ -26,13 +26,13 @@ WANTED = {
 def make_base(step: Step) -> Gate:
     """Makes a tree with the crate `judged`, whose files are in gate/judge.txt, each below a line `==> PATH`."""
     gate = Gate(step, step.room / "base")
-    crate = gate.base / "crates" / "judged"
+    crate = gate.base / "judged" / "crates" / "judged"
     _, *parts = re.split(r"^==> (\S+)\n", (TOP / "gate" / "judge.txt").read_text(), flags=re.M)
     for path, text in zip(parts[::2], parts[1::2]):
         (crate / path).parent.mkdir(parents=True, exist_ok=True)
         (crate / path).write_text(text.rstrip("\n") + "\n")
-    (gate.base / "crates.txt").write_text("judged:\n")
-    shutil.copy(TOP / "HANDLES", gate.base / "HANDLES")
+    (gate.base / "judged" / "crates.txt").write_text("judged:\n")
+    shutil.copy(TOP / "HANDLES", gate.base / "judged")
     status, said = gate.run_rt(crate, "check")
     if status:
         print(said)
@@ -53,7 +53,7 @@ def compare(step: Step, judge: Judge, edits: List[Edit], how: str) -> None:
 def self_test(step: Step, workers: int) -> None:
     start = time.time()
     gate = make_base(step)
-    crate = gate.base / "crates" / "judged"
+    crate = gate.base / "judged" / "crates" / "judged"
     failures: List[str] = []
     edits = read_edits(crate, failures)
     failures += [f"there is no edit {it}" for it in WANTED.keys() - {it.name for it in edits}]

@@ -1,12 +1,11 @@
 #!/usr/bin/env python3
-"""Runs the proved program on each stored session with failing allocations and with failing streams, and each proved test of a
-library with failing allocations. gate/faults.c replaces malloc, realloc, read and write of the C library.
+"""Runs the proved program on each stored session with failing allocations and with failing streams, and each proved test of the
+crates with failing allocations. gate/faults.c replaces malloc, realloc, read and write of the C library.
 
-    python3 gate/faults.py [SESSION|SUBJECT..]
-    python3 gate/faults.py --tests PROGRAM
+    python3 gate/faults.py [CRATE|SESSION|SUBJECT..]
 
-The program is crates/scroll_run/out/scroll_run, and the tests are crates/NAME/out/NAME_tests, as rt ci leaves them, or rt run
-and rt test leave them. With names, only these sessions are tried; with `--tests`, only the tests of that program.
+The program is crates/scroll_run/out/scroll_run, and the tests are crates/CRATE/out/CRATE_tests, as rt ci leaves them, or rt run
+and rt test leave them. With names, only these sessions, and the tests of these crates, are tried.
 
 | one allocation fails, or all from one on       | status 3 and the one line `out of memory` |
 | a read fails; input is a folder, or closed     | status 4, and nothing is printed |
@@ -31,10 +30,10 @@ import sys
 from concurrent.futures import ThreadPoolExecutor
 from dataclasses import dataclass, field
 from pathlib import Path
-from typing import Callable, List, Optional, Union
+from typing import Callable, Dict, List, Optional, Union
 
 from sessions import PROGRAM, Session, choose, read_sessions
-from step import TOP, Step, Stop, count_workers, run_step
+from step import TOP, Step, Stop, count_workers, read_crates, run_step
 
 # How many of the first calls fail in turn where a read and a write move one byte.
 FIRST_CALLS = 8
@@ -229,11 +228,9 @@ def list_tests(step: Step, program: Path) -> List[str]:
     return names
 
 
-def tests_of_crates() -> List[Path]:
-    """Returns the tests of the libraries: programs with the name of the crate."""
-    crates = [it.parents[1] for it in sorted(TOP.glob("crates/*/src/lib.rt"))]
-    tested = [it for it in crates if any("#[test]" in file.read_text(encoding="utf-8") for file in it.glob("src/**/*.rt"))]
-    return [it / "out" / f"{it.name}_tests" for it in tested]
+def programs_of_tests() -> Dict[str, Path]:
+    """Returns the tests of the crates, each a program."""
+    return {name: it.folder / "out" / f"{name}_tests" for name, it in read_crates().items() if it.has_tests}
 
 
 def fault_of(attempt: Callable[[], None]) -> Optional[str]:
@@ -252,7 +249,7 @@ def try_all(faults: Faults, sessions: List[Session], programs: List[Path], worke
     for session in sorted(sessions, key=lambda it: -len(it.input)):
         attempts.append((session.name, lambda it=session: try_session(faults, it)))  # type: ignore[misc]
     for program, name in tests:
-        attempts.append((name, lambda program=program, name=name: try_test(faults, program, name)))  # type: ignore[misc]
+        attempts.append((f"{program.name}: {name}", lambda program=program, name=name: try_test(faults, program, name)))  # type: ignore[misc]
     with ThreadPoolExecutor(workers) as pool:
         for (name, _), fault in zip(attempts, pool.map(lambda it: fault_of(it[1]), attempts)):
             step.count(name, fault)
@@ -261,17 +258,15 @@ def try_all(faults: Faults, sessions: List[Session], programs: List[Path], worke
 
 def work(step: Step, words: List[str]) -> None:
     faults = compile_faults(step)
-    if words[:1] == ["--tests"]:
-        if faults.library:
-            try_all(faults, [], [Path(it) for it in words[1:]], count_workers())
-        return
-    if not os.access(PROGRAM, os.X_OK):
-        raise Stop(f"there is no program {PROGRAM}: rt run in crates/scroll_run proves and builds it")
+    programs = programs_of_tests()
+    names = [it for it in words if it not in programs]
     failures: List[str] = []
-    sessions = choose(read_sessions(failures), words, failures)
+    sessions = choose(read_sessions(failures), names, failures) if names or not words else []
     if failures:
         raise Stop("\n".join(failures))
-    try_all(faults, sessions, [] if words else tests_of_crates(), count_workers())
+    if sessions and not os.access(PROGRAM, os.X_OK):
+        raise Stop(f"there is no program {PROGRAM}: rt run in crates/scroll_run proves and builds it")
+    try_all(faults, sessions, [programs[it] for it in words or programs if it in programs], count_workers())
 
 
 if __name__ == "__main__":

@@ -14,7 +14,7 @@ import sys
 from pathlib import Path
 from typing import Dict, List
 
-from step import TOP, Ran, Step, Stop, copy_kept, run_step
+from step import TOP, Ran, Step, Stop, copy_crate, run_step
 
 TEXTS = TOP / "gate" / "misuse.txt"
 MISUSE = re.compile(r"^.*// misuse: ([a-z0-9-]+)\n", re.M)
@@ -42,10 +42,7 @@ def errors_of(name: str, said: str) -> List[str]:
 
 def work(step: Step) -> None:
     modules = read_modules()
-    crate = step.room / "crates" / "scroll"
-    copy_kept(TOP / "crates" / "scroll", crate, ("must-fail", "bugs", "rlib"))
-    names = [it for it in (TOP / "crates.txt").read_text().splitlines() if it.startswith("scroll:")]
-    (step.room / "crates.txt").write_text("".join(f"{it}\n" for it in names))
+    crate = copy_crate("scroll", step.room)
     with (crate / "src" / "lib.rt").open("a") as lib:
         lib.writelines(f"mod {it};\n" for it in modules)
 

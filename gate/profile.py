@@ -17,6 +17,7 @@ as it begins.
 
 import os
 import re
+import shutil
 import signal
 import subprocess
 import sys
@@ -28,7 +29,7 @@ from collections import Counter
 from pathlib import Path
 from typing import Any, Dict, List, Tuple
 
-from step import TOP, check_command, copy_kept, uses_of
+from step import TOP, below, copy_kept, read_crates
 
 RESULTS = TOP / "gate" / "results"
 TICK = os.sysconf("SC_CLK_TCK")
@@ -69,22 +70,37 @@ class Clock:
         return from_used + (to_used - from_used) * (moment - from_time) / (to_time - from_time)
 
 
+def check_command(name: str, kept: Path) -> List[str]:
+    """Returns the command by which `rt check` checks a crate, but by one job, and over this folder of kept proofs. (`rt check`
+    would first put there what a check in another checkout on this machine kept.)"""
+    kit = Path(os.path.realpath(shutil.which("rt") or "rt")).parents[1]
+    crates = read_crates()
+    builds = {it: crates[it].folder / "out" / "rlib" for it in below(name, crates)}
+    words = [str(kit / "bin" / "rattle"), "check", "--crate-name", name, f"src/{'main' if crates[name].is_program else 'lib'}.rt"]
+    for it in ("std", *crates[name].uses):
+        words += ["--extern", f"{it}={builds.get(it, kit / 'rlibs')}/{it}.rlib"]
+    for folder in (kit / "rlibs", *builds.values()):
+        words += ["-L", f"dependency={folder}"]
+    words += ["--antt-project", str(kit / "rattle" / "logic" / "antt-project.json"), "--logic-built", str(kit / "logic_built")]
+    return [*words, *["--crate-type", "staticlib"] * crates[name].is_static, "--jobs", "1", "--incremental", str(kept)]
+
+
 def check(crate: str, tests: bool) -> Tuple[float, Dict[str, float]]:
     """Returns the processor seconds of a check, and of each module of the crate that it checks."""
     folder = TOP / "crates" / crate
     (folder / "out").mkdir(exist_ok=True)
     with tempfile.TemporaryDirectory(prefix="profile-", dir=folder / "out") as room:
         kept = Path(room) / "kept"
-        for rlib in uses_of(crate).values():
-            if TOP in rlib.parents:
-                subprocess.run(["rt", "lib"], cwd=rlib.parents[2], check=True, stdout=subprocess.DEVNULL)
+        crates = read_crates()
+        for it in below(crate, crates):
+            subprocess.run(["rt", "lib"], cwd=crates[it].folder, check=True, stdout=subprocess.DEVNULL)
         if tests:
             subprocess.run(["rt", "check"], cwd=folder, check=True, stdout=subprocess.DEVNULL)
             copy_kept(folder / "out" / "incremental", kept)
         else:
             kept.mkdir()
         begun = time.time()
-        words = [*check_command(crate, kept, 1), *["--test"] * tests]
+        words = [*check_command(crate, kept), *["--test"] * tests]
         how: Dict[str, Any] = {"stdout": subprocess.PIPE, "stderr": subprocess.STDOUT, "text": True, "start_new_session": True}
         with subprocess.Popen(words, cwd=folder, **how) as ran:
             clock = Clock(ran.pid)

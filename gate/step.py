@@ -1,4 +1,4 @@
-"""What the steps of the gate share: a folder that goes, the commands that they run, their counts and their last line.
+"""What the steps of the gate share: the crates, a folder that goes, the commands that they run, their counts and their last line.
 
 The last line of a step is `N passed, M failed`, and `, K skipped` follows where something was left out. The exit status is 0
 where M is 0, and N is not or all was left out.
@@ -14,13 +14,56 @@ import sys
 import tempfile
 from dataclasses import dataclass, field
 from pathlib import Path
-from typing import Any, Callable, Dict, Iterable, List, NamedTuple, Optional, Set
+from typing import Any, Callable, Dict, Iterable, List, NamedTuple, Optional, Set, Tuple
 
 TOP = Path(__file__).resolve().parents[1]
+# Where a crate has its edits (gate/edit_files.py).
+FOLDERS = ("must-fail", "bugs")
 
 
 class Stop(Exception):
     """A step can't continue."""
+
+
+class Crate(NamedTuple):
+    """A crate, and its line of crates.txt: whether it is a static library, and the libraries that it uses."""
+
+    folder: Path
+    line: str
+    is_static: bool
+    uses: Tuple[str, ...]
+
+    @property
+    def is_program(self) -> bool:
+        return (self.folder / "src" / "main.rt").is_file()
+
+    @property
+    def is_edited(self) -> bool:
+        return any((self.folder / it).is_dir() for it in FOLDERS)
+
+    @property
+    def has_tests(self) -> bool:
+        return any("#[test]" in it.read_text(encoding="utf-8") for it in (self.folder / "src").rglob("*.rt"))
+
+
+def read_crates(top: Path = TOP) -> Dict[str, Crate]:
+    """Returns the crates by their names, in the order of crates.txt."""
+    crates = {}
+    for line in (top / "crates.txt").read_text(encoding="utf-8").splitlines():
+        line = line.partition("#")[0].strip()
+        (name, *kind), uses = line.partition(":")[0].split() or [""], line.partition(":")[2]
+        if name:
+            crates[name] = Crate(top / "crates" / name, line, "staticlib" in kind, tuple(uses.replace(",", " ").split()))
+    return crates
+
+
+def below(name: str, crates: Dict[str, Crate]) -> List[str]:
+    """Returns the repository's libraries below a crate, each after those that it uses."""
+    found: List[str] = []
+    for use in crates[name].uses:
+        if use in crates:
+            found += [it for it in [*below(use, crates), use] if it not in found]
+    return found
 
 
 class Ran(NamedTuple):
@@ -33,16 +76,6 @@ class Ran(NamedTuple):
         """Returns the end of what was said, without the lines on what is proved."""
         left = [it for it in self.said.splitlines() if ": proved" not in it and "modules loaded=" not in it]
         return "".join(f"    {it}"[:width] + "\n" for it in left[-lines:])
-
-    def proved(self, word: str) -> int:
-        """Returns a number of the line that says what is proved; 0 without one."""
-        found = re.search(rf"(?m)^logic=proved.* {word}=(\d+)", self.said)
-        return int(found[1]) if found else 0
-
-    def tests(self) -> int:
-        """Returns how many tests `rt test` proved and passed; 0 if it wasn't all of them, or one was ignored."""
-        tests = self.proved("tests")
-        return tests if f"\ntest result: ok. {tests} passed; 0 failed; 0 ignored" in f"\n{self.said}" else 0
 
 
 @dataclass
@@ -101,21 +134,6 @@ class Step:
         print(f"{self.passed} passed, {self.failed} failed" + (f", {self.skipped} skipped" if self.skipped else ""))
         return 0 if not self.failed and (self.passed or self.skipped) else 1
 
-    def layout_fault(self, crate: Path) -> Optional[str]:
-        """Returns the differences between a crate's files and what `rt fmt` makes of a copy."""
-        with tempfile.TemporaryDirectory(dir=self.room) as folder:
-            before, after = Path(folder) / "before", Path(folder) / "after"
-            for part in ("src", "specs", "proofs"):
-                for copy in (before, after):
-                    copy.mkdir(exist_ok=True)
-                    if (crate / part).is_dir():
-                        shutil.copytree(crate / part, copy / part)
-            formatted = self.run(after, "rt", "fmt")
-            if formatted.status:
-                return formatted.end()
-            compared = self.run(Path(folder), "diff", "-r", "before", "after")
-            return compared.end(40) if compared.status else None
-
 
 def copy_kept(source: Path, to: Path, left_out: Iterable[str] = ()) -> None:
     """Copies a folder without what has one of these names. What checks kept gets a second name in place of a copy, since a
@@ -130,25 +148,16 @@ def copy_kept(source: Path, to: Path, left_out: Iterable[str] = ()) -> None:
     shutil.copytree(source, to, symlinks=True, ignore=lambda _, names: {*left_out} & {*names}, copy_function=copy)
 
 
-def uses_of(crate: str) -> Dict[str, Path]:
-    """Returns the libraries that a crate of crates.txt uses, with their builds: those of the repository, and those of the kit."""
-    kit = Path(os.path.realpath(shutil.which("rt") or "rt")).parents[1]
-    uses = dict(re.findall(r"(?m)^(\w+)[^:#\n]*:([^#\n]*)", (TOP / "crates.txt").read_text()))
-    own = {name: TOP / "crates" / name / "out" / "rlib" / f"{name}.rlib" for name in uses}
-    return {name: own.get(name, kit / "rlibs" / f"{name}.rlib") for name in ("std", *uses[crate].split())}
-
-
-def check_command(crate: str, kept: Path, jobs: int) -> List[str]:
-    """Returns the command by which `rt check` checks a crate, but over this folder of kept proofs. (`rt check` would first put
-    there what a check in another checkout on this machine kept.) The libraries must have been built."""
-    rlibs = uses_of(crate)
-    kit = rlibs["std"].parents[1]
-    root = next(it for it in ("src/lib.rt", "src/main.rt") if (TOP / "crates" / crate / it).is_file())
-    words = [str(kit / "bin" / "rattle"), "check", "--crate-name", crate, root]
-    words += [word for name, rlib in rlibs.items() for word in ("--extern", f"{name}={rlib}")]
-    words += [word for it in sorted({str(it.parent) for it in rlibs.values()}) for word in ("-L", f"dependency={it}")]
-    words += ["--antt-project", str(kit / "rattle" / "logic" / "antt-project.json"), "--logic-built", str(kit / "logic_built")]
-    return [*words, "--jobs", str(jobs), "--incremental", str(kept)]
+def copy_crate(name: str, to: Path, top: Path = TOP) -> Path:
+    """Makes a workspace of a crate with what its checks kept, without its edits, and of the libraries below it with their builds.
+    Returns the crate's folder there."""
+    crates = read_crates(top)
+    names = [*below(name, crates), name]
+    for it in names:
+        copy_kept(crates[it].folder, to / "crates" / it, [*FOLDERS, "rlib" if it == name else "incremental"])
+    (to / "crates.txt").write_text("".join(f"{crates[it].line}\n" for it in names), encoding="utf-8")
+    shutil.copy(top / "HANDLES", to)
+    return to / "crates" / name
 
 
 def run_step(name: str, work: Callable[[Step], None]) -> int:

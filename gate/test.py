@@ -1,0 +1,101 @@
+#!/usr/bin/env python3
+"""Runs the tests of the crates and the stored sessions by `rt try`, which proves nothing.
+
+    python3 gate/test.py [CRATE..]
+
+Without names all are run, as many side by side as there are workers (gate/step.py), those that take longest first; with names, the
+tests of these crates, and the sessions if scroll_run is among them. A session is run with its whole buffer and with the first half
+of it, since `rt try --cases` takes a tenth of a second for each: gate/sessions.py cuts the buffers to every length, by the proved
+program. A crate is printed as it ends. A test is a check, and so are a session and its cut. A crate whose tests don't compile is
+one failure.
+"""
+
+import re
+import shutil
+import sys
+import time
+from concurrent.futures import ThreadPoolExecutor
+from pathlib import Path
+from typing import Callable, Dict, List, NamedTuple
+
+from sessions import Session, read_sessions
+from step import Crate, Step, count_workers, read_crates, run_step
+
+PROGRAM = "scroll_run"
+RESULT = re.compile(r"(?m)^test result: \w+\. (\d+) passed; (\d+) failed; 0 ignored")
+CASE = re.compile(r"(?m)^case=(\S+) run=ended status=(\d+) runners=\d output=expected proved=no$")
+
+
+class Counted(NamedTuple):
+    """What has run: how many checks passed and failed, and what is printed of these."""
+
+    passed: int
+    failed: int
+    told: str
+
+
+def run_tests(step: Step, name: str, crate: Crate) -> Counted:
+    """Runs the tests of a crate."""
+    ran = step.run(crate.folder, "rt", "try", "--test")
+    found = RESULT.search(ran.said)
+    passed, failed = (int(found[1]), int(found[2])) if found else (0, 0)
+    failed = max(failed, bool(ran.status or not found))
+    return Counted(passed, failed, f"FAILED {name}\n{ran.end()}" if failed else "")
+
+
+def write_cases(folder: Path, sessions: List[Session]) -> Dict[str, int]:
+    """Writes the sessions as cases of `rt try`, and returns the status of each."""
+    cases = {it.name: (it.input, it.output, it.status) for it in sessions}
+    for it in sessions:
+        half = len(it.cut_lengths()) // 2
+        if half:
+            cases[f"{it.name}-{half}"] = (*it.cut(half), 0)
+    folder.mkdir()
+    for name, (given, output, _) in cases.items():
+        (folder / name).write_bytes(given)
+        (folder / f"{name}.stdout").write_bytes(output)
+    return {name: status for name, (_, _, status) in cases.items()}
+
+
+def run_sessions(step: Step, crate: Crate) -> Counted:
+    """Runs the stored sessions."""
+    malformed: List[str] = []
+    wanted = write_cases(step.room / "cases", read_sessions(malformed))
+    ran = step.run(crate.folder, "rt", "try", "--cases", step.room / "cases")
+    passed = {name for name, status in CASE.findall(ran.said) if wanted.get(name) == int(status)}
+    failures = malformed + [f"{it}, whose output or status is another" for it in wanted if it not in passed]
+    if not passed:
+        failures = ["the sessions: none passes"]
+    return Counted(len(passed), len(failures), "".join(f"FAILED {it}\n" for it in failures) + ran.end() if failures else "")
+
+
+def work(step: Step, crates: Dict[str, Crate]) -> None:
+    sizes = {name: sum(it.stat().st_size for it in (crate.folder / "src").rglob("*.rt")) for name, crate in crates.items()}
+    jobs: Dict[str, Callable[[], Counted]] = {}
+    if PROGRAM in crates:
+        jobs["sessions"] = lambda: run_sessions(step, crates[PROGRAM])
+    for name in sorted((it for it in crates if crates[it].has_tests), key=lambda it: -sizes[it]):
+        jobs[name] = lambda name=name: run_tests(step, name, crates[name])  # type: ignore[misc]
+
+    def run(name: str) -> None:
+        begun = time.time()
+        passed, failed, told = jobs[name]()
+        step.passed, step.failed = step.passed + passed, step.failed + failed
+        print(f"{told}{name}: {passed} passed, {failed} failed, {time.time() - begun:.0f} s", flush=True)
+
+    with ThreadPoolExecutor(count_workers()) as pool:
+        list(pool.map(run, jobs))
+
+
+def main(names: List[str]) -> int:
+    crates = read_crates()
+    unknown = [it for it in names if it not in crates]
+    if not shutil.which("rt") or unknown:
+        why = f"there is no crate {unknown[0]}, but {', '.join(crates)}" if unknown else "`rt` of the Rattle kit is not there"
+        print(f"test: {why}", file=sys.stderr)
+        return 1
+    return run_step("test", lambda step: work(step, {it: crates[it] for it in names or crates}))
+
+
+if __name__ == "__main__":
+    sys.exit(main(sys.argv[1:]))
