@@ -1,4 +1,4 @@
-"""Makes docs/API.md from the doc comments of the library: each public module, trait, type, constant and function, and each
+"""Makes docs/API.md from the doc comments of the libraries: each public module, trait, type, constant and function, and each
 implementation that has a comment of its own.
 
 A function has its signature, without the bounds that the page's head says, and its comment. A call without `_with` is part of the one
@@ -11,13 +11,13 @@ from pathlib import Path
 from typing import Dict, Iterator, List, NamedTuple, Set
 
 import markdown
+from layers import LIBRARIES
 from step import TOP, Step
 
-SRC = TOP / "crates" / "scroll" / "src"
 PAGE = TOP / "docs" / "API.md"
 HEAD = """# API
 
-Each public item of the library, from its doc comments. Offsets and sizes are in bytes. In signatures a context's type is `Copy`, and
+Each public item of the libraries `scroll` and `scroll_formats`, from its doc comments. Offsets and sizes are in bytes. In signatures a context's type is `Copy`, and
 `E` is `From<Error>`. A call whose name ends in `_with` takes a context; the one without takes the default of the context's type, which
 for numbers is the machine's byte order. The gate runs the examples. The names of the contracts' clauses are in [PROVED.md](PROVED.md),
 and those of the calls in [GUIDE.md](GUIDE.md#the-clauses-of-each-call).
@@ -28,18 +28,19 @@ SHORT = 12
 UNSIGNED = re.compile(r"\b(?:un)?signed\b|\b(?:an? )?[us]leb\w*|[US]leb128|\b[ui]64\b|#\w+|\b(?:its|the) ", re.I)
 # How many paragraphs of a module's comment are on the page.
 OPENING = 3
-# The sections: what each is, and its files.
+# The sections: what each is, and its files; those of the second library begin with its name.
+FORMATS = LIBRARIES[1]
 SECTIONS = {
     "Reads and writes": ["pread", "pwrite", "greater", "lesser", "source"],
-    "Byte orders and errors": ["endian", "error", "small_error", "located"],
+    "Byte orders and errors": ["endian", "error"],
     "Slices": ["slice"],
-    "Contexts and types": ["ctx", "ctx/str_ctx", "ctx/text", "ctx/bytes", "ctx/measure", "ctx/zeros", "ctx/arrays", "ctx/c_strings"]
+    "Contexts and types": ["ctx", "ctx/str_ctx", "ctx/text", "ctx/bytes", "ctx/measure", "ctx/arrays", "ctx/memory", "ctx/c_strings"]
     + ["ctx/std_c_strings", "cstr", "cstr/of_std"],
-    "Many values": ["many", "lists", "ctx/until", "ctx/optional", "ctx/table"],
-    "Types of a fixed size": ["ctx/fixed", "ctx/fixed/arrays", "ctx/tuples", "ctx/encode"],
+    "Types of a fixed size": ["ctx/fixed", "ctx/fixed/arrays", "ctx/tuples"],
     "LEB128": ["leb128", "leb128/counted", "leb128/unsigned", "leb128/signed", "leb128/bytewise", "leb128/block", "leb128/by_loads", "loads"],
     "Runs of commands": ["runner"],
-    "Laws": ["laws", "laws/numbers", "laws/fixed", "laws/reads", "laws/texts", "laws/leb128", "laws/histories"],
+    "Laws": ["laws", "laws/numbers", "laws/fixed", "laws/reads", "laws/texts", "laws/leb128", "laws/histories", f"{FORMATS}/laws"],
+    "Formats of any size": [f"{FORMATS}/{it}" for it in ("encode", "put", "many", "kept", "lists", "until", "optional", "table", "zeros", "located", "small_error")],
 }
 ITEM = re.compile(r"(?P<indent>(?:    )?)(?P<open>pub )?(?:final |const |unsafe )*(?P<kind>trait|struct|enum|fn|const|type|impl)\b(?P<rest>.*)")
 VARIANT = re.compile(r"    (?:pub )?(?P<name>[A-Za-z_]\w*)[,({:]?.*")
@@ -86,12 +87,24 @@ def signature(lines: List[str], at: int) -> str:
     return re.sub(r"^pub | where .*$", "", text)
 
 
+def path_of(name: str) -> Path:
+    """Returns the file of a section's name."""
+    library = FORMATS if name.startswith(f"{FORMATS}/") else LIBRARIES[0]
+    return TOP / "crates" / library / "src" / f"{name.removeprefix(f'{FORMATS}/')}.rt"
+
+
+def name_of_file(path: Path) -> str:
+    """Returns the name of a file: its library, and its path there."""
+    library, _, *parts = path.relative_to(TOP / "crates").with_suffix("").parts
+    return "/".join([library, *parts])
+
+
 def entries(path: Path) -> Iterator[Entry]:
     """Returns what a file says: its module's comment first."""
     lines = path.read_text(encoding="utf-8").split("\n")
     module = [line[3:].removeprefix(" ") for line in lines if line.startswith("//!")]
     if module:
-        yield Entry(3, f"`scroll::{path.relative_to(SRC).with_suffix('').as_posix().replace('/', '::')}`", "", module)
+        yield Entry(3, f"`{name_of_file(path).replace('/', '::')}`", "", module)
     said: List[str] = []
     owner, kind, is_open = "", "", False
     for at, line in enumerate(lines):
@@ -176,7 +189,7 @@ def merged(listed: List[Entry]) -> List[Entry]:
 
 def page() -> str:
     parts = [HEAD]
-    paths = {it: [SRC / f"{file}.rt" for file in files] for it, files in SECTIONS.items()}
+    paths = {it: [path_of(file) for file in files] for it, files in SECTIONS.items()}
     found = {it: [e for path in listed if path.is_file() for e in entries(path)] for it, listed in paths.items()}
     titles: Set[str] = {e.title for listed in found.values() for e in listed if e.depth}
     shown = [e.title for listed in found.values() for e in merged(listed) if e.depth and not is_short(e)]
@@ -201,7 +214,7 @@ def page() -> str:
         parts.append(f"\n## {section}\n")
         heads: List[str] = []
         for e in merged(listed):
-            text = paragraphs(e.said, printed, section == "Slices", e.title.startswith("`scroll::")) if e.depth else " ".join(e.said)
+            text = paragraphs(e.said, printed, section == "Slices", e.title.startswith(tuple(f"`{it}::" for it in LIBRARIES))) if e.depth else " ".join(e.said)
             pieces = re.split(r"(?ms)(^```.*?^```$)", text)
             text = "".join(it if it.startswith("```") else linked(it, e.title.strip("`").split("::")[0]) for it in pieces)
             if e.depth and is_short(e):
@@ -230,9 +243,9 @@ def page() -> str:
 
 def left_out() -> List[str]:
     """Returns the files with items for the page that no section names, and those that a section names and that aren't there."""
-    files = {path.relative_to(SRC).with_suffix("").as_posix(): path for path in SRC.rglob("*.rt")}
-    named = {it for listed in SECTIONS.values() for it in listed}
-    new = [it for it in files.keys() - named if it != "lib" and not it.startswith("tests") and list(entries(files[it]))]
+    files = {name_of_file(path): path for it in LIBRARIES for path in (TOP / "crates" / it / "src").rglob("*.rt")}
+    named = {name_of_file(path_of(it)) for listed in SECTIONS.values() for it in listed}
+    new = [it for it in files.keys() - named if it.split("/")[1] not in ("lib", "tests") and list(entries(files[it]))]
     return sorted(new + list(named - files.keys()))
 
 

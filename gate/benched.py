@@ -1,4 +1,4 @@
-"""Says which public call of the library no set of the bench makes: each has a row but those that PROVIDED and CONSTANT leave
+"""Says which public call of the libraries no set of the bench makes: each has a row but those that PROVIDED and CONSTANT leave
 out, or that by which THROUGH goes. And compares the summary and the times of jobs in docs/SPEED.md with those in bench/results/.
 
 A call is a check, and so are the summary and the jobs.
@@ -9,13 +9,14 @@ import sys
 from typing import Set
 
 import markdown
+from layers import LIBRARIES
 from step import TOP, Step
 
 sys.path.append(str(TOP / "bench"))
 import jobs  # noqa: E402
 import results  # noqa: E402
 
-SOURCES = TOP / "crates" / "scroll" / "src"
+SOURCES = [TOP / "crates" / it / "src" for it in LIBRARIES]
 SETS = TOP / "bench" / "sets"
 # A client whose reads and writes are whole jobs of the bench.
 JOBS = TOP / "crates" / "debug_tables" / "src"
@@ -23,7 +24,7 @@ JOBS = TOP / "crates" / "debug_tables" / "src"
 INNER = ("tests", "tests.rt", "laws", "laws.rt", "search", "search.rt", "runner", "runner.rt")
 
 # The traits here are those that a type provides: every call that reads or writes a value of the type calls their methods.
-PROVIDED = ("ctx", "ctx.rt", "leb128", "source.rt")
+PROVIDED = ("ctx", "ctx.rt", "leb128", "source.rt", "encode.rt", "kept.rt", "put.rt")
 # What takes the same time for every argument: a constant, a comparison, a field, or one load of those that `uleb_loads` makes.
 CONSTANT = {"array_fits", "as_c_str", "byte", "entry_of", "is_empty", "is_little", "made", "network", "word"}
 # What does little but call another one, which has a row.
@@ -37,8 +38,8 @@ METHOD = re.compile(r"^    (?:final )?fn (\w+)", re.M)
 def public_calls() -> Set[str]:
     """Returns the names of the public functions, and of the methods of the public traits but those that a type provides."""
     names: Set[str] = set()
-    for path in sorted(SOURCES.rglob("*.rt")):
-        place = path.relative_to(SOURCES).parts[0]
+    for source, path in [(source, path) for source in SOURCES for path in sorted(source.rglob("*.rt"))]:
+        place = path.relative_to(source).parts[0]
         if place not in INNER:
             text = path.read_text(encoding="utf-8")
             names.update(FUNCTION.findall(text))

@@ -104,14 +104,14 @@ class Declarations:
 
     def paths(self, name: str) -> Set[str]:
         """Returns the paths that a citation may stand for: without parameters, and what its parts are other names of."""
-        found = {it.removeprefix("crate::").removeprefix("scroll::") for it in (name, PARAMETERS.sub("", name))}
+        found = {it.removeprefix("crate::").removeprefix("scroll::").removeprefix("scroll_formats::") for it in (name, PARAMETERS.sub("", name))}
         for _ in range(3):
             for it in list(found):
                 parts = it.split("::")
                 for end in range(1, len(parts) + 1):
                     other = self.aliases.get("::".join(parts[:end]))
                     found.update(["::".join([other, *parts[end:]])] if other else [])
-        return found | {it.split("::", 1)[1] for it in found if it.split("::")[0] in ("scroll", "crate") and "::" in it}
+        return found | {it.split("::", 1)[1] for it in found if it.split("::")[0] in ("scroll", "scroll_formats", "crate") and "::" in it}
 
     def resolves(self, name: str) -> bool:
         """Whether a path of two words or more leads to a declaration."""

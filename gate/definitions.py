@@ -17,7 +17,7 @@ from dataclasses import dataclass
 from pathlib import Path
 from typing import Dict, Iterator, List, Set, Tuple
 
-from layers import list_clients
+from layers import LIBRARIES, list_clients
 from step import TOP, Step
 
 PAGE = TOP / "docs" / "DEFINITIONS.md"
@@ -124,8 +124,8 @@ def names_of(group: List[Definition]) -> str:
 
 def cited_names(meanings: Dict[str, str]) -> Set[str]:
     """The definitions that a user meets: those that are cited, and those that the meaning of one of these names."""
-    src = TOP / "crates" / "scroll" / "src"
-    files = [it for it in src.rglob("*.rt") if "tests" not in it.relative_to(src).parts]
+    sources = [TOP / "crates" / it / "src" for it in LIBRARIES]
+    files = [it for src in sources for it in src.rglob("*.rt") if "tests" not in it.relative_to(src).parts]
     files += [it for name in list_clients() for it in (TOP / "crates" / name).glob("s*/**/*.*t")] + [*TOP.glob("tools/derive/*.*")]
     words = {it for path in files for it in WORD.findall(INNER.sub("", path.read_text(encoding="utf-8")))}
     left, found = [it for it in meanings if it in words], set()
@@ -158,11 +158,9 @@ def try_all(step: Step, is_writing: bool) -> None:
     page = HEAD
     made: List[Tuple[Path, str]] = []
     failed = step.failed
-    lib = TOP / "crates" / "scroll" / "specs" / "Lib.antt"
-    sections: List[str] = []
+    libs = [TOP / "crates" / it / "specs" / "Lib.antt" for it in LIBRARIES]
     entries: Dict[Path, List[Tuple[str, List[Definition]]]] = {}
-    paths = [lib.parent / f"{name}.antt" for name in re.findall(r"^pub mod ([A-Z]\w*)", lib.read_text(encoding="utf-8"), re.M)]
-    for path in paths:
+    for path in [lib.parent / f"{name}.antt" for lib in libs for name in re.findall(r"(?m)^pub mod ([A-Z]\w*)", lib.read_text(encoding="utf-8"))]:
         try:
             entries[path] = entries_of(path)
         except Bad as why:
@@ -171,18 +169,18 @@ def try_all(step: Step, is_writing: bool) -> None:
     cited = cited_names({one.name: meaning for meaning, group in listed for one in group})
     for path in entries:
         try:
-            sections.append(section(path, entries[path], cited))
-            made.append((path, sections[-1]))
+            made.append((path, section(path, entries[path], cited)))
         except Bad as why:
             step.count(f"{path.relative_to(TOP)}: {why}", "")
-    title, *text = headed(next(blocks(lib))[0])
-    page += "\n" + "\n\n".join([f"## {title.rstrip('.')}", *text]) + "\n" + "".join(sections)
+    for lib in libs:
+        title, *text = headed(next(blocks(lib))[0])
+        page += "\n" + "\n\n".join([f"## {title.rstrip('.')}", *text]) + "\n" + "".join(it for path, it in made if path.parent == lib.parent)
     if is_writing and step.failed == failed:
         PAGE.write_text(page, encoding="utf-8")
-    text = PAGE.read_text(encoding="utf-8") if PAGE.is_file() else ""
+    there = PAGE.read_text(encoding="utf-8") if PAGE.is_file() else ""
     for path, it in made:
         what = f"{path.relative_to(TOP)}: docs/DEFINITIONS.md says something else of it"
-        step.count(what, None if it in text else "")
-    if text != page and step.failed == failed:
+        step.count(what, None if it in there else "")
+    if there != page and step.failed == failed:
         step.count("docs/DEFINITIONS.md is not what the comments say", "")
     step.tell(f"{len(made)} files of specs/ were compared with docs/DEFINITIONS.md")

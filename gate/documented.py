@@ -9,9 +9,9 @@ import re
 from typing import Dict, Iterator, List, Tuple
 
 import markdown
-from step import TOP, read_crates
+from layers import LIBRARIES
+from step import TOP
 
-LIBRARIES = ("scroll", "scroll_formats")
 EXPORTED = re.compile(r"^pub use [\w:]+::(?:\{([^}]*)\}|(\w+));", re.M)
 # What is exported in another way, or is std's; and the traits that a method is called by, which no example names.
 MORE = {
@@ -24,14 +24,9 @@ MORE = {
 TRAITS = {"Cread", "Cwrite", "IOread", "IOwrite", "LocateError", "MeasureWith", "Pread", "Pwrite", "SizeWith", "Write"}
 
 
-def libraries() -> List[str]:
-    """The libraries that the documentation is of."""
-    return [it for it in LIBRARIES if it in read_crates()]
-
-
 def examples() -> Iterator[Tuple[str, List[str]]]:
     """The name and the lines of each example."""
-    sources = [it for name in libraries() for it in sorted((TOP / "crates" / name / "src").rglob("*.rt")) if "tests" not in it.parts]
+    sources = [it for name in LIBRARIES for it in sorted((TOP / "crates" / name / "src").rglob("*.rt")) if "tests" not in it.parts]
     for path in [*sources, TOP / "docs" / "FROM-RUST.md"]:
         for block in markdown.read(path).blocks:
             if block.language == "rust" and not block.source and any("assert" in it for it in block.code):
@@ -41,7 +36,7 @@ def examples() -> Iterator[Tuple[str, List[str]]]:
 def paths() -> Dict[str, str]:
     """The paths of the names that the libraries export."""
     found: Dict[str, str] = {}
-    for library in libraries():
+    for library in LIBRARIES:
         for file, at in (("ctx.rt", f"{library}::ctx"), ("lib.rt", library)):
             source = TOP / "crates" / library / "src" / file
             listed = EXPORTED.findall(source.read_text(encoding="utf-8")) if source.is_file() else []

@@ -86,7 +86,7 @@ def source_fault(found: markdown.Block) -> Optional[str]:
 def lemmas() -> str:
     """Returns the files of the lemmas for callers, each with what it is about."""
     lines = []
-    for path in sorted(TOP.glob("crates/scroll/proofs/lemmas/callers/*.antt")):
+    for path in sorted(TOP.glob("crates/scroll*/proofs/lemmas/callers/*.antt")):
         comment = re.match(r"(?:--.*\n)+", path.read_text(encoding="utf-8"))
         about = " ".join(it[2:].strip() for it in comment[0].splitlines()) if comment else ""
         about = re.sub(r"^Lemmas for callers: ", "", about).partition(". ")[0].rstrip(".")
@@ -125,7 +125,7 @@ def try_all(step: Step, is_writing: bool) -> None:
     step.count("crates/examples/src/results.rt is no copy of src/tests/results.rt", None if is_copy else "")
     count = try_guide(step, is_writing)
     step.count("docs/GUIDE.md has no block", None if count else "")
-    pages: List[Path] = [TOP / "docs" / "FROM-RUST.md", *sorted(TOP.glob("crates/scroll/src/**/*.rt"))]
+    pages: List[Path] = [TOP / "docs" / "FROM-RUST.md", *sorted(TOP.glob("crates/scroll*/src/**/*.rt"))]
     for path in pages:
         for it in markdown.read(path).blocks:
             if it.language.startswith(("rust", "antt")) and it.source:

@@ -1,34 +1,94 @@
-"""The crates of crates.txt by what they are for, and a check of what they stand on.
+"""The crates of crates.txt by what they are for, and checks of what stands on what.
 
-A crate that isn't of the product uses the product's crates as any other would: of their proofs, and of those of another crate, it names
-none but the lemmas for callers. Each is a check.
+- A crate names no proofs of another crate but the lemmas for callers, and none of its own that are for callers.
+- A module of the product uses none that uses it, but for the modules below its own path.
+- A lemma is named in another place than its own: in its file, by an import, or by what tools/derive prints.
+
+Each of these is a check of a crate.
 """
 
 import re
-from typing import List
+from pathlib import Path
+from typing import Dict, Iterator, List, Set, Tuple
 
-from step import TOP, Step
+from step import TOP, Step, read_crates
 
-PRODUCT = ("scroll", "scroll_formats", "scroll_run")
+LIBRARIES = ("scroll", "scroll_formats")
+PRODUCT = (*LIBRARIES, "scroll_run")
 FOR_CHECKS = ("shapes", "scroll_ffi", "compare_calls")
-PROOF = re.compile(r"\b(\w+)(?:\.|::)proofs\b(?!(?:\.|::)lemmas(?:\.|::)callers\b)")
-
-
-def list_crates() -> List[str]:
-    return re.findall(r"(?m)^(\w+)[^:#\n]*:", (TOP / "crates.txt").read_text(encoding="utf-8"))
+CALLERS = r"(?:\.|::)lemmas(?:\.|::)callers\b"
+USE = re.compile(r"(?ms)^(?:pub )?use (?:crate::)?([\w:]+?)(?:::\{([^}]*)\})?;$")
+IMPORT = re.compile(r"\b(\w+)(?=(?:\.|::)(?:\{([^}]*)\}|([\w-]+)))")
+LEMMA = re.compile(r"(?m)^ *(?:pub |abbrev |record |ruleset )*([^\s(){}:=]+)(?= :| [({]| = \()")
 
 
 def list_clients() -> List[str]:
-    """Returns the crates that show the library's use."""
-    return [it for it in list_crates() if it not in (*PRODUCT, *FOR_CHECKS)]
+    """Returns the crates that show the libraries' use."""
+    return [it for it in read_crates() if it not in (*PRODUCT, *FOR_CHECKS)]
+
+
+def files_of(crate: str, *parts: str) -> Iterator[Tuple[Path, str]]:
+    for part in parts:
+        for file in sorted((TOP / "crates" / crate / part).rglob("*.*t")):
+            yield file, file.read_text(encoding="utf-8")
+
+
+def wrong_proofs(crate: str, others: Set[str]) -> Iterator[str]:
+    """Returns the lines that name proofs of other crates that aren't for callers, or the crate's own that are."""
+    named = re.compile(rf"\b(?:{'|'.join(others)})(?:\.|::)proofs\b(?!{CALLERS})|\b(?:{crate}|crate)(?:\.|::)proofs{CALLERS}")
+    for file, text in files_of(crate, "src", "specs", "proofs"):
+        if "callers" not in file.parts:
+            yield from (f"{file.relative_to(TOP)}: {it}" for it in text.splitlines() if named.search(it))
+
+
+def used_modules(crate: str) -> Dict[str, Set[str]]:
+    """Returns for each module of a crate the modules whose items it imports, but for those that it stands below."""
+    src = TOP / "crates" / crate / "src"
+    texts = {"::".join(file.relative_to(src).with_suffix("").parts): text for file, text in files_of(crate, "src") if "tests" not in str(file)}
+    used: Dict[str, Set[str]] = {}
+    for module, text in texts.items():
+        paths = [f"{it[0]}::{name.strip()}" for it in USE.findall(text) for name in it[1].split(",")]
+        ends = {it[:at] for path in paths for it in (path, f"{module}::{path}") for at in range(len(it) + 1) if it[at : at + 2] in ("::", "")}
+        used[module] = {it for it in ends & {*texts} if it != module and not module.startswith(f"{it}::")} if module not in ("lib", "main") else set()
+    return used
+
+
+def cycles(crate: str) -> Iterator[str]:
+    used = used_modules(crate)
+    for module in used:
+        reached, left = set(), {*used[module]}
+        while left:
+            it = left.pop()
+            reached.add(it)
+            left |= used[it] - reached
+        if module in reached:
+            yield f"{module} uses {', '.join(sorted(it for it in used[module] if module in used[it] | {it}) or sorted(used[module]))}"
+
+
+def uncited_lemmas(crate: str, imported: Dict[str, Set[str]]) -> Iterator[str]:
+    """Returns the lemmas of a crate that are named in no other place."""
+    for file, text in [it for part in ("specs/lemmas", "proofs/lemmas") for it in files_of(crate, part)]:
+        pieces = re.sub(r"(?m)^ *(?:--|(?:pub )?use ).*", "", text).split("\n\n")
+        for piece in pieces:
+            here = {*re.findall(r"[^\s(){},.;]+", "\n".join(it for it in pieces if it is not piece))}
+            names = {it[1] for it in LEMMA.finditer(piece) if not it[0].startswith("    ")} - {"let", "in"}
+            if names and not names & (here | imported.get(file.stem, set()) | imported[""]):
+                yield f"{file.relative_to(TOP)}: {', '.join(sorted(names))}"
 
 
 def try_all(step: Step) -> None:
-    crates = list_crates()
-    for crate in [it for it in crates if it not in PRODUCT]:
-        faults: List[str] = []
-        for part in ("src", "specs", "proofs"):
-            for file in (TOP / "crates" / crate / part).rglob("*.*t"):
-                lines = file.read_text(encoding="utf-8").splitlines()
-                faults += [f"    {file.relative_to(TOP)}: {it}" for it in lines if {*PROOF.findall(it)} & {*crates} - {crate}]
-        step.count(f"{crate} names a proof of another crate that is not for callers", "\n".join(faults) or None)
+    crates = [*read_crates()]
+    imported = {"": {it for file in TOP.glob("tools/derive/*.py") for it in re.findall(r"[\w-]+", file.read_text(encoding="utf-8"))}}
+    for crate in crates:
+        for file, text in files_of(crate, "src", "specs", "proofs"):
+            for stem, many, one in IMPORT.findall(text):
+                if stem != file.stem:
+                    imported.setdefault(stem, set()).update(map(str.strip, (many or one).split(",")))
+    for crate in crates:
+        faults = {
+            "names a proof of another crate that is not for callers, or one of its own that is": wrong_proofs(crate, {*crates} - {crate}),
+            "has modules that use each other": cycles(crate) if crate in PRODUCT else iter(()),
+            "has lemmas that nothing cites": uncited_lemmas(crate, imported),
+        }
+        for what, found in faults.items():
+            step.count(f"{crate} {what}", "\n".join(f"    {it}" for it in found) or None)

@@ -1,7 +1,4 @@
--- Formats of any size. Numbers are unbounded, lists finite, and indices and offsets count from 0.
---
--- A name that begins with a capital is a statement, any other name a value. A statement of several
--- parts names them: where `h` proves it, `h.size` proves the part `size`.
+-- Formats of any size. What several contracts of the second library share.
 pub mod Spans
 pub mod SmallErrors
 pub mod Zeros

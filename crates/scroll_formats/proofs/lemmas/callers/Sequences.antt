@@ -52,22 +52,11 @@ rest-open b t u rest h = record { inside = h.inside; is = h.is ∙ ap (λ l. l +
 pub rest-last : {at : ℕ} (b rest : List ℕ) {s : List ℕ} → Rest at (b ++ rest) s → Rest at ((b ++ []) ++ rest) s
 rest-last b rest h = record { inside = h.inside; is = h.is ∙ ap (λ l. l ++ rest) (sym (append-nil b)) }
 
--- a value is there that begins its bytes
-pub rest-value : {X : Type 0} (value_of : List ℕ → X) (x : X) {at : ℕ} (b t rest : List ℕ) {s : List ℕ} → ((rest : List ℕ) → value_of (b ++ rest) ≡ x) → Rest at ((b ++ t) ++ rest) s → x ≡ value_of (drop at s)
-rest-value value_of x b t rest begins h = sym (ap value_of (h.is ∙ append_assoc b t rest) ∙ begins (t ++ rest))
-
 -- a part is there that reads back whatever follows it
 pub rest-reads : {V : Type 0} (reads : List ℕ → V → ℕ → Type 0) (v : V) (n : ℕ) {at : ℕ} (b t rest : List ℕ) {s : List ℕ} → ((rest : List ℕ) → reads (b ++ rest) v n) → Rest at ((b ++ t) ++ rest) s → ReadsAt reads s at v n
 rest-reads reads v n {at} b t rest {s} back h = record {
   inside = h.inside;
   value = rw (h.is ∙ append_assoc b t rest) (back (t ++ rest));
-}
-
--- bytes that were written over the start of a rest read back there
-pub written-reads : {V : Type 0} (reads : List ℕ → V → ℕ → Type 0) (v : V) (bytes : List ℕ) (offset n : ℕ) (old new : List ℕ) → ((rest : List ℕ) → reads (bytes ++ rest) v (length bytes)) → offset ≤ length old → length new ≡ length old → WritesPrefix (length bytes) bytes (drop offset old) (drop offset new) n → ReadsAt reads new offset v n
-written-reads reads v bytes offset n old new back inside len h = record {
-  inside = omega (arith, inside, len);
-  value = rw (h.after, h.size) (back (drop (length bytes) (drop offset old)));
 }
 
 -- where the parts after some begin, these end
@@ -88,10 +77,6 @@ pub text-begins : (bytes : List ℕ) (n : ℕ) → length bytes ≡ n → IsUtf8
 text-begins bytes n size utf8 rest =
     let prefix = slice-begins bytes n size rest in
     record { room = prefix.room; prefix = prefix.value; utf8 = utf8; size = omega arith; there = _ }
-
--- and a value of a fixed size that begins its bytes
-pub value-begins : {X : Type 0} (value_of : List ℕ → X) (x : X) (w : ℕ) (bytes : List ℕ) → length bytes ≡ w → ((rest : List ℕ) → value_of (bytes ++ rest) ≡ x) → (rest : List ℕ) → ReadsPrefix w value_of (bytes ++ rest) x w
-value-begins value_of x w bytes size begins rest = record { room = omega (arith, size, length-append bytes rest); value = sym (begins rest); size = refl }
 
 -- a number in LEB128
 pub uleb-begins : (x : Counted ℕ) → HasEncoding x.value x.count → (rest : List ℕ) → ReadsCountedUleb (uleb_text x ++ rest) x x.count
