@@ -2,13 +2,16 @@
 """Makes the library of embed/ for C, Rust and Python, and tries it in each:
 
     python3 gate/embed.py [COUNT]
+    python3 gate/embed.py edits
 
-It is made of crates/scroll_ffi, which has an edit for each export. embed/list.c, compiled with warnings as errors, with sanitizers
+The proved crate of embed/scroll_formats has the layout of `rt fmt`. embed/list.c, compiled with warnings as errors, with sanitizers
 and without, and the Python module read real files, and say what `readelf`, `zipinfo` and Python's `zipfile` say; the module writes
 an archive again as it was. embed/damage.c, with sanitizers, compares the answers for COUNT files that are cut and damaged (5,000),
 in four threads, and tries the arguments that the border refuses and memory that is refused; a few files are read under the
 sanitizer of threads. cargo runs the Rust crate's documentation tests, one of which must not compile. `nm` finds no names in the
-libraries but those of the header, and nothing that is written there. The command refuses the exports that make no library.
+libraries but those of the header, and nothing that is written there. The command refuses the exports that make no library. With
+`edits` the prover refuses a bug in each function (gate/edits.py says how edits are judged), in the workspace in embed/out/ where the
+library was made, unless a file that it is made of is newer.
 
 Without a C compiler all is skipped; without `readelf`, `zipinfo` or cargo, what needs it.
 """
@@ -22,11 +25,12 @@ import zipfile
 from pathlib import Path
 from typing import Any, Callable, List, Optional, Tuple
 
-from edit_files import read_edits
+from edit_files import Edit, Pair, Texts
+from edit_judge import Judge, parse
 from step import TOP, Step, Stop, count_workers, run_step
 
 sys.path.insert(0, str(TOP / "embed"))
-CRATE = TOP / "crates" / "scroll_ffi"
+MADE = TOP / "embed" / "out"
 WARNINGS = ("-std=c11", "-Wall", "-Wextra", "-Werror")
 SANITIZERS = ("-g", "-O1", "-fsanitize=address,undefined", "-fno-sanitize-recover=all")
 DAMAGE = ("-pthread", "-Wl,--wrap=malloc,--wrap=realloc")
@@ -103,6 +107,40 @@ def try_names(step: Step, out: Path) -> None:
     written = re.findall(r"(?m) [bBcCdD] (\S+)$", step.run(out, "nm", "libscroll_formats.a").said)
     # (the kit's address of an allocation of no bytes)
     step.count("nothing is written in the library", differ(sorted({*written} - {"nothing"}), []))
+
+
+# Bugs that the prover must refuse, at least one for each export: the export, the function that is refused, its file, and the edit.
+EDITS = [
+    ("scroll_elf_open", "open", "src/elf.rt", "left: u32::from(header.section_count),", "left: u32::from(header.names_index),"),
+    ("scroll_elf_next", "next", "src/elf.rt", "sections.next = offset + 64;", "sections.next = offset + 40;"),
+    ("scroll_elf_table", "scroll_elf_table", "src/elf_table.rt", "*count = found;", "*count = found.min(1);"),
+    ("scroll_elf_table", "read_all", "src/elf_table.rt", "if filled < count {", "if filled < 1 {"),
+    ("scroll_elf_fill", "fill", "src/elf_fill.rt", "sections.left -= found as u32;", "sections.left -= 1;"),
+    ("scroll_elf_fill", "count_ready", "src/elf_fill.rt", "there.min(room)", "there.min(room.saturating_sub(1))"),
+    ("scroll_zip_open", "scroll_zip_open", "src/zip_files.rt", "if record.comment.len() + 22 == back {", "if record.comment.len() + 22 <= back {"),
+    ("scroll_zip_next", "scroll_zip_next", "src/zip_files.rt", "file.contents_offset + file.contents_len;", "file.contents_offset;"),
+    ("scroll_zip_put", "scroll_zip_put", "src/zip_files.rt", "*offset = place;", "*offset = name.len();"),
+    ("scroll_zip_put_end", "scroll_zip_put_end", "src/zip_files.rt", "gwrite_with(archive, record, offset, LE);", "gwrite_with(archive, record, offset, scroll::BE);"),
+]
+
+
+def try_edits(step: Step, crate: Path, exports: List[str]) -> None:
+    """Tries the edits in the workspace, as many in one check as are in different functions."""
+    step.count("an edit for each function", differ(sorted({it[0] for it in EDITS}), sorted(exports)))
+    edits = [Edit(crate.name, "", f"{name}: {new}", new, breaks, (), (Pair(file, old, new),)) for name, breaks, file, old, new in EDITS]
+    judge, left = Judge(crate, Texts(crate)), edits
+    while left:
+        batches, left = judge.batches(left), []
+        for batch in batches:
+            texts, places = judge.texts.after(batch)
+            for file, text in texts.items():
+                (crate / file).write_text(text, encoding="utf-8")
+            ran = step.run(crate, "rt", "check", "--jobs", os.environ["JOBS"])
+            left += judge.judge(batch, places, parse(ran.said))
+            for file in texts:
+                (crate / file).write_text(judge.texts.load(file), encoding="utf-8")
+    for edit in edits:
+        step.count(f"the edit {edit.name}", None if edit.name in judge.refused else f"    {judge.failed.get(edit.name)}")
 
 
 def fails(call: Callable[[], object], kind: type) -> Optional[str]:
@@ -211,23 +249,31 @@ def try_rust(step: Step, out: Path) -> None:
     step.count("the Rust crate", ran.end(40) if ran.status or tests < 4 else None)
 
 
-def try_edits(step: Step, library: Any) -> None:
-    """Tries that each export has an edit, whose name begins with the export's."""
-    failures: List[str] = []
-    names = [it.name for it in read_edits(CRATE, failures)]
-    lacking = [it.name for it in library.read_crate(CRATE).exports if not any(name.startswith(it.name) for name in names)]
-    step.count("an edit for each export", differ(failures + lacking, []))
+def make(step: Step, library: Any, out: Path) -> Path:
+    """Makes the library in a new workspace, and returns its crate."""
+    shutil.rmtree(MADE, ignore_errors=True)
+    try:
+        library.run_lib(TOP / "crates" / "scroll")
+        crate: Path = library.embed_formats(MADE, out)
+    except library.Refused as why:
+        raise Stop(str(why)) from why
+    return crate
+
+
+def is_current(crate: Path) -> bool:
+    """Returns whether the library is made, and no file that it is made of is newer."""
+    made = crate / "out" / f"lib{crate.name}.a"
+    files = [it for part in ("embed", "clients", "crates/scroll") for it in (TOP / part).rglob("*.*t*") if it.is_file()]
+    sources = [it for it in files if "out" not in it.relative_to(TOP).parts]
+    return made.is_file() and all(it.stat().st_mtime <= made.stat().st_mtime for it in sources)
 
 
 def try_library(step: Step, library: Any, cc: List[str], count: int) -> None:
     try_refusals(step, library)
     try_page(step, library)
-    try_edits(step, library)
     out = step.room / "out"
-    try:
-        library.embed(CRATE, out)
-    except library.Refused as why:
-        raise Stop(str(why)) from why
+    crate = make(step, library, out)
+    step.count("the layout of embed/scroll_formats", step.layout_fault(crate))
     sample = step.room / "sample.o"
     built = step.run(step.room, *cc, "-g", "-ffunction-sections", "-c", TOP / "bench" / "sample.c", "-o", sample)
     if built.status:
@@ -249,7 +295,13 @@ def work(step: Step, words: List[str]) -> None:
     import library
 
     os.environ.setdefault("JOBS", str(count_workers()))
-    try_library(step, library, cc, int(words[0]) if words else 5000)
+    if words == ["edits"]:
+        crate = MADE / "crates" / library.FORMATS
+        if not is_current(crate):
+            crate = make(step, library, step.room / "out")
+        try_edits(step, crate, [it.name for it in library.read_crate(crate).exports])
+    else:
+        try_library(step, library, cc, int(words[0]) if words else 5000)
 
 
 if __name__ == "__main__":
