@@ -9,8 +9,8 @@ from pathlib import Path
 from typing import Dict, Iterable, List
 
 import markdown
-from layers import PRODUCT, list_clients, list_crates
-from step import TOP, Step
+from layers import PRODUCT, list_clients
+from step import TOP, Step, read_crates
 
 PAGE = TOP / "crates" / "README.md"
 COLUMNS = 5
@@ -87,7 +87,7 @@ def try_all(step: Step, is_writing: bool) -> None:
         step.count(f"crates/README.md:{index + 1}: {name} has {wanted} lines", None if cells[2:] == wanted else "")
     for it in {*list_clients()} ^ {*names}:
         step.count(f"crates/README.md: {it} has a row and is no client, or is one and has no row", "")
-    left = [it for it in list_crates() if f"`{it}`" not in text]
+    left = [it for it in read_crates() if f"`{it}`" not in text]
     step.count("the crates that crates/README.md names", f"    not {' '.join(left)}" if left else None)
     if is_writing:
         PAGE.write_text("\n".join(lines), encoding="utf-8")
