@@ -4,7 +4,7 @@ use Rattle.std.proofs.lemmas.Grind.{common_steps}
 use Rattle.std.proofs.lemmas.List.{append-nil, drop-drop, drop_at, take_at, get_or_append_left, get_or-replicate, length-replicate}
 use Rattle.std.specs.List.{All, flat_map}
 use Rattle.scroll.specs.Arrays.{MakesArray}
-use Rattle.scroll.specs.Bytes.{ReadsFixed, ReadsPrefix, WritesPrefix}
+use Rattle.scroll.specs.Bytes.{ReadsFixed}
 use Rattle.scroll.specs.CStrings.{ReadsCString}
 use Rattle.scroll.specs.Fixed.{exactly}
 use Rattle.std.specs.Prelude.{⊤, Bool, Option, Some, None, is_some, MatchOption}
