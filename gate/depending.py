@@ -18,6 +18,7 @@ from typing import List
 
 import documented
 import markdown
+from layers import LIBRARIES
 from step import FOLDERS, TOP, Ran, Step, Stop, below, copy_kept, read_crates, run_step
 
 COMMANDS = "Three commands"
@@ -64,11 +65,10 @@ def copy_libraries(step: Step, own: Path) -> List[str]:
 def run_examples(step: Step) -> None:
     """The examples of the documentation pass as tests, in a workspace of their own with the libraries that they use."""
     crates, tree = read_crates(), step.room / "documented"
-    libraries = documented.libraries()
-    names = dict.fromkeys(it for library in libraries for it in [*below(library, crates), library])
+    names = dict.fromkeys(it for library in LIBRARIES for it in [*below(library, crates), library])
     for name in names:
         copy_kept(crates[name].folder, tree / "crates" / name, [*FOLDERS, "out"])
-    (tree / "crates.txt").write_text("".join(f"{crates[it].line}\n" for it in names) + f"documented: {' '.join(libraries)}\n")
+    (tree / "crates.txt").write_text("".join(f"{crates[it].line}\n" for it in names) + f"documented: {' '.join(LIBRARIES)}\n")
     examples = tree / "crates" / "documented"
     (examples / "src").mkdir(parents=True)
     (examples / "src" / "lib.rt").write_text(documented.crate())

@@ -76,9 +76,9 @@ def cited(text: str, declared: Declarations) -> str:
 def edits_by_promise(step: Step) -> Dict[str, List[Edit]]:
     """Returns the edits for each promise. One without a promise is a failure."""
     edits: Dict[str, List[Edit]] = {}
-    for folder in sorted(TOP.glob("crates/*/must-fail")):
+    for crate in PRODUCT:
         failures: List[str] = []
-        for edit in read_edits(folder.parent, failures):
+        for edit in read_edits(TOP / "crates" / crate, failures):
             if not edit.promises:
                 failures.append(f"{edit.crate}/{edit.name} has no line `promise:` with a name of gate/promises.txt")
             for it in edit.promises:
