@@ -1,9 +1,7 @@
-"""The charts, as SVG of 800 pixels on a white panel."""
+"""The chart of whole jobs, as SVG of 800 pixels on a white panel."""
 
 import math
 from xml.sax.saxutils import escape
-
-from results import TITLES
 
 WIDTH = 800
 FONT = "font-family='-apple-system, Segoe UI, Helvetica, Arial, sans-serif'"
@@ -73,79 +71,6 @@ def draw_set(x, y, title, rows):
 def draw_axis(x, y):
     parts = [text(x + LABEL + place(tick), y, f"{tick:g}", 9, SOFT, "middle") for tick in TICKS]
     return parts
-
-
-def ratios(rows):
-    """Returns the chart of all ratios except those of growth, in two columns."""
-    groups = [(title, [row for row in rows if row.set == name]) for name, title in TITLES.items() if name != "growth"]
-    groups = [(title, members) for title, members in groups if members]
-    total = sum(HEAD + LINE * len(members) + 2 for _, members in groups)
-    parts = [
-        text(16, 26, "Time of the proved library, divided by that of Rust", 15, INK, weight="bold"),
-        text(16, 43, "Left of the line at 1 the proved library is faster. A dot is the mean of four layouts of the code, the band around it their range.", 10.5, SOFT),
-    ]
-    x, y, deepest, used = 10, 74, 0, 0
-    parts += draw_axis(x, 66) + draw_axis(x + COLUMN + 6, 66)
-    for title, members in groups:
-        height = HEAD + LINE * len(members) + 2
-        if x == 10 and used and used + height / 2 > total / 2:
-            x, y = 10 + COLUMN + 6, 74
-        drawn, y = draw_set(x, y, title, members)
-        used += height
-        deepest = max(deepest, y)
-        parts += drawn
-    return panel(deepest + 6, "Ratios of time beside Rust", parts)
-
-
-OURS, RUST = FASTER, "#b45309"
-SIZES = {1024 * 4**k: name for k, name in enumerate(("1 KiB", "", "16", "", "256 KiB", "", "4 MiB", "", "64 MiB"))}
-
-
-def series(rows):
-    """Returns the rows of growth by what they do: a list of sizes, each with our time and Rust's."""
-    found = {}
-    for row in rows:
-        if row.set == "growth":
-            name, size = row.name.rsplit(" at ", 1)
-            found.setdefault(name, []).append((int(size.split()[0]) * 1024, row.ours_ns, row.rust_ns))
-    return found
-
-
-def nice(top):
-    """Returns the least of 1, 2, 5, 10 .. that isn't below a number."""
-    power = 10 ** math.floor(math.log10(top))
-    return next(power * step for step in (1, 2, 5, 10) if power * step >= top)
-
-
-def draw_growth(x, y, name, points):
-    width, height = 310, 118
-    top = nice(max(max(a, b) for _, a, b in points))
-    across = lambda size: x + width * math.log(size / 1024) / math.log(65536)
-    up = lambda time: y + height * (1 - time / top)
-    parts = [text(x, y - 10, name, 11, INK, weight="bold"), text(x + width, y - 10, "ns per byte", 9.5, SOFT, "end")]
-    for share in (0, 0.5, 1):
-        parts.append(line(x, up(top * share), x + width, up(top * share), GRID, 0.8))
-        parts.append(text(x - 6, up(top * share) + 3.5, f"{top * share:g}", 9.5, SOFT, "end"))
-    for size, label in SIZES.items():
-        parts.append(text(across(size), y + height + 15, label, 9.5, SOFT, "middle"))
-    for pick, stroke, dash in ((2, RUST, "5 3"), (1, OURS, "")):
-        path = " ".join(f"{across(point[0]):.1f},{up(point[pick]):.1f}" for point in points)
-        parts.append(f"<polyline points='{path}' fill='none' stroke='{stroke}' stroke-width='2'" + (f" stroke-dasharray='{dash}'" if dash else "") + "/>")
-        parts += [f"<circle cx='{across(point[0]):.1f}' cy='{up(point[pick]):.1f}' r='2.6' fill='{stroke}'/>" for point in points]
-    return parts
-
-
-def growth(rows):
-    """Returns the chart of growth: a plot for each loop."""
-    parts = [
-        text(16, 26, "Time of a byte, as the data grows from 1 KiB to 64 MiB", 15, INK, weight="bold"),
-        line(500, 21, 528, 21, OURS, 2), text(534, 25, "the proved library", 10.5, INK),
-        line(648, 21, 676, 21, RUST, 2, "5 3"), text(682, 25, "Rust", 10.5, INK),
-    ]
-    found = series(rows)
-    for k, (name, points) in enumerate(found.items()):
-        parts += draw_growth(56 + 388 * (k % 2), 66 + 174 * (k // 2), name, points)
-    return panel(66 + 174 * ((len(found) + 1) // 2) - 22, "Growth", parts)
 
 
 def jobs(rows):

@@ -1,11 +1,11 @@
-"""Makes the table and the charts from the output of the programs of bench/run.sh.
+"""Makes the table and the summary from the output of the programs of bench/run.sh.
 
     python3 draw.py RAW [TOP]
     python3 draw.py
 
-It prints the table of all rows. With TOP, the top of the repository, it writes speed.csv, speed.svg and growth.svg into
-bench/results/, and the summary by use between the marks of docs/SPEED.md. Without arguments it makes that summary and the
-charts again from the repository's speed.csv. It needs no library.
+It prints the table of all rows. With TOP, the top of the repository, it writes bench/results/speed.csv, and the summary by use
+between the marks of docs/SPEED.md. Without arguments it makes that summary again from the repository's speed.csv. It needs no
+library.
 """
 
 import datetime
@@ -13,7 +13,6 @@ import os
 import subprocess
 import sys
 
-import charts
 import results
 from results import TITLES
 
@@ -87,16 +86,8 @@ def head_of(path):
 
 
 def draw(rows, top, lines):
-    """Writes the charts, and the page's summary below these lines."""
-    folder = os.path.join(top, "bench", "results")
-    write(os.path.join(folder, "speed.svg"), charts.ratios(rows))
-    write(os.path.join(folder, "growth.svg"), charts.growth(rows))
+    """Writes the page's summary below these lines."""
     put_between_marks(os.path.join(top, "docs", "SPEED.md"), [*lines, "", *results.summary(rows)])
-
-
-def write(path, words):
-    with open(path, "w") as file:
-        file.write(words)
 
 
 def main():

@@ -139,7 +139,7 @@ class Bar:
 
 def draw_chart(times):
     rows = [Bar(row, forms) for row, forms in times.items() if len(forms) > 1 and not row.endswith(LARGE)]
-    draw.write(TOP / "bench" / "results" / "jobs.svg", charts.jobs(rows))
+    (TOP / "bench" / "results" / "jobs.svg").write_text(charts.jobs(rows))
 
 
 def read_csv():

@@ -10,7 +10,6 @@ The steps are:
     rt ci           the toolchain's own gate: proves each crate and its tests from nothing, builds them, runs the tests, and the program
                     as two compilers build it
     docs.py         the documents: their code, names and links are those of the sources, and what is made of these is current
-    pages.py        the documents as a site: its links and its search, where `pandoc` is
     check.sh        what tools/derive/derive.sh prints is in the files that were proved
     seeds.py        proves again what misuse.py, embed.py, compare/run.sh and edits.py begin with
     misuse.py       what must not compile
@@ -165,7 +164,7 @@ def list_steps(groups: Sequence[str], workers: int) -> List[Step]:
     steps = []
     if "stands" in groups:
         steps.append(Step(CI, workers, tree="ci"))
-        steps += [Step(it, 1) for it in ("python3 gate/docs.py", "sh tools/derive/check.sh", "python3 gate/pages.py")]
+        steps += [Step(it, 1) for it in ("python3 gate/docs.py", "sh tools/derive/check.sh")]
     steps.append(Step(seeds, half))
     # (one job for most, so that the last leave no processor idle)
     for name in edited:

@@ -24,7 +24,7 @@ FOREIGN = set("""
 BoxedSlice CowSlice I Self::Units array::try_from_fn array::from_fn cause collect c3 core::mem core::result f64 memchr scroll_derive
 x86-64-v2
 HEX HH ORD SESSION crates/first crates/first/src crates/first/src/lib.rt export description AsRef This RangeFrom memmove Proof Lts Tie
-SCROLL byteorder pandoc gimli goblin object zerocopy grind rw debug_line libscroll_ffi in_ok-entry fence
+SCROLL byteorder gimli goblin object zerocopy grind rw debug_line libscroll_ffi in_ok-entry fence
 """.split())
 # Paths into std begin so.
 STD = re.compile(r"(?:std|core|io|fmt|str|array|ffi|result)::[\w:]+")

@@ -1,15 +1,13 @@
 #!/usr/bin/env python3
 """Profiles the proof of a crate: processor seconds for each module that the prover checks, and for each function.
 
-    python3 gate/profile.py CRATE [FILE]
-    python3 gate/profile.py --tests CRATE [FILE]
+    python3 gate/profile.py [--tests] CRATE
 
 The crate is checked by one job over an empty folder of kept proofs; with `--tests`, with its tests, over the kept proofs of its
 code, so that the tests alone are measured. The libraries that it uses are built by `rt lib` first. A module's time is what the
 check used between the file of the module before it and its own.
 
-FILE, or gate/results/CRATE.txt or CRATE_tests.txt, gets the sum, and then the kinds of modules, the functions and the modules
-that take a second or more, the longest first. A function's modules are those of its code (`Lts` and `Tie` are the largest of
+It prints the sum, and then the kinds of modules, the functions and the modules that take a second or more, the longest first. A function's modules are those of its code (`Lts` and `Tie` are the largest of
 these), its `Proof`, which is the search for what no answer proves, and its files in proofs/. rattle may divide a long check among
 copies of itself, one after another; a row with the name of a module, as `proofs.cstr.CString.new`, then has what such a copy loads
 as it begins.
@@ -31,7 +29,6 @@ from typing import Any, Dict, List, Tuple
 
 from step import TOP, below, copy_kept, read_crates
 
-RESULTS = TOP / "gate" / "results"
 TICK = os.sysconf("SC_CLK_TCK")
 PAUSE = 0.1
 # Parts that rattle makes beside a function's proof.
@@ -158,7 +155,7 @@ def table(title: str, counted: "Counter[str]", whole: float) -> List[str]:
 def main(words: List[str]) -> int:
     tests = words[:1] == ["--tests"]
     words = words[tests:]
-    if len(words) not in (1, 2):
+    if len(words) != 1:
         print(__doc__)
         return 2
     crate = words[0]
@@ -170,10 +167,7 @@ def main(words: List[str]) -> int:
         kinds[kind_of(module)] += used
     lines = [f"{crate}{', its tests' * tests}: {whole:.0f} processor seconds, {len(seconds)} modules", ""]
     lines += table("Kinds of modules", kinds, whole) + table("Functions", functions, whole) + table("Modules", Counter(seconds), whole)
-    file = Path(words[1]) if words[1:] else RESULTS / f"{crate}{'_tests' * tests}.txt"
-    file.parent.mkdir(exist_ok=True)
-    file.write_text("\n".join(lines))
-    print("\n".join(lines[:60]))
+    print("\n".join(lines))
     return 0
 
 
