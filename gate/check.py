@@ -17,7 +17,7 @@ The steps are:
     depending.py    README's first command, its lines for a repository of one's own, and the documentation's examples
     sessions.py     the stored sessions, whole and with their buffers cut, by the program that rt ci proved
     limits.py       long inputs, at which that program must not run out of memory
-    faults.py       the sessions and the tests of all crates where memory is refused and streams fail, by what rt ci proved
+    faults.py       the sessions and the tests of all libraries where memory is refused and streams fail, by what rt ci proved
     compare/run.sh  random sessions and calls beside the Rust crate, where cargo finds it
     edits.py        the edits of each crate, many in one check; limits.py --edits, those that only long inputs and tests tell
 
@@ -166,15 +166,15 @@ def list_steps(groups: Sequence[str], workers: int) -> List[Step]:
         steps.append(Step(CI, workers, tree="ci"))
         steps += [Step(it, 1) for it in ("python3 gate/docs.py", "sh tools/derive/check.sh")]
     steps.append(Step(seeds, half))
-    # (one job for most, so that the last leave no processor idle)
+    if "stands" in groups:
+        steps += [Step(it, 1, (seeds,)) for it in (EMBED, "python3 gate/depending.py", "python3 gate/misuse.py")]
     for name in edited:
         # (embed.py builds the library whose files edits.py copies)
         needs = (seeds, EMBED) if crates[name].is_static and "stands" in groups else (seeds,)
         steps.append(Step(f"python3 gate/edits.py {name}", half, needs))
-    if "edits" in groups:
-        steps.append(Step("python3 gate/limits.py --edits", 1))
+    if edited:
+        steps.append(Step("python3 gate/limits.py --edits", 1, (seeds,)))
     if "stands" in groups:
-        steps += [Step(it, 1, (seeds,)) for it in (EMBED, "python3 gate/depending.py", "python3 gate/misuse.py")]
         steps.append(Step("python3 gate/faults.py", half, (CI,), "ci"))
         steps.append(Step(f"env PROGRAM={PROGRAM} sh compare/run.sh --gate", 1, (CI, seeds)))
         steps += [Step(f"python3 gate/{it}.py", 1, (CI,), "ci") for it in ("sessions", "limits")]

@@ -30,7 +30,9 @@ def examples() -> Iterator[Tuple[str, List[str]]]:
     for path in [*sources, TOP / "docs" / "FROM-RUST.md"]:
         for block in markdown.read(path).blocks:
             if block.language == "rust" and not block.source and any("assert" in it for it in block.code):
-                yield f"{path.stem.lower().replace('-', '_')}_{block.line}", [it for it in block.code if not it.startswith("use ")]
+                place = dict.fromkeys((path.relative_to(TOP).parts[1].partition(".")[0], path.stem))
+                name = "_".join((*place, str(block.line))).lower().replace("-", "_")
+                yield name, [it for it in block.code if not it.startswith("use ")]
 
 
 def paths() -> Dict[str, str]:

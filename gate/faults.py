@@ -1,6 +1,6 @@
 #!/usr/bin/env python3
 """Runs the proved program on each stored session with failing allocations and with failing streams, and each proved test of the
-crates with failing allocations. gate/faults.c replaces malloc, realloc, read and write of the C library.
+libraries with failing allocations. gate/faults.c replaces malloc, realloc, read and write of the C library.
 
     python3 gate/faults.py [CRATE|SESSION|SUBJECT..]
 
@@ -229,8 +229,9 @@ def list_tests(step: Step, program: Path) -> List[str]:
 
 
 def programs_of_tests() -> Dict[str, Path]:
-    """Returns the tests of the crates, each a program."""
-    return {name: it.folder / "out" / f"{name}_tests" for name, it in read_crates().items() if it.has_tests}
+    """Returns the tests of each library, which are a program. (Those of scroll_run compare what it writes, and without memory that is
+    something else: its sessions show what.)"""
+    return {name: it.folder / "out" / f"{name}_tests" for name, it in read_crates().items() if it.has_tests and not it.is_program}
 
 
 def fault_of(attempt: Callable[[], None]) -> Optional[str]:

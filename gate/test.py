@@ -7,7 +7,7 @@ Without names all are run, as many side by side as there are workers (gate/step.
 tests of these crates, and the sessions if scroll_run is among them. A session is run with its whole buffer and with the first half
 of it, since `rt try --cases` takes a tenth of a second for each: gate/sessions.py cuts the buffers to every length, by the proved
 program. A crate is printed as it ends. A test is a check, and so are a session and its cut. A crate whose tests don't compile is
-one failure.
+one failure; where no crate has tests, that is skipped.
 """
 
 import re
@@ -19,7 +19,7 @@ from pathlib import Path
 from typing import Callable, Dict, List, NamedTuple
 
 from sessions import Session, read_sessions
-from step import Crate, Step, count_workers, read_crates, run_step
+from step import Crate, Ran, Step, count_workers, read_crates, run_step
 
 PROGRAM = "scroll_run"
 RESULT = re.compile(r"(?m)^test result: \w+\. (\d+) passed; (\d+) failed; 0 ignored")
@@ -39,7 +39,7 @@ def run_tests(step: Step, name: str, crate: Crate) -> Counted:
     ran = step.run(crate.folder, "rt", "try", "--test")
     found = RESULT.search(ran.said)
     passed, failed = (int(found[1]), int(found[2])) if found else (0, 0)
-    failed = max(failed, bool(ran.status or not found))
+    failed = max(failed, int(ran.status != 0 or not found))
     return Counted(passed, failed, f"FAILED {name}\n{ran.end()}" if failed else "")
 
 
@@ -66,7 +66,10 @@ def run_sessions(step: Step, crate: Crate) -> Counted:
     failures = malformed + [f"{it}, whose output or status is another" for it in wanted if it not in passed]
     if not passed:
         failures = ["the sessions: none passes"]
-    return Counted(len(passed), len(failures), "".join(f"FAILED {it}\n" for it in failures) + ran.end() if failures else "")
+    # (what is said of a case stands above its line)
+    left = [it for it in ran.said.splitlines() if (CASE.findall(it) or [("", "")])[0][0] not in passed]
+    told = "".join(f"FAILED {it}\n" for it in failures) + Ran(ran.status, "\n".join(left)).end(40)
+    return Counted(len(passed), len(failures), told if failures else "")
 
 
 def work(step: Step, crates: Dict[str, Crate]) -> None:
@@ -83,6 +86,7 @@ def work(step: Step, crates: Dict[str, Crate]) -> None:
         step.passed, step.failed = step.passed + passed, step.failed + failed
         print(f"{told}{name}: {passed} passed, {failed} failed, {time.time() - begun:.0f} s", flush=True)
 
+    step.skipped += not jobs
     with ThreadPoolExecutor(count_workers()) as pool:
         list(pool.map(run, jobs))
 
