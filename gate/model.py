@@ -6,6 +6,7 @@ gate/sessions.py and gate/random_sessions.py compare the program with it. It is 
 
 import re
 from functools import lru_cache, partial
+from itertools import count
 from typing import Any, Callable, Dict, List, Optional, Pattern, Tuple
 
 LONGEST_INPUT = 65536
@@ -89,7 +90,7 @@ def read_leb128(source: bytes, is_signed: bool) -> Value:
 def put_leb128(is_signed: bool, word: str) -> List[bytes]:
     """As few groups as have the number."""
     value = parse_integer(word, integers(64, is_signed))
-    size = next(it for it in range(1, LONGEST_LEB128 + 1) if value in integers(7 * it, is_signed))
+    size = next(it for it in count(1) if value in integers(7 * it, is_signed))
     *groups, last = (value // 128**place % 128 for place in range(size))
     return [bytes([*(128 + group for group in groups), last])]
 
@@ -142,11 +143,11 @@ def put_slices(*slices: bytes) -> List[bytes]:
     return [*slices]
 
 
-def read_array(source: bytes, count: int, read_one: Callable[..., Value], *how: Any) -> Value:
+def read_array(source: bytes, length: int, read_one: Callable[..., Value], *how: Any) -> Value:
     """The elements, one after another. One may not start past the end; its offset counts from the start of the array."""
     words: List[str] = []
     offset = 0
-    for _ in range(count):
+    for _ in range(length):
         if offset > len(source):
             raise Refused(f"bad offset {offset}")
         more, size = read_one(source[offset:], *how)
@@ -191,7 +192,7 @@ WORDS: Dict[str, Tuple[str, Callable[[str], Any]]] = {
     "ORD": ("le|be", str),
     "T": (f"(?:delim|required) {BYTE}|until {BYTE} [0-9]+|len [0-9]+", parse_end),
 }
-# What is read and what is written, in these words. What follows is given to `read` and to `write` before the words' own meanings.
+# What is read, with the first word of its line, and what is written. The meanings of the words follow the arguments that stand here.
 READS: Dict[str, Tuple[Any, ...]] = {
     "W ORD": ("number", read_number),
     "str T": ("text", read_text),
@@ -222,7 +223,7 @@ def pattern_of(form: str) -> Pattern[str]:
 
 
 def parse(line: str, forms: Dict[str, Tuple[Any, ...]]) -> List[Any]:
-    """Finds the form that a line has, and returns what follows it there, and then the meanings of the words."""
+    """Returns what stands beside the form that a line has, and then the meanings of its words."""
     for form, given in forms.items():
         found = pattern_of(form).fullmatch(line)
         if found:
