@@ -22,21 +22,19 @@ LONG_ONES = 200
 EDGES = bytes.fromhex("0001093f40617e7f8081bfc0c1c2dfe0edeff0f4f5ff")
 # No UTF-8, or only just: overlong, surrogates, too high, without an end or without a start.
 ODD = "80 bf c080 c1bf c2 c27f dfc0 e08080 e09fbf e0a080 e180 ed9fbf eda080 ee8080 efbf f0808080 f08fbfbf f0908080 f48fbfbf f4908080"
-ODD_TEXTS = [bytes.fromhex(it) for it in ODD.split()]
+ODD_TEXTS = [*map(bytes.fromhex, ODD.split())]
 # The first and the last characters of one, two, three and four bytes, beside the surrogates too.
 CHARACTERS = "\x00\x7f\x80\u07ff\u0800\ud7ff\ue000\uffff\U00010000\U0010ffff"
 # What no word is, or hardly one.
-BAD_WORDS = ("18446744073709551616", "-1", "-0", "-", "+1", "", "0", "000", "0g", "00", "LE", "u24", "delim", "x", f"{2**128}", f"{-(2**127) - 1}")
+BAD_WORDS = (f"{2**64}", "-1", "-", "+1", "", "0", "000", "0g", "00", "LE", "u24", "delim", "x")
 
 
 class Draw(random.Random):
-    """Draws a session of a kind. Its sizes grow with `bits`."""
+    """Draws a session of a kind, with sizes up to 2 to the power of `bits`."""
 
-    def __init__(self, seed: int, number: int, bits: int) -> None:
-        super().__init__(f"{seed} {number}")
-        self.bits = bits
-        self.kind = LONG if self.chance(100 / LONG_ONES) else self.choice([it for it in KINDS if it != LONG])
-        self.buffer = b""
+    kind = ""
+    bits = 0
+    buffer = b""
 
     def chance(self, percent: float) -> bool:
         return self.random() * 100 < percent
@@ -83,8 +81,15 @@ class Draw(random.Random):
     def integer(self, allowed: range) -> int:
         """An integer that is allowed: near a bound, near a power of two, or any."""
         power = 2 ** self.randrange(allowed.stop.bit_length()) - self.randrange(2)
-        found = self.choice([allowed.start + self.randrange(3), allowed.stop - 1 - self.randrange(3), power, -power, self.randrange(3)])
+        few = self.randrange(3)
+        found = self.choice([allowed.start + few, allowed.stop - 1 - few, power, -power, few])
         return found if found in allowed and self.chance(70) else self.randrange(allowed.start, allowed.stop)
+
+    def value(self, allowed: range) -> str:
+        """An integer that is written, in a session with bad lines sometimes one that isn't allowed."""
+        if self.kind == BAD and self.chance(3):
+            return self.choice(["-0", str(allowed.stop), str(allowed.start - 1)])
+        return self.digits(self.integer(allowed))
 
     def digits(self, number: int) -> str:
         """The digits of a number, sometimes after zeros."""
@@ -111,10 +116,10 @@ class Draw(random.Random):
         """Words in a form of gate/model.py, which in a session with bad lines sometimes are none."""
         said = [self.choice([*"ui"]) + self.choice(["8", "16", "32", "64", "128"]) if it == "W" else it for it in form.split(" ")]
         name = said[0]
-        values = {"uleb": model.integers(64), "sleb": model.integers(64, True), "u16x3": model.integers(16)}.get(name)
+        values = {"uleb": model.integers(64), "sleb": model.integers(64, True), "u16x3": model.integers(16)}
         for place, letters in enumerate(said):
             if letters == "V":
-                said[place] = self.digits(self.integer(values or model.parse_width(name)[1]))
+                said[place] = self.value(values.get(name) or model.parse_width(name)[1])
             elif letters == "N":
                 said[place] = self.digits(self.length())
             elif letters == "HEX":
@@ -138,18 +143,19 @@ class Draw(random.Random):
         place = self.randrange(len(given) + 1)
         before, after = given[:place], given[place:]
         added = bytes([self.choice(b" \n\t\r-+0f")])
-        return self.choice([before + after[1:], before + added + after, before + added + after[1:], before, before + after.swapcase()])
+        changed = [after[1:], added + after, added + after[1:], b"", after.swapcase()]
+        return before + self.choice(changed)
 
     def session(self) -> bytes:
         """The input of a session."""
         is_long = self.kind == LONG
-        most = min(self.bits, 10) if is_long else self.bits
-        self.buffer = self.content(max(self.size(most), self.size(most)))
-        count = model.LONGEST_INPUT if is_long else min(self.size(min(self.bits, 9)), 2**18 // (len(self.buffer) + 1))
+        bits = min(self.bits, 10) if is_long else self.bits
+        self.buffer = self.content(max(self.size(bits), self.size(bits)))
+        most = model.LONGEST_INPUT if is_long else min(self.size(min(self.bits, 9)), 2**18 // (len(self.buffer) + 1))
         head, cursor = f"buffer {self.hexadecimal(self.buffer)}\ncursor ", f"{self.digits(0 if self.chance(50) else self.offset())}\n"
         commands: List[str] = []
-        left = model.LONGEST_INPUT - len(head + cursor) if is_long else model.LONGEST_INPUT
-        while len(commands) < count and left > 0:
+        left = model.LONGEST_INPUT - len(head + cursor)
+        while len(commands) < most and left > 0:
             commands.append(self.command() + "\n")
             left -= len(commands[-1])
         if is_long:
@@ -160,3 +166,11 @@ class Draw(random.Random):
         for _ in range(self.randint(1, 3) if self.kind == BAD and self.chance(60) else 0):
             given = self.spoil(given)
         return given[:-1] if self.chance(10) else given
+
+
+def draw_session(seed: int, number: int, bits: int) -> Tuple[str, bytes]:
+    """Returns the kind of a session and its input."""
+    draw = Draw(f"{seed} {number}")
+    draw.kind = draw.choice([it for it in KINDS if it != LONG]) if draw.randrange(LONG_ONES) else LONG
+    draw.bits = bits
+    return draw.kind, draw.session()

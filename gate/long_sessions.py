@@ -1,6 +1,6 @@
 """Makes the sessions that are too long to be stored. Their outputs are those of gate/model.py."""
 
-from typing import Callable, Dict, Iterable, Iterator, Tuple
+from typing import Callable, Dict, Iterable, Iterator, List
 
 from model import LONGEST_INPUT
 
@@ -37,5 +37,5 @@ def many_commands_in_one_session() -> Iterator[str]:
 
 
 def long_sessions() -> Dict[str, bytes]:
-    makers: Tuple[Callable[[], Iterable[str]], ...] = (greatest_input_length, many_commands_at_the_cursor, many_commands_in_one_session)
+    makers: List[Callable[[], Iterable[str]]] = [greatest_input_length, many_commands_at_the_cursor, many_commands_in_one_session]
     return {it.__name__: "".join(it()).encode() for it in makers}

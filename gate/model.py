@@ -192,7 +192,7 @@ WORDS: Dict[str, Tuple[str, Callable[[str], Any]]] = {
     "ORD": ("le|be", str),
     "T": (f"(?:delim|required) {BYTE}|until {BYTE} [0-9]+|len [0-9]+", parse_end),
 }
-# What is read, with the first word of its line, and what is written. The meanings of the words follow the arguments that stand here.
+# What is read, with the first word of its line, and what is written. The meanings of the words follow what stands here.
 READS: Dict[str, Tuple[Any, ...]] = {
     "W ORD": ("number", read_number),
     "str T": ("text", read_text),

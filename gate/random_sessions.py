@@ -6,9 +6,9 @@
 COUNT sessions (20000) are drawn from SEED, which is printed, and without the flag is another one each time. Their sizes grow, up to
 inputs of 65,536 bytes, and they are of the kinds of gate/drawn.py. PROGRAM is as in gate/sessions.py.
 
-The first session of each kind in which an answer differs is made smaller while one still differs, and printed with the model's
-answers as it can be stored, and then what the program answers. With `--lie` the model is wrong at one place, so the run has to fail.
-A kind is a check, and so is a short run with `--lie`.
+The first session of each kind in which an answer differs is made smaller while one still differs. It is printed as it can be
+stored, with the model's answers, and then what the program answers. With `--lie` the model is wrong at one place, and the run has
+to fail. A kind is a check, and so is a short run with `--lie`.
 """
 
 import argparse
@@ -19,8 +19,8 @@ from concurrent.futures import ProcessPoolExecutor
 from functools import partial
 from typing import Dict, Iterator, List, NamedTuple, Optional, Tuple
 
-import drawn
 import model
+from drawn import KINDS, draw_session
 from sessions import Session, block_of, fault_of, find_program, run
 from step import Step, Stop, count_workers, run_step
 
@@ -28,7 +28,7 @@ from step import Step, Stop, count_workers, run_step
 BLOCK = 100
 # The sizes of buffers, as powers of two. (The longest don't fit in an input.)
 LEAST_BITS, MOST_BITS = 2, 15
-SECONDS_TO_SHRINK = 10
+SECONDS_TO_SHRINK = 5
 LIES = 400
 
 
@@ -39,8 +39,9 @@ class Run(NamedTuple):
     seed: int
     count: int
 
-    def draw(self, number: int) -> drawn.Draw:
-        return drawn.Draw(self.seed, number, LEAST_BITS + number * (MOST_BITS + 1 - LEAST_BITS) // self.count)
+    def draw(self, number: int) -> Tuple[str, bytes]:
+        """Returns the kind of a session and its input."""
+        return draw_session(self.seed, number, LEAST_BITS + number * (MOST_BITS + 1 - LEAST_BITS) // self.count)
 
 
 def fault_in(program: str, given: bytes) -> Optional[str]:
@@ -57,14 +58,14 @@ def try_block(tried: Run, first: int) -> List[Tuple[str, int, bool]]:
     """Returns the kinds and the numbers of some sessions, and whether an answer differs."""
     found = []
     for number in range(first, min(first + BLOCK, tried.count)):
-        session = tried.draw(number)
-        found.append((session.kind, number, fault_in(tried.program, session.session()) is not None))
+        kind, given = tried.draw(number)
+        found.append((kind, number, fault_in(tried.program, given) is not None))
     return found
 
 
 def try_all(tried: Run, lies: bool) -> Dict[str, List[Tuple[int, bool]]]:
     """Returns for each kind the numbers of its sessions, and whether an answer differs."""
-    kinds: Dict[str, List[Tuple[int, bool]]] = {it: [] for it in drawn.KINDS}
+    kinds: Dict[str, List[Tuple[int, bool]]] = {it: [] for it in KINDS}
     with ProcessPoolExecutor(count_workers(), initializer=lie if lies else None) as pool:
         for block in pool.map(partial(try_block, tried), range(0, tried.count, BLOCK)):
             for kind, number, differs in block:
@@ -126,7 +127,7 @@ def shrink(program: str, given: bytes) -> bytes:
 
 def show(tried: Run, number: int) -> str:
     """Returns a session in which an answer differs, made small, and what the program answers."""
-    given = shrink(tried.program, tried.draw(number).session())
+    given = shrink(tried.program, tried.draw(number)[1])
     status, output = model.answer(given)
     block = block_of(Session("", f"random_{tried.seed}_{number}", status, given, output))
     return f"\n{block}\n\n{fault_in(tried.program, given)}"
@@ -143,8 +144,8 @@ def work(step: Step, given: argparse.Namespace) -> None:
     kinds = try_all(tried, given.lie)
     for kind, found in kinds.items():
         differing = [number for number, differs in found if differs]
-        fault = f"{len(differing)} of {len(found)} sessions differ, as number {differing[0]} of seed {tried.seed}:\n" if differing else ""
-        step.count(kind, fault + show(tried, differing[0]) if differing else None)
+        fault = f"{len(differing)} of {len(found)} sessions differ:\n{show(tried, differing[0])}" if differing else None
+        step.count(kind, fault)
     step.tell(", ".join(f"{len(found)} of {kind}" for kind, found in kinds.items()))
     if not given.lie:
         lies = try_all(Run(program, tried.seed, LIES), True)
