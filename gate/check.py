@@ -15,7 +15,7 @@ The steps are:
     misuse.py       what must not compile
     embed.py        the library of embed/ in C and Python, and in Rust where cargo is, on real files and on damaged ones
     depending.py    README's first command, its lines for a repository of one's own, and the documentation's examples
-    sessions.py     the stored sessions, whole and with their buffers cut, by the program that rt ci proved
+    sessions.py     the stored sessions, whole and with their buffers cut, by the program that rt ci proved; by random_sessions.py, random ones
     limits.py       long inputs, at which that program must not run out of memory
     faults.py       the sessions and the tests of all libraries where memory is refused and streams fail, by what rt ci proved
     compare/run.sh  random sessions and calls beside the Rust crate, where cargo finds it
@@ -177,7 +177,7 @@ def list_steps(groups: Sequence[str], workers: int) -> List[Step]:
     if "stands" in groups:
         steps.append(Step("python3 gate/faults.py", half, (CI,), "ci"))
         steps.append(Step(f"env PROGRAM={PROGRAM} sh compare/run.sh --gate", 1, (CI, seeds)))
-        steps += [Step(f"python3 gate/{it}.py", 1, (CI,), "ci") for it in ("sessions", "limits")]
+        steps += [Step(f"python3 gate/{it}.py", 1, (CI,), "ci") for it in ("random_sessions", "sessions", "limits")]
     return steps
 
 

@@ -5,15 +5,16 @@
     python3 gate/sessions.py --unpack FOLDER [NAME..]
 
 Each file sessions/SUBJECT.txt holds sessions, one a block; crates/scroll_run/README.md says what their lines are, and
-its own first session is one more, `readme`. A NAME is that of a session, or a subject, for all of its sessions. Without one, all
-are tried.
+its own first session is one more, `readme`. Those of the subject `long` are made by gate/long_sessions.py. A NAME is that of a
+session, or a subject, for all of its sessions. Without one, all are tried.
 
 PROGRAM is a path, or a name that the shell finds. Without it the program is crates/scroll_run/out/scroll_run, as
 `rt run` or `rt ci` left it; if it is missing, or older than a file that it is made of, `rt run` first proves and builds
 it. `--unpack` replays nothing: it writes FOLDER/SUBJECT/NAME.in, NAME.out and, where it isn't 0, NAME.status.
 
-A session is one check, all its cuts together are another, and the form of all files is one. A malformed block, a name that
-stands twice and a file of another kind are failures.
+A stored session is run by the program, and again by gate/model.py. One with status 0 is also run with its buffer cut to every
+length; what the program prints then is what the model says. These are three checks, and the form of all files is one. A malformed
+block, a name that stands twice and a file of another kind are failures.
 """
 
 import argparse
@@ -23,11 +24,13 @@ import shutil
 import subprocess
 import sys
 from concurrent.futures import ThreadPoolExecutor
-from dataclasses import dataclass, field
+from dataclasses import dataclass
 from pathlib import Path
-from typing import Dict, Iterator, List, NamedTuple, Optional, Tuple
+from typing import Dict, Iterator, List, Optional, Tuple
 
 import markdown
+import model
+from long_sessions import long_sessions
 from step import TOP, Step, count_workers, run_step
 
 PAGE = TOP / "crates" / "scroll_run" / "README.md"
@@ -35,26 +38,11 @@ SESSIONS = TOP / "sessions"
 PROGRAM = TOP / "crates" / "scroll_run" / "out" / "scroll_run"
 
 NAME = re.compile(r"# ([a-z][a-z0-9_]*)")
-ROW = re.compile(r"\| (\d+)(?:-(\d+))? (\S.*)")
-NUMBER = re.compile(r"\{n([+-]\d+)?\}")
 ESCAPE = re.compile(r"\\x([0-9a-f]{2})(?:\{(\d+)\})?")
-FRONT = re.compile(r"((?:[0-9a-f]{2})+)\[\.\.n(-\d+)?\]")
 
 
 class Malformed(Exception):
     """A file of sessions isn't in the form that crates/scroll_run/README.md says."""
-
-
-class Row(NamedTuple):
-    """The answer at a range of lengths."""
-
-    first: int
-    last: int
-    answer: str
-
-    def at(self, length: int) -> str:
-        numbered = NUMBER.sub(lambda it: str(length + int(it[1] or 0)), self.answer)
-        return FRONT.sub(lambda it: prefix(it[1], length + int(it[2] or 0)), numbered)
 
 
 @dataclass
@@ -64,38 +52,23 @@ class Session:
     status: int = 0
     input: bytes = b""
     output: bytes = b""
-    # It is run with its whole buffer alone.
-    is_whole: bool = False
-    # The rows below each output line.
-    rows: List[List[Row]] = field(default_factory=list)
+    # Its output is the model's, and its buffer isn't cut.
+    is_made: bool = False
 
-    def digits(self) -> str:
+    def digits(self) -> bytes:
         """Returns the digits of the buffer; none if the input doesn't begin with one, or it has no bytes."""
         found = re.match(rb"buffer ((?:[0-9A-Fa-f]{2})+)\n", self.input)
-        return found[1].decode() if found else ""
+        return found[1] if found else b""
 
     def cut_lengths(self) -> range:
         """Returns the lengths to which the buffer is cut."""
-        return range(0 if self.is_whole or self.status else len(self.digits()) // 2)
+        return range(0 if self.is_made or self.status else len(self.digits()) // 2)
 
     def cut(self, length: int) -> Tuple[bytes, bytes]:
         """Returns the input with the buffer cut to a length, and the output for it."""
-        rest = self.input.split(b"\n", 1)[1].rstrip(b"\n")
-        buffer = self.digits()[: 2 * length] or "-"
-        return b"buffer %s\n%s\n" % (buffer.encode(), rest), "".join(f"{it}\n" for it in self.answers(length)).encode()
-
-    def answers(self, length: int) -> Iterator[str]:
-        for line, rows in zip(self.output.decode().splitlines(), self.rows):
-            row = next((it for it in rows if it.first <= length <= it.last), None)
-            word, _, digits = line.partition(" ")
-            yield row.at(length) if row else f"buffer {prefix(digits, length)}" if word == "buffer" else line
-
-
-def prefix(digits: str, length: int) -> str:
-    """Returns the first bytes of a text of hexadecimal digits."""
-    if not 0 <= 2 * length <= len(digits):
-        raise Malformed(f"a row wants {length} bytes of {len(digits) // 2}")
-    return digits[: 2 * length] or "-"
+        digits = self.digits()
+        given = b"buffer " + (digits[: 2 * length] or b"-") + self.input[7 + len(digits) :]
+        return given, model.answer(given)[1]
 
 
 def read_block(subject: str, lines: List[str]) -> Iterator[Session]:
@@ -120,16 +93,10 @@ def read_session(subject: str, name: str, lines: List[str]) -> Session:
         if not (line.isascii() and line.isprintable()) or line.endswith(" "):
             raise Malformed(f"{line!r} has a byte that is no printable ASCII, or a space at its end: write `\\xHH`")
         mark, _, text = line.partition(" ")
-        row = ROW.fullmatch(line)
         if mark == "<":
             inputs.append(unescape(text))
         elif mark == ">":
             outputs.append(text.encode() + b"\n")
-            session.rows.append([])
-        elif row and outputs:
-            session.rows[-1].append(Row(int(row[1]), int(row[2] or row[1]), row[3]))
-        elif line == "whole" and not session.is_whole:
-            session.is_whole = True
         elif mark == "status" and re.fullmatch("[1-9][0-9]*", text) and not session.status:
             session.status = int(text)
         else:
@@ -137,7 +104,6 @@ def read_session(subject: str, name: str, lines: List[str]) -> Session:
     if not inputs or not outputs or any(not it.endswith(b"\n") for it in inputs[:-1]):
         raise Malformed("it has no input or no output, or a line that isn't the last has no line feed")
     session.input, session.output = b"".join(inputs), b"".join(outputs)
-    check_rows(session)
     return session
 
 
@@ -150,19 +116,17 @@ def unescape(text: str) -> bytes:
     return (plain + end).encode("latin-1")
 
 
-def check_rows(session: Session) -> None:
-    """Checks that the rows are for lengths of cuts, in order, and have answers."""
-    lengths = session.cut_lengths()
-    if lengths and session.input.rstrip(b"\n").count(b"\n") + 1 != len(session.rows):
-        raise Malformed("it has not an output line for each command, and then two more")
-    for rows in session.rows:
-        free = 0
-        for row in rows:
-            if not free <= row.first <= row.last < len(lengths):
-                raise Malformed("its rows are not for the lengths of its cuts, in their order")
-            free = row.last + 1
-    for length in lengths:
-        session.cut(length)
+def block_of(session: Session) -> str:
+    """Returns the lines of a session, as they can be stored."""
+    *lines, last = session.input.decode("latin-1").split("\n")
+    given = [*map(escape, lines), *([escape(last) + "\\"] if last or not lines else [])]
+    status = [f"status {session.status}"] if session.status else []
+    said = [f"> {it}" for it in session.output.decode().splitlines()]
+    return "\n".join([f"# {session.name}", *status, *(f"< {it}".rstrip(" ") for it in given), *said])
+
+
+def escape(line: str) -> str:
+    return re.sub(r"[^ -~]|\\| $", lambda it: f"\\x{ord(it[0]):02x}", line)
 
 
 def read_sessions(failures: List[str]) -> List[Session]:
@@ -181,9 +145,11 @@ def read_sessions(failures: List[str]) -> List[Session]:
     blocks = [it.code for it in markdown.read(PAGE).blocks if it.section == "A session"]
     if len(blocks) == 2:
         whole, output = ("".join(f"{line}\n" for line in it).encode() for it in blocks)
-        sessions["readme"] = Session("page", "readme", input=whole, output=output, is_whole=True)
+        sessions["readme"] = Session("page", "readme", input=whole, output=output)
     else:
         failures.append("crates/scroll_run/README.md has no session with its input and its output")
+    for name, given in long_sessions().items():
+        sessions[name] = Session("long", name, 0, given, model.answer(given)[1], is_made=True)
     failures += [f"{it.relative_to(TOP)}: it is no file of sessions" for it in sorted(SESSIONS.iterdir()) if it.suffix != ".txt"]
     return list(sessions.values())
 
@@ -260,7 +226,11 @@ def replay_all(step: Step, program: str, sessions: List[Session]) -> None:
         cuts = pool.map(lambda it: (it, replay_cuts(program, it)), cut)
         for it, fault in [*wholes, *cuts]:
             step.count(f"{it.subject}/{it.name}", fault)
-    step.tell(f"{len(sessions)} sessions, and {sum(len(it.cut_lengths()) for it in cut)} cuts of the buffers of {len(cut)}")
+    stored = [it for it in sessions if not it.is_made]
+    for it in stored:
+        step.count(f"{it.subject}/{it.name}, by gate/model.py", fault_of((*model.answer(it.input), b""), it.status, it.output))
+    cuts_in_all = sum(len(it.cut_lengths()) for it in cut)
+    step.tell(f"{len(sessions)} sessions, {len(stored)} of them stored, and {cuts_in_all} cuts of the buffers of {len(cut)}")
 
 
 def choose(sessions: List[Session], names: List[str], failures: List[str]) -> List[Session]:
