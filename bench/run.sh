@@ -89,7 +89,7 @@ make_workspace() {
 
 build_loops() {
     echo "bench: the library and the loops over it are proved and built" >&2
-    make_workspace scroll
+    make_workspace scroll scroll_formats
     {
         echo '//! Loops over the library, whose time is taken.'
         echo '#![tactic(auto)]'
@@ -138,7 +138,7 @@ make_sample() {
 # Builds the jobs over the clients as a static library, and the records that bench/jobs/records.py writes.
 build_jobs() {
     echo "bench: the library, the clients and the jobs are proved and built" >&2
-    make_workspace scroll debug_tables object_files git_index packets zip
+    make_workspace scroll scroll_formats debug_tables object_files git_index packets zip
     mkdir -p "$side/src" && cp "$here/jobs/jobs.rt.txt" "$loops/src/lib.rt" || exit 1
     quietly python3 "$here/jobs/records.py" "$loops/src" "$side/src/records.rs"
     cd "$loops" || exit 1

@@ -166,12 +166,12 @@ def list_steps(groups: Sequence[str], workers: int) -> List[Step]:
         steps.append(Step(CI, workers, tree="ci"))
         steps += [Step(it, 1) for it in ("python3 gate/docs.py", "sh tools/derive/check.sh")]
     steps.append(Step(seeds, half))
+    for at, name in enumerate(edited):
+        # (embed.py builds the library whose files edits.py copies; the first crate has most of the edits)
+        needs = (seeds, EMBED) if crates[name].is_static and "stands" in groups else (seeds,)
+        steps.append(Step(f"python3 gate/edits.py {name}", half if at else workers, needs))
     if "stands" in groups:
         steps += [Step(it, 1, (seeds,)) for it in (EMBED, "python3 gate/depending.py", "python3 gate/misuse.py")]
-    for name in edited:
-        # (embed.py builds the library whose files edits.py copies)
-        needs = (seeds, EMBED) if crates[name].is_static and "stands" in groups else (seeds,)
-        steps.append(Step(f"python3 gate/edits.py {name}", half, needs))
     if edited:
         steps.append(Step("python3 gate/limits.py --edits", 1, (seeds,)))
     if "stands" in groups:
