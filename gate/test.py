@@ -4,10 +4,9 @@
     python3 gate/test.py [CRATE..]
 
 Without names all are run, as many side by side as there are workers (gate/step.py), those that take longest first; with names, the
-tests of these crates, and the sessions if scroll_run is among them. A session is run with its whole buffer and with the first half
-of it, since `rt try --cases` takes a tenth of a second for each: gate/sessions.py cuts the buffers to every length, by the proved
-program. A crate is printed as it ends. A test is a check, and so are a session and its cut. A crate whose tests don't compile is
-one failure; where no crate has tests, that is skipped.
+tests of these crates, and the sessions if scroll_run is among them. gate/sessions.py runs the sessions' cuts too, by the proved
+program. A crate is printed as it ends. A test is a check, and so is a session. A crate whose tests don't compile is one failure;
+where no crate has tests, that is skipped.
 """
 
 import re
@@ -22,6 +21,8 @@ from sessions import Session, read_sessions
 from step import Crate, Ran, Step, count_workers, read_crates, run_step
 
 PROGRAM = "scroll_run"
+# So many builds of the program run the sessions, since each takes a quarter of a second for one.
+SHARES = 3
 RESULT = re.compile(r"(?m)^test result: \w+\. (\d+) passed; (\d+) failed; 0 ignored")
 CASE = re.compile(r"(?m)^case=(\S+) run=ended status=(\d+) runners=\d output=expected proved=no$")
 
@@ -45,23 +46,19 @@ def run_tests(step: Step, name: str, crate: Crate) -> Counted:
 
 def write_cases(folder: Path, sessions: List[Session]) -> Dict[str, int]:
     """Writes the sessions as cases of `rt try`, and returns the status of each."""
-    cases = {it.name: (it.input, it.output, it.status) for it in sessions}
-    for it in sessions:
-        half = len(it.cut_lengths()) // 2
-        if half:
-            cases[f"{it.name}-{half}"] = (*it.cut(half), 0)
     folder.mkdir()
-    for name, (given, output, _) in cases.items():
-        (folder / name).write_bytes(given)
-        (folder / f"{name}.stdout").write_bytes(output)
-    return {name: status for name, (_, _, status) in cases.items()}
+    for it in sessions:
+        (folder / it.name).write_bytes(it.input)
+        (folder / f"{it.name}.stdout").write_bytes(it.output)
+    return {it.name: it.status for it in sessions}
 
 
-def run_sessions(step: Step, crate: Crate) -> Counted:
-    """Runs the stored sessions."""
+def run_sessions(step: Step, crate: Crate, share: int) -> Counted:
+    """Runs a share of the stored sessions."""
     malformed: List[str] = []
-    wanted = write_cases(step.room / "cases", read_sessions(malformed))
-    ran = step.run(crate.folder, "rt", "try", "--cases", step.room / "cases")
+    cases = step.room / f"cases{share}"
+    wanted = write_cases(cases, read_sessions(malformed)[share::SHARES])
+    ran = step.run(crate.folder, "rt", "try", "--cases", cases)
     passed = {name for name, status in CASE.findall(ran.said) if wanted.get(name) == int(status)}
     failures = malformed + [f"{it}, whose output or status is another" for it in wanted if it not in passed]
     if not passed:
@@ -75,8 +72,8 @@ def run_sessions(step: Step, crate: Crate) -> Counted:
 def work(step: Step, crates: Dict[str, Crate]) -> None:
     sizes = {name: sum(it.stat().st_size for it in (crate.folder / "src").rglob("*.rt")) for name, crate in crates.items()}
     jobs: Dict[str, Callable[[], Counted]] = {}
-    if PROGRAM in crates:
-        jobs["sessions"] = lambda: run_sessions(step, crates[PROGRAM])
+    for share in range(SHARES if PROGRAM in crates else 0):
+        jobs[f"sessions, {share + 1} of {SHARES}"] = lambda share=share: run_sessions(step, crates[PROGRAM], share)  # type: ignore[misc]
     for name in sorted((it for it in crates if crates[it].has_tests), key=lambda it: -sizes[it]):
         jobs[name] = lambda name=name: run_tests(step, name, crates[name])  # type: ignore[misc]
 
