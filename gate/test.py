@@ -22,7 +22,7 @@ from step import Crate, Ran, Step, count_workers, read_crates, run_step
 
 PROGRAM = "scroll_run"
 # So many builds of the program run the sessions, since each takes a quarter of a second for one.
-SHARES = 3
+SHARES = 2
 RESULT = re.compile(r"(?m)^test result: \w+\. (\d+) passed; (\d+) failed; 0 ignored")
 CASE = re.compile(r"(?m)^case=(\S+) run=ended status=(\d+) runners=\d output=expected proved=no$")
 
