@@ -17,7 +17,7 @@ from step import TOP, Step
 PAGE = TOP / "docs" / "API.md"
 HEAD = """# API
 
-Each public item of the libraries `scroll` and `scroll_formats`, from its doc comments. Offsets and sizes are in bytes. In signatures a context's type is `Copy`, and
+Each public item of the libraries `scroll`, `scroll_formats` and `scroll_layouts`, from its doc comments. Offsets and sizes are in bytes. In signatures a context's type is `Copy`, and
 `E` is `From<Error>`. A call whose name ends in `_with` takes a context; the one without takes the default of the context's type, which
 for numbers is the machine's byte order. The gate runs the examples. The names of the contracts' clauses are in [PROVED.md](PROVED.md),
 and those of the calls in [GUIDE.md](GUIDE.md#the-clauses-of-each-call).
@@ -28,8 +28,8 @@ SHORT = 12
 UNSIGNED = re.compile(r"\b(?:un)?signed\b|\b(?:an? )?[us]leb\w*|[US]leb128|\b[ui]64\b|#\w+|\b(?:its|the) ", re.I)
 # How many paragraphs of a module's comment are on the page.
 OPENING = 3
-# The sections: what each is, and its files; those of the second library begin with its name.
-FORMATS = LIBRARIES[1]
+# The sections: what each is, and its files; those of the other libraries begin with their names.
+FORMATS, LAYOUTS = LIBRARIES[1:]
 SECTIONS = {
     "Reads and writes": ["pread", "pwrite", "greater", "lesser", "source"],
     "Byte orders and errors": ["endian", "error"],
@@ -41,6 +41,7 @@ SECTIONS = {
     "Runs of commands": ["runner"],
     "Laws": ["laws", "laws/numbers", "laws/fixed", "laws/reads", "laws/texts", "laws/leb128", "laws/histories", f"{FORMATS}/laws"],
     "Formats of any size": [f"{FORMATS}/{it}" for it in ("encode", "put", "many", "kept", "lists", "until", "optional", "table", "zeros", "located", "small_error")],
+    "Formats by their parts": [f"{LAYOUTS}/{it}" for it in ("lib", "run", "slices", "zeros", "pairs", "head", "rules", "within", "shape", "whole", "fits")],
 }
 ITEM = re.compile(r"(?P<indent>(?:    )?)(?P<open>pub )?(?:final |const |unsafe )*(?P<kind>trait|struct|enum|fn|const|type|impl)\b(?P<rest>.*)")
 VARIANT = re.compile(r"    (?:pub )?(?P<name>[A-Za-z_]\w*)[,({:]?.*")
@@ -89,14 +90,14 @@ def signature(lines: List[str], at: int) -> str:
 
 def path_of(name: str) -> Path:
     """Returns the file of a section's name."""
-    library = FORMATS if name.startswith(f"{FORMATS}/") else LIBRARIES[0]
-    return TOP / "crates" / library / "src" / f"{name.removeprefix(f'{FORMATS}/')}.rt"
+    library = next((it for it in LIBRARIES if name.startswith(f"{it}/")), LIBRARIES[0])
+    return TOP / "crates" / library / "src" / f"{name.removeprefix(f'{library}/')}.rt"
 
 
 def name_of_file(path: Path) -> str:
     """Returns the name of a file: its library, and its path there."""
     library, _, *parts = path.relative_to(TOP / "crates").with_suffix("").parts
-    return "/".join([library, *parts])
+    return "/".join([library, *(it for it in parts if it != "lib")])
 
 
 def entries(path: Path) -> Iterator[Entry]:
@@ -245,7 +246,7 @@ def left_out() -> List[str]:
     """Returns the files with items for the page that no section names, and those that a section names and that aren't there."""
     files = {name_of_file(path): path for it in LIBRARIES for path in (TOP / "crates" / it / "src").rglob("*.rt")}
     named = {name_of_file(path_of(it)) for listed in SECTIONS.values() for it in listed}
-    new = [it for it in files.keys() - named if it.split("/")[1] not in ("lib", "tests") and list(entries(files[it]))]
+    new = [it for it in files.keys() - named if it.split("/")[1:2] not in ([], ["tests"]) and list(entries(files[it]))]
     return sorted(new + list(named - files.keys()))
 
 

@@ -16,7 +16,8 @@ sys.path.append(str(TOP / "bench"))
 import jobs  # noqa: E402
 import results  # noqa: E402
 
-SOURCES = [TOP / "crates" / it / "src" for it in LIBRARIES]
+# (the calls of the third library have no rows yet)
+SOURCES = [TOP / "crates" / it / "src" for it in LIBRARIES[:2]]
 SETS = TOP / "bench" / "sets"
 # A client whose reads and writes are whole jobs of the bench.
 JOBS = TOP / "crates" / "debug_tables" / "src"

@@ -13,7 +13,7 @@ from typing import Dict, Iterator, List, Set, Tuple
 
 from step import TOP, Step, read_crates
 
-LIBRARIES = ("scroll", "scroll_formats")
+LIBRARIES = ("scroll", "scroll_formats", "scroll_layouts")
 PRODUCT = (*LIBRARIES, "scroll_run")
 FOR_CHECKS = ("shapes", "scroll_ffi", "compare_calls")
 CALLERS = r"(?:\.|::)lemmas(?:\.|::)callers\b"
