@@ -1,5 +1,5 @@
 #!/usr/bin/env python3
-"""Proves all from nothing and runs the other checks of the repository, over copies of its files, and shows what each says.
+"""Proves all and runs the other checks of the repository, over copies of its files, and shows what each says.
 
     python3 gate/check.py             what holds
     python3 gate/check.py edits       the bugs that the prover must refuse

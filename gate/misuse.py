@@ -4,8 +4,8 @@ buffer is dropped.
 
     python3 gate/misuse.py
 
-gate/misuse.txt has modules of the library, one a block that begins with `# NAME`. The lines that end in `// misuse: CODE` are
-the misuse. In a copy of the library the modules are first proved without these lines. With them, each module must have the
+gate/misuse.txt has modules of `scroll`, one a block that begins with `# NAME`. The lines that end in `// misuse: CODE` are
+the misuse. In a copy of that crate the modules are first proved without these lines. With them, each module must have the
 error CODE for each of them and no other error, so a refusal can't have another reason. Each module is a check.
 """
 
