@@ -41,6 +41,7 @@ pub trait IOread<Ctx: Copy>: Read {
     /// let mut source = [0xef, 0xbe].as_slice();
     /// assert_eq!(rt; source.ioread::<u16>()?, 48879);
     /// ```
+    #[inline(always)]
     final fn ioread<N: FromCtx<Ctx> + SizeWith<Ctx>>(&mut self) -> io::Result<N>
     where
         Self: Sized,
@@ -64,6 +65,7 @@ pub trait IOread<Ctx: Copy>: Read {
     /// assert_eq!(rt; source.ioread_with::<u32>(BE)?, 4277001901);
     /// assert!(rt; source.ioread::<u8>().is_err());
     /// ```
+    #[inline(always)]
     final fn ioread_with<N: FromCtx<Ctx> + SizeWith<Ctx>>(&mut self, ctx: Ctx) -> io::Result<N>
     where
         Self: Sized,
@@ -134,6 +136,7 @@ pub trait IOwrite<Ctx: Copy>: Write {
     /// target.iowrite(0xdeadbeefu32)?;
     /// assert_eq!(rt; target.as_slice(), [0xef, 0xbe, 0xad, 0xde].as_slice());
     /// ```
+    #[inline(always)]
     final fn iowrite<N: SizeWith<Ctx> + IntoCtx<Ctx>>(&mut self, n: N) -> io::Result<()>
     where
         Self: Sized,
@@ -156,6 +159,7 @@ pub trait IOwrite<Ctx: Copy>: Write {
     /// target.iowrite_with(0xdeadbeefu32, BE)?;
     /// assert_eq!(rt; bytes, [0x68, 0x65, 0x6c, 0x6c, 0x6f, 0xde, 0xad, 0xbe, 0xef, 0]);
     /// ```
+    #[inline(always)]
     final fn iowrite_with<N: SizeWith<Ctx> + IntoCtx<Ctx>>(
         &mut self,
         n: N,
