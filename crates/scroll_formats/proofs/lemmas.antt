@@ -1,4 +1,5 @@
 pub mod SpanLemmas
 pub mod ManyLemmas
 pub mod ZerosLemmas
+pub mod MarkLemmas
 pub mod callers

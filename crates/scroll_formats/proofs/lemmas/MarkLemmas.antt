@@ -1,0 +1,68 @@
+-- Zeros in LEB128: padding of any length, and a last byte of zero.
+use Rattle.std.proofs.Common.{◌≡◌, ◌≢◌, ℕ, zero, suc, ◌+◌, ◌*◌, ◌^◌, ◌%◌, ◌-◌, ◌<◌, inl, inr, ◌≤◌, true, nat_lt, Some, None, List, length, get_or, bit_and, refl, sym, ap, ◌∙◌, arith}
+use Rattle.std.proofs.Math.Nat.{one-le-pow, mul-le-mul}
+use Rattle.std.proofs.lemmas.Nat.{and_mask}
+use Rattle.std.proofs.lemmas.Bool.{cases_lt}
+use Rattle.std.proofs.lemmas.Bool.Decides.{nat_tests}
+use Rattle.scroll.specs.Leb128.{end_of, group, groups_value, unsigned_of, count_of}
+use Rattle.scroll.proofs.lemmas.callers.Cursors.{end_at, late_end, groups_more, byte_there}
+use Rattle.scroll_formats.specs.Lists.{zero_size}
+
+-- the first n bytes are those of padding
+abbrev pub Padded : List ℕ → ℕ → Type 0
+Padded s n = (k : ℕ) → k < n → get_or s k 0 ≡ 128
+
+open_so_far : (s : List ℕ) (n : ℕ) → Padded s n → (k : ℕ) → k < n → 128 ≤ get_or s k 0
+open_so_far s n padding k l = omega (arith, padding k l)
+
+-- the groups of padding make nothing
+padding_is_zero : (s : List ℕ) (n : ℕ) → Padded s n → groups_value s n ≡ 0
+padding_is_zero s zero padding = refl
+padding_is_zero s (suc n) padding =
+    let before = padding_is_zero s n (λ k l. padding k (omega (arith, l))) in
+    let none : group s n ≡ 0 = let last = padding n (omega arith) in omega arith in
+    rw (before, none) (omega arith)
+
+-- more groups make no less
+groups_grow : (s : List ℕ) (n m : ℕ) → groups_value s n ≤ groups_value s (m + n)
+groups_grow s n zero =
+    let same : 0 + n ≡ n = omega arith in
+    omega (arith, ap (groups_value s) same)
+groups_grow s n (suc m) =
+    let next : suc m + n ≡ m + n + 1 = omega arith in
+    omega (arith, groups_grow s n m, groups_more s (m + n), ap (groups_value s) next)
+
+-- a group that isn't zero, where the encoding goes on that far
+some_bits : (s : List ℕ) (i : ℕ) → i < length s → Padded s i → group s i ≢ 0 → zero_size s ≡ None
+some_bits s i inside padding some =
+    let late = late_end s i (omega (arith, inside)) (open_so_far s i padding) in
+    let power : 1 ≤ 128 ^ i = one-le-pow i 128 (omega arith) in
+    let one : 1 ≤ group s i = elim (cases_lt 0 (group s i)) [ inl more ↦ more | inr none ↦ absurd (some (omega (arith, none))) ] in
+    let product : 1 * 1 ≤ group s i * 128 ^ i = mul-le-mul one power in
+    let more = groups_grow s (i + 1) (end_of s - i) in
+    let same : end_of s - i + (i + 1) ≡ count_of s = omega (arith, late) in
+    let sum : 1 ≤ groups_value s (end_of s - i + (i + 1)) = omega (arith, more, groups_more s i, product) in
+    let large : 1 ≤ unsigned_of s = rw same at sum in
+    grind (arith, nat_tests, large)
+
+-- the same in the words of the code
+pub bits-there : (s : List ℕ) (i b : ℕ) → true ≡ nat_lt i (length s) → b ≡ get_or s i b → Padded s i → (bit_and b 127 ≡ 0 → ⊥) → None ≡ zero_size s
+bits-there s i b inside is padding some =
+    let there = byte_there s i b inside is in
+    sym (some_bits s i there.0 padding (λ none. some (and_mask b 7 ∙ ap (λ x. x % 128) (sym there.2) ∙ none)))
+
+-- a last byte of zero, after padding
+pub zero-ends : (s : List ℕ) (i b : ℕ) → true ≡ nat_lt i (length s) → b ≡ get_or s i b → i < 10 → Padded s i → b ≡ 0 → Some (i + 1) ≡ zero_size s
+zero-ends s i b inside is few padding zero_is =
+    let there = byte_there s i b inside is in
+    let last : get_or s i 0 ≡ 0 = there.2 ∙ zero_is in
+    let end = end_at s i there.0 (open_so_far s i padding) (omega (arith, last)) in
+    let none = padding_is_zero s i padding in
+    let value : groups_value s (i + 1) ≡ 0 = rw (groups_more s i, none, last) (omega arith) in
+    sym (rw (end, value) (grind (arith, nat_tests, there.0)))
+
+-- padding that goes on for too long
+pub all-padding : (s : List ℕ) → 10 ≤ length s → Padded s 10 → None ≡ zero_size s
+all-padding s long padding =
+    let late = late_end s 10 long (open_so_far s 10 padding) in
+    grind (arith, nat_tests, late)
