@@ -9,6 +9,7 @@ pub mod SearchLemmas
 pub mod HistoryLemmas
 pub mod StandLemmas
 pub mod LebLemmas
+pub mod StepLemmas
 pub mod LebReadLemmas
 pub mod LebWriteLemmas
 pub mod BlockLemmas

@@ -21,6 +21,7 @@ pub mod Leb128
 pub mod Encoding
 pub mod Runs
 pub mod Laws
+pub mod Steps
 -- Lemmas, and no definitions: the implementations cite them for the laws of their traits, which may
 -- cite specs/ alone.
 pub mod lemmas

@@ -1,8 +1,9 @@
 //! Lists of commands over one buffer and one cursor.
 //!
 //! Their results and all that they leave are stated over the history of what was written.
-ghost use Rattle.std.specs.Prelude.{◌≡◌, ℕ, ◌+◌, ◌≤◌, length, vec_len, vec_capacity, OnOk, OnErr, IfOk, IfErr, IsOk};
+ghost use Rattle.std.specs.Prelude.{◌≡◌, ℕ, ◌+◌, ◌≤◌, ◌<◌, length, vec_len, vec_capacity, OnOk, OnErr, IfOk, IfErr, IsOk};
 ghost use Rattle.std.specs.List.{All};
+ghost use Rattle.scroll.specs.Steps.{Appends};
 ghost use Rattle.scroll.specs.Runs.{IsStep, IsRun, IsPrefixRun, CopiesNothing, offset_of, moved};
 ghost use Rattle.scroll.specs.declared.error.Error.TheVariants.{NoMemory};
 
@@ -11,7 +12,8 @@ use crate::ctx::StrCtx;
 use crate::endian::Endian;
 use crate::error::{Error, Result};
 use crate::leb128::{Sleb128, Uleb128};
-use std::alloc::Global;
+use std::alloc::{AllocError, Global};
+use std::result;
 
 mod read;
 mod write;
@@ -27,6 +29,7 @@ pub enum Place {
 
 impl Place {
     // Returns the offset at which a command acts.
+    #[inline(always)]
     fn offset(self, cursor: usize) -> usize
         ensures { result ≡ offset_of self cursor }
     {
@@ -37,6 +40,7 @@ impl Place {
     }
 
     // Returns the cursor after a command that succeeded and ended at the offset `end`.
+    #[inline(always)]
     fn cursor_after(self, cursor: usize, end: usize) -> usize
         ensures { (size : ℕ) → end ≡ offset_of self cursor + size
             → result ≡ moved self cursor size }
@@ -220,28 +224,38 @@ pub fn run(
         if answers.reserve(1).is_err() {
             return Err(Error::NoMemory);
         }
-        let answer = step(alloc, buffer, cursor, command)?;
-        answers.push_reserved(answer);
+        match step(alloc, buffer, cursor, command, answers) {
+            Ok(()) => {}
+            Err(_) => return Err(Error::NoMemory),
+        }
     }
     Ok(())
 }
 
-// Runs one command. On an allocation failure nothing has changed.
+// Runs one command, and appends its answer. On an allocation failure nothing has changed.
+#[inline(always)]
 fn step(
     alloc: Global,
     buffer: &mut [u8],
     cursor: &mut usize,
     command: &Command<'_>,
-) -> Result<Answer>
-    ensures answered { IfOk result (λ answer.
-        IsStep buffer.old buffer.new cursor.old command.now answer cursor.new) }
-    ensures only_memory { IfErr result (λ e. e ≡ NoMemory) }
+    answers: &mut Vec<Answer>,
+) -> result::Result<(), AllocError>
+    requires { vec_len answers.old < vec_capacity answers.old }
+    ensures answered { OnOk result (Appends answers.old.items answers.new.items (λ a.
+        IsStep buffer.old buffer.new cursor.old command.now a cursor.new)) }
+    ensures len { OnOk result (vec_len answers.new ≡ vec_len answers.old + 1) }
+    ensures capacity { vec_capacity answers.new ≡ vec_capacity answers.old }
     ensures succeeds { CopiesNothing command.now → IsOk result }
+    ensures kept { OnErr result (answers.new.items ≡ answers.old.items) }
     ensures same { OnErr result (buffer.new ≡ buffer.old) }
     ensures stays { OnErr result (cursor.new ≡ cursor.old) }
 {
     match command {
-        Command::Read(place, kind) => read::read(alloc, buffer, cursor, *place, *kind),
-        Command::Write(place, put) => Ok(write::write(buffer, cursor, *place, put)),
+        Command::Read(place, kind) => read::read(alloc, buffer, cursor, *place, kind, answers),
+        Command::Write(place, put) => {
+            write::write(buffer, cursor, *place, put, answers);
+            Ok(())
+        }
     }
 }

@@ -136,21 +136,6 @@ refusal-inside n o ls h = grind arith
 pub refusal-past : (n o : ℕ) (ls : List (List ℕ)) → n < o → refusal n o ls ≡ Some (BadOffset o)
 refusal-past n o ls h = grind arith
 
--- a write of leaves that succeeds ends within the buffer
-left_over-end : (n o : ℕ) (ls : List (List ℕ)) → o ≤ n → left_over n o ls ≡ None → o + sum_by length ls ≤ n
-left_over-end n o [] h e = omega (arith, h)
-left_over-end n o (l ∷ ls) h e = elim (cases_lt n (o + length l)) [
-  | inl k ↦ let wrong = sym (left_over-misfit n o l ls k) ∙ e in absurd (cc wrong)
-  | inr k ↦ let rest = left_over-end n (o + length l) ls k (sym (left_over-fits n o l ls k) ∙ e) in
-      omega (arith, rest, sum_by-cons length l ls)
-]
-
-pub leaves-end : (n o : ℕ) (ls : List (List ℕ)) (size : ℕ) → AnswersLeaves n o ls (Ok size) → o + size ≤ n
-leaves-end n o ls size h = elim (cases_lt n o) [
-  | inl k ↦ let wrong = sym (refusal-past n o ls k) ∙ h.0 in absurd (cc wrong)
-  | inr k ↦ let end = left_over-end n o ls k (sym (refusal-inside n o ls k) ∙ h.0) in omega (arith, end, h.1)
-]
-
 pub pieces-past : (n o : ℕ) (ls : List (List ℕ)) → n < o → pieces n o ls ≡ []
 pieces-past n o [] h = refl
 pieces-past n o (l ∷ ls) h = pieces-misfit n o l ls (omega (arith, h))
@@ -250,15 +235,6 @@ pub IsRun-next : (first buffer buffer' : List ℕ) (from to to' : ℕ) (commands
 IsRun-next first buffer buffer' from to to' commands i d old new new' a inside r items s =
     rw (take_more commands i d inside)
     (IsRun-push first buffer buffer' from to to' (take i commands) old new new' (get_or commands i d) a r items s)
-
--- a successful read is a step that leaves the buffer unchanged
-pub IsStep-read : (buffer : List ℕ) (cursor : ℕ) (at : Place) (what : Kind) (r : Result Answer Error) (after : ℕ) → IfOk r (λ a. ReadStep buffer cursor at what a after) → IfOk r (λ a. IsStep buffer buffer cursor (Read at what) a after)
-IsStep-read buffer cursor at what (Ok a) after h = record {
-  written = [];
-  step = (h, refl);
-  bytes = sym (seen-nil buffer);
-}
-IsStep-read buffer cursor at what (Err e) after h = tt
 
 plain-short : (w : ℕ) (s : List ℕ) (e : Error) → RefusesShort w s e → IsPlain e
 plain-short w s e r = subst IsPlain (sym r.error) tt

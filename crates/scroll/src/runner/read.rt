@@ -1,13 +1,12 @@
 // The reads of a run.
-ghost use Rattle.std.specs.Prelude.{◌≡◌, ℕ, ℤ, [], ◌∷◌, IfOk, IfErr, IsOk, OnErr};
-ghost use Rattle.std.specs.String.{string_bytes};
-ghost use Rattle.scroll.specs.Runs.{Copies, ReadsKind, FailsKind, ReadStep, ReadsWide, is_signed, bytes_in};
+ghost use Rattle.std.specs.Prelude.{◌≡◌, ◌<◌, ◌+◌, ℕ, ℤ, [], ◌∷◌, vec_len, vec_capacity, IfOk, IfErr, IsOk, OnOk, OnErr};
+ghost use Rattle.scroll.specs.Steps.{Appends, AnswersRead};
+ghost use Rattle.scroll.specs.Runs.{Copies, ReadStep};
 ghost use Rattle.scroll.specs.Arrays.{ReadsArray, RefusesArray};
 ghost use Rattle.scroll.specs.Bytes.{ReadsFixed, RefusesShort};
 ghost use Rattle.scroll.specs.Errors.{IsBadOffset};
 ghost use Rattle.scroll.specs.Reads.{ReadsBetween, RefusesAt};
 ghost use Rattle.scroll.specs.Texts.{ReadsText, RefusesText};
-ghost use Rattle.scroll.specs.declared.error.Error.TheVariants.{NoMemory};
 ghost use Rattle.scroll.specs.declared.runner.Kind.TheVariants as kind;
 ghost use Rattle.scroll.specs.declared.runner.Value.TheVariants as value;
 
@@ -16,158 +15,373 @@ use crate::cstr::{CStr, CString};
 use crate::ctx::{Plain, StrCtx};
 use crate::endian::Endian;
 use crate::error::{Error, Result};
+use crate::leb128::{Sleb128, Uleb128};
 use crate::pread::Pread;
-use std::alloc::Global;
+use std::alloc::{AllocError, Global};
+use std::result;
 
-// Runs a read. A read at the cursor advances it by the size of the value, once the answer has been
-// made.
+// Runs a read, and appends its answer, for which there is room. A read at the cursor advances it by
+// the size of the value, once that has been copied. Only an allocation failure returns an error,
+// and then nothing has changed.
+//
+// Each kind has a function of its own, which is inlined and appends its own answer: a result that
+// served for all kinds would be as large as the largest error, and be written and copied each time.
+#[inline(always)]
 pub(crate) fn read(
     alloc: Global,
     buffer: &[u8],
     cursor: &mut usize,
     place: Place,
-    kind: Kind,
-) -> Result<Answer>
-    ensures answered { IfOk result (λ answer.
-        ReadStep buffer.now cursor.old place kind answer cursor.new) }
-    ensures only_memory { IfErr result (λ e. e ≡ NoMemory) }
-    ensures succeeds { ¬ (Copies kind) → IsOk result }
+    kind: &Kind,
+    answers: &mut Vec<Answer>,
+) -> result::Result<(), AllocError>
+    requires { vec_len answers.old < vec_capacity answers.old }
+    ensures answered { OnOk result (Appends answers.old.items answers.new.items (λ a.
+        ReadStep buffer.now cursor.old place kind.now a cursor.new)) }
+    ensures len { OnOk result (vec_len answers.new ≡ vec_len answers.old + 1) }
+    ensures capacity { vec_capacity answers.new ≡ vec_capacity answers.old }
+    ensures succeeds { ¬ (Copies kind.now) → IsOk result }
+    ensures kept { OnErr result (answers.new.items ≡ answers.old.items) }
+    ensures stays { OnErr result (cursor.new ≡ cursor.old) }
+{
+    match *kind {
+        Kind::Number(width, order) => read_number(buffer, cursor, place, width, order, answers),
+        Kind::Text(ctx) => return read_text(alloc, buffer, cursor, place, ctx, answers),
+        Kind::Bytes(len) => return read_bytes(alloc, buffer, cursor, place, len, answers),
+        Kind::CStr => return read_c_str(alloc, buffer, cursor, place, answers),
+        Kind::CString => return read_c_string(alloc, buffer, cursor, place, answers),
+        Kind::Uleb => read_uleb(buffer, cursor, place, answers),
+        Kind::Sleb => read_sleb(buffer, cursor, place, answers),
+        Kind::U8x0(order) => read_none(buffer, cursor, place, order, answers),
+        Kind::U16x3(order) => read_three(buffer, cursor, place, order, answers),
+        Kind::Textx2(ctx) => return read_texts(alloc, buffer, cursor, place, ctx, answers),
+    }
+    Ok(())
+}
+
+#[inline(always)]
+fn read_uleb(buffer: &[u8], cursor: &mut usize, place: Place, answers: &mut Vec<Answer>)
+    requires { vec_len answers.old < vec_capacity answers.old }
+    ensures answered { Appends answers.old.items answers.new.items (λ a.
+        ReadStep buffer.now cursor.old place kind.Uleb a cursor.new) }
+    ensures len { vec_len answers.new ≡ vec_len answers.old + 1 }
+    ensures capacity { vec_capacity answers.new ≡ vec_capacity answers.old }
+{
+    let mut end = place.offset(*cursor);
+    let read: Result<Uleb128> = buffer.gread_with(&mut end, ());
+    match read {
+        Ok(x) => {
+            *cursor = place.cursor_after(*cursor, end);
+            answers.push_reserved(Answer::Read(Value::Uleb(x)));
+        }
+        Err(error) => answers.push_reserved(Answer::Refused(error)),
+    }
+}
+
+#[inline(always)]
+fn read_sleb(buffer: &[u8], cursor: &mut usize, place: Place, answers: &mut Vec<Answer>)
+    requires { vec_len answers.old < vec_capacity answers.old }
+    ensures answered { Appends answers.old.items answers.new.items (λ a.
+        ReadStep buffer.now cursor.old place kind.Sleb a cursor.new) }
+    ensures len { vec_len answers.new ≡ vec_len answers.old + 1 }
+    ensures capacity { vec_capacity answers.new ≡ vec_capacity answers.old }
+{
+    let mut end = place.offset(*cursor);
+    let read: Result<Sleb128> = buffer.gread_with(&mut end, ());
+    match read {
+        Ok(x) => {
+            *cursor = place.cursor_after(*cursor, end);
+            answers.push_reserved(Answer::Read(Value::Sleb(x)));
+        }
+        Err(error) => answers.push_reserved(Answer::Refused(error)),
+    }
+}
+
+#[inline(always)]
+fn read_none(
+    buffer: &[u8],
+    cursor: &mut usize,
+    place: Place,
+    order: Endian,
+    answers: &mut Vec<Answer>,
+)
+    requires { vec_len answers.old < vec_capacity answers.old }
+    ensures answered { Appends answers.old.items answers.new.items (λ a.
+        ReadStep buffer.now cursor.old place (kind.U8x0 order) a cursor.new) }
+    ensures len { vec_len answers.new ≡ vec_len answers.old + 1 }
+    ensures capacity { vec_capacity answers.new ≡ vec_capacity answers.old }
+{
+    let mut end = place.offset(*cursor);
+    let read: Result<[u8; 0]> = buffer.gread_with(&mut end, order);
+    match read {
+        Ok(_none) => {
+            *cursor = place.cursor_after(*cursor, end);
+            answers.push_reserved(Answer::Read(Value::U8x0));
+        }
+        Err(error) => answers.push_reserved(Answer::Refused(error)),
+    }
+}
+
+#[inline(always)]
+fn read_three(
+    buffer: &[u8],
+    cursor: &mut usize,
+    place: Place,
+    order: Endian,
+    answers: &mut Vec<Answer>,
+)
+    requires { vec_len answers.old < vec_capacity answers.old }
+    ensures answered { Appends answers.old.items answers.new.items (λ a.
+        ReadStep buffer.now cursor.old place (kind.U16x3 order) a cursor.new) }
+    ensures len { vec_len answers.new ≡ vec_len answers.old + 1 }
+    ensures capacity { vec_capacity answers.new ≡ vec_capacity answers.old }
+{
+    let mut end = place.offset(*cursor);
+    let read: Result<[u16; 3]> = buffer.gread_with(&mut end, order);
+    match read {
+        Ok(xs) => {
+            *cursor = place.cursor_after(*cursor, end);
+            answers.push_reserved(Answer::Read(Value::U16x3(xs)));
+        }
+        Err(error) => answers.push_reserved(Answer::Refused(error)),
+    }
+}
+
+#[inline(always)]
+fn read_text(
+    alloc: Global,
+    buffer: &[u8],
+    cursor: &mut usize,
+    place: Place,
+    ctx: StrCtx,
+    answers: &mut Vec<Answer>,
+) -> result::Result<(), AllocError>
+    requires { vec_len answers.old < vec_capacity answers.old }
+    ensures answered { OnOk result (Appends answers.old.items answers.new.items (λ a.
+        ReadStep buffer.now cursor.old place (kind.Text ctx) a cursor.new)) }
+    ensures len { OnOk result (vec_len answers.new ≡ vec_len answers.old + 1) }
+    ensures capacity { vec_capacity answers.new ≡ vec_capacity answers.old }
+    ensures kept { OnErr result (answers.new.items ≡ answers.old.items) }
     ensures stays { OnErr result (cursor.new ≡ cursor.old) }
 {
     let mut end = place.offset(*cursor);
-    match read_value(alloc, buffer, &mut end, kind) {
-        Ok(value) => {
+    match buffer.gread_with::<&str>(&mut end, ctx) {
+        Ok(text) => {
+            let copy = String::from_str(alloc, text)?;
             *cursor = place.cursor_after(*cursor, end);
-            Ok(Answer::Read(value))
+            answers.push_reserved(Answer::Read(Value::Text(copy)));
         }
-        Err(Error::NoMemory) => Err(Error::NoMemory),
-        Err(error) => Ok(Answer::Refused(error)),
+        Err(error) => answers.push_reserved(Answer::Refused(error)),
     }
+    Ok(())
 }
 
-// Reads a value of a kind at `offset`, and advances that past it. Copies what would borrow the
-// buffer. Returns `NoMemory` on an allocation failure, and only then.
-fn read_value(alloc: Global, buffer: &[u8], offset: &mut usize, kind: Kind) -> Result<Value>
-    ensures read { IfOk result
-        (ReadsBetween (ReadsKind kind) buffer.now offset.old offset.new) }
-    ensures refused { IfErr result (FailsKind kind buffer.now offset.old) }
+#[inline(always)]
+fn read_bytes(
+    alloc: Global,
+    buffer: &[u8],
+    cursor: &mut usize,
+    place: Place,
+    len: usize,
+    answers: &mut Vec<Answer>,
+) -> result::Result<(), AllocError>
+    requires { vec_len answers.old < vec_capacity answers.old }
+    ensures answered { OnOk result (Appends answers.old.items answers.new.items (λ a.
+        ReadStep buffer.now cursor.old place (kind.Bytes len) a cursor.new)) }
+    ensures len { OnOk result (vec_len answers.new ≡ vec_len answers.old + 1) }
+    ensures capacity { vec_capacity answers.new ≡ vec_capacity answers.old }
+    ensures kept { OnErr result (answers.new.items ≡ answers.old.items) }
+    ensures stays { OnErr result (cursor.new ≡ cursor.old) }
 {
-    match kind {
-        Kind::Number(width, order) => read_number(buffer, offset, width, order),
-        Kind::Text(ctx) => read_text(alloc, buffer, offset, ctx),
-        Kind::Bytes(len) => read_bytes(alloc, buffer, offset, len),
-        Kind::CStr => read_c_str(alloc, buffer, offset),
-        Kind::CString => read_c_string(alloc, buffer, offset),
-        Kind::Uleb => buffer.gread_with(offset, ()).map(Value::Uleb),
-        Kind::Sleb => buffer.gread_with(offset, ()).map(Value::Sleb),
-        Kind::U8x0(order) => {
-            let _none: [u8; 0] = buffer.gread_with(offset, order)?;
-            Ok(Value::U8x0)
+    let mut end = place.offset(*cursor);
+    match buffer.gread_with::<&[u8]>(&mut end, len) {
+        Ok(bytes) => {
+            let copy = Vec::from_slice(alloc, bytes)?;
+            *cursor = place.cursor_after(*cursor, end);
+            answers.push_reserved(Answer::Read(Value::Bytes(copy)));
         }
-        Kind::U16x3(order) => buffer.gread_with(offset, order).map(Value::U16x3),
-        Kind::Textx2(ctx) => read_texts(alloc, buffer, offset, ctx),
+        Err(error) => answers.push_reserved(Answer::Refused(error)),
     }
+    Ok(())
 }
 
-fn read_text(alloc: Global, buffer: &[u8], offset: &mut usize, ctx: StrCtx) -> Result<Value>
-    ensures read { IfOk result
-        (ReadsBetween (ReadsKind (kind.Text ctx)) buffer.now offset.old offset.new) }
-    ensures refused { IfErr result (FailsKind (kind.Text ctx) buffer.now offset.old) }
+#[inline(always)]
+fn read_c_str(
+    alloc: Global,
+    buffer: &[u8],
+    cursor: &mut usize,
+    place: Place,
+    answers: &mut Vec<Answer>,
+) -> result::Result<(), AllocError>
+    requires { vec_len answers.old < vec_capacity answers.old }
+    ensures answered { OnOk result (Appends answers.old.items answers.new.items (λ a.
+        ReadStep buffer.now cursor.old place kind.CStr a cursor.new)) }
+    ensures len { OnOk result (vec_len answers.new ≡ vec_len answers.old + 1) }
+    ensures capacity { vec_capacity answers.new ≡ vec_capacity answers.old }
+    ensures kept { OnErr result (answers.new.items ≡ answers.old.items) }
+    ensures stays { OnErr result (cursor.new ≡ cursor.old) }
 {
-    let text: &str = buffer.gread_with(offset, ctx)?;
-    copy_text(alloc, text).map(Value::Text)
+    let mut end = place.offset(*cursor);
+    match buffer.gread_with::<CStr>(&mut end, ()) {
+        Ok(text) => {
+            let copy = Vec::from_slice(alloc, text.to_bytes())?;
+            *cursor = place.cursor_after(*cursor, end);
+            answers.push_reserved(Answer::Read(Value::CStr(copy)));
+        }
+        Err(error) => answers.push_reserved(Answer::Refused(error)),
+    }
+    Ok(())
 }
 
-fn read_bytes(alloc: Global, buffer: &[u8], offset: &mut usize, len: usize) -> Result<Value>
-    ensures read { IfOk result
-        (ReadsBetween (ReadsKind (kind.Bytes len)) buffer.now offset.old offset.new) }
-    ensures refused { IfErr result (FailsKind (kind.Bytes len) buffer.now offset.old) }
+#[inline(always)]
+fn read_c_string(
+    alloc: Global,
+    buffer: &[u8],
+    cursor: &mut usize,
+    place: Place,
+    answers: &mut Vec<Answer>,
+) -> result::Result<(), AllocError>
+    requires { vec_len answers.old < vec_capacity answers.old }
+    ensures answered { OnOk result (Appends answers.old.items answers.new.items (λ a.
+        ReadStep buffer.now cursor.old place kind.CString a cursor.new)) }
+    ensures len { OnOk result (vec_len answers.new ≡ vec_len answers.old + 1) }
+    ensures capacity { vec_capacity answers.new ≡ vec_capacity answers.old }
+    ensures kept { OnErr result (answers.new.items ≡ answers.old.items) }
+    ensures stays { OnErr result (cursor.new ≡ cursor.old) }
 {
-    let bytes: &[u8] = buffer.gread_with(offset, len)?;
-    copy_bytes(alloc, bytes).map(Value::Bytes)
+    let mut end = place.offset(*cursor);
+    let read: Result<CString> = buffer.gread_with(&mut end, &alloc);
+    match read {
+        Ok(text) => {
+            let copy = Vec::from_slice(alloc, text.as_bytes())?;
+            *cursor = place.cursor_after(*cursor, end);
+            answers.push_reserved(Answer::Read(Value::CStr(copy)));
+        }
+        Err(Error::NoMemory) => return Err(AllocError),
+        Err(error) => answers.push_reserved(Answer::Refused(error)),
+    }
+    Ok(())
 }
 
-fn read_c_str(alloc: Global, buffer: &[u8], offset: &mut usize) -> Result<Value>
-    ensures read { IfOk result
-        (ReadsBetween (ReadsKind kind.CStr) buffer.now offset.old offset.new) }
-    ensures refused { IfErr result (FailsKind kind.CStr buffer.now offset.old) }
+#[inline(always)]
+fn read_texts(
+    alloc: Global,
+    buffer: &[u8],
+    cursor: &mut usize,
+    place: Place,
+    ctx: StrCtx,
+    answers: &mut Vec<Answer>,
+) -> result::Result<(), AllocError>
+    requires { vec_len answers.old < vec_capacity answers.old }
+    ensures answered { OnOk result (Appends answers.old.items answers.new.items (λ a.
+        ReadStep buffer.now cursor.old place (kind.Textx2 ctx) a cursor.new)) }
+    ensures len { OnOk result (vec_len answers.new ≡ vec_len answers.old + 1) }
+    ensures capacity { vec_capacity answers.new ≡ vec_capacity answers.old }
+    ensures kept { OnErr result (answers.new.items ≡ answers.old.items) }
+    ensures stays { OnErr result (cursor.new ≡ cursor.old) }
 {
-    let text: CStr = buffer.gread_with(offset, ())?;
-    copy_bytes(alloc, text.to_bytes()).map(Value::CStr)
+    let mut end = place.offset(*cursor);
+    match borrow_texts(buffer, &mut end, ctx) {
+        Ok((first, second)) => {
+            let first = String::from_str(alloc, first)?;
+            let second = String::from_str(alloc, second)?;
+            *cursor = place.cursor_after(*cursor, end);
+            answers.push_reserved(Answer::Read(Value::Textx2(first, second)));
+        }
+        Err(error) => answers.push_reserved(Answer::Refused(error)),
+    }
+    Ok(())
 }
 
-fn read_c_string(alloc: Global, buffer: &[u8], offset: &mut usize) -> Result<Value>
-    ensures read { IfOk result
-        (ReadsBetween (ReadsKind kind.CString) buffer.now offset.old offset.new) }
-    ensures refused { IfErr result (FailsKind kind.CString buffer.now offset.old) }
-{
-    let text: CString = buffer.gread_with(offset, &alloc)?;
-    copy_bytes(alloc, text.as_bytes()).map(Value::CStr)
-}
-
-fn read_texts(alloc: Global, buffer: &[u8], offset: &mut usize, ctx: StrCtx) -> Result<Value>
-    ensures read { IfOk result
-        (ReadsBetween (ReadsKind (kind.Textx2 ctx)) buffer.now offset.old offset.new) }
-    ensures refused { IfErr result (FailsKind (kind.Textx2 ctx) buffer.now offset.old) }
-{
-    let (first, second) = borrow_texts(buffer, offset, ctx)?;
-    Ok(Value::Textx2(copy_text(alloc, first)?, copy_text(alloc, second)?))
-}
-
-fn read_number(buffer: &[u8], offset: &mut usize, width: Width, order: Endian) -> Result<Value>
-    ensures read { IfOk result (ReadsBetween
-        (ReadsWide (is_signed width) (bytes_in width) order) buffer.now offset.old offset.new) }
-    ensures refused { IfErr result
-        (RefusesAt (RefusesShort (bytes_in width)) IsBadOffset buffer.now offset.old) }
+// Runs the read of a number. Each width has a function of its own, as each kind has.
+#[inline(always)]
+fn read_number(
+    buffer: &[u8],
+    cursor: &mut usize,
+    place: Place,
+    width: Width,
+    order: Endian,
+    answers: &mut Vec<Answer>,
+)
+    requires { vec_len answers.old < vec_capacity answers.old }
+    ensures answered { Appends answers.old.items answers.new.items (λ a.
+        ReadStep buffer.now cursor.old place (kind.Number width order) a cursor.new) }
+    ensures len { vec_len answers.new ≡ vec_len answers.old + 1 }
+    ensures capacity { vec_capacity answers.new ≡ vec_capacity answers.old }
 {
     match width {
-        Width::U8 => read_unsigned::<u8>(buffer, offset, order),
-        Width::I8 => read_signed::<i8>(buffer, offset, order),
-        Width::U16 => read_unsigned::<u16>(buffer, offset, order),
-        Width::I16 => read_signed::<i16>(buffer, offset, order),
-        Width::U32 => read_unsigned::<u32>(buffer, offset, order),
-        Width::I32 => read_signed::<i32>(buffer, offset, order),
-        Width::U64 => read_unsigned::<u64>(buffer, offset, order),
-        Width::I64 => read_signed::<i64>(buffer, offset, order),
-        Width::U128 => read_unsigned::<u128>(buffer, offset, order),
-        Width::I128 => read_signed::<i128>(buffer, offset, order),
+        Width::U8 => read_unsigned::<u8>(buffer, cursor, place, order, answers),
+        Width::I8 => read_signed::<i8>(buffer, cursor, place, order, answers),
+        Width::U16 => read_unsigned::<u16>(buffer, cursor, place, order, answers),
+        Width::I16 => read_signed::<i16>(buffer, cursor, place, order, answers),
+        Width::U32 => read_unsigned::<u32>(buffer, cursor, place, order, answers),
+        Width::I32 => read_signed::<i32>(buffer, cursor, place, order, answers),
+        Width::U64 => read_unsigned::<u64>(buffer, cursor, place, order, answers),
+        Width::I64 => read_signed::<i64>(buffer, cursor, place, order, answers),
+        Width::U128 => read_unsigned::<u128>(buffer, cursor, place, order, answers),
+        Width::I128 => read_signed::<i128>(buffer, cursor, place, order, answers),
     }
 }
 
+#[inline(always)]
 fn read_unsigned<N: Plain + Into<u128>>(
     buffer: &[u8],
-    offset: &mut usize,
+    cursor: &mut usize,
+    place: Place,
     order: Endian,
-) -> Result<Value>
-    ensures read { IfOk result (λ x. (n : N) × (wide : ℕ) × N.converts n wide
+    answers: &mut Vec<Answer>,
+)
+    requires { vec_len answers.old < vec_capacity answers.old }
+    ensures answered { Appends answers.old.items answers.new.items (λ a.
+        AnswersRead (λ source x size. (n : N) × (wide : ℕ) × N.converts n wide
         × (x ≡ value.Unsigned wide)
-        × ReadsBetween (ReadsFixed N.width (λ source. N.makes order source 0))
-        buffer.now offset.old offset.new n) }
-    ensures refused { IfErr result
-        (RefusesAt (RefusesShort N.width) IsBadOffset buffer.now offset.old) }
+        × ReadsFixed N.width (λ source. N.makes order source 0) source n size)
+        (RefusesShort N.width) buffer.now cursor.old place a cursor.new) }
+    ensures len { vec_len answers.new ≡ vec_len answers.old + 1 }
+    ensures capacity { vec_capacity answers.new ≡ vec_capacity answers.old }
 {
-    let n: N = buffer.gread_with(offset, order)?;
-    Ok(Value::Unsigned(n.into()))
+    let mut end = place.offset(*cursor);
+    let read: Result<N> = buffer.gread_with(&mut end, order);
+    match read {
+        Ok(n) => {
+            *cursor = place.cursor_after(*cursor, end);
+            answers.push_reserved(Answer::Read(Value::Unsigned(n.into())));
+        }
+        Err(error) => answers.push_reserved(Answer::Refused(error)),
+    }
 }
 
+#[inline(always)]
 fn read_signed<N: Plain + Into<i128>>(
     buffer: &[u8],
-    offset: &mut usize,
+    cursor: &mut usize,
+    place: Place,
     order: Endian,
-) -> Result<Value>
-    ensures read { IfOk result (λ x. (n : N) × (wide : ℤ) × N.converts n wide
+    answers: &mut Vec<Answer>,
+)
+    requires { vec_len answers.old < vec_capacity answers.old }
+    ensures answered { Appends answers.old.items answers.new.items (λ a.
+        AnswersRead (λ source x size. (n : N) × (wide : ℤ) × N.converts n wide
         × (x ≡ value.Signed wide)
-        × ReadsBetween (ReadsFixed N.width (λ source. N.makes order source 0))
-        buffer.now offset.old offset.new n) }
-    ensures refused { IfErr result
-        (RefusesAt (RefusesShort N.width) IsBadOffset buffer.now offset.old) }
+        × ReadsFixed N.width (λ source. N.makes order source 0) source n size)
+        (RefusesShort N.width) buffer.now cursor.old place a cursor.new) }
+    ensures len { vec_len answers.new ≡ vec_len answers.old + 1 }
+    ensures capacity { vec_capacity answers.new ≡ vec_capacity answers.old }
 {
-    let n: N = buffer.gread_with(offset, order)?;
-    Ok(Value::Signed(n.into()))
+    let mut end = place.offset(*cursor);
+    let read: Result<N> = buffer.gread_with(&mut end, order);
+    match read {
+        Ok(n) => {
+            *cursor = place.cursor_after(*cursor, end);
+            answers.push_reserved(Answer::Read(Value::Signed(n.into())));
+        }
+        Err(error) => answers.push_reserved(Answer::Refused(error)),
+    }
 }
 
 // Reads an array of two strings, and takes it apart, since a `match` can't bind an array of
 // references.
+#[inline(always)]
 fn borrow_texts<'b>(buffer: &'b [u8], offset: &mut usize, ctx: StrCtx) -> Result<(&'b str, &'b str)>
     ensures read { IfOk result (ReadsBetween (λ source x n. ReadsArray (ReadsText ctx) 2 source
         (x.0.now ∷ x.1.now ∷ []) n) buffer.now offset.old offset.new) }
@@ -178,28 +392,9 @@ fn borrow_texts<'b>(buffer: &'b [u8], offset: &mut usize, ctx: StrCtx) -> Result
 }
 
 // Returns the two strings of an array.
+#[inline(always)]
 fn both<'b>(texts: [&'b str; 2]) -> (&'b str, &'b str)
     ensures { texts.entry ≡ result.0 ∷ result.1 ∷ [] }
 {
     (texts[0], texts[1])
-}
-
-fn copy_text(alloc: Global, text: &str) -> Result<String>
-    ensures copied { IfOk result (λ copy. string_bytes copy ≡ text.now) }
-    ensures only_memory { IfErr result (λ e. e ≡ NoMemory) }
-{
-    match String::from_str(alloc, text) {
-        Ok(copy) => Ok(copy),
-        Err(_) => Err(Error::NoMemory),
-    }
-}
-
-fn copy_bytes(alloc: Global, bytes: &[u8]) -> Result<Vec<u8>>
-    ensures copied { IfOk result (λ copy. copy.items ≡ bytes.now) }
-    ensures only_memory { IfErr result (λ e. e ≡ NoMemory) }
-{
-    match Vec::from_slice(alloc, bytes) {
-        Ok(copy) => Ok(copy),
-        Err(_) => Err(Error::NoMemory),
-    }
 }

@@ -1,6 +1,5 @@
 use Rattle.std.proofs.Common.{◌≡◌, arith, ◌++◌, ◌∷◌, [], ap, ◌∙◌, sym, subst, get_or, rules}
 use Rattle.std.proofs.lemmas.List.{take_all}
-use Rattle.std.proofs.lemmas.Result.{err_from_is_err_and}
 use Rattle.scroll.proofs.lemmas.HistoryLemmas.{IsRun-none, IsRun-next}
 use Rattle.scroll.specs.Runs.{IsStep, IsRun}
 use Rattle.scroll.proofs.runner.run.Goals as goal
@@ -10,12 +9,13 @@ loop-command-init c = (IsRun-none c.args.buffer.now c.args.cursor.now c.args.ans
 
 pub loop-command-preserved : goal.loop-command-preserved
 loop-command-preserved c =
-    let items = c.push_reserved.ensures.items ∙ ap (λ xs. xs ++ c.in_ok-answer.answer ∷ []) c.reserve.ensures.items in
+    let appended = c.in-Ok.ensures.answered in
+    let items = appended.items ∙ ap (λ xs. xs ++ appended.answer ∷ []) c.reserve.ensures.items in
     let command : get_or c.args.commands.now c.loop-command.command-index c.command-item.result ≡ c.command-item.result = search rules in
-    let step = subst (λ k. IsStep c.loop-command.buffer c.step.new.buffer c.loop-command.cursor k c.in_ok-answer.answer c.step.new.cursor) (sym command) c.in_ok-answer.ensures.answered in
+    let step = subst (λ k. IsStep c.loop-command.buffer c.step.new.buffer c.loop-command.cursor k appended.answer c.step.new.cursor) (sym command) appended.said in
     let inv = c.loop-command.invariant in
     let run = IsRun-next _ _ _ _ _ _ _ _ _ _ _ _ _ c.loop-command-test.true inv.0 items step in
-    (run, omega (arith, inv.1, c.reserve.ensures.len, c.push_reserved.ensures.len), omega (arith, inv.2, c.reserve.ensures.capacity, c.push_reserved.ensures.capacity))
+    (run, omega (arith, inv.1, c.reserve.ensures.len, c.in-Ok.ensures.len), omega (arith, inv.2, c.reserve.ensures.capacity, c.step.ensures.capacity))
 
 pub returns-clause-ran : goal.returns-clause-ran
 returns-clause-ran c =
@@ -29,11 +29,9 @@ returns-then-is_err-clause-prefix c = record {
   prefix = rw c.reserve.ensures.items c.loop-command.invariant.0;
 }
 
-pub returns-in_err-answer-clause-prefix : goal.returns-in_err-answer-clause-prefix
-returns-in_err-answer-clause-prefix c =
-    let p = err_from_is_err_and c.from_residual.result c.from_residual.ensures.1 in
-    rw p.1 record {
-      count = c.loop-command.command-index;
-      fewer = c.loop-command-test.true;
-      prefix = rw (c.in_err-answer.ensures.same, c.in_err-answer.ensures.stays, c.reserve.ensures.items) c.loop-command.invariant.0;
-    }
+pub returns-in-Err-clause-prefix : goal.returns-in-Err-clause-prefix
+returns-in-Err-clause-prefix c = record {
+  count = c.loop-command.command-index;
+  fewer = c.loop-command-test.true;
+  prefix = rw (c.in-Err.ensures.same, c.in-Err.ensures.stays, c.in-Err.ensures.kept, c.reserve.ensures.items) c.loop-command.invariant.0;
+}
