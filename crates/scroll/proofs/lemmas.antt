@@ -6,10 +6,12 @@ pub mod ArrayLemmas
 pub mod TextLemmas
 pub mod WordLemmas
 pub mod SearchLemmas
+pub mod TextStateLemmas
+pub mod TextLetterLemmas
 pub mod HistoryLemmas
+pub mod StepLemmas
 pub mod StandLemmas
 pub mod LebLemmas
-pub mod StepLemmas
 pub mod LebReadLemmas
 pub mod LebWriteLemmas
 pub mod BlockLemmas

@@ -12,6 +12,7 @@ pub mod Errors
 pub mod Reads
 pub mod Writes
 pub mod Texts
+pub mod TextStates
 pub mod CStrings
 pub mod CStringTexts
 pub mod Arrays
@@ -20,8 +21,8 @@ pub mod Streams
 pub mod Leb128
 pub mod Encoding
 pub mod Runs
-pub mod Laws
 pub mod Steps
+pub mod Laws
 -- Lemmas, and no definitions: the implementations cite them for the laws of their traits, which may
 -- cite specs/ alone.
 pub mod lemmas

@@ -45,6 +45,7 @@ pub mod slice;
 mod source;
 #[cfg(test)]
 mod tests;
+mod utf8;
 
 pub use crate::endian::{BE, Endian, LE, NATIVE, NETWORK};
 pub use crate::error::{Error, Result, check_room};

@@ -1,7 +1,9 @@
 -- A search block by block: how many bytes come before the first that passes a test; a stop, which
 -- is the delimiter or a byte that isn't ASCII: what comes before it, and where the string ends; and
 -- masks of a vector's lanes.
-use Rattle.std.proofs.Common.{◌≡◌, ℕ, zero, suc, ◌+◌, ◌-◌, ◌*◌, ◌/◌, ◌<◌, ◌≤◌, inl, inr, Bool, not, List, [], ◌∷◌, length, take, drop, min, get_or, refl, sym, ap, ◌∙◌, arith, length-drop, length-take, ◌⊎◌, nat_le, ◌==◌, get_or-take, ◌%◌, ◌^◌, true, false, cond, eqb, leb, ◌||◌, map, replicate, bit_or, w8}
+use Rattle.std.proofs.Math.Facts.{eqb_yes}
+use Rattle.std.proofs.Math.Dec.{T}
+use Rattle.std.proofs.Common.{◌≡◌, ℕ, zero, suc, ◌+◌, ◌-◌, ◌*◌, ◌/◌, ◌<◌, ◌≤◌, inl, inr, Bool, not, subst, List, [], ◌∷◌, length, take, drop, min, get_or, refl, sym, ap, ◌∙◌, arith, length-drop, length-take, ◌⊎◌, nat_le, ◌==◌, get_or-take, ◌%◌, ◌^◌, true, false, cond, eqb, leb, ◌||◌, map, replicate, bit_or, w8}
 use Rattle.std.proofs.Math.Nat.{add-mul, div-mul-le_self}
 use Rattle.std.proofs.lemmas.Nat.{row_fits, or_block}
 use Rattle.std.proofs.lemmas.Bool.{cases_Bool, cases_lt, or_parts, eq-eqb, leb-false}
@@ -44,7 +46,7 @@ position_or_len-drop p (suc k) (b ∷ s) h = elim (cases_Bool (p b)) [
 pub position_or_len-rest : (p : ℕ → Bool) (k : ℕ) (s : List ℕ) → k ≤ position_or_len p s → k + position_or_len p (take (length s - k) (drop k s)) ≡ position_or_len p s
 position_or_len-rest p k s h = rw (take_rest s k) (position_or_len-drop p k s h)
 
-block_at : (n m : ℕ) (s d : List ℕ) (k : ℕ) → k < m → get_or (first_chunks n m s) k d ≡ take n (drop (k * n) s)
+pub block_at : (n m : ℕ) (s d : List ℕ) (k : ℕ) → k < m → get_or (first_chunks n m s) k d ≡ take n (drop (k * n) s)
 block_at n zero s d k h = absurd (omega arith)
 block_at n (suc m) s d zero h = let e : 0 * n ≡ 0 = omega arith in rw e refl
 block_at n (suc m) s d (suc k) h =
@@ -157,3 +159,14 @@ pub stop_marks : (n d : ℕ) (bs : List ℕ) → length bs ≡ n → n ≤ 64
     → bit_or (mask_l (map (top 7) (zip2 (λ a b. cond (eqb a b) 255 0) bs (replicate n d))) % 2 ^ 64) (mask_l (map (top 7) (zip2 (λ a b. cond (leb a b) 255 0) (replicate n 128) bs)) % 2 ^ 64)
     ≡ mask_l (map (is_stop d) bs)
 stop_marks n d bs l h = rw (equal_marks n d bs l h, wide_marks n bs l h) (mask_or (λ b. b == d) (nat_le 128) bs)
+
+-- a block of which no byte is marked is ASCII
+pub none_wide : (n : ℕ) (bs : List ℕ) → length bs ≡ n → n ≤ 64
+    → (mask_l (map (top 7) (zip2 (λ a b. cond (leb a b) 255 0) (replicate n 128) bs)) % 2 ^ 64 == 0) ≡ true → IsAscii bs
+none_wide n bs l h e i =
+    let none : mask_l (map (nat_le 128) bs) ≡ 0 = sym (wide_marks n bs l h) ∙ eqb_yes (subst T (sym e) tt) in
+    let far = leading_from_mask_l (nat_le 128) bs none in
+    elim (cases_lt i (length bs)) [
+      | inl inside ↦ leb-false 128 (get_or bs i 0) (fails_before_first (nat_le 128) bs i 0 (omega (arith, far)))
+      | inr past ↦ rw (get_or_past bs i 0 past) (omega arith)
+    ]

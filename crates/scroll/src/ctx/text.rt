@@ -10,6 +10,7 @@ ghost use Rattle.scroll.specs.lemmas.Frames.{ReadsText-bounded, WritesPrefix-kee
 use crate::ctx::{StrCtx, TryFromCtx, TryIntoCtx};
 use crate::error::{Error, Result, check_room};
 use crate::search::{first_stop, index_of};
+use crate::utf8::{is_dense, is_text};
 
 /// Reads a string up to where the context ends it, zero-copy.
 ///
@@ -103,8 +104,8 @@ fn text_in(from: &[u8], ctx: StrCtx) -> Result<Option<&str>>
 }
 
 // Returns the offset of the first delimiter, or the length of the source if there is none, and the
-// string before it, or `None` where the bytes aren't UTF-8. The bytes are examined once if they are
-// ASCII.
+// string before it, or `None` where the bytes aren't UTF-8. The bytes are examined once up to the
+// first that isn't ASCII.
 #[inline(always)]
 #[tactic(auto, using(crate::proofs::lemmas::TextLemmas::index_ofs))]
 fn text_before(delimiter: u8, source: &[u8]) -> (usize, Option<&str>)
@@ -117,7 +118,7 @@ fn text_before(delimiter: u8, source: &[u8]) -> (usize, Option<&str>)
         return (stop, Some(text_of_ascii(&source[..stop])));
     }
     let index = stop + index_of(delimiter, &source[stop..]);
-    (index, str::from_utf8(&source[..index]).ok())
+    (index, text_from(&source[..index], stop))
 }
 
 // Returns ASCII bytes as a string.
@@ -129,6 +130,25 @@ fn text_of_ascii(bytes: &[u8]) -> &str
 {
     // ASCII is UTF-8: the premise of this call is proved for every call of `text_of_ascii`.
     unsafe { str::from_utf8_unchecked(bytes) }
+}
+
+// Returns bytes as a string, or `None` where they aren't UTF-8. The first `ascii` bytes are known
+// to be ASCII.
+#[inline(always)]
+fn text_from(bytes: &[u8], ascii: usize) -> Option<&str>
+    requires within { ascii ≤ length bytes.now }
+    requires ascii { IsAscii (take ascii bytes.now) }
+    ensures text { IfSome result (λ text. text.now ≡ bytes.now) }
+    ensures none { IfNone result (¬ (IsUtf8 bytes.now)) }
+{
+    if !is_dense(&bytes[ascii..]) {
+        return str::from_utf8(bytes).ok();
+    }
+    if !is_text(&bytes[ascii..]) {
+        return None;
+    }
+    // ASCII and UTF-8 behind it are UTF-8: the premise of this call is proved.
+    Some(unsafe { str::from_utf8_unchecked(bytes) })
 }
 
 /// Writes the bytes of the string alone. A shorter target returns [`Error::TooBig`] with the

@@ -191,6 +191,70 @@ fn characters_of_utf8(rt: HostRuntime) {
     }
 }
 
+// Checks that a string up to the first zero is read where the standard library takes the bytes for
+// UTF-8, and refused where it doesn't.
+fn check_delimited(rt: &impl Abort, bytes: &[u8]) {
+    let end = bytes.iter().position(|byte| *byte == 0);
+    let before = bytes.get(..end.unwrap_or(bytes.len())).unwrap_or(b"");
+    let wanted = str::from_utf8(before);
+    let text: Result<&str> = bytes.pread_with(0, StrCtx::Delimiter(0));
+    check_eq(rt, text.is_ok(), wanted.is_ok());
+    check_eq(rt, text.unwrap_or_default(), wanted.unwrap_or_default());
+}
+
+// Puts a piece at an offset.
+fn put(bytes: &mut [u8], at: usize, piece: &[u8]) {
+    for (k, &byte) in piece.iter().enumerate() {
+        if let Some(place) = bytes.get_mut(at.saturating_add(k)) {
+            *place = byte;
+        }
+    }
+}
+
+// Checks bytes whole, and cut off at these offsets.
+fn check_cut(rt: &impl Abort, bytes: &[u8], ends: [usize; 2]) {
+    check_delimited(rt, bytes);
+    for &end in &ends {
+        check_delimited(rt, bytes.get(..end).unwrap_or(b""));
+    }
+}
+
+// Letters, and bytes that are none: cut off, overlong, a surrogate, past the last one.
+static PIECES: [&[u8]; 12] = [
+    b"\xc3\xa9",
+    b"\xe6\xbc\xa2",
+    b"\xf0\x9f\x98\x80",
+    b"\xc3",
+    b"\xe6\xbc",
+    b"\xf0\x9f\x98",
+    b"\x80",
+    b"\xc0\x80",
+    b"\xe0\x9f\xbf",
+    b"\xed\xa0\x80",
+    b"\xf4\x90\x80\x80",
+    b"\0",
+];
+
+// A piece at each place, on both sides of the ends of blocks, and cut off: in ASCII, behind one
+// letter beyond ASCII, which is left to the standard library, and behind several, where the table of
+// states decides.
+#[test]
+fn pieces_of_utf8(rt: HostRuntime) {
+    let rt = &rt;
+    for at in 9..136usize {
+        for piece in &PIECES {
+            let ends = [at + 1, at.saturating_add(piece.len())];
+            let mut bytes = [b'a'; 140];
+            put(&mut bytes, at, piece);
+            check_cut(rt, &bytes, ends);
+            put(&mut bytes, 0, b"\xc3\xa9");
+            check_cut(rt, &bytes, ends);
+            put(&mut bytes, 2, b"\xc3\xa9\xe6\xbc\xa2\xc3\xa9");
+            check_cut(rt, &bytes, ends);
+        }
+    }
+}
+
 const REQUIRED: StrCtx = StrCtx::Required(0);
 
 const MISSING: &str = "missing delimiter";

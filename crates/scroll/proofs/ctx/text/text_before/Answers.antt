@@ -1,5 +1,5 @@
 use Rattle.std.proofs.Common.{◌≡◌, ◌+◌, ◌⊎◌, inl, inr, length, get_or, sym, arith}
-use Rattle.std.proofs.lemmas.List.{length-take-le}
+use Rattle.std.proofs.lemmas.List.{length-take-le, take-take}
 use Rattle.scroll.specs.Texts.{index_of}
 use Rattle.scroll.specs.lemmas.Frames.{index_of-le}
 use Rattle.scroll.proofs.lemmas.SearchLemmas.{prefix_is_ascii, ends_there, ends_further}
@@ -24,11 +24,17 @@ pub returns-clause-index : goal.returns-clause-index
 returns-clause-index c =
     ends_further c.args.delimiter c.args.source.now c.first_stop-stop.result c.index_of.result c.first_stop-stop.ensures.index c.first_stop-stop.ensures.within c.index_of.ensures
 
-pub slice_bounds-from_utf8-end : goal.slice_bounds-from_utf8-end
-slice_bounds-from_utf8-end c =
+pub slice_bounds-text_from-end : goal.slice_bounds-text_from-end
+slice_bounds-text_from-end c =
     let s = c.args.source.now in
     let index : c.first_stop-stop.result + c.index_of.result ≡ index_of c.args.delimiter s = ends_further c.args.delimiter s c.first_stop-stop.result c.index_of.result c.first_stop-stop.ensures.index c.first_stop-stop.ensures.within c.index_of.ensures in
     sym (length-take-le (c.first_stop-stop.result + c.index_of.result) s (omega (arith, index, index_of-le c.args.delimiter s)))
 
 pub overflow_add-index : goal.overflow_add-index
 overflow_add-index c = grind (arith, index_ofs)
+
+pub text_from-requires-clause-ascii : goal.text_from-requires-clause-ascii
+text_from-requires-clause-ascii c =
+    let s = c.args.source.now in
+    let stop = c.first_stop-stop.result in
+    rw (take-take stop (stop + c.index_of.result) s (omega arith)) (prefix_is_ascii c.args.delimiter s stop c.first_stop-stop.ensures.index)
