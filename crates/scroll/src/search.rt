@@ -1,4 +1,4 @@
-// The search for a byte: 32 bytes at a time, then eight at a time, and the last ones one by one.
+// The search for a byte: 64 bytes at a time, then fewer, and the last ones one by one.
 ghost use Rattle.std.specs.Prelude.{◌≡◌, ◌≤◌, ◌<◌, ◌*◌, ◌/◌, length, IfSome, IfNone};
 ghost use Rattle.std.specs.List.{position_or_len};
 ghost use Rattle.scroll.specs.Texts.{index_of, is_stop};
@@ -24,9 +24,27 @@ pub(crate) fn first_stop(delimiter: u8, source: &[u8]) -> usize
 }
 
 // Returns the offset of the first stop, or the length of the source if there is none.
+//
+// Most names and texts end within 64 bytes. So wide a block takes more instructions than a narrower
+// one, but no branch depends on where in it the first stop is, which a processor would have to
+// guess.
 #[inline(always)]
 #[tactic(auto, using(crate::proofs::lemmas::SearchLemmas::searches))]
-fn first<S: StopsIn<32> + StopsIn<8> + StopsIn<1>>(at: S, source: &[u8]) -> usize
+fn first<S: StopsIn<64> + StopsIn<32> + StopsIn<8> + StopsIn<1>>(at: S, source: &[u8]) -> usize
+    ensures index { result ≡ position_or_len (S.stops at) source.now }
+    ensures within { result ≤ length source.now }
+{
+    if let Some(index) = first_in_blocks::<64, S>(at, source) {
+        return index;
+    }
+    let wide = source.len() / 64 * 64;
+    wide + first_by_less(at, &source[wide..])
+}
+
+// Returns what `first` does, by narrower blocks.
+#[inline(always)]
+#[tactic(auto, using(crate::proofs::lemmas::SearchLemmas::searches))]
+fn first_by_less<S: StopsIn<32> + StopsIn<8> + StopsIn<1>>(at: S, source: &[u8]) -> usize
     ensures index { result ≡ position_or_len (S.stops at) source.now }
     ensures within { result ≤ length source.now }
 {

@@ -1,24 +1,23 @@
 -- What is seen after a history, and the pieces that a write of leaves leaves at an offset of a
 -- buffer, and in the rest of the buffer. A run grows by one command, and its errors own no memory.
-use Rattle.std.proofs.Common.{◌≡◌, ℕ, ◌<◌, ◌++◌, List, [], ◌∷◌, length, get_or, arith, refl, sym, ◌∙◌, ap, Option, Some, None, unwrap_or, ◌+◌, ◌-◌, ◌≤◌, take, drop, inl, inr, slice_get, length-drop, length-append, subst, append_assoc, append-nil, Result, Ok, Err, IfOk}
+use Rattle.std.proofs.Common.{◌≡◌, ℕ, ◌<◌, ◌++◌, List, [], ◌∷◌, length, get_or, arith, refl, sym, ◌∙◌, ap, Option, Some, None, unwrap_or, ◌+◌, ◌-◌, ◌≤◌, take, drop, inl, inr, slice_get, length-drop, length-append, subst, append_assoc, append-nil}
 use Rattle.std.proofs.lemmas.Grind.{same_number_lists}
 use Rattle.std.proofs.lemmas.List.FromFn.{length-map-range_with_len, get_or-map-range_with_len}
 use Rattle.std.specs.Option.{option_or}
-use Rattle.scroll.specs.History.{Piece, byte_of, last_byte, seen, pieces, left_over, refusal, AnswersLeaves}
+use Rattle.scroll.specs.History.{Piece, byte_of, last_byte, seen, pieces, left_over, refusal}
 use Rattle.std.proofs.lemmas.Bool.{cases_lt}
 use Rattle.std.proofs.lemmas.List.{get_or-take, get_or-drop, get_or_append_left, get_or-append_right, take_more}
 use Rattle.std.proofs.lemmas.Option.{slice_get-get_or, slice_get_past, same_Some}
 use Rattle.scroll.specs.declared.error.Error.TheVariants.{TooBig, BadOffset, BadInput, Custom, IO, NoMemory}
-use Rattle.scroll.specs.Runs.{ReadStep, Step, IsStep, Run, IsRun, RefusesKind, RefusesHere, leaves_of, offset_of}
+use Rattle.scroll.specs.Runs.{Step, IsStep, Run, IsRun, RefusesKind, RefusesHere, leaves_of, offset_of}
 use Rattle.scroll.specs.declared.error.Error.{Error}
 use Rattle.scroll.specs.declared.runner.Answer.{Answer}
 use Rattle.scroll.specs.declared.runner.Command.{Command}
 use Rattle.scroll.specs.declared.runner.Command.TheVariants.{Read}
 use Rattle.scroll.specs.declared.runner.Kind.{Kind}
 use Rattle.scroll.specs.declared.runner.Place.{Place}
-use Rattle.std.proofs.lemmas.List.Sums.{sum_by-cons}
 use Rattle.std.proofs.lemmas.List.Elements.{All-nil, All-cons}
-use Rattle.std.specs.List.{All, sum_by}
+use Rattle.std.specs.List.{All}
 use Rattle.scroll.specs.Laws.{RefusesPlainly}
 use Rattle.scroll.specs.Arrays.{RefusesArray}
 use Rattle.scroll.specs.Bytes.{RefusesShort}

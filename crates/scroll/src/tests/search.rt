@@ -25,7 +25,7 @@ fn plain_stop(delimiter: u8, source: &[u8]) -> usize {
 }
 
 // Writes the delimiter at `index`, and bytes that differ from it everywhere else.
-fn fill(bytes: &mut [u8; 70], delimiter: u8, index: usize, before: u8, behind: u8) {
+fn fill(bytes: &mut [u8], delimiter: u8, index: usize, before: u8, behind: u8) {
     for (i, byte) in bytes.iter_mut().enumerate() {
         *byte = if i < index {
             delimiter ^ before
@@ -61,6 +61,22 @@ fn every_length_and_place(rt: HostRuntime) {
                 for len in 0..71 {
                     check_searches(&rt, delimiter, index, &bytes[..len]);
                 }
+            }
+        }
+    }
+}
+
+// Lengths at which wide blocks end, and what they leave.
+static LENGTHS: [usize; 9] = [63, 64, 65, 95, 96, 127, 128, 129, 170];
+
+#[test]
+fn sources_of_several_wide_blocks(rt: HostRuntime) {
+    let mut bytes = [0u8; 170];
+    for &delimiter in &DELIMITERS {
+        for index in 0..171 {
+            fill(&mut bytes, delimiter, index, 0x80, 0x01);
+            for &len in &LENGTHS {
+                check_searches(&rt, delimiter, index, &bytes[..len]);
             }
         }
     }
