@@ -144,6 +144,16 @@ impl CString {
         Ok(CString { bytes })
     }
 
+    // Returns the text without the zero, in the memory of this.
+    #[inline(always)]
+    pub(crate) fn into_text(self) -> Vec<u8>
+        ensures text { result.items ≡ c_string_text self }
+    {
+        let mut bytes = self.bytes;
+        bytes.pop();
+        bytes
+    }
+
     /// Borrows this as a [`CStr`].
     #[inline]
     pub fn as_c_str(&self) -> CStr<'_>

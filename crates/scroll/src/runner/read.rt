@@ -253,9 +253,8 @@ fn read_c_string(
     let read: Result<CString> = buffer.gread_with(&mut end, &alloc);
     match read {
         Ok(text) => {
-            let copy = Vec::from_slice(alloc, text.as_bytes())?;
             *cursor = place.cursor_after(*cursor, end);
-            answers.push_reserved(Answer::Read(Value::CStr(copy)));
+            answers.push_reserved(Answer::Read(Value::CStr(text.into_text())));
         }
         Err(Error::NoMemory) => return Err(AllocError),
         Err(error) => answers.push_reserved(Answer::Refused(error)),
