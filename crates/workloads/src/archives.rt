@@ -86,6 +86,7 @@ fn add_zip_error(digest: &mut Digest, error: &ZipError) {
 // Reads the entry's file.
 fn add_file(archive: &[u8], entry: &Entry, digest: &mut Digest) {
     digest.add(u64::from(entry.place) << 32 ^ u64::from(entry.crc));
+    digest.add(u64::from(entry.size) << 32 ^ u64::from(entry.time) << 16 ^ u64::from(entry.date));
     match read_file(archive, entry) {
         Ok(file) => {
             digest.add_ends(file.name);

@@ -211,6 +211,7 @@ fn add_symbols(
 fn add_object(file: &[u8], digest: &mut Digest) -> Result<(), ElfError> {
     let header: Header = file.pread_with(0, ())?;
     digest.add(header.sections_offset ^ u64::from(header.machine) << 32);
+    digest.add(header.entry ^ u64::from(header.flags) << 32);
     let sections = read_sections(file, &header)?;
     let names = name_table(file, &header, &sections)?;
     for i in 0..sections.len() {
@@ -218,13 +219,10 @@ fn add_object(file: &[u8], digest: &mut Digest) -> Result<(), ElfError> {
             break;
         };
         digest.add(section.size ^ section.offset << 32);
+        digest.add(section.flags ^ section.alignment << 32 ^ section.entry_size << 48);
+        digest.add(section.address ^ u64::from(section.info) << 32);
         let name = section_name(names, &section)?;
         digest.add_ends(name.to_bytes());
-    }
-    for i in 0..sections.len() {
-        let Some(section) = sections.get(i) else {
-            break;
-        };
         if section.kind == SYMBOLS {
             add_symbols(file, &header, &sections, &section, digest)?;
         }

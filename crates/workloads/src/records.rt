@@ -88,6 +88,7 @@ fn copy_packet(
     let from = bytes.get(offset..).unwrap_or(b"");
     let packet = read_packet(from)?;
     digest.add(u64::from(packet.dns.id) << 16 ^ u64::from(packet.udp.checksum));
+    digest.add(u64::from(packet.udp.source) << 16 ^ u64::from(packet.udp.destination));
     digest.add(u64::from(packet.dns.response_code()) ^ u64::from(packet.dns.questions) << 16);
     digest.add_ends(packet.body);
     put_packet(target, offset, answer(&packet))

@@ -1,5 +1,5 @@
 // Numbers from readers and to writers, and values that are appended.
-use crate::inputs::{Digest, Random};
+use crate::inputs::{Digest, Random, low8};
 use scroll::{BE, IOread, IOwrite, LE};
 use scroll_formats::{Value, append};
 use std::alloc::{AllocError, Global};
@@ -105,8 +105,19 @@ fn write_round(
     Ok(())
 }
 
-/// Reads records from a slice and from a buffered reader of a slow source, each round from another
-/// byte on, and writes others.
+// Changes one byte of 64, and the last one, so that each slice up to the end has other bytes.
+fn change_bytes(bytes: &mut [u8], random: &mut Random) {
+    let start = random.between(0, 63) as usize;
+    for byte in bytes.iter_mut().skip(start).step_by(64) {
+        *byte ^= low8(random.next());
+    }
+    if let Some(last) = bytes.last_mut() {
+        *last = low8(random.next());
+    }
+}
+
+/// Changes the bytes, reads records from a slice and from a buffered reader of a slow source, each
+/// round from another byte on, and writes others.
 pub fn run(alloc: Global, seed: u64, rounds: u64, digest: &mut Digest) -> Result<(), AllocError> {
     let mut random = Random::new(seed);
     let mut bytes = Vec::new(alloc);
@@ -115,6 +126,7 @@ pub fn run(alloc: Global, seed: u64, rounds: u64, digest: &mut Digest) -> Result
     }
     let mut target = Vec::new(alloc);
     for round in 0..rounds {
+        change_bytes(bytes.as_mut_slice(), &mut random);
         let start = (round % 100_000) as usize;
         let rest = bytes.get(start..).unwrap_or(b"");
         let mut reader = rest;

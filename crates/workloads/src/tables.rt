@@ -1,6 +1,6 @@
 // Tables of abbreviations, read, walked and written back.
 use crate::inputs::{Digest, Random, change_all, push_leb128};
-use debug_tables::{Attribute, Declaration, TableError, read_table, write_table};
+use debug_tables::{Attribute, Children, Declaration, TableError, read_table, write_table};
 use scroll::{Error, LE};
 use std::alloc::{AllocError, Global};
 
@@ -67,6 +67,7 @@ fn add_attribute(digest: &mut Digest, attribute: &Attribute) {
 
 fn add_declaration(digest: &mut Digest, declaration: &Declaration) {
     digest.add(u64::from(declaration.code) << 32 ^ u64::from(declaration.tag));
+    digest.add(u64::from(matches!(declaration.children, Children::Yes)));
     let mut attributes = declaration.attributes.values(LE);
     for _ in 0..declaration.attributes.bytes.len() {
         let Some(attribute) = attributes.next() else {
