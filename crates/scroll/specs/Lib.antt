@@ -3,8 +3,8 @@
 -- A name that begins with a capital is a statement, any other name a value. A statement of several
 -- parts names them: where `h` proves it, `h.size` proves the part `size`.
 --
--- No definition retraces the code, which shifts, copies and overwrites one array: the definitions
--- have sums of powers, lists by index, and a history in which nothing is overwritten.
+-- No definition that callers see retraces the code, which shifts, copies and overwrites one array:
+-- these have sums of powers, lists by index, and a history in which nothing is overwritten.
 pub mod Bytes
 pub mod Numbers
 pub mod Fixed

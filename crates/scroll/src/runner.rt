@@ -1,7 +1,7 @@
 //! Lists of commands over one buffer and one cursor.
 //!
 //! Their results and all that they leave are stated over the history of what was written.
-ghost use Rattle.std.specs.Prelude.{◌≡◌, ℕ, ◌+◌, ◌≤◌, ◌<◌, length, vec_len, vec_capacity, OnOk, OnErr, IfOk, IfErr, IsOk};
+ghost use Rattle.std.specs.Prelude.{◌≡◌, ℕ, ◌+◌, ◌≤◌, ◌<◌, length, vec_len, vec_capacity, OnOk, OnErr, IfErr, IsOk};
 ghost use Rattle.std.specs.List.{All};
 ghost use Rattle.scroll.specs.Steps.{Appends};
 ghost use Rattle.scroll.specs.Runs.{IsStep, IsRun, IsPrefixRun, CopiesNothing, offset_of, moved};

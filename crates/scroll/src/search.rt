@@ -1,4 +1,4 @@
-// The search for a byte: 64 bytes at a time, then fewer, and the last ones one by one.
+// The search for a byte: 64 or 32 bytes at a time, then eight, and the last ones one by one.
 ghost use Rattle.std.specs.Prelude.{◌≡◌, ◌≤◌, ◌<◌, ◌*◌, ◌/◌, length, IfSome, IfNone};
 ghost use Rattle.std.specs.List.{position_or_len};
 ghost use Rattle.scroll.specs.Texts.{index_of, is_stop};
@@ -8,10 +8,43 @@ mod stops;
 use crate::search::stops::{At, AtOrNotAscii, StopsIn};
 
 /// Returns the offset of the first delimiter, or the length of the source if there is none.
+///
+/// Most names end within 64 bytes. So wide a block takes more instructions than a narrower one, but
+/// no branch depends on where in it the name ends, which a processor would have to guess; and it is
+/// searched where the caller is, without a call.
+#[inline(always)]
 pub(crate) fn index_of(delimiter: u8, source: &[u8]) -> usize
     ensures { result ≡ index_of delimiter source.now }
 {
+    let Some(block) = source.first_chunk::<64>() else {
+        return near_index_of(delimiter, source);
+    };
+    let marks = At(delimiter).marks(block);
+    if marks != 0 {
+        return marks.trailing_zeros() as usize;
+    }
+    64 + far_index_of(delimiter, &source[64..])
+}
+
+/// Returns what [`index_of`] does, by a call and by narrower blocks.
+#[inline(never)]
+pub(crate) fn near_index_of(delimiter: u8, source: &[u8]) -> usize
+    ensures { result ≡ index_of delimiter source.now }
+{
     first(At(delimiter), source)
+}
+
+// Returns what `index_of` does, by a call, 64 bytes at a time.
+#[inline(never)]
+#[tactic(auto, using(crate::proofs::lemmas::SearchLemmas::searches))]
+fn far_index_of(delimiter: u8, source: &[u8]) -> usize
+    ensures { result ≡ index_of delimiter source.now }
+{
+    if let Some(index) = first_in_blocks::<64, At>(At(delimiter), source) {
+        return index;
+    }
+    let wide = source.len() / 64 * 64;
+    wide + first(At(delimiter), &source[wide..])
 }
 
 /// Returns the offset of the first byte that is the delimiter or isn't ASCII, or the length of the
@@ -24,27 +57,9 @@ pub(crate) fn first_stop(delimiter: u8, source: &[u8]) -> usize
 }
 
 // Returns the offset of the first stop, or the length of the source if there is none.
-//
-// Most names and texts end within 64 bytes. So wide a block takes more instructions than a narrower
-// one, but no branch depends on where in it the first stop is, which a processor would have to
-// guess.
 #[inline(always)]
 #[tactic(auto, using(crate::proofs::lemmas::SearchLemmas::searches))]
-fn first<S: StopsIn<64> + StopsIn<32> + StopsIn<8> + StopsIn<1>>(at: S, source: &[u8]) -> usize
-    ensures index { result ≡ position_or_len (S.stops at) source.now }
-    ensures within { result ≤ length source.now }
-{
-    if let Some(index) = first_in_blocks::<64, S>(at, source) {
-        return index;
-    }
-    let wide = source.len() / 64 * 64;
-    wide + first_by_less(at, &source[wide..])
-}
-
-// Returns what `first` does, by narrower blocks.
-#[inline(always)]
-#[tactic(auto, using(crate::proofs::lemmas::SearchLemmas::searches))]
-fn first_by_less<S: StopsIn<32> + StopsIn<8> + StopsIn<1>>(at: S, source: &[u8]) -> usize
+fn first<S: StopsIn<32> + StopsIn<8> + StopsIn<1>>(at: S, source: &[u8]) -> usize
     ensures index { result ≡ position_or_len (S.stops at) source.now }
     ensures within { result ≤ length source.now }
 {

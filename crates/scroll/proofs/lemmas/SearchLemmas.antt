@@ -147,6 +147,21 @@ first_marked p bs marks l e h =
     let index : count_trailing_zeros 64 marks ≡ position_or_len p bs = ap (count_trailing_zeros 64) e ∙ trailing_mask_l p 64 bs l (omega (arith, h, e)) in
     (index, elim (cases_lt (position_or_len p bs) (length bs)) [ inl inside ↦ inside | inr past ↦ absurd (h (e ∙ empty_mask p bs past)) ])
 
+-- the first stop among the first 64 bytes is the first of all
+pub stop_in_front : (p : ℕ → Bool) (s block : List ℕ) (marks : ℕ) → block ≡ take 64 s → marks ≡ mask_l (map p block) → (marks ≡ 0 → ⊥) → count_trailing_zeros 64 marks ≡ position_or_len p s
+stop_in_front p s block marks is e h =
+    let len : length block ≤ 64 = rw is (omega (arith, length-take 64 s)) in
+    let found = first_marked p block marks len e h in
+    let all : position_or_len p block ≡ min 64 (position_or_len p s) = rw is (position_or_len-take p 64 s) in
+    omega (arith, found.0, found.1, len, all)
+
+-- where none of the first 64 bytes is a stop, the first is behind them
+pub none_in_front : (p : ℕ → Bool) (s block : List ℕ) (marks : ℕ) → 64 ≤ length s → block ≡ take 64 s → marks ≡ mask_l (map p block) → marks ≡ 0 → 64 ≤ position_or_len p s
+none_in_front p s block marks fits is e h =
+    let len : length block ≡ 64 = rw is (omega (arith, length-take 64 s, fits)) in
+    let all : position_or_len p block ≡ min 64 (position_or_len p s) = rw is (position_or_len-take p 64 s) in
+    omega (arith, none_marked p block marks e h, len, all)
+
 pub equal_marks : (n d : ℕ) (bs : List ℕ) → length bs ≡ n → n ≤ 64 → mask_l (map (top 7) (zip2 (λ a b. cond (eqb a b) 255 0) bs (replicate n d))) % 2 ^ 64 ≡ mask_l (map (λ b. b == d) bs)
 equal_marks n d bs l h = bitmask_splat w8 eqb bs n d l h
 

@@ -22,7 +22,7 @@ either : (P : ℕ → Type 0) (t : Bool) (x y : ℕ) → P x → P y → P (cond
 either P true x y p q = p
 either P false x y p q = q
 
--- what holds of the states after each byte from A0 on holds of those after all of these bytes
+-- what holds of the states after each byte from C0 on holds of those after all of these bytes
 from_c0 : (P : ℕ → Type 0) (b : ℕ) → 192 ≤ b → P 0x30c30c30c30c30 → P 0x30c30c30c30c06 → P 0x30c30c30c30c18 → P 0x30c30c30c30c0c → P 0x30c30c30c30c1e
     → P 0x30c30c30c30c24 → P 0x30c30c30c30c12 → P 0x30c30c30c30c2a → P (states_after b)
 from_c0 P b l never two e0 three ed f0 four f4 = rw (le-ltb b 128 (omega arith), le-ltb b 144 (omega arith), le-ltb b 160 (omega arith), le-ltb b 192 l)

@@ -9,7 +9,7 @@ ghost use Rattle.scroll.specs.lemmas.Frames.{ReadsText-bounded, WritesPrefix-kee
 
 use crate::ctx::{StrCtx, TryFromCtx, TryIntoCtx};
 use crate::error::{Error, Result, check_room};
-use crate::search::{first_stop, index_of};
+use crate::search::{first_stop, near_index_of};
 use crate::utf8::{is_dense, is_text};
 
 /// Reads a string up to where the context ends it, zero-copy.
@@ -104,8 +104,8 @@ fn text_in(from: &[u8], ctx: StrCtx) -> Result<Option<&str>>
 }
 
 // Returns the offset of the first delimiter, or the length of the source if there is none, and the
-// string before it, or `None` where the bytes aren't UTF-8. The bytes are examined once up to the
-// first that isn't ASCII.
+// string before it, or `None` where the bytes aren't UTF-8. The delimiter and the first byte that
+// isn't ASCII are searched for at once.
 #[inline(always)]
 #[tactic(auto, using(crate::proofs::lemmas::TextLemmas::index_ofs))]
 fn text_before(delimiter: u8, source: &[u8]) -> (usize, Option<&str>)
@@ -117,7 +117,7 @@ fn text_before(delimiter: u8, source: &[u8]) -> (usize, Option<&str>)
     if stop == source.len() || source[stop] == delimiter {
         return (stop, Some(text_of_ascii(&source[..stop])));
     }
-    let index = stop + index_of(delimiter, &source[stop..]);
+    let index = stop + near_index_of(delimiter, &source[stop..]);
     (index, text_from(&source[..index], stop))
 }
 

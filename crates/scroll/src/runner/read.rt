@@ -205,7 +205,7 @@ fn read_bytes(
     Ok(())
 }
 
-#[inline(always)]
+#[inline(never)]
 fn read_c_str(
     alloc: Global,
     buffer: &[u8],
@@ -233,7 +233,7 @@ fn read_c_str(
     Ok(())
 }
 
-#[inline(always)]
+#[inline(never)]
 fn read_c_string(
     alloc: Global,
     buffer: &[u8],

@@ -2,7 +2,7 @@
 // can leave.
 use crate::Pread;
 use crate::ctx::StrCtx;
-use crate::search::{first_stop, index_of};
+use crate::search::{first_stop, index_of, near_index_of};
 use crate::tests::results::check_eq;
 use std::process::Abort;
 
@@ -47,6 +47,7 @@ fn check_searches(rt: &impl Abort, delimiter: u8, index: usize, source: &[u8]) {
     let wanted = index.min(source.len());
     let found = (index_of(delimiter, source), first_stop(delimiter, source));
     check_eq(rt, found, (wanted, plain_stop(delimiter, source)));
+    check_eq(rt, near_index_of(delimiter, source), wanted);
     let text = str::from_utf8(&source[..wanted]).ok();
     check_eq(rt, text_before(delimiter, source), text);
 }

@@ -1,5 +1,5 @@
 -- Lemmas for callers: lists of reads, bytes that are written one after another, a number and its
--- bytes, and an error that `?` returns.
+-- bytes, encodings in LEB128, and an error that `?` returns.
 use Rattle.std.proofs.Common.{◌≡◌, ℕ, ◌++◌, List, [], ◌∷◌, Result, IfErr}
 use Rattle.std.proofs.lemmas.Result.{err_from_is_err_and}
 use Rattle.std.specs.Result.{IsErrAnd}

@@ -22,13 +22,13 @@ returns-then-stop-source-clause-index c =
 
 pub returns-clause-index : goal.returns-clause-index
 returns-clause-index c =
-    ends_further c.args.delimiter c.args.source.now c.first_stop-stop.result c.index_of.result c.first_stop-stop.ensures.index c.first_stop-stop.ensures.within c.index_of.ensures
+    ends_further c.args.delimiter c.args.source.now c.first_stop-stop.result c.near_index_of.result c.first_stop-stop.ensures.index c.first_stop-stop.ensures.within c.near_index_of.ensures
 
 pub slice_bounds-text_from-end : goal.slice_bounds-text_from-end
 slice_bounds-text_from-end c =
     let s = c.args.source.now in
-    let index : c.first_stop-stop.result + c.index_of.result ≡ index_of c.args.delimiter s = ends_further c.args.delimiter s c.first_stop-stop.result c.index_of.result c.first_stop-stop.ensures.index c.first_stop-stop.ensures.within c.index_of.ensures in
-    sym (length-take-le (c.first_stop-stop.result + c.index_of.result) s (omega (arith, index, index_of-le c.args.delimiter s)))
+    let index : c.first_stop-stop.result + c.near_index_of.result ≡ index_of c.args.delimiter s = ends_further c.args.delimiter s c.first_stop-stop.result c.near_index_of.result c.first_stop-stop.ensures.index c.first_stop-stop.ensures.within c.near_index_of.ensures in
+    sym (length-take-le (c.first_stop-stop.result + c.near_index_of.result) s (omega (arith, index, index_of-le c.args.delimiter s)))
 
 pub overflow_add-index : goal.overflow_add-index
 overflow_add-index c = grind (arith, index_ofs)
@@ -37,4 +37,4 @@ pub text_from-requires-clause-ascii : goal.text_from-requires-clause-ascii
 text_from-requires-clause-ascii c =
     let s = c.args.source.now in
     let stop = c.first_stop-stop.result in
-    rw (take-take stop (stop + c.index_of.result) s (omega arith)) (prefix_is_ascii c.args.delimiter s stop c.first_stop-stop.ensures.index)
+    rw (take-take stop (stop + c.near_index_of.result) s (omega arith)) (prefix_is_ascii c.args.delimiter s stop c.first_stop-stop.ensures.index)

@@ -1,7 +1,7 @@
 use Rattle.std.proofs.Common.{◌≡◌, ℕ, ◌+◌, ◌-◌, ◌≤◌, Bool, List, length, take, drop, ap, ◌∙◌, arith}
 use Rattle.std.specs.List.{position_or_len}
 use Rattle.scroll.proofs.lemmas.SearchLemmas.{position_or_len-le, position_or_len-rest}
-use Rattle.scroll.proofs.search.first_by_less.Goals as goal
+use Rattle.scroll.proofs.search.first.Goals as goal
 
 -- a stop in the rest of a source
 in_rest : (p : ℕ → Bool) (k : ℕ) (s : List ℕ) (n : ℕ) → k ≤ position_or_len p s → n ≡ position_or_len p (take (length s - k) (drop k s)) → k + n ≡ position_or_len p s
