@@ -18,6 +18,7 @@ The steps are:
     sessions.py     the stored sessions, whole and with their buffers cut, by the program that rt ci proved; by random_sessions.py, random ones
     limits.py       long inputs, at which that program must not run out of memory
     faults.py       the sessions and the tests of all libraries where memory is refused and streams fail, by what rt ci proved
+    count           the instructions, mispredictions and misses of each workload of bench/, by valgrind, beside those that are stored
     compare/run.sh  random sessions and calls beside the Rust crate, where cargo finds it
     edits.py        the edits of each crate, many in one check; limits.py --edits, those that only long inputs and tests tell
 
@@ -175,7 +176,7 @@ def list_steps(groups: Sequence[str], workers: int) -> List[Step]:
     if edited:
         steps.append(Step("python3 gate/limits.py --edits", 1, (seeds,)))
     if "stands" in groups:
-        steps.append(Step("python3 gate/faults.py", half, (CI,), "ci"))
+        steps += [Step(it, half, (CI,), "ci") for it in ("python3 gate/faults.py", "python3 bench/count check")]
         steps.append(Step(f"env PROGRAM={PROGRAM} sh compare/run.sh --gate", 1, (CI, seeds)))
         steps += [Step(f"python3 gate/{it}.py", 1, (CI,), "ci") for it in ("random_sessions", "sessions", "limits")]
     return steps

@@ -1,12 +1,15 @@
 // ZIP archives and the chunks of PNG, written and read.
-use crate::inputs::{Digest, Random, low8, low16, low32};
+use crate::inputs::{Digest, Random, low8, low16, low32, push_letters};
 use png::{Checksum, ChunkError, read_chunk, write_chunk};
 use std::alloc::{AllocError, Global};
-use zip::{Entry, StoredFile, ZipError, read_archive, read_file, write_archive};
+use zip::{Entry, StoredFile, ZipError, find_end, read_archive, read_file, write_archive};
 
 const FILES: usize = 6000;
 
 const CHUNKS: usize = 6000;
+
+// So many bytes stand before an archive with a long comment.
+const BEFORE: usize = 64;
 
 // The bytes of names and contents, from which files are cut.
 #[derive(Drop)]
@@ -61,6 +64,7 @@ fn make_file<'a>(pool: &'a Pool, random: &mut Random) -> StoredFile<'a> {
     }
 }
 
+#[inline(never)]
 fn make_files<'a>(
     alloc: Global,
     pool: &'a Pool,
@@ -75,32 +79,50 @@ fn make_files<'a>(
 
 fn add_zip_error(digest: &mut Digest, error: &ZipError) {
     match error {
-        ZipError::NoEnd => digest.add(2),
-        ZipError::Refused(located) => digest.add(located.offset as u64),
-        ZipError::Differs => digest.add(3),
-        ZipError::TooLarge(size) => digest.add(*size as u64),
-        ZipError::TooMany(count) => digest.add(*count as u64),
+        ZipError::NoEnd => digest.add_as(11, 0),
+        ZipError::Refused(located) => digest.add_located(located),
+        ZipError::Differs => digest.add_as(12, 0),
+        ZipError::TooLarge(size) => digest.add_as(13, *size as u64),
+        ZipError::TooMany(count) => digest.add_as(14, *count as u64),
     }
 }
 
-// Reads the entry's file.
-fn add_file(archive: &[u8], entry: &Entry, digest: &mut Digest) {
-    digest.add(u64::from(entry.place) << 32 ^ u64::from(entry.crc));
-    digest.add(u64::from(entry.size) << 32 ^ u64::from(entry.time) << 16 ^ u64::from(entry.date));
-    match read_file(archive, entry) {
-        Ok(file) => {
-            digest.add_ends(file.name);
-            digest.add_ends(file.contents);
-        }
-        Err(error) => add_zip_error(digest, &error),
-    }
+fn add_entry(digest: &mut Digest, entry: &Entry) {
+    digest.add(u64::from(entry.signature) ^ u64::from(entry.external) << 32);
+    digest.add(u64::from(entry.made_by) ^ u64::from(entry.version) << 32);
+    digest.add(u64::from(entry.flags) ^ u64::from(entry.method) << 32);
+    digest.add(u64::from(entry.time) ^ u64::from(entry.date) << 32);
+    digest.add(u64::from(entry.crc) ^ u64::from(entry.place) << 32);
+    digest.add(u64::from(entry.packed) ^ u64::from(entry.size) << 32);
+    digest.add(u64::from(entry.name_len) ^ u64::from(entry.extra_len) << 32);
+    digest.add(u64::from(entry.comment_len) ^ u64::from(entry.disk) << 32);
+    digest.add(u64::from(entry.internal));
+    digest.add_ends(entry.name);
+    digest.add_ends(entry.extra);
+    digest.add_ends(entry.comment);
+}
+
+fn add_file(digest: &mut Digest, file: &StoredFile) {
+    digest.add(u64::from(file.signature) ^ u64::from(file.version) << 32);
+    digest.add(u64::from(file.flags) ^ u64::from(file.method) << 32);
+    digest.add(u64::from(file.time) ^ u64::from(file.date) << 32);
+    digest.add(u64::from(file.crc) ^ u64::from(file.name_len) << 32);
+    digest.add(u64::from(file.packed) ^ u64::from(file.size) << 32);
+    digest.add_ends(file.name);
+    digest.add_ends(file.extra);
+    digest.add_ends(file.contents);
 }
 
 fn add_archive(alloc: Global, archive: &[u8], digest: &mut Digest) {
     match read_archive(alloc, archive) {
         Ok(entries) => {
+            digest.add(entries.len() as u64);
             for entry in &entries {
-                add_file(archive, entry, digest);
+                add_entry(digest, entry);
+                match read_file(archive, entry) {
+                    Ok(file) => add_file(digest, &file),
+                    Err(error) => add_zip_error(digest, &error),
+                }
             }
         }
         Err(error) => add_zip_error(digest, &error),
@@ -125,35 +147,59 @@ fn copy_files(
     }
 }
 
-// An archive without files whose comment of 60,000 bytes is full of what looks like an end record.
+// An archive without files, behind some other bytes, whose comment of 60,000 bytes is full of what
+// looks like an end record.
 fn make_comment(alloc: Global, random: &mut Random) -> Result<Vec<u8>, AllocError> {
     let mut bytes = Vec::new(alloc);
+    push_letters(&mut bytes, random, BEFORE as u64)?;
     bytes.extend_from_slice(b"PK\x05\x06\0\0\0\0\0\0\0\0\0\0\0\0\0\0\0\0")?;
     bytes.extend_from_slice(&60_000u16.to_le_bytes())?;
-    for i in 0..15_000 {
-        if i % 3 == 0 {
-            bytes.extend_from_slice(b"PK\x05\x06")?;
-        } else {
-            bytes.extend_from_slice(&[0xff, low8(random.next()), b'P', b'K'])?;
-        }
+    for _ in 0..5000 {
+        bytes.extend_from_slice(b"PK\x05\x06\xff")?;
+        bytes.push(low8(random.next()))?;
+        bytes.extend_from_slice(b"PK\xff")?;
+        bytes.push(low8(random.next()))?;
+        bytes.extend_from_slice(b"PK")?;
     }
     Ok(bytes)
 }
 
-// Changes some of the bytes between the signatures.
+// Changes a byte behind each signature.
+#[inline(never)]
 fn change_comment(comment: &mut [u8], random: &mut Random) {
-    for byte in comment.iter_mut().skip(27).step_by(12 * 97) {
-        *byte = low8(random.next());
+    let Some(behind) = comment.get_mut(BEFORE + 22..) else {
+        return;
+    };
+    for part in behind.chunks_exact_mut(12) {
+        if let Some(byte) = part.get_mut(5) {
+            *byte = low8(random.next());
+        }
+    }
+}
+
+// Searches for the end of an archive, and reads it, each time with another comment and with other
+// bytes before it.
+fn add_comments(alloc: Global, comment: &mut [u8], random: &mut Random, digest: &mut Digest) {
+    for _ in 0..2 {
+        change_comment(comment, random);
+        let start = random.next() as usize % BEFORE;
+        match find_end(comment.get(start..).unwrap_or(b"")) {
+            Some(place) => digest.add_as(15, place as u64),
+            None => digest.add_as(16, 0),
+        }
+        change_comment(comment, random);
+        let start = random.next() as usize % BEFORE;
+        add_archive(alloc, comment.get(start..).unwrap_or(b""), digest);
     }
 }
 
 fn add_chunk_error(digest: &mut Digest, error: &ChunkError) {
     match error {
-        ChunkError::Refused(_) => digest.add(2),
+        ChunkError::Refused(error) => digest.add_error(error),
         ChunkError::BadChecksum { stated, counted } => {
-            digest.add(u64::from(*stated) << 32 ^ u64::from(*counted))
+            digest.add_as(17, u64::from(*stated) << 32 ^ u64::from(*counted))
         }
-        ChunkError::TooLong(len) => digest.add(*len as u64),
+        ChunkError::TooLong(len) => digest.add_as(18, *len as u64),
     }
 }
 
@@ -170,14 +216,22 @@ fn write_chunks(target: &mut [u8], pool: &Pool, random: &mut Random, digest: &mu
 }
 
 // Writes chunks, and reads them up to the end.
-fn copy_chunks(target: &mut [u8], pool: &Pool, random: &mut Random, digest: &mut Digest) {
+fn copy_chunks(
+    target: &mut [u8],
+    pool: &Pool,
+    round: u64,
+    random: &mut Random,
+    digest: &mut Digest,
+) {
     let end = write_chunks(target, pool, random, digest);
     let file = target.get(..end).unwrap_or(b"");
+    digest.add_written(file, round);
     let mut offset = 0;
     for _ in 0..file.len() {
         match read_chunk(file, &mut offset, &Sum) {
             Ok(chunk) => {
                 digest.add(u64::from(chunk.kind) << 32 ^ u64::from(chunk.crc));
+                digest.add(u64::from(chunk.len));
                 digest.add_ends(chunk.contents);
             }
             Err(error) => return add_chunk_error(digest, &error),
@@ -206,11 +260,8 @@ pub fn run(alloc: Global, seed: u64, rounds: u64, digest: &mut Digest) -> Result
             round,
             digest,
         );
-        copy_chunks(target.as_mut_slice(), &pool, &mut random, digest);
-        for _ in 0..4 {
-            change_comment(comment.as_mut_slice(), &mut random);
-            add_archive(alloc, comment.as_slice(), digest);
-        }
+        copy_chunks(target.as_mut_slice(), &pool, round, &mut random, digest);
+        add_comments(alloc, comment.as_mut_slice(), &mut random, digest);
     }
     Ok(())
 }

@@ -1,11 +1,11 @@
 // Long lists of commands over one buffer.
-use crate::inputs::{Digest, Random};
+use crate::inputs::{Digest, Random, low16, low32};
 use scroll::cstr::CStr;
 use scroll::ctx::StrCtx;
 use scroll::runner::{
     Answer, Command, Kind, Number, Place, Put, Value, Width, run as run_commands,
 };
-use scroll::{BE, Endian, Error, LE, Sleb128, Uleb128};
+use scroll::{BE, Endian, LE, Sleb128, Uleb128};
 use std::alloc::{AllocError, Global};
 
 const BUFFER: usize = 0x1_0000;
@@ -15,6 +15,9 @@ const COMMANDS: usize = 60_000;
 // So many commands are run with one cursor.
 const LIST: usize = 1000;
 
+// What the buffer is filled with.
+static LETTERS: [u8; 32] = *b" \0abcdefghijklmnopabcdefghijklmn";
+
 fn choose_order(random: &mut Random) -> Endian {
     if random.next() % 2 == 0 { LE } else { BE }
 }
@@ -23,7 +26,7 @@ fn choose_place(random: &mut Random, awkward: bool) -> Place {
     if random.next() % 3 == 0 {
         return Place::Cursor;
     }
-    // (half of the awkward ones are past the end or near it)
+    // (half of the awkward ones that come here are at the last byte or behind it)
     if awkward && random.next() % 2 == 0 {
         return Place::At(random.between(0xffff, 0x1_0040) as usize);
     }
@@ -107,7 +110,12 @@ fn choose_put<'c>(random: &mut Random, text: &'c str) -> Put<'c> {
         },
         8 => Put::Uleb(Uleb128::shortest(random.next())),
         9 => Put::Sleb(Sleb128::shortest(random.next().wrapping_sub(0x7fff_ffff).cast_signed())),
-        10 => Put::U16x3([0x6162, 0x6364, 0x2066], choose_order(random)),
+        10 => {
+            let first = low16(random.next() & 0x7f7f);
+            let second = low16(random.next() & 0x7f7f);
+            let third = low16(random.next() & 0x7f7f);
+            Put::U16x3([first, second, third], choose_order(random))
+        }
         _ => Put::Bytesx2(some, bytes),
     }
 }
@@ -138,15 +146,6 @@ fn make_commands<'c>(
     Ok(commands)
 }
 
-fn add_error(digest: &mut Digest, error: &Error) {
-    match error {
-        Error::TooBig { size, len } => digest.add((*size ^ *len << 8) as u64),
-        Error::BadInput { size, .. } => digest.add(*size as u64),
-        Error::BadOffset(offset) => digest.add(*offset as u64),
-        _ => digest.add(1),
-    }
-}
-
 // Returns both halves of a number as one.
 fn fold(number: u128) -> u64 {
     (number & 0xffff_ffff_ffff_ffff) as u64 ^ (number >> 64) as u64
@@ -154,18 +153,38 @@ fn fold(number: u128) -> u64 {
 
 fn add_value(digest: &mut Digest, value: &Value) {
     match value {
-        Value::Unsigned(number) => digest.add(fold(*number)),
-        Value::Signed(number) => digest.add(fold(number.cast_unsigned())),
-        Value::Text(text) => digest.add_ends(text.as_bytes()),
-        Value::Bytes(bytes) => digest.add_ends(bytes.as_slice()),
-        Value::CStr(bytes) => digest.add_ends(bytes.as_slice()),
-        Value::Uleb(number) => digest.add(u64::from(*number) ^ number.size() as u64),
-        Value::Sleb(number) => digest.add(i64::from(*number).cast_unsigned()),
-        Value::U8x0 => digest.add(3),
+        Value::Unsigned(number) => digest.add_as(11, fold(*number)),
+        Value::Signed(number) => digest.add_as(12, fold(number.cast_unsigned())),
+        Value::Text(text) => {
+            digest.add_as(13, 1);
+            digest.add_ends(text.as_bytes());
+        }
+        Value::Bytes(bytes) => {
+            digest.add_as(14, 1);
+            digest.add_ends(bytes.as_slice());
+        }
+        Value::CStr(bytes) => {
+            digest.add_as(15, 1);
+            digest.add_ends(bytes.as_slice());
+        }
+        Value::Uleb(number) => {
+            digest.add_as(16, 0);
+            digest.add_unsigned(*number);
+        }
+        Value::Sleb(number) => {
+            digest.add_as(17, 0);
+            digest.add_signed(*number);
+        }
+        Value::U8x0 => digest.add_as(18, 0),
         Value::U16x3([first, second, third]) => {
-            digest.add(u64::from(*first) ^ u64::from(*second) << 16 ^ u64::from(*third) << 32)
+            let first = u64::from(*first);
+            digest.add_as(
+                19,
+                first ^ u64::from(*second) << 16 ^ u64::from(*third) << 32,
+            )
         }
         Value::Textx2(first, second) => {
+            digest.add_as(20, 2);
             digest.add_ends(first.as_bytes());
             digest.add_ends(second.as_bytes());
         }
@@ -173,13 +192,26 @@ fn add_value(digest: &mut Digest, value: &Value) {
 }
 
 fn add_answers(digest: &mut Digest, answers: &[Answer]) {
+    digest.add(answers.len() as u64);
     for answer in answers {
         match answer {
             Answer::Read(value) => add_value(digest, value),
-            Answer::Wrote(size) => digest.add(*size as u64),
-            Answer::Refused(error) => add_error(digest, error),
+            Answer::Wrote(size) => digest.add_as(21, *size as u64),
+            Answer::Refused(error) => digest.add_error(error),
         }
     }
+}
+
+// Words, with a zero behind the eighth.
+fn make_text(alloc: Global, random: &mut Random) -> Result<String, AllocError> {
+    let mut text = String::new(alloc);
+    for i in 0..16 {
+        for _ in 0..random.between(1, 7) {
+            text.push(char::from(b'a' + (random.next() % 26) as u8))?;
+        }
+        text.push(if i == 7 { '\0' } else { ' ' })?;
+    }
+    Ok(text)
 }
 
 // Runs the commands, with the cursor put elsewhere for each list.
@@ -207,24 +239,27 @@ fn run_lists(
 }
 
 // Fills the buffer with letters, with a space or a zero in one of sixteen places.
+#[inline(never)]
 fn fill(buffer: &mut [u8], random: &mut Random) {
-    for byte in buffer.iter_mut() {
-        let number = random.next();
-        *byte = match number & 0x1f {
-            0 => b' ',
-            1 => 0,
-            _ => b'a' + (number >> 8 & 0xf) as u8,
-        };
+    for part in buffer.chunks_exact_mut(4) {
+        if let Some(part) = part.as_mut_array() {
+            let [first, second, third, fourth] = low32(random.next()).to_le_bytes();
+            *part = [letter(first), letter(second), letter(third), letter(fourth)];
+        }
     }
 }
 
-/// Fills the buffer anew, and runs the commands over it: plain ones, and then those of which half
-/// are refused.
+fn letter(number: u8) -> u8 {
+    LETTERS[number as usize % 32]
+}
+
+/// Fills the buffer anew, and runs the commands over it: plain ones, and in every second round
+/// awkward ones, of which about a third are refused.
 pub fn run(alloc: Global, seed: u64, rounds: u64, digest: &mut Digest) -> Result<(), AllocError> {
     let mut random = Random::new(seed);
-    let text = "some words of a text that is written \0 and those behind the zero of it, with more";
-    let plain = make_commands(alloc, &mut random, text, false)?;
-    let awkward = make_commands(alloc, &mut random, text, true)?;
+    let text = make_text(alloc, &mut random)?;
+    let plain = make_commands(alloc, &mut random, text.as_str(), false)?;
+    let awkward = make_commands(alloc, &mut random, text.as_str(), true)?;
     let mut buffer = vec![in alloc; 0u8; BUFFER]?;
     for round in 0..rounds {
         fill(buffer.as_mut_slice(), &mut random);

@@ -1,7 +1,6 @@
 // Indexes of git, read and written.
 use crate::inputs::{Digest, Random, change_all, low32};
-use git_index::{Entry, IndexError, read_index, write_index};
-use scroll::Error;
+use git_index::{Entry, IndexError, WriteError, read_index, write_index};
 use std::alloc::{AllocError, Global};
 
 const ENTRIES: u64 = 30_000;
@@ -56,40 +55,46 @@ fn make_index(alloc: Global, random: &mut Random) -> Result<Index, AllocError> {
 
 fn add_error(digest: &mut Digest, error: &IndexError) {
     match error {
-        IndexError::Refused(located) => {
-            digest.add(located.offset as u64);
-            match &located.error {
-                Error::TooBig { size, len } => digest.add((*size ^ *len << 8) as u64),
-                Error::BadInput { size, .. } => digest.add(*size as u64),
-                _ => digest.add(1),
-            }
-        }
-        IndexError::BadVersion(version) => digest.add(u64::from(*version)),
-        IndexError::BadSignature(signature) => digest.add(u64::from(*signature)),
-        IndexError::Short(_) => digest.add(2),
+        IndexError::Refused(located) => digest.add_located(located),
+        IndexError::BadVersion(version) => digest.add_as(11, u64::from(*version)),
+        IndexError::BadSignature(signature) => digest.add_as(12, u64::from(*signature)),
+        IndexError::Short(error) => digest.add_error(error),
+    }
+}
+
+fn add_write_error(digest: &mut Digest, error: &WriteError) {
+    match error {
+        WriteError::TooMany(count) => digest.add_as(13, *count as u64),
+        WriteError::Short(error) => digest.add_error(error),
     }
 }
 
 fn add_entry(digest: &mut Digest, entry: &Entry) {
     let stat = &entry.stat;
-    digest.add(u64::from(stat.size) ^ u64::from(stat.modified) << 32);
-    digest.add(u64::from(stat.mode) ^ u64::from(stat.flags) << 32);
-    digest.add(u64::from(stat.changed) ^ u64::from(stat.inode) << 32);
-    digest.add(u64::from(stat.changed_nanos) ^ u64::from(stat.modified_nanos) << 32);
+    digest.add(u64::from(stat.changed) ^ u64::from(stat.changed_nanos) << 32);
+    digest.add(u64::from(stat.modified) ^ u64::from(stat.modified_nanos) << 32);
+    digest.add(u64::from(stat.device) ^ u64::from(stat.inode) << 32);
     digest.add(u64::from(stat.user) ^ u64::from(stat.group) << 32);
-    digest.add(u64::from(stat.device) ^ u64::from(stat.id[0]) << 32 ^ u64::from(stat.id[19]) << 40);
+    digest.add(u64::from(stat.mode) ^ u64::from(stat.size) << 32);
+    for word in stat.id.as_slice().chunks_exact(4) {
+        if let Some(word) = word.as_array() {
+            digest.add(u64::from(u32::from_le_bytes(*word)));
+        }
+    }
+    digest.add(u64::from(stat.flags));
     digest.add_ends(entry.path.to_bytes());
 }
 
 fn copy_index(alloc: Global, bytes: &[u8], target: &mut [u8], round: u64, digest: &mut Digest) {
     match read_index(alloc, bytes) {
         Ok(entries) => {
+            digest.add(entries.len() as u64);
             for entry in &entries {
                 add_entry(digest, entry);
             }
             match write_index(target, entries.as_slice()) {
                 Ok(size) => digest.add(size as u64),
-                Err(_) => digest.add(3),
+                Err(error) => add_write_error(digest, &error),
             }
         }
         Err(error) => add_error(digest, &error),

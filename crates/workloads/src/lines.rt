@@ -1,6 +1,6 @@
 // Line number programs, and runs of numbers in LEB128.
 use crate::inputs::{Digest, Random, change_all, low8, low32, push_leb128, push_number};
-use scroll::{Error, LE, Pread, Result, Sleb128, Uleb128};
+use scroll::{LE, Pread, Result, Sleb128, Uleb128};
 use std::alloc::{AllocError, Global};
 
 // The first special opcode, as compilers choose it.
@@ -56,13 +56,10 @@ fn push_unit(units: &mut Units, random: &mut Random) -> std::result::Result<(), 
         push_instruction(units, random)?;
     }
     let len = units.bytes.len().saturating_sub(start).saturating_sub(4);
-    for (byte, new) in units
-        .bytes
-        .iter_mut()
-        .skip(start)
-        .zip(low32(len as u64).to_le_bytes())
-    {
-        *byte = new;
+    if let Some(unit) = units.bytes.as_mut_slice().get_mut(start..) {
+        for (byte, new) in unit.iter_mut().zip(low32(len as u64).to_le_bytes()) {
+            *byte = new;
+        }
     }
     Ok(())
 }
@@ -81,15 +78,16 @@ fn make_units(alloc: Global, random: &mut Random) -> std::result::Result<Units, 
     Ok(units)
 }
 
-// Returns the program of the unit at the cursor (DWARF 5, section 6.2.4).
-fn read_program<'a>(bytes: &'a [u8], offset: &mut usize) -> Result<&'a [u8]> {
+// Returns the program of the unit at the cursor (DWARF 5, section 6.2.4), and the length of its
+// header.
+fn read_program<'a>(bytes: &'a [u8], offset: &mut usize) -> Result<(&'a [u8], u32)> {
     let len: u32 = bytes.gread_with(offset, LE)?;
     let unit: &[u8] = bytes.gread_with(offset, len as usize)?;
     let header: u32 = unit.pread_with(4, LE)?;
     let at = &mut 8;
     let _header: &[u8] = unit.gread_with(at, header as usize)?;
     let program: &[u8] = unit.gread_with(at, unit.len().saturating_sub(*at))?;
-    Ok(program)
+    Ok((program, header))
 }
 
 // The operand of an extended opcode.
@@ -119,15 +117,7 @@ fn read_operand(program: &[u8], offset: &mut usize) -> Result<u64> {
     Ok(operand)
 }
 
-fn add_error(digest: &mut Digest, error: &Error) {
-    match error {
-        Error::TooBig { size, len } => digest.add((*size ^ *len << 8) as u64),
-        Error::BadInput { size, .. } => digest.add(*size as u64),
-        Error::BadOffset(offset) => digest.add(*offset as u64),
-        _ => digest.add(1),
-    }
-}
-
+// Adds each operand, and where its instruction ends.
 fn add_operands(program: &[u8], digest: &mut Digest) {
     let mut at = 0;
     for _ in 0..program.len() {
@@ -135,8 +125,8 @@ fn add_operands(program: &[u8], digest: &mut Digest) {
             return;
         }
         match read_operand(program, &mut at) {
-            Ok(operand) => digest.add(operand),
-            Err(error) => return add_error(digest, &error),
+            Ok(operand) => digest.add(operand ^ (at as u64) << 40),
+            Err(error) => return digest.add_error(&error),
         }
     }
 }
@@ -145,8 +135,11 @@ fn run_programs(bytes: &[u8], digest: &mut Digest) {
     let mut offset = 0;
     for _ in 0..bytes.len() {
         match read_program(bytes, &mut offset) {
-            Ok(program) => add_operands(program, digest),
-            Err(error) => return add_error(digest, &error),
+            Ok((program, header)) => {
+                digest.add(offset as u64 ^ u64::from(header) << 32);
+                add_operands(program, digest);
+            }
+            Err(error) => return digest.add_error(&error),
         }
     }
 }
@@ -198,8 +191,8 @@ fn add_unsigned(bytes: &[u8], digest: &mut Digest) {
     let mut offset = 0;
     for _ in 0..bytes.len() {
         match bytes.gread_with::<Uleb128>(&mut offset, ()) {
-            Ok(number) => digest.add(u64::from(number)),
-            Err(error) => return add_error(digest, &error),
+            Ok(number) => digest.add_unsigned(number),
+            Err(error) => return digest.add_error(&error),
         }
     }
 }
@@ -208,8 +201,8 @@ fn add_signed(bytes: &[u8], digest: &mut Digest) {
     let mut offset = 0;
     for _ in 0..bytes.len() {
         match bytes.gread_with::<Sleb128>(&mut offset, ()) {
-            Ok(number) => digest.add(i64::from(number).cast_unsigned() ^ number.size() as u64),
-            Err(error) => return add_error(digest, &error),
+            Ok(number) => digest.add_signed(number),
+            Err(error) => return digest.add_error(&error),
         }
     }
 }

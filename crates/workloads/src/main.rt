@@ -1,6 +1,6 @@
-//! The jobs that users of the libraries wait for, which bench/run times. `workloads JOB SEED ROUNDS`
-//! makes the inputs of a job from a seed, runs it over them as often as is said, each time on other
-//! bytes, and prints a digest of all results. The job `all` runs each of them.
+//! The jobs that users of the libraries wait for, which bench/run times. `workloads JOB SEED
+//! ROUNDS` makes the inputs of a job from a seed, runs it over them as often as is said, each time
+//! on other bytes, and prints a digest of all results. The job `all` runs each of them.
 #![tactic(auto)]
 
 mod archives;
@@ -9,6 +9,7 @@ mod indexes;
 mod inputs;
 mod lines;
 mod objects;
+mod own;
 mod records;
 mod streams;
 mod tables;
@@ -18,8 +19,8 @@ use std::alloc::{AllocError, Global};
 use std::env;
 use std::process::ExitCode;
 
-const JOBS: [&str; 6] = [
-    "tables", "objects", "records", "streams", "archives", "commands",
+const JOBS: [&str; 7] = [
+    "tables", "objects", "records", "streams", "archives", "commands", "own",
 ];
 
 // Runs a job, and returns the digest of its results, or `None` where there is no such job.
@@ -38,6 +39,7 @@ fn run_job(alloc: Global, job: &str, seed: u64, rounds: u64) -> Result<Option<Di
             archives::run(alloc, seed, rounds, &mut digest)?;
         }
         "commands" => commands::run(alloc, seed, rounds, &mut digest)?,
+        "own" => own::run(alloc, seed, rounds, &mut digest)?,
         _ => return Ok(None),
     }
     Ok(Some(digest))

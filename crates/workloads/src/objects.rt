@@ -1,10 +1,11 @@
 // The sections and the symbols of object files, with their names.
-use crate::inputs::{Digest, Random, low8, push_letters};
+use crate::inputs::{Digest, Random, change_all, number_end, push_letters};
 use object_files::{
     ElfError, Header, SYMBOLS, Section, Sections, Symbol, name_table, read_sections, section_bytes,
     section_name, symbol_name,
 };
-use scroll::{Error, Pread};
+use scroll::cstr::CStr;
+use scroll::{Endian, Pread};
 use scroll_formats::Table;
 use std::alloc::{AllocError, Global};
 
@@ -22,11 +23,21 @@ struct Plan {
     symbols: usize,
 }
 
-// A file, with the places of its symbols and of its names.
+// A table of names, with the place of each name and of its last letter. The last name has no zero.
+#[derive(Drop)]
+struct Names {
+    bytes: Vec<u8>,
+    starts: Vec<u64>,
+    letters: Vec<usize>,
+    last: u64,
+}
+
+// A file, with the places of numbers of some sections and symbols, and that of the names, which are
+// last.
 #[derive(Drop)]
 struct Object {
     bytes: Vec<u8>,
-    symbols: usize,
+    numbers: Vec<usize>,
     names: usize,
 }
 
@@ -70,8 +81,12 @@ fn push_header(bytes: &mut Vec<u8>, plan: Plan) -> Result<(), AllocError> {
     Ok(())
 }
 
-fn push_section(bytes: &mut Vec<u8>, fields: [u64; 5], big: bool) -> Result<(), AllocError> {
+fn push_section(object: &mut Object, fields: [u64; 5], big: bool) -> Result<(), AllocError> {
     let [name, kind, offset, size, link] = fields;
+    // (the address of one of eight is changed)
+    if name % 8 == 0 {
+        object.numbers.push(object.bytes.len().saturating_add(18))?;
+    }
     for (number, size) in [
         (name, 4),
         (kind, 4),
@@ -84,17 +99,22 @@ fn push_section(bytes: &mut Vec<u8>, fields: [u64; 5], big: bool) -> Result<(), 
         (1, 8),
         (0, 8),
     ] {
-        push_ordered(bytes, number, size, big)?;
+        push_ordered(&mut object.bytes, number, size, big)?;
     }
     Ok(())
 }
 
 fn push_symbol(
-    bytes: &mut Vec<u8>,
+    object: &mut Object,
     name: u64,
     random: &mut Random,
     big: bool,
 ) -> Result<(), AllocError> {
+    // (the size of one of eight is changed)
+    if name % 8 == 0 {
+        object.numbers.push(object.bytes.len().saturating_add(18))?;
+    }
+    let bytes = &mut object.bytes;
     push_ordered(bytes, name, 4, big)?;
     push_ordered(bytes, random.next() & 0x1203, 2, big)?;
     push_ordered(bytes, random.next() % 40, 2, big)?;
@@ -103,25 +123,29 @@ fn push_symbol(
 }
 
 // Names as compilers make them: most of 5 to 40 letters, some of up to 150, and one of a thousand
-// of thousands. Appends the place of each.
-fn make_names(
-    names: &mut Vec<u8>,
-    places: &mut Vec<u64>,
-    count: usize,
-    random: &mut Random,
-) -> Result<(), AllocError> {
-    names.push(0)?;
+// of thousands.
+fn make_names(alloc: Global, random: &mut Random, count: usize) -> Result<Names, AllocError> {
+    let mut names = Names {
+        bytes: Vec::new(alloc),
+        starts: Vec::new(alloc),
+        letters: Vec::new(alloc),
+        last: 0,
+    };
+    names.bytes.push(0)?;
     for _ in 0..count {
-        places.push(names.len() as u64)?;
+        names.starts.push(names.bytes.len() as u64)?;
         let len = match random.next() % 1000 {
             0 => random.between(2000, 5000),
             1..=300 => random.between(41, 150),
             _ => random.between(5, 40),
         };
-        push_letters(names, random, len)?;
-        names.push(0)?;
+        push_letters(&mut names.bytes, random, len)?;
+        names.letters.push(names.bytes.len().saturating_sub(1))?;
+        names.bytes.push(0)?;
     }
-    Ok(())
+    names.last = names.bytes.len() as u64;
+    push_letters(&mut names.bytes, random, 20)?;
+    Ok(names)
 }
 
 // A name: one of ten is the end of another.
@@ -139,54 +163,92 @@ fn choose_name(places: &[u64], random: &mut Random) -> u64 {
         .saturating_add(shift)
 }
 
-fn make_object(alloc: Global, random: &mut Random, plan: Plan) -> Result<Object, AllocError> {
-    let mut names = Vec::new(alloc);
-    let mut places = Vec::new(alloc);
-    make_names(&mut names, &mut places, plan.symbols / 2, random)?;
-    let last = names.len() as u64;
-    // The last name has no zero.
-    push_letters(&mut names, random, 20)?;
-    let table = HEADER + SECTION * plan.sections.min(0xffff);
-    let symbols = SYMBOL * plan.symbols.min(0xffffff);
-    let mut bytes = Vec::new(alloc);
-    push_header(&mut bytes, plan)?;
-    push_section(&mut bytes, [0, 0, 0, 0, 0], plan.big)?;
-    let strings = [1, 3, (table + symbols) as u64, names.len() as u64, 0];
-    push_section(&mut bytes, strings, plan.big)?;
-    push_section(
-        &mut bytes,
-        [1, 2, table as u64, symbols as u64, 1],
-        plan.big,
-    )?;
+// No section, that of the names, that of the symbols, and others, of which only the entries are
+// read.
+fn push_sections(
+    object: &mut Object,
+    names: &Names,
+    random: &mut Random,
+    plan: Plan,
+) -> Result<(), AllocError> {
+    let table = (HEADER + SECTION * plan.sections.min(0xffff)) as u64;
+    let symbols = (SYMBOL * plan.symbols.min(0xff_ffff)) as u64;
+    push_section(object, [0, 0, 0, 0, 0], plan.big)?;
+    let strings = [1, 3, table + symbols, names.bytes.len() as u64, 0];
+    push_section(object, strings, plan.big)?;
+    push_section(object, [1, 2, table, symbols, 1], plan.big)?;
     for _ in 3..plan.sections {
-        let name = choose_name(places.as_slice(), random);
+        let name = choose_name(names.starts.as_slice(), random);
         let fields = [name, 1, random.next(), random.next(), 0];
-        push_section(&mut bytes, fields, plan.big)?;
+        push_section(object, fields, plan.big)?;
     }
+    Ok(())
+}
+
+fn make_object(
+    alloc: Global,
+    names: &Names,
+    random: &mut Random,
+    plan: Plan,
+) -> Result<Object, AllocError> {
+    let mut object = Object {
+        bytes: Vec::new(alloc),
+        numbers: Vec::new(alloc),
+        names: 0,
+    };
+    push_header(&mut object.bytes, plan)?;
+    push_sections(&mut object, names, random, plan)?;
     for _ in 1..plan.symbols {
-        let name = choose_name(places.as_slice(), random);
-        push_symbol(&mut bytes, name, random, plan.big)?;
+        let name = choose_name(names.starts.as_slice(), random);
+        push_symbol(&mut object, name, random, plan.big)?;
     }
-    push_symbol(&mut bytes, last, random, plan.big)?;
-    bytes.extend_from_slice(names.as_slice())?;
-    Ok(Object {
-        bytes,
-        symbols: table,
-        names: table + symbols,
-    })
+    push_symbol(&mut object, names.last, random, plan.big)?;
+    object.names = object.bytes.len();
+    object.bytes.extend_from_slice(names.bytes.as_slice())?;
+    Ok(object)
 }
 
 fn add_error(digest: &mut Digest, error: &ElfError) {
     match error {
-        ElfError::Refused(Error::TooBig { size, len }) => digest.add((*size ^ *len << 8) as u64),
-        ElfError::Refused(Error::BadInput { size, .. }) => digest.add(*size as u64),
-        ElfError::Refused(Error::BadOffset(offset)) => digest.add(*offset as u64),
-        ElfError::BadNames(index) => digest.add(u64::from(*index)),
-        _ => digest.add(1),
+        ElfError::BadMagic(magic) => digest.add_as(11, u64::from(*magic)),
+        ElfError::BadClass(class) => digest.add_as(12, u64::from(*class)),
+        ElfError::BadOrder(order) => digest.add_as(13, u64::from(*order)),
+        ElfError::BadEntrySize(size) => digest.add_as(14, u64::from(*size)),
+        ElfError::BadNames(index) => digest.add_as(16, u64::from(*index)),
+        ElfError::Refused(error) => digest.add_error(error),
+        _ => digest.add_as(15, 0),
     }
 }
 
-// The symbols of a section.
+// Adds a name, or the error in its place.
+fn add_name(digest: &mut Digest, name: Result<CStr, ElfError>) {
+    match name {
+        Ok(name) => digest.add_ends(name.to_bytes()),
+        Err(error) => add_error(digest, &error),
+    }
+}
+
+fn add_header(digest: &mut Digest, header: &Header) {
+    digest.add(u64::from(matches!(header.order, Endian::Big)) ^ u64::from(header.system) << 8);
+    digest.add(u64::from(header.kind) ^ u64::from(header.machine) << 32);
+    digest.add(u64::from(header.version) ^ u64::from(header.flags) << 32);
+    digest.add(header.entry);
+    digest.add(header.segments_offset);
+    digest.add(header.sections_offset);
+    digest.add(u64::from(header.header_size) ^ u64::from(header.names_index) << 32);
+    digest.add(u64::from(header.segment_size) ^ u64::from(header.segment_count) << 32);
+    digest.add(u64::from(header.section_size) ^ u64::from(header.section_count) << 32);
+}
+
+fn add_section(digest: &mut Digest, section: &Section) {
+    digest.add(u64::from(section.name) ^ u64::from(section.kind) << 32);
+    digest.add(section.flags ^ section.alignment << 32 ^ section.entry_size << 48);
+    digest.add(section.address ^ u64::from(section.info) << 32);
+    digest.add(section.offset ^ section.size << 32);
+    digest.add(u64::from(section.link));
+}
+
+// The symbols of a section, with their names.
 fn add_symbols(
     file: &[u8],
     header: &Header,
@@ -195,59 +257,54 @@ fn add_symbols(
     digest: &mut Digest,
 ) -> Result<(), ElfError> {
     let Some(linked) = sections.get(section.link as usize) else {
+        digest.add_as(17, u64::from(section.link));
         return Ok(());
     };
     let names = section_bytes(file, &linked)?;
     let symbols: Table<Symbol> = Table::new(section_bytes(file, section)?);
     for symbol in symbols.elements(header.order) {
-        digest.add(symbol.value ^ symbol.size << 32);
-        digest.add(u64::from(symbol.info) ^ u64::from(symbol.section) << 8);
-        let name = symbol_name(names, &symbol)?;
-        digest.add_ends(name.to_bytes());
+        digest.add(symbol.value ^ u64::from(symbol.name) << 32);
+        digest.add(symbol.size);
+        digest.add(
+            u64::from(symbol.info) ^ u64::from(symbol.other) << 8 ^ u64::from(symbol.section) << 16,
+        );
+        add_name(digest, symbol_name(names, &symbol));
     }
     Ok(())
 }
 
+// All sections. An error in one of them ends no walk.
 fn add_object(file: &[u8], digest: &mut Digest) -> Result<(), ElfError> {
     let header: Header = file.pread_with(0, ())?;
-    digest.add(header.sections_offset ^ u64::from(header.machine) << 32);
-    digest.add(header.entry ^ u64::from(header.flags) << 32);
+    add_header(digest, &header);
     let sections = read_sections(file, &header)?;
     let names = name_table(file, &header, &sections)?;
+    digest.add(sections.len() as u64);
     for i in 0..sections.len() {
         let Some(section) = sections.get(i) else {
             break;
         };
-        digest.add(section.size ^ section.offset << 32);
-        digest.add(section.flags ^ section.alignment << 32 ^ section.entry_size << 48);
-        digest.add(section.address ^ u64::from(section.info) << 32);
-        let name = section_name(names, &section)?;
-        digest.add_ends(name.to_bytes());
-        if section.kind == SYMBOLS {
-            add_symbols(file, &header, &sections, &section, digest)?;
+        add_section(digest, &section);
+        add_name(digest, section_name(names, &section));
+        if section.kind == SYMBOLS
+            && let Err(error) = add_symbols(file, &header, &sections, &section, digest)
+        {
+            add_error(digest, &error);
         }
     }
     Ok(())
 }
 
-// Changes the case of some letters of the names, of one in 64 bytes, and the sizes of some symbols.
-fn change_object(object: &mut Object, random: &mut Random) {
-    let names = object.names.saturating_add(random.between(0, 63) as usize);
-    for byte in object.bytes.iter_mut().skip(names).step_by(64) {
-        if *byte >= b'A' {
-            *byte ^= low8(random.next()) & 0x20;
-        }
-    }
-    let sizes = object.symbols.saturating_add(18);
-    for byte in object
-        .bytes
-        .iter_mut()
-        .skip(sizes)
-        .step_by(SYMBOL * 8)
-        .take(7500)
-    {
-        *byte ^= low8(random.next());
-    }
+// Changes the last letter of each name, and numbers of sections and symbols. The last symbol ends
+// in the number of the round, since the read of a symbol is given those behind it too.
+fn change_object(object: &mut Object, letters: &[usize], round: u64, random: &mut Random) {
+    let bytes = object.bytes.as_mut_slice();
+    let Some((symbols, names)) = bytes.split_at_mut_checked(object.names) else {
+        return;
+    };
+    change_all(symbols, object.numbers.as_slice(), random, 0xff);
+    number_end(symbols, round);
+    change_all(names, letters, random, 0x0f);
 }
 
 /// Changes the files, and reads their sections and symbols.
@@ -259,9 +316,10 @@ pub fn run(alloc: Global, seed: u64, rounds: u64, digest: &mut Digest) -> Result
             sections: 5000,
             symbols: 60_000,
         };
-        let mut object = make_object(alloc, &mut random, plan)?;
-        for _ in 0..rounds {
-            change_object(&mut object, &mut random);
+        let names = make_names(alloc, &mut random, plan.symbols / 2)?;
+        let mut object = make_object(alloc, &names, &mut random, plan)?;
+        for round in 0..rounds {
+            change_object(&mut object, names.letters.as_slice(), round, &mut random);
             if let Err(error) = add_object(object.bytes.as_slice(), digest) {
                 add_error(digest, &error);
             }

@@ -1,9 +1,8 @@
 // Packets and records of a log, read and written.
-use crate::inputs::{Digest, Random, change_all, low16, push_letters};
+use crate::inputs::{Digest, Random, change_all, low16, number_end, push_letters};
 use packets::log::{Record, read_records, write_records};
 use packets::{Packet, PacketError, read_packet, write_packet};
-use scroll::{BE, Error, LE};
-use scroll_formats::At;
+use scroll::{BE, LE};
 use std::alloc::{AllocError, Global};
 
 const PACKETS: usize = 12_000;
@@ -45,18 +44,29 @@ fn make_packets(alloc: Global, random: &mut Random) -> Result<Log, AllocError> {
         push_body(&mut bytes, random, len.saturating_add(12))?;
     }
     // The last packet is cut off.
-    bytes.extend_from_slice(&[
-        0, 53, 0, 53, 0, 200, 0, 0, 0, 1, 0, 0, 0, 1, 0, 0, 0, 0, 0, 0, 7,
-    ])?;
+    push_body(&mut bytes, random, 4)?;
+    bytes.extend_from_slice(&200u16.to_be_bytes())?;
+    push_body(&mut bytes, random, 15)?;
     Ok(Log { bytes, places })
 }
 
 fn add_packet_error(digest: &mut Digest, error: &PacketError) {
     match error {
-        PacketError::Short(Error::TooBig { size, len }) => digest.add((*size ^ *len << 8) as u64),
-        PacketError::Short(_) => digest.add(1),
-        PacketError::NoMessage(len) => digest.add(u64::from(*len)),
+        PacketError::Short(error) => digest.add_error(error),
+        PacketError::NoMessage(len) => digest.add_as(11, u64::from(*len)),
     }
+}
+
+fn add_packet(digest: &mut Digest, packet: &Packet) {
+    let udp = &packet.udp;
+    digest.add(u64::from(udp.source) << 16 ^ u64::from(udp.destination));
+    digest.add(u64::from(udp.len) << 16 ^ u64::from(udp.checksum));
+    let dns = &packet.dns;
+    digest.add(u64::from(dns.id) << 16 ^ u64::from(dns.flags));
+    digest.add(u64::from(dns.questions) << 16 ^ u64::from(dns.answers));
+    digest.add(u64::from(dns.authorities) << 16 ^ u64::from(dns.additionals));
+    digest.add(u64::from(dns.is_response()) << 16 ^ u64::from(dns.response_code()));
+    digest.add_ends(packet.body);
 }
 
 // The answer to a packet.
@@ -87,10 +97,7 @@ fn copy_packet(
 ) -> Result<usize, PacketError> {
     let from = bytes.get(offset..).unwrap_or(b"");
     let packet = read_packet(from)?;
-    digest.add(u64::from(packet.dns.id) << 16 ^ u64::from(packet.udp.checksum));
-    digest.add(u64::from(packet.udp.source) << 16 ^ u64::from(packet.udp.destination));
-    digest.add(u64::from(packet.dns.response_code()) ^ u64::from(packet.dns.questions) << 16);
-    digest.add_ends(packet.body);
+    add_packet(digest, &packet);
     put_packet(target, offset, answer(&packet))
 }
 
@@ -98,7 +105,10 @@ fn copy_packets(bytes: &[u8], target: &mut [u8], round: u64, digest: &mut Digest
     let mut offset: usize = 0;
     for _ in 0..bytes.len() {
         match copy_packet(bytes, target, offset, digest) {
-            Ok(size) => offset = offset.saturating_add(size),
+            Ok(size) => {
+                offset = offset.saturating_add(size);
+                digest.add(size as u64);
+            }
             Err(error) => {
                 add_packet_error(digest, &error);
                 break;
@@ -147,19 +157,11 @@ fn make_log(alloc: Global, random: &mut Random) -> Result<Log, AllocError> {
     Ok(Log { bytes, places })
 }
 
-fn add_located(digest: &mut Digest, located: &At<Error>) {
-    digest.add(located.offset as u64);
-    match &located.error {
-        Error::TooBig { size, len } => digest.add((*size ^ *len << 8) as u64),
-        Error::BadInput { size, .. } => digest.add(*size as u64),
-        _ => digest.add(1),
-    }
-}
-
 fn copy_log(alloc: Global, bytes: &[u8], target: &mut [u8], round: u64, digest: &mut Digest) {
     let to = if round % 2 == 0 { BE } else { LE };
     match read_records(alloc, bytes, LE) {
         Ok(records) => {
+            digest.add(records.len() as u64);
             for record in &records {
                 let record: &Record = record;
                 digest.add(u64::from(record.len));
@@ -168,10 +170,10 @@ fn copy_log(alloc: Global, bytes: &[u8], target: &mut [u8], round: u64, digest: 
             }
             match write_records(target, records.as_slice(), to) {
                 Ok(size) => digest.add(size as u64),
-                Err(located) => add_located(digest, &located),
+                Err(located) => digest.add_located(&located),
             }
         }
-        Err(located) => add_located(digest, &located),
+        Err(located) => digest.add_located(&located),
     }
     digest.add_written(target, round);
 }
@@ -195,6 +197,8 @@ pub fn run(alloc: Global, seed: u64, rounds: u64, digest: &mut Digest) -> Result
     let mut target = vec![in alloc; 0u8; size]?;
     for round in 0..rounds {
         change_log(&mut packets, &mut random);
+        // (the read of a packet is given those behind it too)
+        number_end(packets.bytes.as_mut_slice(), round);
         copy_packets(
             packets.bytes.as_slice(),
             target.as_mut_slice(),

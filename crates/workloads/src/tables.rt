@@ -1,7 +1,7 @@
 // Tables of abbreviations, read, walked and written back.
 use crate::inputs::{Digest, Random, change_all, push_leb128};
 use debug_tables::{Attribute, Children, Declaration, TableError, read_table, write_table};
-use scroll::{Error, LE};
+use scroll::LE;
 use std::alloc::{AllocError, Global};
 
 const TABLES: u64 = 300;
@@ -59,15 +59,18 @@ fn make_section(alloc: Global, random: &mut Random) -> Result<Section, AllocErro
 }
 
 fn add_attribute(digest: &mut Digest, attribute: &Attribute) {
-    digest.add(u64::from(attribute.name) << 32 ^ u64::from(attribute.form));
+    digest.add_unsigned(attribute.name);
+    digest.add_unsigned(attribute.form);
     if let Some(constant) = attribute.constant {
-        digest.add(i64::from(constant).cast_unsigned());
+        digest.add_signed(constant);
     }
 }
 
 fn add_declaration(digest: &mut Digest, declaration: &Declaration) {
-    digest.add(u64::from(declaration.code) << 32 ^ u64::from(declaration.tag));
+    digest.add_unsigned(declaration.code);
+    digest.add_unsigned(declaration.tag);
     digest.add(u64::from(matches!(declaration.children, Children::Yes)));
+    digest.add(declaration.attributes.bytes.len() as u64);
     let mut attributes = declaration.attributes.values(LE);
     for _ in 0..declaration.attributes.bytes.len() {
         let Some(attribute) = attributes.next() else {
@@ -79,10 +82,8 @@ fn add_declaration(digest: &mut Digest, declaration: &Declaration) {
 
 fn add_error(digest: &mut Digest, error: &TableError) {
     match error {
-        TableError::Read(Error::TooBig { size, len }) => digest.add((*size ^ *len << 8) as u64),
-        TableError::Read(Error::BadInput { size, .. }) => digest.add(*size as u64),
-        TableError::Read(_) => digest.add(1),
-        TableError::BadChildren(byte) => digest.add(u64::from(*byte)),
+        TableError::Read(error) => digest.add_error(error),
+        TableError::BadChildren(byte) => digest.add_as(11, u64::from(*byte)),
     }
 }
 
@@ -96,16 +97,20 @@ fn copy_tables(alloc: Global, bytes: &[u8], target: &mut [u8], round: u64, diges
                 for declaration in &table.declarations {
                     add_declaration(digest, declaration);
                 }
-                digest.add(u64::from(write_table(target, &mut to, &table).is_ok()));
+                digest.add(table.declarations.len() as u64);
+                if let Err(error) = write_table(target, &mut to, &table) {
+                    digest.add_error(&error);
+                }
             }
             Err(error) => add_error(digest, &error),
         }
+        digest.add(from as u64 ^ (to as u64) << 32);
     }
-    digest.add(to as u64);
     digest.add_written(target, round);
 }
 
-/// Changes the tags, and reads and writes the tables. In every fourth round the last one is cut off.
+/// Changes the tags, and reads and writes the tables. In every fourth round the last one is cut
+/// off.
 pub fn run(alloc: Global, seed: u64, rounds: u64, digest: &mut Digest) -> Result<(), AllocError> {
     let mut random = Random::new(seed);
     let mut section = make_section(alloc, &mut random)?;
