@@ -14,6 +14,8 @@ mod errors;
 #[cfg(test)]
 mod format;
 #[cfg(test)]
+mod loops;
+#[cfg(test)]
 mod overview;
 #[cfg(test)]
 mod own_types;

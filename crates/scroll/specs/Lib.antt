@@ -3,8 +3,9 @@
 -- A name that begins with a capital is a statement, any other name a value. A statement of several
 -- parts names them: where `h` proves it, `h.size` proves the part `size`.
 --
--- No definition that callers see retraces the code, which shifts, copies and overwrites one array:
--- these have sums of powers, lists by index, and a history in which nothing is overwritten.
+-- No definition retraces the code, which shifts, copies and overwrites one array: the definitions
+-- have sums of powers, lists by index, and a history in which nothing is overwritten. `TextStates`
+-- alone has what the code has too, a table, and the contracts of private functions alone cite it.
 pub mod Bytes
 pub mod Numbers
 pub mod Fixed

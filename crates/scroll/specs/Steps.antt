@@ -1,4 +1,4 @@
--- What one command appends, as the parts of a run say it of each other.
+-- What one command appends, in the contracts of a run's private functions.
 use Rattle.std.specs.Prelude.{◌≡◌, ◌++◌, ℕ, List, [], ◌∷◌, Result, Ok, Err}
 use Rattle.scroll.specs.Errors.{IsBadOffset}
 use Rattle.scroll.specs.Runs.{ReadsHere, RefusesHere, moved}
@@ -9,7 +9,7 @@ use Rattle.scroll.specs.declared.runner.Place.{Place}
 use Rattle.scroll.specs.declared.runner.Value.{Value}
 
 -- one answer was appended to `old`, of which `says` holds
-pub record Appends (old new : List Answer) (says : Answer → Type 0) : Type 0 where
+pub record AppendsAnswer (old new : List Answer) (says : Answer → Type 0) : Type 0 where
   pub answer : Answer
   pub items : new ≡ old ++ answer ∷ []
   pub said : says answer

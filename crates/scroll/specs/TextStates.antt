@@ -2,8 +2,7 @@
 -- multiples of six. In state 0 a letter ends. In the states 6, 12 and 18 one, two or three bytes
 -- from 80 to BF have to follow. The states 24, 30, 36 and 42 come after the first bytes E0, ED, F0
 -- and F4: the next byte is then from A0 to BF, from 80 to 9F, from 90 to BF or from 80 to 8F, so
--- that no letter is overlong, a surrogate, or past 10FFFF. In state 48 no text can follow. No
--- contract that callers see is about states.
+-- that no letter is overlong, a surrogate, or past 10FFFF. In state 48 no text can follow.
 use Rattle.std.specs.Prelude.{ℕ, ◌/◌, ◌%◌, ◌^◌, List, [], ◌∷◌, cond, nat_lt}
 
 -- the states after a byte, six bits for each state before it, from the lowest on

@@ -22,7 +22,7 @@ ghost use Rattle.scroll.specs.CStrings.{IsCString, RefusesToHold};
 ghost use Rattle.scroll.specs.Texts.{index_of};
 
 use crate::error::{Error, Result};
-use crate::search::index_of;
+use crate::search::{index_of, narrow_index_of};
 use std::alloc::{AllocError, Global};
 use std::result;
 
@@ -122,7 +122,7 @@ impl CString {
         ensures no_zero { OnOk result (index_of 0 text.now ≡ length text.now) }
         ensures refused { IfErr result (RefusesToHold text.now) }
     {
-        let index = index_of(0, text);
+        let index = narrow_index_of(0, text);
         if index < text.len() {
             return Err(Error::BadInput {
                 size: index,
@@ -142,16 +142,6 @@ impl CString {
     {
         let bytes = Vec::from_slice(alloc, text.bytes)?;
         Ok(CString { bytes })
-    }
-
-    // Returns the text without the zero, in the memory of this.
-    #[inline(always)]
-    pub(crate) fn into_text(self) -> Vec<u8>
-        ensures text { result.items ≡ c_string_text self }
-    {
-        let mut bytes = self.bytes;
-        bytes.pop();
-        bytes
     }
 
     /// Borrows this as a [`CStr`].

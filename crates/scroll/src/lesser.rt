@@ -79,12 +79,27 @@ pub trait IOread<Ctx: Copy>: Read {
             let mut scratch = [0u8; SMALL];
             return read_value(self, &mut scratch[..size], ctx);
         }
-        let mut scratch = [0u8; 256];
-        read_value(self, &mut scratch[..size], ctx)
+        read_large(self, size, ctx)
     }
 }
 
 impl<Ctx: Copy, R: Read> IOread<Ctx> for R {}
+
+// Reads a value of any size. It isn't inlined, so that its room isn't its caller's.
+#[inline(never)]
+fn read_large<R: Read, Ctx: Copy, N: FromCtx<Ctx>>(
+    reader: &mut R,
+    size: usize,
+    ctx: Ctx,
+) -> io::Result<N>
+    requires need { N.need ctx ≤ size }
+    requires size { size ≤ 256 }
+    ensures took { IfOk result (λ x. TakesValue (R.remaining reader.old)
+        (R.remaining reader.new) size (λ bytes. N.makes ctx bytes x)) }
+{
+    let mut scratch = [0u8; 256];
+    read_value(reader, &mut scratch[..size], ctx)
+}
 
 // Reads as many bytes as `scratch` has, and makes a value of them.
 #[inline(always)]
@@ -136,7 +151,6 @@ pub trait IOwrite<Ctx: Copy>: Write {
     /// target.iowrite(0xdeadbeefu32)?;
     /// assert_eq!(rt; target.as_slice(), [0xef, 0xbe, 0xad, 0xde].as_slice());
     /// ```
-    #[inline(always)]
     final fn iowrite<N: SizeWith<Ctx> + IntoCtx<Ctx>>(&mut self, n: N) -> io::Result<()>
     where
         Self: Sized,
@@ -159,7 +173,6 @@ pub trait IOwrite<Ctx: Copy>: Write {
     /// target.iowrite_with(0xdeadbeefu32, BE)?;
     /// assert_eq!(rt; bytes, [0x68, 0x65, 0x6c, 0x6c, 0x6f, 0xde, 0xad, 0xbe, 0xef, 0]);
     /// ```
-    #[inline(always)]
     final fn iowrite_with<N: SizeWith<Ctx> + IntoCtx<Ctx>>(
         &mut self,
         n: N,
@@ -177,12 +190,28 @@ pub trait IOwrite<Ctx: Copy>: Write {
             let mut scratch = [0u8; SMALL];
             return write_value(self, n, &mut scratch[..size], ctx);
         }
-        let mut scratch = [0u8; 256];
-        write_value(self, n, &mut scratch[..size], ctx)
+        write_large(self, n, size, ctx)
     }
 }
 
 impl<Ctx: Copy, W: Write> IOwrite<Ctx> for W {}
+
+// Appends a value of any size. It isn't inlined, so that its room isn't its caller's.
+#[inline(never)]
+fn write_large<W: Write, Ctx: Copy, N: IntoCtx<Ctx>>(
+    writer: &mut W,
+    n: N,
+    size: usize,
+    ctx: Ctx,
+) -> io::Result<()>
+    requires need { N.need ctx ≤ size }
+    requires size { size ≤ 256 }
+    ensures appended { OnOk result (AppendsValue (W.contents writer.old)
+        (W.contents writer.new) size (N.overwrites ctx n (replicate size 0))) }
+{
+    let mut scratch = [0u8; 256];
+    write_value(writer, n, &mut scratch[..size], ctx)
+}
 
 // Writes the value over the zeros in `scratch`, and appends all bytes of `scratch`.
 #[inline(always)]

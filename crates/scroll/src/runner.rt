@@ -3,7 +3,7 @@
 //! Their results and all that they leave are stated over the history of what was written.
 ghost use Rattle.std.specs.Prelude.{◌≡◌, ℕ, ◌+◌, ◌≤◌, ◌<◌, length, vec_len, vec_capacity, OnOk, OnErr, IfErr, IsOk};
 ghost use Rattle.std.specs.List.{All};
-ghost use Rattle.scroll.specs.Steps.{Appends};
+ghost use Rattle.scroll.specs.Steps.{AppendsAnswer};
 ghost use Rattle.scroll.specs.Runs.{IsStep, IsRun, IsPrefixRun, CopiesNothing, offset_of, moved};
 ghost use Rattle.scroll.specs.declared.error.Error.TheVariants.{NoMemory};
 
@@ -242,7 +242,7 @@ fn step(
     answers: &mut Vec<Answer>,
 ) -> result::Result<(), AllocError>
     requires { vec_len answers.old < vec_capacity answers.old }
-    ensures answered { OnOk result (Appends answers.old.items answers.new.items (λ a.
+    ensures answered { OnOk result (AppendsAnswer answers.old.items answers.new.items (λ a.
         IsStep buffer.old buffer.new cursor.old command.now a cursor.new)) }
     ensures len { OnOk result (vec_len answers.new ≡ vec_len answers.old + 1) }
     ensures capacity { vec_capacity answers.new ≡ vec_capacity answers.old }

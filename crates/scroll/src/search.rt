@@ -31,6 +31,14 @@ pub(crate) fn index_of(delimiter: u8, source: &[u8]) -> usize
 pub(crate) fn near_index_of(delimiter: u8, source: &[u8]) -> usize
     ensures { result ≡ index_of delimiter source.now }
 {
+    narrow_index_of(delimiter, source)
+}
+
+/// Returns what [`index_of`] does, by narrower blocks and without a call.
+#[inline(always)]
+pub(crate) fn narrow_index_of(delimiter: u8, source: &[u8]) -> usize
+    ensures { result ≡ index_of delimiter source.now }
+{
     first(At(delimiter), source)
 }
 

@@ -86,6 +86,12 @@ static STATES_AFTER: [u64; 256] = [
 // The state after what makes no text.
 const WRONG: u64 = 48;
 
+// From so many bytes on, a text needs a letter beyond ASCII in its middle, and from so many on two,
+// to count as dense.
+const MIDDLING: usize = 32;
+
+const LONG: usize = 96;
+
 /// Returns whether the bytes are UTF-8.
 pub(crate) fn is_text(bytes: &[u8]) -> bool
     ensures { MatchBool result (IsUtf8 bytes.now) (¬ (IsUtf8 bytes.now)) }
@@ -138,19 +144,55 @@ fn states_after(byte: u8) -> u64
     STATES_AFTER[usize::from(byte)]
 }
 
-/// Returns whether letters beyond ASCII stand close together at the start of a text. If they do,
-/// their lengths often differ in a way that a processor can't predict, and [`is_text`] takes less
-/// time than std's test; where ASCII follows a single letter, std's takes less. The answer decides
-/// nothing but the time.
+/// Returns whether letters beyond ASCII stand close together in bytes of which the first isn't
+/// ASCII. If they do, their lengths often differ in a way that a processor can't predict, and
+/// [`is_text`] takes less time than std's test; where ASCII follows a single letter, or the first
+/// bytes are no letters, std's takes less. Looks at the first 17 bytes, and in the middle of a
+/// longer text; where there are fewer, one letter is enough. The answer decides nothing but the
+/// time.
 #[inline(always)]
 pub(crate) fn is_dense(bytes: &[u8]) -> bool {
-    match bytes.first_chunk::<16>() {
-        Some(block) => {
-            let letters = Simd::from_array(*block).simd_ge(Simd::splat(128));
-            letters.to_bitmask().count_ones() >= 4
-        }
-        None => true,
+    let Some((first, rest)) = bytes.split_first() else {
+        return false;
+    };
+    if *first < 0xc2 || *first > 0xf4 {
+        return false;
     }
+    // (without the first byte, which the caller has loaded: beside it the vector would be put
+    // together from single bytes)
+    let Some(front) = rest.first_chunk::<16>() else {
+        return matches!(rest, [second, ..] if *second & 0xc0 == 0x80);
+    };
+    let starts = starts_in(front);
+    let later = beyond_ascii_in(front) & !starts;
+    let after_starts = (starts << 1 | 1) & 0xffff;
+    if starts == 0 || after_starts & !later != 0 {
+        return false;
+    }
+    if bytes.len() < MIDDLING {
+        return true;
+    }
+    match bytes[bytes.len() / 2..].first_chunk::<16>() {
+        Some(middle) if bytes.len() < LONG => starts_in(middle) != 0,
+        Some(middle) => starts_in(middle).count_ones() >= 2,
+        None => false,
+    }
+}
+
+// Returns at which bytes of a block a letter beyond ASCII may begin.
+#[inline(always)]
+fn starts_in(block: &[u8; 16]) -> u64 {
+    Simd::from_array(*block)
+        .simd_ge(Simd::splat(0xc0))
+        .to_bitmask()
+}
+
+// Returns which bytes of a block aren't ASCII.
+#[inline(always)]
+fn beyond_ascii_in(block: &[u8; 16]) -> u64 {
+    Simd::from_array(*block)
+        .simd_ge(Simd::splat(0x80))
+        .to_bitmask()
 }
 
 // Returns whether a block is ASCII.

@@ -4,8 +4,8 @@ ghost use Rattle.scroll_formats.specs.Lists.{zero_size, two_zeros_size, EndsAt, 
 
 use crate::located::At;
 use crate::many::read_next;
-use scroll::Error;
 use scroll::ctx::TryFromCtx;
+use scroll::{Error, Uleb128};
 
 /// A value of a list that a mark ends, such as a zero or a pair of zeros.
 ///
@@ -39,7 +39,7 @@ pub fn zero_size(from: &[u8]) -> Option<usize>
     ensures size { result ≡ zero_size from.now }
     ensures inside { IfSome result (λ n. n ≤ length from.now) }
 {
-    // Most numbers have a bit in their first byte, and then aren't zero, whatever follows.
+    // Most numbers have a bit of their value in two bytes, and then aren't zero, whatever follows.
     let first = *from.first()?;
     if first & 0x7f != 0 {
         return None;
@@ -47,27 +47,27 @@ pub fn zero_size(from: &[u8]) -> Option<usize>
     if first == 0 {
         return Some(1);
     }
+    let second = *from.get(1)?;
+    if second & 0x7f != 0 {
+        return None;
+    }
     padded_zero_size(from)
 }
 
-// Returns what `zero_size` does, byte by byte. (Few zeros are padded. If it were inlined, or not
-// marked as cold, the loops over lists would keep their values in memory instead of registers.)
+// Returns what `zero_size` does, by decoding the number. (Few numbers begin so. If it were inlined,
+// or not marked as cold, the loops over lists would keep their values in memory.)
 #[cold]
 #[inline(never)]
 fn padded_zero_size(from: &[u8]) -> Option<usize>
     ensures size { result ≡ zero_size from.now }
     ensures inside { IfSome result (λ n. n ≤ length from.now) }
 {
-    for i in 0..10 {
-        let byte = *from.get(i)?;
-        if byte & 0x7f != 0 {
-            return None;
-        }
-        if byte == 0 {
-            return Some(i + 1);
-        }
+    let (number, size) = Uleb128::try_from_ctx(from, ()).ok()?;
+    if u64::from(number) == 0 {
+        Some(size)
+    } else {
+        None
     }
-    None
 }
 
 /// Returns the size of the two numbers in LEB128 at the start of `from` if both are zero.

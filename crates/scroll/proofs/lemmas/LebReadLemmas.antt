@@ -21,16 +21,16 @@ use Rattle.scroll.proofs.lemmas.TextLemmas.{same-bad_input}
 use Rattle.scroll.proofs.lemmas.LebLemmas.{groups_lt, groups_more, groups_same, end_at, end_below, late_end, open_before, sign_is_top, less_whole}
 
 -- ---- the bytes of an encoding
-module _ (s t : List ℕ) (inside : end_of s < length s) (long : length s ≤ length t) (prefix : take (count_of s) t ≡ take (count_of s) s) where
+module _ (s t : List ℕ) (inside : end_of s < length s) (room : count_of s ≤ length t) (prefix : take (count_of s) t ≡ take (count_of s) s) where
   byte-same : (k : ℕ) → k < count_of s → get_or t k 0 ≡ get_or s k 0
   byte-same k l = sym (get_or-take (count_of s) t k 0 l) ∙ ap (λ x. get_or x k 0) prefix ∙ get_or-take (count_of s) s k 0 l
 
-  end-same : end_of t ≡ end_of s
-  end-same = end_at t (end_of s) (omega (arith, inside, long))
+  pub end-same : end_of t ≡ end_of s
+  end-same = end_at t (end_of s) (omega (arith, room))
       (λ k l. rw (byte-same k (omega (arith, l))) (open_before s k l))
       (rw (byte-same (end_of s) (omega arith)) (end_below s inside))
 
-  unsigned-same : unsigned_of t ≡ unsigned_of s
+  pub unsigned-same : unsigned_of t ≡ unsigned_of s
   unsigned-same = ap (λ e. groups_value t (e + 1)) end-same ∙ groups_same t s (count_of s) byte-same
 
   group-same : group t (end_of t) ≡ group s (end_of s)
@@ -42,26 +42,34 @@ module _ (s t : List ℕ) (inside : end_of s < length s) (long : length s ≤ le
       ∙ ap (λ (u : ℕ). if nat_lt (group s (end_of s)) 64 then pos u else pos u -ℤ pos (128 ^ count_of t)) unsigned-same
       ∙ ap (λ (e : ℕ). if nat_lt (group s (end_of s)) 64 then pos (unsigned_of s) else pos (unsigned_of s) -ℤ pos (128 ^ (e + 1))) end-same
 
-local-leb : {V : Type 0} (value_of : List ℕ → V) (Fits : V → Type 0)
-    → ((s t : List ℕ) → end_of s < length s → length s ≤ length t → take (count_of s) t ≡ take (count_of s) s → value_of t ≡ value_of s)
-    → IsLocal (ReadsLeb value_of Fits)
-local-leb value_of Fits same s t x n r h long e =
+-- the bytes that a read takes are read likewise, whether others follow them or none do
+exact-leb : {V : Type 0} (value_of : List ℕ → V) (Fits : V → Type 0)
+    → ((s t : List ℕ) → end_of s < length s → count_of s ≤ length t → take (count_of s) t ≡ take (count_of s) s → value_of t ≡ value_of s)
+    → (s t : List ℕ) (x : V) (n : ℕ) → ReadsLeb value_of Fits s x n → n ≤ length t → take n t ≡ take n s → ReadsLeb value_of Fits t x n
+exact-leb value_of Fits same s t x n r room e =
     let inside = r.complete.0 in
+    let there : count_of s ≤ length t = omega (arith, r.size, room) in
     let prefix : take (count_of s) t ≡ take (count_of s) s = ap (λ m. take m t) (sym r.size) ∙ e ∙ ap (λ m. take m s) r.size in
-    let end = end-same s t inside long prefix in
-    let value = same s t inside long prefix in
+    let end = end-same s t inside there prefix in
+    let value = same s t inside there prefix in
     record {
-      complete = (omega (arith, inside, long, end), omega (arith, r.complete.1, end));
+      complete = (omega (arith, there, end), omega (arith, r.complete.1, end));
       fits = subst Fits (sym value) r.fits;
       value = r.value ∙ sym value;
       size = r.size ∙ ap (λ m. m + 1) (sym end);
     }
 
+pub exact-unsigned : (s t : List ℕ) (x n : ℕ) → ReadsUleb s x n → n ≤ length t → take n t ≡ take n s → ReadsUleb t x n
+exact-unsigned = exact-leb unsigned_of (λ v. v < 2 ^ 64) unsigned-same
+
+pub exact-signed : (s t : List ℕ) (x : ℤ) (n : ℕ) → ReadsSleb s x n → n ≤ length t → take n t ≡ take n s → ReadsSleb t x n
+exact-signed = exact-leb signed_of (FitsSigned w64) signed-same
+
 pub local-uleb : IsLocal ReadsUleb
-local-uleb = local-leb unsigned_of (λ v. v < 2 ^ 64) unsigned-same
+local-uleb s t x n r h long e = exact-unsigned s t x n r (omega (arith, h, long)) e
 
 pub local-sleb : IsLocal ReadsSleb
-local-sleb = local-leb signed_of (FitsSigned w64) signed-same
+local-sleb s t x n r h long e = exact-signed s t x n r (omega (arith, h, long)) e
 
 -- ---- exactly one result
 -- the error of an encoding that is whole

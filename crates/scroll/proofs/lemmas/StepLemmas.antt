@@ -2,7 +2,7 @@
 use Rattle.std.proofs.Common.{◌≡◌, ℕ, List, [], Result, Ok, Err, OnOk, length, refl, sym}
 use Rattle.scroll.specs.History.{pieces, WritesLeaves}
 use Rattle.scroll.specs.Runs.{ReadStep, WriteStep, IsStep, leaves_of, offset_of}
-use Rattle.scroll.specs.Steps.{Appends, AppendsWrite, answer_of, after_write}
+use Rattle.scroll.specs.Steps.{AppendsAnswer, AppendsWrite, answer_of, after_write}
 use Rattle.scroll.proofs.lemmas.HistoryLemmas.{seen-nil}
 use Rattle.scroll.specs.declared.error.Error.{Error}
 use Rattle.scroll.specs.declared.runner.Answer.{Answer}
@@ -21,7 +21,7 @@ write-weaker says says' more at from to old new h = record {
 }
 
 -- a successful read is a step that leaves the buffer unchanged
-pub read-appends : {X E : Type 0} (r : Result X E) (buffer : List ℕ) (cursor : ℕ) (at : Place) (what : Kind) (after : ℕ) (old new : List Answer) → OnOk r (Appends old new (λ a. ReadStep buffer cursor at what a after)) → OnOk r (Appends old new (λ a. IsStep buffer buffer cursor (command.Read at what) a after))
+pub read-appends : {X E : Type 0} (r : Result X E) (buffer : List ℕ) (cursor : ℕ) (at : Place) (what : Kind) (after : ℕ) (old new : List Answer) → OnOk r (AppendsAnswer old new (λ a. ReadStep buffer cursor at what a after)) → OnOk r (AppendsAnswer old new (λ a. IsStep buffer buffer cursor (command.Read at what) a after))
 read-appends (Ok x) buffer cursor at what after old new h = record {
   answer = h.answer;
   items = h.items;
@@ -38,7 +38,7 @@ write-step buffer buffer' cursor at leaves (Ok n) after h moved = (h.answer, mov
 write-step buffer buffer' cursor at leaves (Err e) after h stays = (h.answer, stays)
 
 -- a write of the leaves of a value is a step
-pub write-appends : (buffer buffer' : List ℕ) (cursor : ℕ) (at : Place) (x : Put) (after : ℕ) (old new : List Answer) → AppendsWrite (WritesLeaves buffer (offset_of at cursor) (leaves_of x) buffer') at cursor after old new → Appends old new (λ a. IsStep buffer buffer' cursor (command.Write at x) a after)
+pub write-appends : (buffer buffer' : List ℕ) (cursor : ℕ) (at : Place) (x : Put) (after : ℕ) (old new : List Answer) → AppendsWrite (WritesLeaves buffer (offset_of at cursor) (leaves_of x) buffer') at cursor after old new → AppendsAnswer old new (λ a. IsStep buffer buffer' cursor (command.Write at x) a after)
 write-appends buffer buffer' cursor at x after old new h = record {
   answer = answer_of h.result;
   items = h.items;

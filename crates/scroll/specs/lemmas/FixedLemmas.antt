@@ -125,7 +125,7 @@ part-same k w m u v le same =
     ∙ take-take (k + w) m v le)
     ∙ drop-take k w v
 
-element-inside : (w i n : ℕ) → i < n → w * i + w ≤ w * n
+pub element-inside : (w i n : ℕ) → i < n → w * i + w ≤ w * n
 element-inside w i n l = let le : w * suc i ≤ w * n =
     mul-le-mul_left w (omega (arith, l)) in omega (arith, le, mul-suc w i)
 

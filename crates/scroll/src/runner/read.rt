@@ -1,6 +1,6 @@
 // The reads of a run.
 ghost use Rattle.std.specs.Prelude.{◌≡◌, ◌<◌, ◌+◌, ℕ, ℤ, [], ◌∷◌, vec_len, vec_capacity, IfOk, IfErr, IsOk, OnOk, OnErr};
-ghost use Rattle.scroll.specs.Steps.{Appends, AnswersRead};
+ghost use Rattle.scroll.specs.Steps.{AppendsAnswer, AnswersRead};
 ghost use Rattle.scroll.specs.Runs.{Copies, ReadStep};
 ghost use Rattle.scroll.specs.Arrays.{ReadsArray, RefusesArray};
 ghost use Rattle.scroll.specs.Bytes.{ReadsFixed, RefusesShort};
@@ -37,7 +37,7 @@ pub(crate) fn read(
     answers: &mut Vec<Answer>,
 ) -> result::Result<(), AllocError>
     requires { vec_len answers.old < vec_capacity answers.old }
-    ensures answered { OnOk result (Appends answers.old.items answers.new.items (λ a.
+    ensures answered { OnOk result (AppendsAnswer answers.old.items answers.new.items (λ a.
         ReadStep buffer.now cursor.old place kind.now a cursor.new)) }
     ensures len { OnOk result (vec_len answers.new ≡ vec_len answers.old + 1) }
     ensures capacity { vec_capacity answers.new ≡ vec_capacity answers.old }
@@ -63,7 +63,7 @@ pub(crate) fn read(
 #[inline(always)]
 fn read_uleb(buffer: &[u8], cursor: &mut usize, place: Place, answers: &mut Vec<Answer>)
     requires { vec_len answers.old < vec_capacity answers.old }
-    ensures answered { Appends answers.old.items answers.new.items (λ a.
+    ensures answered { AppendsAnswer answers.old.items answers.new.items (λ a.
         ReadStep buffer.now cursor.old place kind.Uleb a cursor.new) }
     ensures len { vec_len answers.new ≡ vec_len answers.old + 1 }
     ensures capacity { vec_capacity answers.new ≡ vec_capacity answers.old }
@@ -82,7 +82,7 @@ fn read_uleb(buffer: &[u8], cursor: &mut usize, place: Place, answers: &mut Vec<
 #[inline(always)]
 fn read_sleb(buffer: &[u8], cursor: &mut usize, place: Place, answers: &mut Vec<Answer>)
     requires { vec_len answers.old < vec_capacity answers.old }
-    ensures answered { Appends answers.old.items answers.new.items (λ a.
+    ensures answered { AppendsAnswer answers.old.items answers.new.items (λ a.
         ReadStep buffer.now cursor.old place kind.Sleb a cursor.new) }
     ensures len { vec_len answers.new ≡ vec_len answers.old + 1 }
     ensures capacity { vec_capacity answers.new ≡ vec_capacity answers.old }
@@ -107,7 +107,7 @@ fn read_none(
     answers: &mut Vec<Answer>,
 )
     requires { vec_len answers.old < vec_capacity answers.old }
-    ensures answered { Appends answers.old.items answers.new.items (λ a.
+    ensures answered { AppendsAnswer answers.old.items answers.new.items (λ a.
         ReadStep buffer.now cursor.old place (kind.U8x0 order) a cursor.new) }
     ensures len { vec_len answers.new ≡ vec_len answers.old + 1 }
     ensures capacity { vec_capacity answers.new ≡ vec_capacity answers.old }
@@ -132,7 +132,7 @@ fn read_three(
     answers: &mut Vec<Answer>,
 )
     requires { vec_len answers.old < vec_capacity answers.old }
-    ensures answered { Appends answers.old.items answers.new.items (λ a.
+    ensures answered { AppendsAnswer answers.old.items answers.new.items (λ a.
         ReadStep buffer.now cursor.old place (kind.U16x3 order) a cursor.new) }
     ensures len { vec_len answers.new ≡ vec_len answers.old + 1 }
     ensures capacity { vec_capacity answers.new ≡ vec_capacity answers.old }
@@ -158,7 +158,7 @@ fn read_text(
     answers: &mut Vec<Answer>,
 ) -> result::Result<(), AllocError>
     requires { vec_len answers.old < vec_capacity answers.old }
-    ensures answered { OnOk result (Appends answers.old.items answers.new.items (λ a.
+    ensures answered { OnOk result (AppendsAnswer answers.old.items answers.new.items (λ a.
         ReadStep buffer.now cursor.old place (kind.Text ctx) a cursor.new)) }
     ensures len { OnOk result (vec_len answers.new ≡ vec_len answers.old + 1) }
     ensures capacity { vec_capacity answers.new ≡ vec_capacity answers.old }
@@ -187,7 +187,7 @@ fn read_bytes(
     answers: &mut Vec<Answer>,
 ) -> result::Result<(), AllocError>
     requires { vec_len answers.old < vec_capacity answers.old }
-    ensures answered { OnOk result (Appends answers.old.items answers.new.items (λ a.
+    ensures answered { OnOk result (AppendsAnswer answers.old.items answers.new.items (λ a.
         ReadStep buffer.now cursor.old place (kind.Bytes len) a cursor.new)) }
     ensures len { OnOk result (vec_len answers.new ≡ vec_len answers.old + 1) }
     ensures capacity { vec_capacity answers.new ≡ vec_capacity answers.old }
@@ -215,7 +215,7 @@ fn read_c_str(
     answers: &mut Vec<Answer>,
 ) -> result::Result<(), AllocError>
     requires { vec_len answers.old < vec_capacity answers.old }
-    ensures answered { OnOk result (Appends answers.old.items answers.new.items (λ a.
+    ensures answered { OnOk result (AppendsAnswer answers.old.items answers.new.items (λ a.
         ReadStep buffer.now cursor.old place kind.CStr a cursor.new)) }
     ensures len { OnOk result (vec_len answers.new ≡ vec_len answers.old + 1) }
     ensures capacity { vec_capacity answers.new ≡ vec_capacity answers.old }
@@ -243,7 +243,7 @@ fn read_c_string(
     answers: &mut Vec<Answer>,
 ) -> result::Result<(), AllocError>
     requires { vec_len answers.old < vec_capacity answers.old }
-    ensures answered { OnOk result (Appends answers.old.items answers.new.items (λ a.
+    ensures answered { OnOk result (AppendsAnswer answers.old.items answers.new.items (λ a.
         ReadStep buffer.now cursor.old place kind.CString a cursor.new)) }
     ensures len { OnOk result (vec_len answers.new ≡ vec_len answers.old + 1) }
     ensures capacity { vec_capacity answers.new ≡ vec_capacity answers.old }
@@ -254,8 +254,9 @@ fn read_c_string(
     let read: Result<CString> = buffer.gread_with(&mut end, &alloc);
     match read {
         Ok(text) => {
+            let copy = Vec::from_slice(alloc, text.as_bytes())?;
             *cursor = place.cursor_after(*cursor, end);
-            answers.push_reserved(Answer::Read(Value::CStr(text.into_text())));
+            answers.push_reserved(Answer::Read(Value::CStr(copy)));
         }
         Err(Error::NoMemory) => return Err(AllocError),
         Err(error) => answers.push_reserved(Answer::Refused(error)),
@@ -273,7 +274,7 @@ fn read_texts(
     answers: &mut Vec<Answer>,
 ) -> result::Result<(), AllocError>
     requires { vec_len answers.old < vec_capacity answers.old }
-    ensures answered { OnOk result (Appends answers.old.items answers.new.items (λ a.
+    ensures answered { OnOk result (AppendsAnswer answers.old.items answers.new.items (λ a.
         ReadStep buffer.now cursor.old place (kind.Textx2 ctx) a cursor.new)) }
     ensures len { OnOk result (vec_len answers.new ≡ vec_len answers.old + 1) }
     ensures capacity { vec_capacity answers.new ≡ vec_capacity answers.old }
@@ -304,7 +305,7 @@ fn read_number(
     answers: &mut Vec<Answer>,
 )
     requires { vec_len answers.old < vec_capacity answers.old }
-    ensures answered { Appends answers.old.items answers.new.items (λ a.
+    ensures answered { AppendsAnswer answers.old.items answers.new.items (λ a.
         ReadStep buffer.now cursor.old place (kind.Number width order) a cursor.new) }
     ensures len { vec_len answers.new ≡ vec_len answers.old + 1 }
     ensures capacity { vec_capacity answers.new ≡ vec_capacity answers.old }
@@ -332,7 +333,7 @@ fn read_unsigned<N: Plain + Into<u128>>(
     answers: &mut Vec<Answer>,
 )
     requires { vec_len answers.old < vec_capacity answers.old }
-    ensures answered { Appends answers.old.items answers.new.items (λ a.
+    ensures answered { AppendsAnswer answers.old.items answers.new.items (λ a.
         AnswersRead (λ source x size. (n : N) × (wide : ℕ) × N.converts n wide
         × (x ≡ value.Unsigned wide)
         × ReadsFixed N.width (λ source. N.makes order source 0) source n size)
@@ -360,7 +361,7 @@ fn read_signed<N: Plain + Into<i128>>(
     answers: &mut Vec<Answer>,
 )
     requires { vec_len answers.old < vec_capacity answers.old }
-    ensures answered { Appends answers.old.items answers.new.items (λ a.
+    ensures answered { AppendsAnswer answers.old.items answers.new.items (λ a.
         AnswersRead (λ source x size. (n : N) × (wide : ℤ) × N.converts n wide
         × (x ≡ value.Signed wide)
         × ReadsFixed N.width (λ source. N.makes order source 0) source n size)

@@ -2,7 +2,7 @@
 // can leave.
 use crate::Pread;
 use crate::ctx::StrCtx;
-use crate::search::{first_stop, index_of, near_index_of};
+use crate::search::{first_stop, index_of, narrow_index_of, near_index_of};
 use crate::tests::results::check_eq;
 use std::process::Abort;
 
@@ -48,6 +48,7 @@ fn check_searches(rt: &impl Abort, delimiter: u8, index: usize, source: &[u8]) {
     let found = (index_of(delimiter, source), first_stop(delimiter, source));
     check_eq(rt, found, (wanted, plain_stop(delimiter, source)));
     check_eq(rt, near_index_of(delimiter, source), wanted);
+    check_eq(rt, narrow_index_of(delimiter, source), wanted);
     let text = str::from_utf8(&source[..wanted]).ok();
     check_eq(rt, text_before(delimiter, source), text);
 }
@@ -68,16 +69,19 @@ fn every_length_and_place(rt: HostRuntime) {
 }
 
 // Lengths at which wide blocks end, and what they leave.
-static LENGTHS: [usize; 9] = [63, 64, 65, 95, 96, 127, 128, 129, 170];
+static LENGTHS: [usize; 11] = [63, 64, 65, 95, 96, 127, 128, 129, 170, 192, 200];
 
 #[test]
 fn sources_of_several_wide_blocks(rt: HostRuntime) {
-    let mut bytes = [0u8; 170];
+    let mut bytes = [0u8; 200];
     for &delimiter in &DELIMITERS {
-        for index in 0..171 {
-            fill(&mut bytes, delimiter, index, 0x80, 0x01);
-            for &len in &LENGTHS {
-                check_searches(&rt, delimiter, index, &bytes[..len]);
+        for index in 0..201 {
+            // (without a second delimiter, and with many)
+            for behind in [0x01, 0x00] {
+                fill(&mut bytes, delimiter, index, 0x80, behind);
+                for &len in &LENGTHS {
+                    check_searches(&rt, delimiter, index, &bytes[..len]);
+                }
             }
         }
     }

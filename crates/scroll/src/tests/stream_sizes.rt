@@ -68,6 +68,8 @@ fn blocks_of_each_size(rt: HostRuntime) {
     check_block::<0>(rt, &bytes);
     check_block::<1>(rt, &bytes);
     check_block::<2>(rt, &bytes);
+    check_block::<16>(rt, &bytes);
+    check_block::<17>(rt, &bytes);
     check_block::<255>(rt, &bytes);
     check_block::<256>(rt, &bytes);
 }

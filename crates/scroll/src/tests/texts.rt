@@ -3,6 +3,7 @@
 use crate::ctx::{MeasureWith, NULL, RET, SPACE, StrCtx, TAB};
 use crate::tests::reads::{check_bulk, check_default_read, check_no_read, check_read, check_write};
 use crate::tests::results::{Parts, check_eq};
+use crate::utf8::{is_dense, is_text};
 use crate::{BE, LE, Pread, Result};
 use std::alloc::Global;
 use std::process::Abort;
@@ -186,17 +187,27 @@ fn characters_of_utf8(rt: HostRuntime) {
                 &[first, second, 0xbf, 0x80],
             ] {
                 check_text(rt, bytes, characters(bytes));
+                check_behind_letters(rt, bytes);
             }
         }
     }
 }
 
+// Checks bytes behind two letters.
+fn check_behind_letters(rt: &impl Abort, bytes: &[u8]) {
+    let mut text = *b"\xc3\xa9\xe6\xbc\xa2\0\0\0\0";
+    put(&mut text, 5, bytes);
+    let text = text.get(..bytes.len().saturating_add(5)).unwrap_or(b"");
+    check_delimited(rt, text);
+}
+
 // Checks that a string up to the first zero is read where the standard library takes the bytes for
-// UTF-8, and refused where it doesn't.
+// UTF-8, and refused where it doesn't, and that the table of states says the same of all bytes.
 fn check_delimited(rt: &impl Abort, bytes: &[u8]) {
     let end = bytes.iter().position(|byte| *byte == 0);
     let before = bytes.get(..end.unwrap_or(bytes.len())).unwrap_or(b"");
     let wanted = str::from_utf8(before);
+    check_eq(rt, is_text(before), wanted.is_ok());
     let text: Result<&str> = bytes.pread_with(0, StrCtx::Delimiter(0));
     check_eq(rt, text.is_ok(), wanted.is_ok());
     check_eq(rt, text.unwrap_or_default(), wanted.unwrap_or_default());
@@ -219,11 +230,17 @@ fn check_cut(rt: &impl Abort, bytes: &[u8], ends: [usize; 2]) {
     }
 }
 
-// Letters, and bytes that are none: cut off, overlong, a surrogate, past the last one.
-static PIECES: [&[u8]; 12] = [
+// Letters, those at the ends of their forms too, and bytes that are none: cut off, overlong, a
+// surrogate, past the last one.
+static PIECES: [&[u8]; 17] = [
     b"\xc3\xa9",
     b"\xe6\xbc\xa2",
     b"\xf0\x9f\x98\x80",
+    b"\xe0\xa0\x80",
+    b"\xed\x9f\xbf",
+    b"\xf1\x80\x80\x80",
+    b"\xf3\xbf\xbf\xbf",
+    b"\xf4\x8f\xbf\xbf",
     b"\xc3",
     b"\xe6\xbc",
     b"\xf0\x9f\x98",
@@ -236,8 +253,7 @@ static PIECES: [&[u8]; 12] = [
 ];
 
 // A piece at each place, on both sides of the ends of blocks, and cut off: in ASCII, behind one
-// letter beyond ASCII, which is left to the standard library, and behind several, where the table of
-// states decides.
+// letter beyond ASCII, behind several, and with several in the middle too.
 #[test]
 fn pieces_of_utf8(rt: HostRuntime) {
     let rt = &rt;
@@ -251,7 +267,74 @@ fn pieces_of_utf8(rt: HostRuntime) {
             check_cut(rt, &bytes, ends);
             put(&mut bytes, 2, b"\xc3\xa9\xe6\xbc\xa2\xc3\xa9");
             check_cut(rt, &bytes, ends);
+            put(&mut bytes, 72, b"\xc3\xa9\xe6\xbc\xa2\xc3\xa9");
+            put(&mut bytes, at, piece);
+            check_cut(rt, &bytes, ends);
         }
+    }
+}
+
+// Texts by their bytes from the first letter beyond ASCII on, and whether the table of states
+// decides them: no letters, one, few bytes, and several that the middle has or hasn't.
+static TEXTS: [(&[u8], bool); 13] = [
+    (
+        b"\xff\xff\xff\xff\xff\xff\xff\xff\xff\xff\xff\xff\xff\xff\xff\xff\xff",
+        false,
+    ),
+    (
+        b"\xcf\xf0\xe8\xec\xe5\xf0 \xed\xe0\xe7\xe2\xe0\xed\xe8\xff \xf4",
+        false,
+    ),
+    (
+        b"\xc2\xb3\xed\xe5\xed\xe8\xf0 \xe2\xb3\xf2\xe0\xbd\xbf\xb3 \xb3",
+        false,
+    ),
+    (b"\xc3\xa9\xe9 \xc3\xa9aaaaaaaaaaa", false),
+    (b"\xc3\xa9aaaaaaaaaaaaaaa", false),
+    (b"\xc3", false),
+    (b"\xe9 a", false),
+    (b"\xc3\xa9aaaaaaaaaaaaaa", true),
+    (b"\xc3\xa9aaaaaaaaaaaaaa\xc3", true),
+    (b"\xc3\xa9\xc3\xa9aaaaaaaaaaaaaaaaaaaaaaaaaaa", true),
+    (b"\xc3\xa9\xc3\xa9aaaaaaaaaaaaaaaaaaaaaaaaaaaa", false),
+    (b"\xc3\xa9\xc3\xa9aaaaaaaaaaaa\xc3\xa9aaaaaaaaaaaaaa", true),
+    (b"", false),
+];
+
+#[test]
+fn texts_that_the_table_decides(rt: HostRuntime) {
+    for &(bytes, wanted) in &TEXTS {
+        check_eq(&rt, is_dense(bytes), wanted);
+    }
+}
+
+// How many bytes the letters beyond ASCII take at the start of a text, or in its middle: those of
+// one letter, of two, of three and of eight.
+static STARTS: [usize; 4] = [2, 4, 6, 16];
+
+// A text of each length on both sides of those that decide who tests it: with few or many letters
+// at its start and in its middle, whole, and with a byte that is none at its end.
+#[test]
+fn texts_of_each_length(rt: HostRuntime) {
+    let rt = &rt;
+    for len in 1..130usize {
+        for &start in &STARTS {
+            for &middle in &STARTS {
+                let mut bytes = [b'a'; 130];
+                fill_letters(&mut bytes, 0, start);
+                fill_letters(&mut bytes, len / 2, middle);
+                check_delimited(rt, bytes.get(..len).unwrap_or(b""));
+                put(&mut bytes, len - 1, b"\xff");
+                check_delimited(rt, bytes.get(..len).unwrap_or(b""));
+            }
+        }
+    }
+}
+
+// Puts letters of two bytes, `count` bytes in all, from an offset on.
+fn fill_letters(bytes: &mut [u8], from: usize, count: usize) {
+    for k in 0..count / 2 {
+        put(bytes, from.saturating_add(2 * k), b"\xc3\xa9");
     }
 }
 

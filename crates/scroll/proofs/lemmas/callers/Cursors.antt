@@ -16,8 +16,11 @@ pub use Rattle.scroll.specs.lemmas.NumberLemmas.{number-prefix}
 -- the bytes of a slice are below 256, and a number of w of them below 256 ^ w; of a slice `s` of
 -- bytes `type_inv.s` says that each fits
 pub use Rattle.scroll.specs.lemmas.FixedLemmas.{byte-bound, number-bound}
--- where an encoding in LEB128 ends, and its number with one more group; what a look-up by `get` says
-pub use Rattle.scroll.proofs.lemmas.LebLemmas.{end_at, late_end, groups_more, byte_there}
+-- before and behind the end of an encoding in LEB128, and its number with one more group; what a look-up
+-- by `get` says
+pub use Rattle.scroll.proofs.lemmas.LebLemmas.{end_below, open_before, late_end, groups_more, byte_there}
+-- the same encoding at the start of another source
+pub use Rattle.scroll.proofs.lemmas.LebReadLemmas.{end-same, unsigned-same, exact-unsigned, exact-signed}
 
 -- one more value at the end, read with a cursor
 pub ReadsAll-next : {V : Type 0} (reads : List ℕ → V → ℕ → Type 0) (buffer : List ℕ) (from : ℕ) (vs : List V) (mid to : ℕ) (v : V) → ReadsAll reads buffer from vs mid → ReadsBetween reads buffer mid to v → ReadsAll reads buffer from (vs ++ v ∷ []) to

@@ -8,15 +8,18 @@ use Rattle.std.specs.List.{All, flat_map}
 use Rattle.scroll.specs.lemmas.NumberLemmas.{bytes-fit}
 use Rattle.scroll.specs.lemmas.FixedLemmas.{number-back, signed-back}
 use Rattle.scroll.proofs.lemmas.TextLemmas.{offset-behind}
+use Rattle.scroll.proofs.lemmas.EncodingLemmas.{reads_encoding}
+use Rattle.scroll.specs.Encoding.{encoding, unsigned_form, uleb_text, sleb_text}
+use Rattle.scroll.specs.Leb128.{Counted, ReadsCountedUleb, ReadsCountedSleb}
 use Rattle.scroll.specs.Numbers.{number, number_bytes, signed_number, signed_bytes}
 use Rattle.scroll.specs.Reads.{ReadsAt, ReadsAll}
 use Rattle.scroll.specs.Texts.{index_of, ReadsText}
 use Rattle.scroll.specs.declared.ctx.str_ctx.StrCtx.TheVariants.{Required}
 use Rattle.scroll.specs.declared.endian.Endian.{Endian}
--- where the first delimiter is, after bytes that are not the delimiter
-pub use Rattle.scroll.proofs.lemmas.TextLemmas.{offset-behind}
--- what was written in LEB128 reads back
-pub use Rattle.scroll.proofs.lemmas.EncodingLemmas.{written_reads, unsigned-form, signed-form}
+-- where the first delimiter is, after bytes that are not the delimiter, and in lists that begin alike
+pub use Rattle.scroll.proofs.lemmas.TextLemmas.{offset-behind, index_of-prefixes}
+-- what was written in LEB128 reads back, and what is read are the bytes of an encoding
+pub use Rattle.scroll.proofs.lemmas.EncodingLemmas.{written_reads, reads_encoding, unsigned-form, signed-form}
 -- a list that begins with the bytes of a number begins with that number
 pub use Rattle.scroll.specs.lemmas.NumberLemmas.{number-begins, signed-begins}
 -- the bytes of the number at an offset are the bytes there
@@ -73,8 +76,23 @@ number-there order w at s h room is = ap (number_bytes order w) is ∙ number-ba
 pub signed-there : (order : Endian) (w at : ℕ) (s : List ℕ) {x : ℤ} → ((i : ℕ) → Fits w8 (slice_index s i)) → at + w ≤ length s → x ≡ signed_number order w (drop at s) → signed_bytes order w x ≡ take w (drop at s)
 signed-there order w at s h room is = ap (signed_bytes order w) is ∙ signed-back order w at s h room
 
+-- a number in LEB128 is written back as the bytes at the offset where it was read
+pub uleb-there : (at n : ℕ) (s : List ℕ) {x : Counted ℕ} → ((i : ℕ) → Fits w8 (slice_index s i)) → ReadsCountedUleb (drop at s) x n → uleb_text x ≡ take n (drop at s)
+uleb-there at n s {x} bytes h =
+    let read = (reads_encoding unsigned-form (drop at s) x.value n (bytes-below at s bytes)).0 h.0 in
+    ap (λ k. encoding x.value k) h.1 ∙ sym read.prefix
+
+pub sleb-there : (at n : ℕ) (s : List ℕ) {x : Counted ℤ} → ((i : ℕ) → Fits w8 (slice_index s i)) → ReadsCountedSleb (drop at s) x n → sleb_text x ≡ take n (drop at s)
+sleb-there at n s {x} bytes h =
+    let read = (reads_encoding signed-form (drop at s) x.value n (bytes-below at s bytes)).0 h.0 in
+    ap (λ k. encoding (unsigned_form x.value k) k) h.1 ∙ sym read.prefix
+
 -- bytes that are those at an offset, and those after them
 pub there-next : (at w m : ℕ) (s : List ℕ) {b rest : List ℕ} → b ≡ take w (drop at s) → rest ≡ take m (drop (at + w) s) → b ++ rest ≡ take (w + m) (drop at s)
 there-next at w m s {b} {rest} first others =
     ap (λ l. l ++ rest) first ∙ ap (λ l. take w (drop at s) ++ l) (others ∙ ap (take m) (sym (drop-drop w at s)))
     ∙ sym (take-add w m (drop at s))
+
+-- the same with the offset of those after them as a sum
+pub there-then : (at w m next : ℕ) (s : List ℕ) {b rest : List ℕ} → at + w ≡ next → b ≡ take w (drop at s) → rest ≡ take m (drop next s) → b ++ rest ≡ take (w + m) (drop at s)
+there-then at w m next s is here after = there-next at w m s here (after ∙ ap (λ k. take m (drop k s)) (sym is))

@@ -4,14 +4,6 @@ use Rattle.std.proofs.lemmas.List.{take-replicate}
 use Rattle.scroll.specs.Streams.{AppendsValue}
 use Rattle.scroll.proofs.lesser.IOwrite.iowrite_with.Goals as goal
 
-pub returns : goal.returns
-returns g c =
-    let size = g.N.SizeWith.size c.args.ctx in
-    let zeros = take-replicate {X = ℕ} size 256 0 c.requires.size in
-    let told : OnOk c.write_value-2.result (AppendsValue (g.Self.Write.contents c.args.self.now) (g.Self.Write.contents c.write_value-2.new.writer)
-    size (g.N.IntoCtx.overwrites c.args.ctx c.args.n (take size (replicate 256 0)))) = grind (arith, common_steps, c.write_value-2.ensures) in
-    record { appended = rw zeros at told }
-
 pub returns-then-size-le-SMALL : goal.returns-then-size-le-SMALL
 returns-then-size-le-SMALL g c =
     let size = g.N.SizeWith.size c.args.ctx in
