@@ -465,6 +465,15 @@ struct Never {
     // #[scroll(if = kind == 0x100)]
     value: Option<Uleb128>,
 }
+// #[scroll(ends = zero_size)]
+struct Stop { a: u16 }
+struct Stops<'a> { stops: Until<'a, Stop> }
+struct Around<'a> { stops: Stops<'a> }
+// #[scroll(tag = u8)]
+enum Route<'a> {
+    // #[scroll(is = 0)]
+    Stops(Stops<'a>),
+}
 END
 cp "$room/trial/src/bad.rt" "$room/bad.rt"
 cp "$room/bad.rt" "$room/bad.txt"
@@ -557,6 +566,8 @@ trial/src/bad.rt|Unequal|bad.rt:274: the condition kind > 1 of the field value i
 trial/src/bad.rt|Always|bad.rt:279: the field value has the note if, which its type Uleb128 doesn't take
 trial/src/bad.rt|Slice|bad.rt:281: the struct Slice would have the library's name ReadsSlice, RefusesSlice or WritesSlice
 trial/src/bad.rt|Never|bad.rt:285: the condition kind == 0x100 of the field value has a number that doesn't fit kind
+trial/src/bad.rt|Around|bad.rt:290: the field stops is of Stops, which holds a list
+trial/src/bad.rt|Route|bad.rt:294: the variant Stops is of the struct Stops, which holds a list
 END
 tell_of "$room" <<'END'
 for row in (room / "refused").read_text(encoding="utf-8").splitlines():

@@ -16,7 +16,7 @@
 #
 # A struct of any size is in the src/ of a crate. A field is one of a fixed size (but no array of arrays), `Uleb128`, `Sleb128`,
 # `&'a [u8]`, `&'a str`, `CStr<'a>` of std::ffi, `Table<'a, T>` of elements of a fixed size, `Until<'a, T>` of a struct with
-# an end, `Option<Uleb128>`, `Option<Sleb128>`, `Zeros`, or a struct of any size or an enum of FILE without numbers in LEB128, whose error is that of the library or the same. In a comment before it may stand
+# an end, `Option<Uleb128>`, `Option<Sleb128>`, `Zeros`, or a struct of any size or an enum of FILE without numbers in LEB128 and lists, whose error is that of the library or the same. In a comment before it may stand
 #
 #     // #[scroll(ctx = len as usize)]     how many bytes a slice has, or zeros: a sum of earlier fields, each of which may be
 #                                          times a number, as in `count as usize * 18`, and of a number; for a text within
@@ -51,10 +51,12 @@
 # and before each variant `// #[scroll(is = 1)]`, its number.
 #
 # A struct of any size and an enum get TryFromCtx and TryIntoCtx, and Ends with `ends`; and for `append` Encode,
-# and Checked where values may not agree, but no struct with numbers in LEB128. A struct of any size without those, arrays,
+# and Checked where values may not agree, but no struct with numbers in LEB128 or a list; the latter is written only if its bytes
+# are values, their mark and nothing behind it, in the order of the write. A struct of any size without those, arrays,
 # structs and enums also gets Kept, for `write_kept`. They derive Copy. What --specs prints is its specs/STRUCTFormat.antt, and what
 # --back prints is its specs/STRUCTBack.antt: that what was written reads back, and, where each field is a number that is no float, a
-# struct of such, a slice, a text or a table, that what was read is written back.
+# struct of such, a slice, a text or a table, that what was read is written back; in a list or beside one, so are numbers in LEB128,
+# and enums without values.
 #
 # The first lines printed are the `use` lines that the rest needs, followed by the blocks in the layout of `rt fmt`. They are
 # proved with no proof file.

@@ -25,6 +25,7 @@ from format_words import (
     value_of,
     within,
 )
+from format_exact import exact_lines, exact_uses
 from format_reads import is_needed, reads_lemma
 from format_whole import whole_lines
 from kinds import Array, Number, Struct, Type, width_of
@@ -49,26 +50,33 @@ MODULES = [
     ("Rattle.scroll.specs.Encoding", ["HasEncoding", "HasSignedEncoding", "unsigned_form", "uleb_text", "sleb_text"]),
     ("Rattle.scroll.specs.Fixed", ["exactly"]),
     ("Rattle.std.specs.Prelude", ["⊤", "◌==◌", "is_some", "MatchOption"]),
-    ("Rattle.scroll_formats.specs.Lists", ["zero_size", "two_zeros_size", "ReadsUntil", "ReadsOptional", "optional_bytes"]),
+    ("Rattle.scroll_formats.specs.Lists", ["zero_size", "two_zeros_size", "IsList", "ReadsUntil", "ReadsOptional", "optional_bytes"]),
+    ("Rattle.scroll_formats.specs.Tagged", ["ReadsTag", "ReadsTagged"]),
+    (
+        "Rattle.scroll_formats.proofs.lemmas.callers.Exact",
+        ["IsExact", "IsMade", "exact-at", "exact-uleb", "exact-sleb", "exact-optional", "exact-until", "exact-fixed", "exact-slice", "exact-text"]
+        + ["exact-required", "exact-c_string", "exact-zeros", "exact-tag", "exact-tagged", "made-at", "made-number", "made-signed", "made-float", "made-array"]
+        + ["list-read", "until-begins", "zero_size-exact", "two_zeros_size-exact"],
+    ),
     ("Rattle.scroll.specs.Numbers", ["float", "float_bytes", "ReadsFloat", "number", "number_bytes", "signed_number", "signed_bytes", "ReadsNumber", "ReadsSigned"]),
     ("Rattle.scroll.specs.Reads", ["ReadsAt", "ReadsBetween", "ReadsAll"]),
     ("Rattle.scroll.specs.Leb128", ["ReadsCountedUleb", "ReadsCountedSleb"]),
     ("Rattle.scroll.specs.Texts", ["ReadsSlice", "ReadsText"]),
     ("Rattle.scroll_formats.specs.Zeros", ["padding_len", "zeros", "ReadsZeros"]),
     ("Rattle.scroll.specs.lemmas.FixedLemmas", ["length-exactly"]),
-    ("Rattle.scroll.specs.lemmas.Frames", ["length-number_bytes", "length-signed_bytes", "length-encoding", "ReadsCString-bounded"]),
+    ("Rattle.scroll.specs.lemmas.Frames", ["length-number_bytes", "length-signed_bytes", "length-encoding", "ReadsCString-bounded", "WritesPrefix-back"]),
     ("Rattle.scroll.specs.lemmas.NumberLemmas", ["number-begins", "signed-begins", "float-begins"]),
     ("Rattle.scroll.specs.declared.ctx.str_ctx.StrCtx.TheVariants", ["Length", "Required"]),
     ("Rattle.scroll.specs.declared.endian.Endian", ["Endian"]),
     (
         "Rattle.scroll.proofs.lemmas.callers.RoundTrips",
-        ["all-back", "fits-from", "number-there", "signed-there", "there-next", "required-back"],
+        ["all-back", "fits-from", "number-back", "number-there", "signed-there", "uleb-there", "sleb-there", "there-next", "there-then", "required-back"],
     ),
     (
         "Rattle.scroll_formats.proofs.lemmas.callers.Sequences",
         ["Rest", "rest-start", "rest-next", "rest-first", "rest-open", "rest-last", "rest-before", "rest-makes", "rest-reads", "fixed-begins", "array-begins"]
         + ["slice-begins", "text-begins", "uleb-begins", "sleb-begins", "c_string-begins", "required-begins", "zeros-begin"]
-        + ["optional-begins", "optional-inside", "uleb-text-begins", "sleb-text-begins", "uleb-inside", "sleb-inside"],
+        + ["optional-begins", "optional-there", "optional-inside", "uleb-text-begins", "sleb-text-begins", "uleb-inside", "sleb-inside"],
     ),
 ]
 
@@ -98,9 +106,6 @@ def fit_of(part: Part) -> str:
         return leb_fit(part.type, value)
     if part.condition:
         return f"MatchOption {value} ⊤ (λ v. {leb_fit(part.type, 'v')})"
-    if part.listed:
-        bytes = f"{value}.bytes.now"
-        return f"(order : Endian) (rest : List ℕ) → {part.listed.reads[1:-1]} ({bytes} ++ rest) {bytes} (length {bytes})"
     if part.kind == "c_string":
         return f"All (λ b. b ≢ 0) (c_str_bytes {value})"
     return f"IsUtf8 {value}.now" if part.kind in ("text", "delimited") else ""
@@ -178,7 +183,7 @@ def reads_back(form: Format, part: Part, names: Dict[str, str], size: str) -> st
         given = f"{value} {there} agrees.{member(part)} {fit}"
         return f"(optional-begins {word}leb_text ReadsCounted{word.upper()}leb (λ v. {leb_fit(part.type, 'v')}) {word}leb-text-begins {given})"
     if part.listed:
-        return f"({fit} order)"
+        return f"(until-begins ({snake(part.listed.name)}-exact order) {part.listed.mark}-exact {value_in(part)} agrees.{member(part)})"
     if part.kind == "c_string":
         return f"(λ r. c_string-begins (c_str_bytes {value}) r {fit})"
     if part.delimiter:
@@ -365,6 +370,7 @@ def bounded(form: Format) -> List[str]:
         f"{form.snake}-bounded order s x n h = omega (arith, {', '.join(facts)})",
         "",
         *(some(form) if form.mark else []),
+        *(exact_lines(form) if form.mark else []),
     ]
 
 
@@ -380,6 +386,35 @@ def some(form: Format) -> List[str]:
     ]
 
 
+def list_lemmas(form: Format) -> List[str]:
+    """Returns the lemmas that lists which were read are written, and that what a write left reads back, for a struct with lists."""
+    name, snaked, lines = form.name, form.snake, []
+    for part in form.parts:
+        if part.listed:
+            read = f"list-read ({snake(part.listed.name)}-exact order) {part.listed.mark}-exact _ _ _ h.{member(part)}.value"
+            lines += [
+                f"-- what was read as `{part.name}` is a list, which is written",
+                f"pub {snaked}-{part.name}-listed : (order : Endian) (s : List ℕ) (x : {name}) (n : ℕ) → Reads{name} order s x n → {part.listed.is_list} {value_in(part)}",
+                f"{snaked}-{part.name}-listed order s x n h = {read}",
+                "",
+            ]
+    held, given = (f"Fits{name} x → ", "held ") if form.has_fits else ("", "")
+    back = f"WritesPrefix-back (Reads{name} order) x ({snaked}_bytes order x) old new rest n ({snaked}-back order x rest h.agrees{' held' if held else ''}) h.wrote"
+    return [
+        *lines,
+        "-- what its write left reads back",
+        f"pub {snaked}-again : (order : Endian) (x : {name}) (old new rest : List ℕ) (n : ℕ) → {held}Writes{name} order x old new n → Reads{name} order (take n new ++ rest) x n",
+        f"{snaked}-again order x old new rest n {given}h = {back}",
+        "",
+    ]
+
+
+def is_there(use: str, uses: List[str]) -> bool:
+    """Returns whether the name in a `use` line is in one of these."""
+    head, _, names = use.partition("{")
+    return any(it.startswith(head) and names.rstrip("}") in re.split(r"[{}, ]+", it) for it in uses)
+
+
 def format_back(form: Format) -> str:
     """Returns the file of the proof."""
     name, snake = form.name, form.snake
@@ -387,7 +422,7 @@ def format_back(form: Format) -> str:
     fits = [(part, fit_of(part)) for part in form.parts if fit_of(part)]
     end = offsets_in(form)[-1]
     lets, values = steps(form)
-    agrees = [f"Agrees{name} x → "] if has_own else []
+    agrees = [f"Agrees{name} {form.given}x → "] if has_own else []
     premises = "".join([*agrees, *([f"Fits{name} x → "] if fits else [])])
     arguments = " ".join([*(["agrees"] if has_own else []), *(["held"] if fits else [])])
     body = [
@@ -412,13 +447,14 @@ def format_back(form: Format) -> str:
     ]
     inner = [line for struct in structs_in(form) for line in struct_lemmas(struct)]
     says = "-- what was written reads back, whatever follows it"
-    text = "\n".join([*bounded(form), *(reads_lemma(form) if is_needed(form) else []), *whole_lines(form), *(fit_record if fits else []), *inner, says, *body])
-    own = [f"Reads{name}", *([f"Agrees{name}"] if has_own else []), f"{snake}_bytes"]
+    text = "\n".join([*bounded(form), *(reads_lemma(form) if is_needed(form) else []), *whole_lines(form), *(fit_record if fits else []), *inner, says, *body, *(["", *list_lemmas(form)[:-1]] if form.has_list else [])])
+    own = [f"Reads{name}", *([f"Agrees{name}"] if has_own else []), *([f"Writes{name}"] if form.has_list else []), f"{snake}_bytes"]
     own += [before(form, form.parts[index]) for index in form.paddings]
+    uses = [*use_lines(text, MODULES), *declared_uses(form, text)]
     return "\n".join([
         f"-- A `{name}` that was written reads back. `tools/derive/derive.sh` printed this from the struct.",
-        *use_lines(text, MODULES),
-        *declared_uses(form, text),
+        *uses,
+        *[it for it in exact_uses(form, text) if not is_there(it, uses)],
         f"use Rattle.{form.crate}.specs.{name}Format.{{{', '.join(own)}}}",
         "",
         text,

@@ -67,6 +67,10 @@ def below_test(form: Format, part: Part, names: Dict[str, str]) -> List[str]:
     return [f"        if {part.count.less.in_code(names)} > {whole.in_code(names)} {{", *refused, "        }"]
 
 
+def other_list(part: Part) -> str:
+    return f"{part.name} is not a list up to its mark"
+
+
 def other_there(part: Part) -> str:
     assert part.condition
     return f"{part.name} is not there just where {part.condition.field} is {part.condition.number}"
@@ -177,9 +181,9 @@ def parts_lines(form: Format, value: str) -> List[str]:
     return [*lines, *tuple_lines("let parts = ", in_tuples(codes, fixed), ";", 8)]
 
 
-def check_lines(form: Format) -> List[str]:
-    """Returns the body of the function that tests whether the fields agree."""
-    names = {part.name: f"self.{part.name}" for part in form.parts}
+def check_lines(form: Format, value: str) -> List[str]:
+    """Returns the body of the function that tests whether the fields, which stand behind `value`, agree."""
+    names = {part.name: f"{value}{part.name}" for part in form.parts}
     lines: List[str] = []
     for part in form.parts:
         if part.constant:
@@ -191,6 +195,9 @@ def check_lines(form: Format) -> List[str]:
         if part.condition:
             there = f"{names[part.name]}.is_some() != ({part.condition.in_code(names)})"
             lines += [f"        if {there} {{", *refusal(form, "0", other_there(part), 12), "        }"]
+        if part.listed:
+            test = f"        if !{names[part.name]}.is_list(ctx) {{"
+            lines += [test, *refusal(form, f"{names[part.name]}.bytes.len()", other_list(part), 12), "        }"]
         if part.is_counted:
             assert part.count
             length = f"{names[part.name]}{'.bytes' if part.kind == 'table' else ''}.len()"
@@ -304,23 +311,22 @@ def check_block(form: Format) -> List[str]:
         f"    ghost differs = {{ Differs{form.name} }};",
         "",
         *signature("check", ["self"], result_of(form, "()")),
-        *check_lines(form),
+        *check_lines(form, "self."),
         "    }",
         "}",
     ]
 
 
 def apart_lines(form: Format) -> List[str]:
-    """Returns the body of the write of a struct that can't be passed whole. (The borrow checker's part of a proof doesn't cover a
-    list in it either, and so it is taken apart.)"""
-    lines = parts_lines(form, "self.")
-    if any(part.listed for part in form.parts):
-        apart = struct_lines(form.name, [(part.name, part.name) for part in form.parts], False, 8)
+    """Returns the body of the write of a struct that isn't passed whole. (The borrow checker's part of a proof doesn't cover a list
+    in it either, and so it is taken apart.)"""
+    value, apart = "self.", []
+    if form.has_list:
+        value, apart = "", struct_lines(form.name, [(part.name, part.name) for part in form.parts], False, 8)
         apart[0] = f"        let {apart[0].strip()}"
         apart[-1] += " = self;"
-        lines = [*apart, *parts_lines(form, "")]
     tail = ["        let size = parts.size(ctx);", "        check_room(size, dst.len())?;", "        parts.put(dst, ctx);"]
-    return [*check_lines(form)[:-1], *lines, *tail, "        Ok(size)"]
+    return [*apart, *check_lines(form, value)[:-1], *parts_lines(form, value), *tail, "        Ok(size)"]
 
 
 def whole_lines(form: Format) -> List[str]:
@@ -344,7 +350,7 @@ def write_block(form: Format) -> List[str]:
         f"    ghost writes_keeps = {{ λ order x old new n h. {keeps} }};",
         "",
         *signature("try_into_ctx", ["self", "dst: &mut [u8]", "ctx: Endian"], result_of(form, "usize")),
-        *(apart_lines(form) if form.has_leb else whole_lines(form)),
+        *(apart_lines(form) if form.is_apart else whole_lines(form)),
         "    }",
         "}",
     ]
@@ -354,7 +360,7 @@ def is_kept(form: Format) -> bool:
     """Returns whether `Kept` is printed: whether the prover finds that the fields' types hold the values. (It doesn't for those of
     a struct in a struct, or of a long array.)"""
     inner = [part for part in form.parts if (part.inner and part.inner.fits) or not isinstance(part.fixed, (Number, type(None)))]
-    return not (form.has_leb or inner)
+    return not (form.is_apart or inner)
 
 
 def kept_block(form: Format) -> List[str]:
@@ -389,7 +395,7 @@ def error_name(form: Format) -> str:
 
 def format_blocks(form: Format) -> str:
     """Returns the implementations."""
-    parts = [] if form.has_leb else [*encode_block(form), *(check_block(form) if form.has_own else []), ""]
+    parts = [] if form.is_apart else [*encode_block(form), *(check_block(form) if form.has_own else []), ""]
     return "\n".join([*read_block(form), "", *ends_block(form), *parts, *write_block(form), *(kept_block(form) if is_kept(form) else [])])
 
 

@@ -3,10 +3,10 @@
 from __future__ import annotations
 
 from dataclasses import replace
-from typing import Dict, List, Tuple
+from typing import Callable, Dict, List, Tuple
 
 from fixed import made
-from format_code import below_count, error_name, other_constant, other_count, other_text, other_there
+from format_code import below_count, error_name, other_constant, other_count, other_list, other_text, other_there
 from format_words import (
     MODULES,
     before,
@@ -302,6 +302,8 @@ def agreement(form: Format, part: Part) -> str:
 def agrees(form: Format, part: Part) -> str:
     if part.delimiter:
         return f"All (λ b. b ≢ {part.delimiter}) {value_in(part)}"
+    if part.listed:
+        return f"{part.listed.is_list} {value_in(part)}"
     return f"Agrees{part.inner.name} x.{part.label}" if part.inner else agreement(form, part).format("≡")
 
 
@@ -310,10 +312,12 @@ def differs(form: Format) -> List[str]:
     name, small = form.name, SMALL if is_small(form) else ""
     own = [part for part in form.parts if part.has_own]
     texts = "no text contains its delimiter, " if any(part.delimiter for part in own) else ""
+    texts += "each list ends with its mark, " if form.has_list else ""
+    order, types, parameters = ("(order : Endian) ", f"Endian → {name}", "order x") if form.has_list else ("", name, "x")
     lines = [
         "",
         f"-- its constants stand in it, {texts}and each count is the number of bytes that it counts",
-        f"pub record Agrees{name} (x : {name}) : Type 0 where",
+        f"pub record Agrees{name} {order}(x : {name}) : Type 0 where",
         *(f"  pub {member(part)} : {agrees(form, part)}" for part in own),
     ]
     cases: List[Tuple[str, str]] = []
@@ -321,26 +325,38 @@ def differs(form: Format) -> List[str]:
         if part.inner:
             cases.append((EACH if part.is_own_error else "", f"Differs{part.inner.name} x.{part.label}"))
             continue
-        cases.append((part.other or small, f"Differs{name}{camel(part.name)} x"))
+        cases.append((part.other or small, f"Differs{name}{camel(part.name)} {'order ' if part.listed else ''}x"))
         lines += ["", *differs_record(form, part)]
     return [
         *lines,
-        *cause_lines(form, f"Differs{name}", name, "x", cases),
+        *cause_lines(form, f"Differs{name}", types, parameters, cases),
         "",
         "-- they don't agree: one of these is the error",
-        f"abbrev pub Differs{name} : {name} → {error_name(form)} → Type 0",
-        *error_lines(form, f"Differs{name}", "x", cases),
+        f"abbrev pub Differs{name} : {types} → {error_name(form)} → Type 0",
+        *error_lines(form, f"Differs{name}", parameters, cases),
     ]
+
+
+# What is said of a field that doesn't agree.
+OTHERS: List[Tuple[Callable[[Part], bool], Callable[[Part], str]]] = [
+    (lambda part: part.delimiter != "", other_text),
+    (lambda part: part.constant != "", other_constant),
+    (lambda part: part.condition is not None, other_there),
+    (lambda part: part.listed is not None, other_list),
+    (lambda part: True, other_count),
+]
 
 
 def differs_record(form: Format, part: Part) -> List[str]:
     """Returns a record for a constant or a count that doesn't agree."""
     value = f"x.{part.label}" if part.constant else "0" if part.condition else f"(length {value_in(part)})"
-    message = other_text(part) if part.delimiter else other_constant(part) if part.constant else other_there(part) if part.condition else other_count(part)
-    other = f"¬ ({agrees(form, part)})" if part.delimiter else agreement(form, part).format("≢")
+    message = next(says(part) for is_said, says in OTHERS if is_said(part))
+    other = f"¬ ({agrees(form, part)})" if part.delimiter else ""
+    other = f"{part.listed.is_none} {value_in(part)}" if part.listed else other or agreement(form, part).format("≢")
+    order = "(order : Endian) " if part.listed else ""
     return [
         f"-- `{part.name}` doesn't agree",
-        f"pub record Differs{form.name}{camel(part.name)} (x : {form.name}) ({given(form, part)}) : Type 0 where",
+        f"pub record Differs{form.name}{camel(part.name)} {order}(x : {form.name}) ({given(form, part)}) : Type 0 where",
         f"  pub other : {other}",
         error_said(form, part, value, value, message),
     ]
@@ -350,7 +366,8 @@ def writes(form: Format) -> List[str]:
     """Returns what a write leaves, and which errors it gives."""
     name = form.name
     size = f"length ({form.snake}_bytes order x)"
-    agreed = [f"  pub agrees : Agrees{name} x"] if form.has_own else []
+    agreed = [f"  pub agrees : Agrees{name} {form.given}x"] if form.has_own else []
+    order = "(order : Endian) " if form.has_list else ""
     lines = [
         *(differs(form) if form.has_own else []),
         "",
@@ -361,12 +378,12 @@ def writes(form: Format) -> List[str]:
     ]
     cases = [("", f"Keeps{name}Short order x old new")]
     if form.has_own:
-        cases = [(EACH, f"Keeps{name}Differs x old new"), *cases]
+        cases = [(EACH, f"Keeps{name}Differs {form.given}x old new"), *cases]
         lines += [
             "",
             "-- its fields don't agree, and the target is unchanged",
-            f"pub record Keeps{name}Differs (x : {name}) (old new : List ℕ) (e : {error_name(form)}) : Type 0 where",
-            f"  pub differs : Differs{name} x e",
+            f"pub record Keeps{name}Differs {order}(x : {name}) (old new : List ℕ) (e : {error_name(form)}) : Type 0 where",
+            f"  pub differs : Differs{name} {form.given}x e",
             "  pub same : new ≡ old",
         ]
     return [

@@ -36,7 +36,7 @@ MODULES = [
     ("Rattle.scroll.specs.Numbers", ["float", "float_bytes", "ReadsFloat"]),
     ("Rattle.scroll.specs.Leb128", ["Counted", "ReadsCountedUleb", "ReadsCountedSleb", "RefusesUleb", "RefusesSleb"]),
     ("Rattle.scroll.specs.Encoding", ["uleb_text", "sleb_text"]),
-    ("Rattle.scroll_formats.specs.Lists", ["zero_size", "two_zeros_size", "ReadsUntil", "RefusesUntil", "ReadsOptional", "RefusesOptional", "optional_bytes"]),
+    ("Rattle.scroll_formats.specs.Lists", ["zero_size", "two_zeros_size", "IsList", "IsNoList", "ReadsUntil", "RefusesUntil", "ReadsOptional", "RefusesOptional", "optional_bytes"]),
     ("Rattle.scroll.specs.Texts", ["ReadsSlice", "ReadsText", "RefusesText"]),
     ("Rattle.scroll_formats.specs.Tagged", ["ReadsTag", "ReadsTagged", "RefusesTagged", "WritesTagged", "FailsTagged"]),
     ("Rattle.scroll_formats.specs.Zeros", ["padding_len", "zeros", "ReadsZeros", "RefusesZeros"]),
@@ -237,10 +237,11 @@ def inner_uses(form: Format, text: str) -> List[str]:
     words = set(re.findall(r"[\w-]+", text))
     lines: List[str] = []
     held = [(part.inner or part.listed).name for part in form.parts if part.inner or part.listed]
+    lists = [part.listed.name for part in form.parts if part.listed]
     for name in dict.fromkeys(held):
         files = {
             "Format": [f"{it}{name}" for it in ("Reads", "Refuses", "Agrees", "Differs")] + [f"{snake(name)}_bytes"],
-            "Back": [f"{snake(name)}-bounded", f"Fits{name}", f"{snake(name)}-back"],
+            "Back": [f"{snake(name)}-bounded", f"Fits{name}", f"{snake(name)}-back", *([f"{snake(name)}-exact"] if name in lists else [])],
         }
         for file, names in files.items():
             used = [it for it in names if it in words]

@@ -42,6 +42,16 @@ class Listed:
         return f"(ReadsUntil (Reads{self.name} order) {self.mark})"
 
     @property
+    def is_list(self) -> str:
+        """Returns which bytes are a list."""
+        return f"IsList (Reads{self.name} order) {self.mark}"
+
+    @property
+    def is_none(self) -> str:
+        """Returns which bytes aren't."""
+        return f"IsNoList (Reads{self.name} order) {self.mark} (Refuses{self.name} order) {self.gives}"
+
+    @property
     def refuses(self) -> str:
         return f"(RefusesUntil (Reads{self.name} order) {self.mark} (Refuses{self.name} order) {self.gives})"
 

@@ -5,7 +5,7 @@ from __future__ import annotations
 import re
 from dataclasses import dataclass
 from pathlib import Path
-from typing import Dict, List, Optional, Sequence, Tuple
+from typing import Any, Dict, List, Optional, Sequence, Tuple
 
 from counts import Count, is_counter, read_count
 from kinds import Array, Type, kind_of, read_type, width_of
@@ -31,12 +31,13 @@ TAKEN = {*"All Array At Between CString CountedSleb CountedUleb Fixed Float Numb
 @dataclass(frozen=True)
 class Inner:
     """A struct of any size, or an enum, that is the type of a field: its name, whether it says which of its values agree and what
-    their fields can hold, and its own error type."""
+    their fields can hold, its own error type, and the `Format` or `Choice` that it is."""
 
     name: str
     agrees: bool
     fits: bool
     error: Optional[OwnError]
+    form: Any
 
     @property
     def snake(self) -> str:
@@ -90,13 +91,13 @@ class Part:
     @property
     def has_own(self) -> bool:
         """Returns whether a value of the field may not agree with what the format says of it."""
-        is_tested = self.constant != "" or self.delimiter != "" or self.condition is not None
+        is_tested = self.constant != "" or self.delimiter != "" or self.condition is not None or self.listed is not None
         return is_tested or self.is_counted or (self.inner is not None and self.inner.agrees)
 
     @property
     def has_fit(self) -> bool:
         """Returns whether the field's type has values that a field can't hold."""
-        found = ("fixed", "leb", "optional", "until", "c_string", "text", "delimited")
+        found = ("fixed", "leb", "optional", "c_string", "text", "delimited")
         return self.kind in found or (self.inner is not None and self.inner.fits)
 
     @property
@@ -136,9 +137,24 @@ class Format:
 
     @property
     def has_leb(self) -> bool:
-        """Returns whether it holds a number in LEB128. (The borrow checker's part of a proof doesn't cover a call that takes such a
-        struct whole.)"""
+        """Returns whether it holds a number in LEB128."""
         return any(part.kind in ("leb", "optional") for part in self.parts)
+
+    @property
+    def has_list(self) -> bool:
+        """Returns whether it holds a list up to a mark."""
+        return any(part.listed for part in self.parts)
+
+    @property
+    def is_apart(self) -> bool:
+        """Returns whether it is written field by field. (The borrow checker's part of a proof doesn't cover a call that takes a
+        struct with a number in LEB128 whole, and whether bytes are a list depends on the byte order, which `check` doesn't have.)"""
+        return self.has_leb or self.has_list
+
+    @property
+    def given(self) -> str:
+        """Returns the byte order as an argument of what says which values agree, where that depends on it."""
+        return "order " if self.has_list else ""
 
     @property
     def head(self) -> Tuple[Part, ...]:
@@ -212,9 +228,10 @@ def read_inner(source: Source, raw: RawStruct, field: RawField, error: Optional[
     form = read_choice(source, found, outer) if found.is_enum else read_format(source, found, outer)
     if form.error and (form.error != error or not error.variant):
         source.refuse(field.place, f"the field {field.name} is of {found.name}, which has another error")
-    if form.has_leb:
-        source.refuse(field.place, f"the field {field.name} is of {found.name}, which holds a number in LEB128")
-    return Inner(found.name, form.has_own, form.has_fits, form.error)
+    if form.is_apart:
+        held = "a number in LEB128" if form.has_leb else "a list"
+        source.refuse(field.place, f"the field {field.name} is of {found.name}, which holds {held}")
+    return Inner(found.name, form.has_own, form.has_fits, form.error, form)
 
 
 def check_name(source: Source, raw: RawStruct) -> None:

@@ -68,6 +68,10 @@ class Choice:
         return any(it.form is not None and it.form.has_leb for it in self.variants)
 
     @property
+    def is_apart(self) -> bool:
+        return self.has_leb
+
+    @property
     def declared(self) -> str:
         return ".".join(["Rattle", self.crate, "specs", "declared", *self.module])
 
@@ -119,6 +123,8 @@ def read_variant(
         form = read_format(source, source.find_struct(name), outer)
         if form.error not in (None, error):
             source.refuse(field.place, f"the variant {field.name} is of the struct {name}, which has another error")
+        if form.has_list:
+            source.refuse(field.place, f"the variant {field.name} is of the struct {name}, which holds a list")
         return Variant(field.name, number, field.type, form=form)
     fixed = read_type(source, field, field.type, outer)
     if isinstance(fixed, Array):

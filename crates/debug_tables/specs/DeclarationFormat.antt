@@ -1,12 +1,13 @@
 -- `Declaration` as bytes: its fields, one after another. `tools/derive/derive.sh` printed this from
 -- the struct.
-use Rattle.std.specs.Prelude.{◌≡◌, ◌+◌, ◌-◌, ◌^◌, ◌++◌, ◌⊎◌, ℕ, List, length, min}
+use Rattle.std.specs.Prelude.{◌≡◌, ◌+◌, ◌-◌, ◌^◌, ◌++◌, ◌⊎◌, ℕ, List, length, min, codes}
 use Rattle.scroll.specs.Bytes.{WritesPrefix, FailsShort}
 use Rattle.scroll.specs.Reads.{ReadsAt, ReadsBetween, RefusesAt}
-use Rattle.scroll.specs.Errors.{IsBadOffset}
+use Rattle.scroll.specs.Errors.{IsBadOffset, IsBadInput}
 use Rattle.scroll.specs.Leb128.{Counted, ReadsCountedUleb, RefusesUleb}
 use Rattle.scroll.specs.Encoding.{uleb_text}
-use Rattle.scroll_formats.specs.Lists.{two_zeros_size, ReadsUntil, RefusesUntil}
+use Rattle.scroll_formats.specs.Lists.{two_zeros_size, IsList, IsNoList, ReadsUntil, RefusesUntil}
+use Rattle.scroll.specs.Numbers.{number}
 use Rattle.scroll.specs.declared.endian.Endian.{Endian}
 use Rattle.scroll.specs.declared.error.Error.{Error}
 use Rattle.scroll.specs.declared.error.Error.TheVariants.{BadOffset}
@@ -83,16 +84,41 @@ declaration_bytes order x =
     ++ (children_bytes order x.children
     ++ x.attributes.bytes.now))
 
+-- its constants stand in it, each list ends with its mark, and each count is the number of bytes
+-- that it counts
+pub record AgreesDeclaration (order : Endian) (x : Declaration) : Type 0 where
+  pub attributes : IsList (ReadsAttribute order) two_zeros_size x.attributes.bytes.now
+
+-- `attributes` doesn't agree
+pub record DiffersDeclarationAttributes (order : Endian) (x : Declaration) (e : Error) : Type 0 where
+  pub other : IsNoList (ReadsAttribute order) two_zeros_size (RefusesAttribute order) (λ error e. e ≡ Read error) x.attributes.bytes.now
+  pub error : IsBadInput e (length x.attributes.bytes.now) (codes "attributes is not a list up to its mark")
+
+-- they don't agree: one of these is the error
+abbrev pub DiffersDeclaration : Endian → Declaration → TableError → Type 0
+DiffersDeclaration order x (Read e) =
+    DiffersDeclarationAttributes order x e
+DiffersDeclaration order x e = ⊥
+
 -- it is written over the start of a target
 pub record WritesDeclaration (order : Endian) (x : Declaration) (old new : List ℕ) (n : ℕ) : Type 0 where
+  pub agrees : AgreesDeclaration order x
   pub wrote : WritesPrefix (length (declaration_bytes order x)) (declaration_bytes order x) old new n
+
+-- its fields don't agree, and the target is unchanged
+pub record KeepsDeclarationDiffers (order : Endian) (x : Declaration) (old new : List ℕ) (e : TableError) : Type 0 where
+  pub differs : DiffersDeclaration order x e
+  pub same : new ≡ old
 
 -- the target is too short, and is unchanged
 pub record KeepsDeclarationShort (order : Endian) (x : Declaration) (old new : List ℕ) (e : Error) : Type 0 where
+  pub agrees : AgreesDeclaration order x
   pub short : FailsShort (min (length (declaration_bytes order x)) (2 ^ 64 - 1)) old new e
 
 -- its write fails: one of these is the error
 abbrev pub KeepsDeclaration : Endian → Declaration → List ℕ → List ℕ → TableError → Type 0
 KeepsDeclaration order x old new (Read e) =
     KeepsDeclarationShort order x old new e
-KeepsDeclaration order x old new e = ⊥
+    ⊎ KeepsDeclarationDiffers order x old new (Read e)
+KeepsDeclaration order x old new e =
+    KeepsDeclarationDiffers order x old new e

@@ -267,6 +267,12 @@ impl<'a> TryIntoCtx<Endian> for Declaration<'a> {
             children,
             attributes,
         } = self;
+        if !attributes.is_list(ctx) {
+            return Err(TableError::from(Error::BadInput {
+                size: attributes.bytes.len(),
+                msg: "attributes is not a list up to its mark",
+            }));
+        }
         let parts = (&code, &tag, children, attributes.bytes);
         let size = parts.size(ctx);
         check_room(size, dst.len())?;

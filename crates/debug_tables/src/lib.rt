@@ -6,26 +6,20 @@
 #![tactic(auto)]
 
 mod declaration;
+mod table;
 #[cfg(test)]
 mod tests;
 
-ghost use Rattle.std.specs.Prelude.{◌≡◌, List, ℕ, IfOk, IfErr, OnOk, OnErr};
+ghost use Rattle.std.specs.Prelude.{◌≡◌, List, ℕ, drop, IfOk, IfErr, OnOk, OnErr};
 ghost use Rattle.std.specs.List.{slice_range};
 ghost use Rattle.scroll_formats.specs.Spans.{Puts, Stands};
-ghost use Rattle.debug_tables.specs.Tables.{ReadsTable, RefusesTable, FailsPut};
+ghost use Rattle.debug_tables.specs.Tables.{ReadsTable, ReadsTableBytes, RefusesTable, FailsPut};
 
 pub use crate::declaration::{Attribute, Children, Declaration, TableError};
+pub use crate::table::Table;
 use scroll::{Error, LE, Result};
 use scroll_formats::{append_until, put_at};
 use std::alloc::Global;
-
-/// A table of abbreviations.
-#[derive(Debug, Drop)]
-pub struct Table<'a> {
-    pub declarations: Vec<Declaration<'a>>,
-    /// The bytes of the table, with the code of zero after the declarations.
-    pub bytes: &'a [u8],
-}
 
 /// Reads the table at the cursor `offset`, and advances the cursor past it. On an error the cursor
 /// is unchanged.
@@ -57,16 +51,20 @@ pub fn read_table<'a>(
 }
 
 /// Writes the bytes of a table at the cursor `offset`, and advances the cursor past them. So a table
-/// that was read is written back byte for byte. `scroll::write_many` writes other declarations.
+/// that was read is written back byte for byte, and reads as a table again, whatever follows it.
+/// `scroll_formats::write_many` writes other declarations.
 ///
 /// Without room for the table, the error is a `TooBig` with its size, and with the cursor past the
 /// end a `BadOffset`. Then nothing is written, and the cursor is unchanged.
 pub fn write_table(target: &mut [u8], offset: &mut usize, table: &Table) -> Result<()>
-    ensures wrote { OnOk result (Puts table.now.bytes.now target.old target.new offset.old offset.new) }
+    ensures wrote { OnOk result
+        (Puts table.now.bytes target.old target.new offset.old offset.new) }
+    ensures again { OnOk result
+        (ReadsTableBytes (drop offset.old target.new) table.now.bytes) }
     ensures back { OnOk result ((source : List ℕ) (from to : ℕ)
-        → Stands table.now.bytes.now source from to
+        → Stands table.now.bytes source from to
         → slice_range target.new offset.old offset.new ≡ slice_range source from to) }
-    ensures refused { IfErr result (FailsPut table.now.bytes.now target.old offset.old) }
+    ensures refused { IfErr result (FailsPut table.now.bytes target.old offset.old) }
     ensures stays { OnErr result (offset.new ≡ offset.old) }
     ensures unchanged { OnErr result (target.new ≡ target.old) }
 {

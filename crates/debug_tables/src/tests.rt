@@ -1,6 +1,7 @@
 // Tables of object files, and tables that are padded, truncated or wrong.
-use crate::{Attribute, Children, Declaration, Table, read_table, write_table};
-use scroll::LE;
+use crate::{Attribute, Children, Declaration, Table, TableError, read_table, write_table};
+use scroll::{BE, Endian, LE, Pread, Pwrite, Uleb128};
+use scroll_formats::{Until, write_many};
 use std::alloc::Global;
 use std::fmt::Debug;
 use std::process::Abort;
@@ -160,6 +161,7 @@ fn check_sample(rt: &impl Abort, alloc: Global, bytes: &[u8], wanted: &[(Shape, 
     for (declaration, wanted) in table.declarations.iter().zip(wanted.iter()) {
         check_declaration(rt, declaration, wanted);
     }
+    assert!(rt; *table.bytes() == *bytes);
     check_written(rt, &table, bytes);
 }
 
@@ -190,6 +192,90 @@ fn refused_tables(rt: HostRuntime) {
     let large = "Err(Read(BadInput { size: 11, msg: \"failed to parse\" }))";
     check_refused(&rt, alloc, &[0x80; 11], 0, large);
     check_refused(&rt, alloc, &PAIR, 83, "Err(Read(BadOffset(83)))");
+}
+
+// Attributes, and what a write of a declaration with them returns.
+static LISTS: [(&[u8], &str); 13] = [
+    (&[0, 0], "Ok(5)"),
+    (&[3, 8, 0, 0], "Ok(7)"),
+    (&[0x3a, 0x21, 1, 3, 8, 0, 0], "Ok(10)"),
+    (&[3, 8, 0x80, 0, 0x80, 0x80, 0], "Ok(10)"),
+    (&[], NONE),
+    (&[0xff], ONE),
+    (&[3, 8], TWO),
+    (&[3, 8, 0], THREE),
+    (&[3, 8, 0, 0x80], FOUR),
+    (&[0x3a, 0x21, 0, 0], FOUR),
+    (&[0, 0, 0], THREE),
+    (&[0, 0, 0, 0], FOUR),
+    (&[3, 8, 0, 0, 3, 8, 0, 0], EIGHT),
+];
+
+const NONE: &str =
+    "Err(Read(BadInput { size: 0, msg: \"attributes is not a list up to its mark\" }))";
+
+const ONE: &str =
+    "Err(Read(BadInput { size: 1, msg: \"attributes is not a list up to its mark\" }))";
+
+const TWO: &str =
+    "Err(Read(BadInput { size: 2, msg: \"attributes is not a list up to its mark\" }))";
+
+const THREE: &str =
+    "Err(Read(BadInput { size: 3, msg: \"attributes is not a list up to its mark\" }))";
+
+const FOUR: &str =
+    "Err(Read(BadInput { size: 4, msg: \"attributes is not a list up to its mark\" }))";
+
+const EIGHT: &str =
+    "Err(Read(BadInput { size: 8, msg: \"attributes is not a list up to its mark\" }))";
+
+const MANY: &str =
+    "Some(At { offset: 5, error: Read(BadInput { size: 1, msg: \"attributes is not a list up to its mark\" }) })";
+
+// Returns a declaration with these attributes.
+fn declaration_of(attributes: &[u8]) -> Declaration<'_> {
+    Declaration {
+        code: Uleb128::shortest(1),
+        tag: Uleb128::shortest(0x11),
+        children: Children::No,
+        attributes: Until::new(attributes),
+    }
+}
+
+// Checks a write of a declaration: what it returns, what it leaves, and what reads back.
+fn check_list(rt: &impl Abort, alloc: Global, attributes: &[u8], order: Endian, wanted: &str) {
+    let mut target = [0xee; 16];
+    let mut at = 1;
+    let wrote = target.gwrite_with(declaration_of(attributes), &mut at, order);
+    check_printed(rt, alloc, wrote, wanted);
+    check_eq(rt, target[0], 0xee);
+    if at == 1 {
+        check_eq(rt, target, [0xee; 16]);
+        return;
+    }
+    let read: Result<Declaration, TableError> = target.pread_with(1, order);
+    let read = read.expect(rt, "a declaration");
+    assert!(rt; *read.attributes.bytes == *attributes, "got {read:?}");
+}
+
+// Checks the error of a write of a list of declarations, of which the second has no list.
+fn check_many(rt: &impl Abort, alloc: Global) {
+    let mut target = [0xee; 8];
+    let mut at = 0;
+    let declarations = [declaration_of(&[0, 0]), declaration_of(&[0xff])];
+    let wrote = write_many(&mut target, &declarations, &mut at, LE);
+    check_printed(rt, alloc, wrote.err(), MANY);
+    check_eq(rt, at, 5);
+    check_eq(rt, target, [1, 0x11, 0, 0, 0, 0xee, 0xee, 0xee]);
+}
+
+#[test]
+fn lists_without_their_mark_are_refused(rt: HostRuntime) {
+    for (attributes, wanted) in LISTS.iter() {
+        check_list(&rt, rt.alloc(), attributes, LE, wanted);
+        check_list(&rt, rt.alloc(), attributes, BE, wanted);
+    }
+    check_many(&rt, rt.alloc());
 }
 
 #[test]

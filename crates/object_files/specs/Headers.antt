@@ -7,7 +7,7 @@ use Rattle.scroll.specs.Numbers.{number}
 use Rattle.scroll.specs.declared.endian.Endian.{Endian}
 use Rattle.scroll.specs.declared.endian.Endian.TheVariants.{Little, Big}
 use Rattle.object_files.specs.declared.error.ElfError.{ElfError}
-use Rattle.object_files.specs.declared.error.ElfError.TheVariants.{BadMagic, BadClass, BadOrder, Refused}
+use Rattle.object_files.specs.declared.error.ElfError.TheVariants.{BadMagic, BadClass, BadOrder, BadVersion, Refused}
 use Rattle.object_files.specs.declared.header.Header.{Header}
 
 -- the byte that names a byte order, `e_ident[EI_DATA]`
@@ -40,16 +40,18 @@ pub record HasMagic (file : List ℕ) : Type 0 where
   pub room : 64 ≤ length file
   pub magic : number Big 4 file ≡ 0x7f45_4c46
 
--- a header that is read from the start of a 64-bit file, in the byte order that the file names
+-- a header that is read from the start of a 64-bit file, in the byte order that the file names; the
+-- version of the identification, `e_ident[EI_VERSION]`, is the current one
 pub record ReadsHeader (file : List ℕ) (h : Header) (n : ℕ) : Type 0 where
   pub magic : HasMagic file
   pub class : slice_index file 4 ≡ 2
   pub order : IsOrder h.order (slice_index file 5)
+  pub version : slice_index file 6 ≡ 1
   pub fields : h ≡ header_of h.order file
   pub size : n ≡ 64
 
 -- the errors of reading a header, in the order of the tests: the file is too short, isn't ELF,
--- isn't 64-bit, or names no byte order
+-- isn't 64-bit, names no byte order, or has another version than the current one
 abbrev pub RefusesHeader : List ℕ → ElfError → Type 0
 RefusesHeader file (Refused error) = RefusesShort 64 file error
 RefusesHeader file (BadMagic magic) =
@@ -57,4 +59,8 @@ RefusesHeader file (BadMagic magic) =
 RefusesHeader file (BadClass class) = HasMagic file × (class ≡ slice_index file 4) × (class ≢ 2)
 RefusesHeader file (BadOrder byte) =
     HasMagic file × (slice_index file 4 ≡ 2) × (byte ≡ slice_index file 5) × (byte ≢ 1) × (byte ≢ 2)
+RefusesHeader file (BadVersion byte) =
+    HasMagic file × (slice_index file 4 ≡ 2)
+    × ((order : Endian) × IsOrder order (slice_index file 5))
+    × (byte ≡ slice_index file 6) × (byte ≢ 1)
 RefusesHeader file _ = ⊥

@@ -13,6 +13,8 @@ pub enum ElfError {
     BadClass(u8),
     /// The byte that names the byte order, which is neither 1 nor 2.
     BadOrder(u8),
+    /// The version of the identification, byte 6 of the file, which isn't 1.
+    BadVersion(u8),
     /// The size of an entry in the table of sections, which isn't 64.
     BadEntrySize(u16),
     /// There is a table of sections, and the header doesn't say how many entries it has. That is so

@@ -48,6 +48,8 @@ const MAGIC: u32 = 0x7f45_4c46;
 
 const CLASS_64: u8 = 2;
 
+const CURRENT: u8 = 1;
+
 /// Reads the header of a file whose byte order is known.
 impl FromCtx<Endian> for Header {
     ghost need = { λ _. 64 };
@@ -76,6 +78,10 @@ impl FromCtx<Endian> for Header {
 }
 
 /// Reads the header of a file, in the byte order that the file names.
+///
+/// The errors, in the order of the tests: [`ElfError::Refused`] with a `TooBig` for fewer than 64
+/// bytes, [`ElfError::BadMagic`], [`ElfError::BadClass`], [`ElfError::BadOrder`] and
+/// [`ElfError::BadVersion`]. No other byte of a header is tested.
 impl<'a> TryFromCtx<'a, ()> for Header {
     type Error = ElfError;
 
@@ -99,6 +105,9 @@ impl<'a> TryFromCtx<'a, ()> for Header {
             2 => BE,
             other => return Err(ElfError::BadOrder(other)),
         };
+        if from[6] != CURRENT {
+            return Err(ElfError::BadVersion(from[6]));
+        }
         Ok((Header::from_ctx(from, order), SIZE))
     }
 }

@@ -161,19 +161,37 @@ fn both_orders_are_read(rt: HostRuntime) {
     check_file(&rt, rt.alloc(), &BIG, BIG_HEADER);
 }
 
+// Other values of the first bytes, and the errors. (The first number is 0xff45_4c46.)
+static REFUSED: [(usize, u8, &str); 11] = [
+    (0, 0xff, "Err(BadMagic(4282731590))"),
+    (1, 0x65, "Err(BadMagic(2137345094))"),
+    (2, 0x6c, "Err(BadMagic(2135256134))"),
+    (3, 0x47, "Err(BadMagic(2135247943))"),
+    (4, 1, "Err(BadClass(1))"),
+    (4, 3, "Err(BadClass(3))"),
+    (5, 0, "Err(BadOrder(0))"),
+    (5, 3, "Err(BadOrder(3))"),
+    (6, 0, "Err(BadVersion(0))"),
+    (6, 2, "Err(BadVersion(2))"),
+    (6, 0xff, "Err(BadVersion(255))"),
+];
+
+#[test]
+fn identifications_are_refused(rt: HostRuntime) {
+    for (offset, byte, wanted) in REFUSED.iter() {
+        if *offset < 280 {
+            check_header(&rt, rt.alloc(), &with_byte(*offset, *byte), 0, wanted);
+        }
+    }
+    // The system's byte is kept, and the others up to byte 16 may be anything.
+    let mut file = LITTLE;
+    file[8..16].fill(0xff);
+    check_file(&rt, rt.alloc(), &file, LITTLE_HEADER);
+}
+
 #[test]
 fn headers_are_refused(rt: HostRuntime) {
     let alloc = rt.alloc();
-    // The number is 0x7f45_4c47.
-    check_header(
-        &rt,
-        alloc,
-        &with_byte(3, 0x47),
-        0,
-        "Err(BadMagic(2135247943))",
-    );
-    check_header(&rt, alloc, &with_byte(4, 1), 0, "Err(BadClass(1))");
-    check_header(&rt, alloc, &with_byte(5, 3), 0, "Err(BadOrder(3))");
     let cut = "Err(Refused(TooBig { size: 64, len: 63 }))";
     check_header(&rt, alloc, &LITTLE[..63], 0, cut);
     check_header(&rt, alloc, &LITTLE, 281, "Err(Refused(BadOffset(281)))");

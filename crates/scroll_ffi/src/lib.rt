@@ -36,6 +36,8 @@ pub const SCROLL_BAD_MAGIC: i32 = -6;
 pub const SCROLL_BAD_CLASS: i32 = -7;
 /// The byte order is neither 1 (little-endian) nor 2 (big-endian).
 pub const SCROLL_BAD_ORDER: i32 = -8;
+/// The version of the ELF file's identification is not 1.
+pub const SCROLL_BAD_VERSION: i32 = -13;
 /// The size of an entry in the table of sections is not 64.
 pub const SCROLL_BAD_ENTRY_SIZE: i32 = -9;
 /// The header does not say how many sections there are, which is so for more than 65,279.
@@ -93,6 +95,7 @@ pub fn elf_fault(error: &ElfError, offset: u64) -> ScrollError
         ElfError::BadMagic(magic) => fault(SCROLL_BAD_MAGIC, 0, u64::from(*magic)),
         ElfError::BadClass(class) => fault(SCROLL_BAD_CLASS, 4, u64::from(*class)),
         ElfError::BadOrder(order) => fault(SCROLL_BAD_ORDER, 5, u64::from(*order)),
+        ElfError::BadVersion(version) => fault(SCROLL_BAD_VERSION, 6, u64::from(*version)),
         ElfError::BadEntrySize(size) => fault(SCROLL_BAD_ENTRY_SIZE, 58, u64::from(*size)),
         ElfError::LongTable => fault(SCROLL_LONG_TABLE, 60, 0),
         ElfError::BadNames(index) => fault(SCROLL_BAD_NAMES, 62, u64::from(*index)),

@@ -54,6 +54,10 @@ pub record ReadsUntil {V : Type 0} (reads : List ℕ → V → ℕ → Type 0) (
   pub room : n ≤ length s
   pub is : bytes ≡ take n s
 
+-- bytes are a list: values, the mark that ends them, and nothing behind it
+abbrev pub IsList : {V : Type 0} → (List ℕ → V → ℕ → Type 0) → (List ℕ → Option ℕ) → List ℕ → Type 0
+IsList reads mark bytes = ReadsUntil reads mark bytes bytes (length bytes)
+
 -- the values of a list are appended to `old`; its bytes, with the mark, are `bytes`
 pub record AppendsUntil {V : Type 0} (reads : List ℕ → V → ℕ → Type 0) (mark : List ℕ → Option ℕ)
     (buffer : List ℕ) (from to : ℕ) (old new : List V) (bytes : List ℕ) : Type 0 where
@@ -70,6 +74,13 @@ pub record RefusesUntil {V E : Type 0} (reads : List ℕ → V → ℕ → Type 
   pub values : ReadsSomeListed reads mark s 0 stop
   pub more : stop ≤ length s → mark (drop stop s) ≡ None
   pub error : RefusesAt refuses (PastEnd gives) s stop e
+
+-- bytes are no list: the read of one is refused, or something is behind its mark
+abbrev pub IsNoList : {V E : Type 0} → (List ℕ → V → ℕ → Type 0) → (List ℕ → Option ℕ)
+    → (List ℕ → E → Type 0) → (Error → E → Type 0) → List ℕ → Type 0
+IsNoList {V} {E} reads mark refuses gives bytes =
+    ((e : E) × RefusesUntil reads mark refuses gives bytes e)
+    ⊎ ((n : ℕ) × ReadsUntil reads mark bytes (take n bytes) n × (n < length bytes))
 
 -- after some values, which are appended to `old`, the next one, at `stop`, is refused, or there is
 -- no memory for it

@@ -1,8 +1,8 @@
 // Lists with a mark at their end, which are read where they lie.
-ghost use Rattle.std.specs.Prelude.{◌≡◌, ◌≤◌, ⊤, length};
+ghost use Rattle.std.specs.Prelude.{◌≡◌, ◌≤◌, ⊤, length, IsTrue, IsFalse};
 ghost use Rattle.std.specs.Iterator.{at_most};
 ghost use Rattle.std.proofs.Common.{rules};
-ghost use Rattle.scroll_formats.specs.Lists.{ReadsUntil, RefusesUntil, YieldsListed};
+ghost use Rattle.scroll_formats.specs.Lists.{IsList, IsNoList, ReadsUntil, RefusesUntil, YieldsListed};
 
 use crate::lists::{Ends, end_at};
 use scroll::ctx::TryFromCtx;
@@ -25,6 +25,8 @@ pub struct Until<'a, T> {
 impl<'a, T> Copy for Until<'a, T> {}
 
 impl<'a, T> Clone for Until<'a, T> {
+    ghost is_clone = { λ old new. new.bytes.now ≡ old.bytes.now };
+
     ghost is_infallible = { λ _. ⊤ };
 
     #[inline(always)]
@@ -34,7 +36,8 @@ impl<'a, T> Clone for Until<'a, T> {
 }
 
 impl<'a, T> Until<'a, T> {
-    /// Returns the list in some bytes: values, and the mark after them.
+    /// Returns the list in some bytes: values, and the mark after them. It takes any bytes, which
+    /// [`is_list`](Until::is_list) tests in a context.
     #[inline(always)]
     pub fn new(bytes: &'a [u8]) -> Until<'a, T>
         ensures { result.bytes.now ≡ bytes.now }
@@ -42,6 +45,25 @@ impl<'a, T> Until<'a, T> {
         Until {
             bytes,
             of: PhantomData,
+        }
+    }
+
+    /// Returns whether the bytes are a list in a context: values, the mark after them, and nothing
+    /// behind it.
+    ///
+    /// So are those of a list that was read in this context. A struct that `tools/derive` writes is
+    /// refused with others.
+    pub fn is_list<Ctx: Copy, E: From<Error> + Drop>(&self, ctx: Ctx) -> bool
+    where
+        T: TryFromCtx<'a, Ctx, Error = E> + Ends<'a, Ctx> + Drop,
+        ensures list { IsTrue result
+            → IsList (T.TryFromCtx.reads ctx) T.Ends.mark self.now.bytes.now }
+        ensures none { IsFalse result → IsNoList (T.TryFromCtx.reads ctx) T.Ends.mark
+            (T.TryFromCtx.refuses ctx) E.from_gives self.now.bytes.now }
+    {
+        match <Until<'a, T> as TryFromCtx<'a, Ctx>>::try_from_ctx(self.bytes, ctx) {
+            Ok((_, size)) => size == self.bytes.len(),
+            Err(_) => false,
         }
     }
 

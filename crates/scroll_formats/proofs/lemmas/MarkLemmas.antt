@@ -1,11 +1,11 @@
--- Zeros in LEB128: padding of any length, and a last byte of zero.
-use Rattle.std.proofs.Common.{◌≡◌, ◌≢◌, ℕ, zero, suc, ◌+◌, ◌*◌, ◌^◌, ◌%◌, ◌-◌, ◌<◌, inl, inr, ◌≤◌, true, nat_lt, Some, None, List, length, get_or, bit_and, refl, sym, ap, ◌∙◌, arith}
+-- Numbers in LEB128 that aren't zero, since one of their groups isn't.
+use Rattle.std.proofs.Common.{◌≡◌, ◌≢◌, ℕ, zero, suc, ◌+◌, ◌*◌, ◌^◌, ◌%◌, ◌-◌, ◌<◌, inl, inr, ◌≤◌, true, nat_lt, None, List, length, get_or, bit_and, sym, ap, ◌∙◌, arith}
 use Rattle.std.proofs.Math.Nat.{one-le-pow, mul-le-mul}
 use Rattle.std.proofs.lemmas.Nat.{and_mask}
 use Rattle.std.proofs.lemmas.Bool.{cases_lt}
 use Rattle.std.proofs.lemmas.Bool.Decides.{nat_tests}
 use Rattle.scroll.specs.Leb128.{end_of, group, groups_value, unsigned_of, count_of}
-use Rattle.scroll.proofs.lemmas.callers.Cursors.{end_at, late_end, groups_more, byte_there}
+use Rattle.scroll.proofs.lemmas.callers.Cursors.{late_end, groups_more, byte_there}
 use Rattle.scroll_formats.specs.Lists.{zero_size}
 
 -- the first n bytes are those of padding
@@ -14,14 +14,6 @@ Padded s n = (k : ℕ) → k < n → get_or s k 0 ≡ 128
 
 open_so_far : (s : List ℕ) (n : ℕ) → Padded s n → (k : ℕ) → k < n → 128 ≤ get_or s k 0
 open_so_far s n padding k l = omega (arith, padding k l)
-
--- the groups of padding make nothing
-padding_is_zero : (s : List ℕ) (n : ℕ) → Padded s n → groups_value s n ≡ 0
-padding_is_zero s zero padding = refl
-padding_is_zero s (suc n) padding =
-    let before = padding_is_zero s n (λ k l. padding k (omega (arith, l))) in
-    let none : group s n ≡ 0 = let last = padding n (omega arith) in omega arith in
-    rw (before, none) (omega arith)
 
 -- more groups make no less
 groups_grow : (s : List ℕ) (n m : ℕ) → groups_value s n ≤ groups_value s (m + n)
@@ -51,18 +43,12 @@ bits-there s i b inside is padding some =
     let there = byte_there s i b inside is in
     sym (some_bits s i there.0 padding (λ none. some (and_mask b 7 ∙ ap (λ x. x % 128) (sym there.2) ∙ none)))
 
--- a last byte of zero, after padding
-pub zero-ends : (s : List ℕ) (i b : ℕ) → true ≡ nat_lt i (length s) → b ≡ get_or s i b → i < 10 → Padded s i → b ≡ 0 → Some (i + 1) ≡ zero_size s
-zero-ends s i b inside is few padding zero_is =
-    let there = byte_there s i b inside is in
-    let last : get_or s i 0 ≡ 0 = there.2 ∙ zero_is in
-    let end = end_at s i there.0 (open_so_far s i padding) (omega (arith, last)) in
-    let none = padding_is_zero s i padding in
-    let value : groups_value s (i + 1) ≡ 0 = rw (groups_more s i, none, last) (omega arith) in
-    sym (rw (end, value) (grind (arith, nat_tests, there.0)))
-
--- padding that goes on for too long
-pub all-padding : (s : List ℕ) → 10 ≤ length s → Padded s 10 → None ≡ zero_size s
-all-padding s long padding =
-    let late = late_end s 10 long (open_so_far s 10 padding) in
-    grind (arith, nat_tests, late)
+-- a first byte that isn't zero, and has none of its lower bits, is padding
+pub padding-there : (s : List ℕ) (b : ℕ) → true ≡ nat_lt 0 (length s) → b ≡ get_or s 0 b → get_or s 0 0 < 256 → bit_and b 127 ≡ 0 → (b ≡ 0 → ⊥) → Padded s 1
+padding-there s b inside is small none some k l =
+    let there = byte_there s 0 b inside is in
+    let low : b % 128 ≡ 0 = sym (and_mask b 7) ∙ none in
+    let more : 0 < b = elim (cases_lt 0 b) [ inl more ↦ more | inr zero_is ↦ absurd (some (omega (arith, zero_is))) ] in
+    let first : get_or s 0 0 ≡ 128 = omega (arith, there.2, small, low, more) in
+    let zero_is : k ≡ 0 = omega (arith, l) in
+    rw zero_is first

@@ -1,3 +1,4 @@
 pub mod Sequences
 pub mod TaggedLemmas
 pub mod Written
+pub mod Exact

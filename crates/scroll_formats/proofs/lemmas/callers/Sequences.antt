@@ -103,6 +103,12 @@ uleb-inside s x n h = omega (arith, h.0.complete.0, h.0.size)
 pub sleb-inside : (s : List ℕ) (x : Counted ℤ) (n : ℕ) → ReadsCountedSleb s x n → n ≤ length s
 sleb-inside s x n h = omega (arith, h.0.complete.0, h.0.size)
 
+-- and it is written back as the bytes that it was read from
+pub optional-there : {V : Type 0} (text : V → List ℕ) (reads : List ℕ → V → ℕ → Type 0) (s : List ℕ) → ((v : V) (n : ℕ) → reads s v n → text v ≡ take n s)
+    → (there : Bool) (x : Option V) (n : ℕ) → ReadsOptional there reads s x n → optional_bytes text x ≡ take n s
+optional-there text reads s back there None n h = ap (λ k. take k s) (sym h.1)
+optional-there text reads s back there (Some v) n h = back v n h.1
+
 -- a number in LEB128 by the length of its bytes
 pub uleb-text-begins : (x : Counted ℕ) → HasEncoding x.value x.count → (rest : List ℕ) → ReadsCountedUleb (uleb_text x ++ rest) x (length (uleb_text x))
 uleb-text-begins x has rest = rw (length-encoding x.value x.count) (uleb-begins x has rest)
