@@ -73,7 +73,7 @@ def run_examples(step: Step) -> None:
     (examples / "src").mkdir(parents=True)
     (examples / "src" / "lib.rt").write_text(documented.crate())
     ran = step.run(examples, "rt", "try", "--test")
-    passed = f"test result: ok. {len(list(documented.examples()))} passed; 0 failed; 0 ignored"
+    passed = f"test result: ok. {len(documented.examples())} passed; 0 failed; 0 ignored"
     count(step, "run the examples of the documentation", not ran.status and passed in ran.said, ran)
 
 

@@ -24,10 +24,10 @@ MORE = {
 TRAITS = {"Cread", "Cwrite", "IOread", "IOwrite", "LocateError", "MeasureWith", "Pread", "Pwrite", "SizeWith", "Write"}
 
 
-def examples() -> Iterator[Tuple[str, List[str]]]:
-    """The name and the lines of each example."""
-    sources = [it for name in LIBRARIES for it in sorted((TOP / "crates" / name / "src").rglob("*.rt")) if "tests" not in it.parts]
-    for path in [*sources, TOP / "docs" / "FROM-RUST.md"]:
+def examples_of(library: str) -> Iterator[Tuple[str, List[str]]]:
+    """The name and the lines of each example of a library; docs/FROM-RUST.md is the first one's."""
+    sources = [it for it in sorted((TOP / "crates" / library / "src").rglob("*.rt")) if "tests" not in it.parts]
+    for path in [*sources, *([TOP / "docs" / "FROM-RUST.md"] if library == LIBRARIES[0] else [])]:
         for block in markdown.read(path).blocks:
             if block.language == "rust" and not block.source and any("assert" in it for it in block.code):
                 place = dict.fromkeys((path.relative_to(TOP).parts[1].partition(".")[0], path.stem))
@@ -35,10 +35,15 @@ def examples() -> Iterator[Tuple[str, List[str]]]:
                 yield name, [it for it in block.code if not it.startswith("use ")]
 
 
-def paths() -> Dict[str, str]:
-    """The paths of the names that the libraries export."""
+def examples() -> List[Tuple[str, List[str]]]:
+    """The name and the lines of each example."""
+    return [it for library in LIBRARIES for it in examples_of(library)]
+
+
+def paths(first: str) -> Dict[str, str]:
+    """The paths of the names that the libraries export. Of a name that two export, an example of one of them means its own."""
     found: Dict[str, str] = {}
-    for library in LIBRARIES:
+    for library in [*LIBRARIES, first]:
         for file, at in (("ctx.rt", f"{library}::ctx"), ("lib.rt", library)):
             source = TOP / "crates" / library / "src" / file
             listed = EXPORTED.findall(source.read_text(encoding="utf-8")) if source.is_file() else []
@@ -48,11 +53,16 @@ def paths() -> Dict[str, str]:
 
 
 def crate() -> str:
-    """The text of the crate's one file."""
-    tests, known = list(examples()), paths()
-    used = {*TRAITS, *re.findall(r"\w+", "\n".join(line for _, block in tests for line in block))}
-    lines = ["#![tactic(auto)]", "", *(f"use {known[it]};" for it in sorted(used & {*known})), "use std::test::Fail;"]
-    for name, block in tests:
-        body = [f"    {line}".rstrip() for line in block]
-        lines += ["", "#[test]", f"fn {name}(rt: HostRuntime) -> Result<(), Fail> {{", *body, "    Ok(())", "}"]
+    """The text of the crate's one file: a module for each library that has examples."""
+    lines = ["#![tactic(auto)]"]
+    for library in LIBRARIES:
+        tests, known = list(examples_of(library)), paths(library)
+        if not tests:
+            continue
+        used = {*TRAITS, *re.findall(r"\w+", "\n".join(line for _, block in tests for line in block))}
+        lines += ["", f"mod of_{library} {{", *(f"    use {known[it]};" for it in sorted(used & {*known})), "    use std::test::Fail;"]
+        for name, block in tests:
+            body = [f"        {line}".rstrip() for line in block]
+            lines += ["", "    #[test]", f"    fn {name}(rt: HostRuntime) -> Result<(), Fail> {{", *body, "        Ok(())", "    }"]
+        lines.append("}")
     return "\n".join([*lines, ""])
