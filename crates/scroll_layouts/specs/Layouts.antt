@@ -1,63 +1,71 @@
--- Layouts: values of any size, one after another.
-use Rattle.std.specs.Prelude.{◌≡◌, ◌≢◌, ◌≤◌, ◌<◌, ◌-◌, ◌^◌, ◌⊎◌, ◌++◌, ℕ, List, length, take, min}
-use Rattle.scroll.specs.Bytes.{WritesPrefix, FailsShort}
-use Rattle.scroll.specs.Errors.{IsBadInput}
-use Rattle.scroll.specs.declared.error.Error.{Error}
-use Rattle.scroll.specs.declared.error.Error.TheVariants.{TooBig}
+-- Values of a fixed size. A layout says what stands in their bytes: a number, an array, or fields,
+-- one after another.
+use Rattle.std.specs.Prelude.{◌≡◌, ◌<◌, ◌+◌, ◌*◌, ◌^◌, ◌++◌, ⊤, T, ℕ, List, length, drop, ℤ, pos, neg_ℤ, ◌*ℤ◌, ◌≤ℤ◌, ◌<ℤ◌}
+use Rattle.std.specs.Float.{Float, Format}
+use Rattle.std.specs.Float.Ieee as ieee
+use Rattle.std.specs.List.{All, flat_map}
+use Rattle.scroll.specs.Arrays.{MakesArray}
+use Rattle.scroll.specs.Fixed.{exactly}
+use Rattle.scroll.specs.Numbers.{number, number_bytes, signed_number, signed_bytes, float, float_bytes, float_width}
+use Rattle.scroll.specs.declared.endian.Endian.{Endian}
 
--- the source has fewer than `w` bytes, and `gives` makes the error of `TooBig` with `w` and the
--- length of the source
-pub record NoRoom {E : Type 0} (gives : Error → E → Type 0) (w : ℕ) (s : List ℕ)
-    (e : E) : Type 0 where
-  pub short : length s < w
-  pub error : gives (TooBig w (length s)) e
+-- what stands in the bytes of a value: an unsigned or a signed number of `w` bytes, a float, `n`
+-- values one after another, a value that `get` takes out of this one, or such a field and those
+-- after it
+pub data Layout : Type 0 → Type 1 where
+  unsigned : ℕ → Layout ℕ
+  signed : ℕ → Layout ℤ
+  floating : Format → Layout Float
+  array : {P : Type 0} → ℕ → Layout P → Layout (List P)
+  only : {X P : Type 0} → Layout P → (X → P) → Layout X
+  field : {X P : Type 0} → Layout P → (X → P) → Layout X → Layout X
 
--- `gives` makes the error of a `BadInput` with the size `n` and the message `text`
-pub record GivesBadInput {E : Type 0} (gives : Error → E → Type 0) (n : ℕ) (text : List ℕ)
-    (e : E) : Type 0 where
-  pub inner : Error
-  pub is : IsBadInput inner n text
-  pub made : gives inner e
+-- `width p`: how many bytes a value has
+abbrev pub width : {X : Type 0} → Layout X → ℕ
+width (unsigned w) = w
+width (signed w) = w
+width (floating form) = float_width form
+width (array n p) = width p * n
+width (only p get) = width p
+width (field p get rest) = width p + width rest
 
--- the number `x` is not the constant, and the error is `BadInput` with the number as its size and
--- the message `text`
-pub record IsNot (constant x : ℕ) (text : List ℕ) (e : Error) : Type 0 where
-  pub other : x ≢ constant
-  pub error : IsBadInput e x text
+-- `laid_bytes p order x`: the bytes of a value: those of its fields, one after another
+abbrev pub laid_bytes : {X : Type 0} → Layout X → Endian → X → List ℕ
+laid_bytes (unsigned w) order x = number_bytes order w x
+laid_bytes (signed w) order x = signed_bytes order w x
+laid_bytes (floating form) order x = float_bytes form order x
+laid_bytes (array n p) order xs = exactly (width p * n) (flat_map (laid_bytes p order) xs)
+laid_bytes (only p get) order x = laid_bytes p order (get x)
+laid_bytes (field p get rest) order x = laid_bytes p order (get x) ++ laid_bytes rest order x
 
--- a value is read from the first `n` bytes of a source: it agrees, and has `n` bytes
-pub record ReadsWhole {X : Type 0} (agrees : X → Type 0) (reads : List ℕ → ℕ → X → Type 0)
-    (len : X → ℕ) (bytes : X → List ℕ) (s : List ℕ) (x : X) (n : ℕ) : Type 0 where
-  pub value : reads s 0 x
-  pub agreed : agrees x
-  pub size : n ≡ len x
-  pub inside : n ≤ length s
-  pub count : length (bytes x) ≡ n
+-- `makes p order s at x`: the bytes of `s` from the offset `at` on make the value `x`, each field
+-- those behind the fields before it
+abbrev pub makes : {X : Type 0} → Layout X → Endian → List ℕ → ℕ → X → Type 0
+makes (unsigned w) order s at x = x ≡ number order w (drop at s)
+makes (signed w) order s at x = x ≡ signed_number order w (drop at s)
+makes (floating form) order s at x = x ≡ float form order (drop at s)
+makes (array n p) order s at xs =
+    MakesArray (width p) (λ t x. makes p order t 0 x) n (drop at s) xs
+makes (only p get) order s at x = makes p order s at (get x)
+makes (field p get rest) order s at x =
+    makes p order s at (get x) × makes rest order s (at + width p) x
 
--- the same, and the bytes of the value are those that were read
-pub record ReadsExact {X : Type 0} (agrees : X → Type 0) (reads : List ℕ → ℕ → X → Type 0)
-    (len : X → ℕ) (bytes : X → List ℕ) (s : List ℕ) (x : X) (n : ℕ) : Type 0 where
-  pub value : reads s 0 x
-  pub agreed : agrees x
-  pub size : n ≡ len x
-  pub inside : n ≤ length s
-  pub count : length (bytes x) ≡ n
-  pub back : bytes x ≡ take n s
+-- `fits p x`: each field has the range of its type, which a law can't know of any number
+abbrev pub fits : {X : Type 0} → Layout X → X → Type 0
+fits (unsigned w) x = x < 256 ^ w
+fits (signed w) x =
+    (neg_ℤ (pos (256 ^ w)) ≤ℤ (pos 2 *ℤ x)) × ((pos 2 *ℤ x) <ℤ pos (256 ^ w))
+fits (floating form) x = T (ieee.fits form x)
+fits (array n p) xs = (length xs ≡ n) × All (fits p) xs
+fits (only p get) x = fits p (get x)
+fits (field p get rest) x = fits p (get x) × fits rest x
 
--- a value that agrees is written over the start of a target, in `n` bytes. It reads back, whatever
--- is written after it
-pub record WritesWhole (agrees : Type 0) (reads : List ℕ → Type 0) (bytes old new : List ℕ)
-    (n : ℕ) : Type 0 where
-  pub agreed : agrees
-  pub wrote : WritesPrefix (length bytes) bytes old new n
-  pub written : take n new ≡ bytes
-  pub again : reads new
-  pub kept : (rest : List ℕ) → reads (take n new ++ rest)
-
--- the target is unchanged: the value doesn't agree, or its bytes have no room
-abbrev pub KeepsWhole : {E : Type 0} → (E → Type 0) → (Error → E → Type 0) → List ℕ → List ℕ
-    → List ℕ → E → Type 0
-KeepsWhole differs gives bytes old new e =
-    (differs e × (new ≡ old))
-    ⊎ ((inner : Error) × FailsShort (min (length bytes) (2 ^ 64 - 1)) old new inner
-    × gives inner e)
+-- `exact_layout p`: a value is written back byte for byte as it was read: it has no float, since
+-- every NaN is read as the one NaN
+abbrev pub exact_layout : {X : Type 0} → Layout X → Type 0
+exact_layout (unsigned w) = ⊤
+exact_layout (signed w) = ⊤
+exact_layout (floating form) = ⊥
+exact_layout (array n p) = exact_layout p
+exact_layout (only p get) = exact_layout p
+exact_layout (field p get rest) = exact_layout p × exact_layout rest

@@ -1,4 +1,14 @@
--- Layouts: values of any size, by their parts.
+-- Values of any size, by their formats.
+pub mod Errors
 pub mod Layouts
+pub mod Formats
+pub mod Starts
+pub mod Leaves
+pub mod Lists
+pub mod Marks
+pub mod Fields
+pub mod Bits
+pub mod OneWay
+pub mod Wholes
 -- Lemmas, and no definitions, which the laws of implementations cite.
 pub mod lemmas

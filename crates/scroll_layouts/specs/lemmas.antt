@@ -1,1 +1,10 @@
-pub mod LayoutLemmas
+pub mod ArrayLemmas
+pub mod BitLemmas
+pub mod FormatLaws
+pub mod LayoutLaws
+pub mod LeafLemmas
+pub mod ListLemmas
+pub mod MarkLemmas
+pub mod OneWayLemmas
+pub mod Parts
+pub mod WholeLemmas

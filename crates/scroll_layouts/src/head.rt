@@ -1,163 +1,115 @@
-// A head of a fixed size, which says what follows it.
-ghost use Rattle.std.specs.Prelude.{◌≡◌, ◌≤◌, ◌+◌, ◌-◌, ◌^◌, ◌++◌, ◌⊎◌, length, take, drop, min, refl};
-ghost use Rattle.std.proofs.Common.{sym, ap, subst, ◌∙◌};
-ghost use Rattle.scroll.specs.lemmas.FixedLemmas.{both-len, both-back, both-kept, same-first, same-second};
-ghost use Rattle.scroll_layouts.specs.Layouts.{NoRoom};
-ghost use Rattle.scroll_layouts.specs.lemmas.LayoutLemmas.{part-within, one-of, pair-within, first-within, second-within, same-sum};
+// Heads: values that obey a rule and say what follows them.
+ghost use Rattle.std.specs.Prelude.{◌≡◌, ◌≤◌, ◌+◌, ◌-◌, ◌^◌, ◌++◌, ◌⊎◌, length, take, drop, min, IfErr, OnOk};
+ghost use Rattle.scroll_layouts.specs.Errors.{IsNot};
+ghost use Rattle.scroll_layouts.specs.Formats.{headed, last, part, rule, len, bytes, reads, refuses, agrees, differs};
 
 use crate::pairs::put_behind;
-use crate::{Counts, EncodeIn, Exact, Fits, Layout, ReadAt, Rules, Run};
-use scroll::ctx::RoundTrip;
-use scroll::{Endian, Error, check_room};
+use crate::{Part, ReadPart};
+use scroll::{Endian, Error};
 use std::marker::PhantomData;
 use std::result::Result;
 
-/// The context of a head and what follows it in the context `D`: what says by [`Rules`] which
-/// constants the head has, and by [`Counts`] that context. It is `Then<Where<(), H>, D, H>` in one
-/// step.
-#[derive(Clone, Copy, Debug)]
-pub struct Headed<D, H>(pub H, pub PhantomData<D>);
+/// What a head `A` says: a rule that it obeys, such as that some of its fields are constants, and
+/// the context of what follows it.
+pub trait Head<A, E> {
+    /// The context of what follows.
+    type Next;
 
-impl<D: Copy, P: Fits, H: Counts<P, Next = D>, B: EncodeIn<D>> EncodeIn<Headed<D, H>>
-    for (Run<P>, B) {
-    ghost bytes = { λ order c x.
-        P.bytes order x.0.0 ++ B.EncodeIn.bytes order (H.next c.0 x.0.0) x.1 };
+    // Holds of the heads that obey the rule.
+    ghost holds: { Self → A → Type 0 };
 
-    fn size_in(self, order: Endian, ctx: Headed<D, H>) -> usize {
-        let (Run(head), rest) = self;
-        P::capped().saturating_add(rest.size_in(order, ctx.0.next(head)))
+    // Holds of the others, each with its error.
+    ghost fails: { Self → A → E → Type 0 };
+
+    // The context that a head says.
+    ghost next: { Self → A → Self.Next };
+
+    /// Returns the error of a head that doesn't obey the rule.
+    fn obey(&self, head: &A) -> Result<(), E>
+        ensures holds { OnOk result (holds self.now head.now) }
+        ensures fails { IfErr result (fails self.now head.now) };
+
+    /// Returns the context of what follows a head.
+    fn next(&self, head: &A) -> Self::Next
+        ensures { result ≡ next self.now head.now };
+}
+
+/// The context of a head and what follows it in the context `D`: the head's own context, and what
+/// the head says.
+#[derive(Drop)]
+pub struct Headed<C, D, H>(pub C, pub H, pub PhantomData<D>);
+
+/// A head, and what follows it in the context that the head says. The errors of the head come
+/// first, then that of its rule, and then those of what follows.
+impl<E, C, D: Drop, A: Part<C, E>, H: Head<A, E, Next = D>, B: Part<D, E>> Part<Headed<C, D, H>, E>
+    for (A, B) {
+    ghost format = { λ c.
+        headed (A.format c.0) (H.holds c.1) (H.fails c.1) (λ h. B.format (H.next c.1 h)) };
+
+    fn check(&self, order: Endian, ctx: &Headed<C, D, H>) -> Result<(), E> {
+        self.0.check(order, &ctx.0)?;
+        ctx.1.obey(&self.0)?;
+        self.1.check(order, &ctx.1.next(&self.0))
+    }
+
+    fn size(&self, order: Endian, ctx: &Headed<C, D, H>) -> usize {
+        self.0
+            .size(order, &ctx.0)
+            .saturating_add(self.1.size(order, &ctx.1.next(&self.0)))
     }
 
     #[inline(always)]
-    fn put_in(self, dst: &mut [u8], order: Endian, ctx: Headed<D, H>) {
-        let (Run(head), rest) = self;
-        head.write_prefix(dst, order);
-        put_behind(rest, dst, P::capped(), order, ctx.0.next(head))
+    fn put(&self, dst: &mut [u8], order: Endian, ctx: &Headed<C, D, H>) {
+        let first = self.0.size(order, &ctx.0);
+        self.0.put(dst, order, &ctx.0);
+        put_behind::<E, D, B>(&self.1, dst, first, order, &ctx.1.next(&self.0))
     }
-}
-
-/// A head, and what follows it in the context that the head says. A short source is
-/// [`Error::TooBig`], as for a [`Run`]; then the head's constants are tested, and then the errors
-/// are those of what follows.
-impl<
-    E: From<Error>,
-    D: Copy,
-    P: Fits,
-    H: Counts<P, Next = D> + Rules<P, E>,
-    B: Layout<D, E>,
-> Layout<Headed<D, H>, E> for (Run<P>, B) {
-    ghost reads = { λ order c s at x.
-        (at + P.width ≤ length s) × P.makes order s at x.0.0 × H.holds c.0 x.0.0
-        × B.reads order (H.next c.0 x.0.0) s (at + P.width) x.1 };
-
-    ghost refuses = { λ order c s at e.
-        NoRoom E.from_gives (min P.width (2 ^ 64 - 1)) (drop at s) e
-        ⊎ ((h : P) × (at + P.width ≤ length s) × P.makes order s at h × H.fails c.0 h e)
-        ⊎ ((h : P) × (at + P.width ≤ length s) × P.makes order s at h × H.holds c.0 h
-        × B.refuses order (H.next c.0 h) s (at + P.width) e) };
-
-    ghost len = { λ c x. P.width + B.len (H.next c.0 x.0.0) x.1 };
-
-    ghost agrees = { λ c x. H.holds c.0 x.0.0 × B.agrees (H.next c.0 x.0.0) x.1 };
-
-    ghost differs = { λ c x e.
-        H.fails c.0 x.0.0 e
-        ⊎ (H.holds c.0 x.0.0 × B.differs (H.next c.0 x.0.0) x.1 e) };
-
-    ghost fits = { λ x. P.fits x.0.0 × B.fits x.1 };
-
-    ghost within = { λ order c s at x h.
-        let d = H.next c.0 x.0.0 in
-        pair-within at P.width (B.len d x.1) s (B.within order d s (at + P.width) x.1 h.3) };
-
-    ghost made_agrees = { λ order c s at x h.
-        (h.2, B.made_agrees order (H.next c.0 x.0.0) s (at + P.width) x.1 h.3) };
-
-    ghost bytes_len = { λ order c x h.
-        both-len (P.bytes order x.0.0) (B.EncodeIn.bytes order (H.next c.0 x.0.0) x.1)
-        (P.bytes_len order x.0.0) (B.bytes_len order (H.next c.0 x.0.0) x.1 h.1) };
-
-    ghost back = { λ order c x prefix rest agrees fits.
-        let d = H.next c.0 x.0.0 in
-        let len = P.bytes_len order x.0.0 in
-        let both = both-back P.width (P.bytes order x.0.0) (B.EncodeIn.bytes order d x.1)
-        prefix rest len
-        (λ s at. (at + P.width ≤ length s) × P.makes order s at x.0.0)
-        (λ s at. B.reads order d s at x.1)
-        (λ f t. (
-          part-within P.width (P.bytes order x.0.0) f t len,
-          P.back order x.0.0 f t fits.0,
-        ))
-        (λ f t. B.back order d x.1 f t agrees.1 fits.1) in
-        (both.0.0, both.0.1, agrees.0, both.1) };
-
-    ghost local = { λ order c s at t to x from there same h.
-        let d = H.next c.0 x.0.0 in
-        let w = P.width in let b = B.len d x.1 in (
-          first-within to w b t there,
-          P.local order s at t to x.0.0 (same-first w b s at t to same) h.1,
-          h.2,
-          B.local order d s (at + w) t (to + w) x.1 (second-within at w b s from)
-              (second-within to w b t there) (same-second w b s at t to same) h.3,
-        ) };
-
-    ghost one = { λ order c s at x y h k.
-        let first = one-of (P.one order s at) x.0.0 y.0.0 h.1 k.1 in (
-          first,
-          B.one order (H.next c.0 x.0.0) s (at + P.width) x.1 y.1 h.3
-              (subst (λ p. B.reads order (H.next c.0 p) s (at + P.width) y.1) (sym first) k.3),
-        ) };
-
-    ghost same_len = { λ c x y h.
-        same-sum refl
-        (ap (λ p. B.len (H.next c.0 p) x.1) h.0 ∙ B.same_len (H.next c.0 y.0.0) x.1 y.1 h.1) };
-
-    fn check(self, ctx: Headed<D, H>) -> Result<(), E> {
-        let (Run(head), rest) = self;
-        ctx.0.obey(head)?;
-        rest.check(ctx.0.next(head))
-    }
-
-    fn fit(self) {
-        self.0.0.fit();
-        self.1.fit()
-    }
-}
-
-impl<
-    E: From<Error>,
-    D: Copy,
-    P: Fits + RoundTrip,
-    H: Counts<P, Next = D> + Rules<P, E>,
-    B: Exact<D, E>,
-> Exact<Headed<D, H>, E> for (Run<P>, B) {
-    ghost kept = { λ order c s at x all h.
-        let d = H.next c.0 x.0.0 in
-        both-kept P.width (B.len d x.1) s at
-        (P.kept order s at x.0.0 all h.0 h.1)
-        (B.kept order d s (at + P.width) x.1 all h.3) };
 }
 
 impl<
     'a,
-    E: From<Error>,
-    D: Copy,
-    P: Fits,
-    H: Counts<P, Next = D> + Rules<P, E>,
-    B: ReadAt<'a, D, E>,
-> ReadAt<'a, Headed<D, H>, E> for (Run<P>, B) {
+    E,
+    C,
+    D: Drop,
+    A: ReadPart<'a, C, E>,
+    H: Head<A, E, Next = D>,
+    B: ReadPart<'a, D, E>,
+> ReadPart<'a, Headed<C, D, H>, E> for (A, B) {
+    ghost format = { λ c.
+        headed (A.format c.0) (H.holds c.1) (H.fails c.1) (λ h. B.format (H.next c.1 h)) };
+
     #[inline(always)]
     fn read_at(
         from: &'a [u8],
         offset: usize,
         order: Endian,
-        ctx: Headed<D, H>,
-    ) -> Result<((Run<P>, B), usize), E> {
-        let width = P::capped();
-        check_room(width, from.len() - offset)?;
-        let head = P::read_at(from, offset, order);
-        ctx.0.obey(head)?;
-        let (rest, end) = B::read_at(from, offset + width, order, ctx.0.next(head))?;
-        Ok(((Run(head), rest), end))
+        ctx: &Headed<C, D, H>,
+    ) -> Result<((A, B), usize), E> {
+        let (head, next) = A::read_at(from, offset, order, &ctx.0)?;
+        ctx.1.obey(&head)?;
+        let (rest, end) = B::read_at(from, next, order, &ctx.1.next(&head))?;
+        Ok(((head, rest), end))
     }
+}
+
+/// Checks that a number is a constant. Another one returns [`Error::BadInput`] with the number as
+/// its size, and the message `text`.
+///
+/// ```rust
+/// is(7, 7, "the kind is not 7")?;
+/// let other = is(8, 7, "the kind is not 7");
+/// assert!(rt; matches!(&other, Err(Error::BadInput { size: 8, msg: "the kind is not 7" })));
+/// ```
+#[inline(always)]
+pub fn is(number: usize, constant: usize, text: &'static str) -> Result<(), Error>
+    ensures is { OnOk result (number ≡ constant) }
+    ensures other { IfErr result (IsNot constant number text.now) }
+{
+    if number != constant {
+        return Err(Error::BadInput {
+            size: number,
+            msg: text,
+        });
+    }
+    Ok(())
 }

@@ -1,0 +1,217 @@
+-- Formats of values of any size. A format says the parts of a value, one after another. What a read
+-- gives and refuses, and what a write needs and puts, is said by one clause for each form; that
+-- these fit together is proved once, for every format (specs/lemmas/FormatLaws.antt).
+use Rattle.std.proofs.Common.{◌≡◌, ◌+◌, ◌<◌, ◌≤◌, ◌⊎◌, ◌++◌, ◌-◌, ◌^◌, ◌≢◌, ℕ, List, [], length, take, drop}
+use Rattle.std.specs.List.{All}
+use Rattle.std.specs.Prelude.{codes, min, Bool, true, false, Option, Some, None, ⊤, replicate}
+use Rattle.scroll.specs.declared.endian.Endian.{Endian}
+use Rattle.scroll.specs.declared.error.Error.{Error}
+use Rattle.scroll_formats.specs.Zeros.{RefusesZeros, padding_len}
+use Rattle.scroll_layouts.specs.Errors.{NoRoom, GivesBadInput}
+use Rattle.scroll_layouts.specs.Layouts.{Layout, width, laid_bytes, makes, fits, exact_layout}
+use Rattle.scroll_layouts.specs.declared.choice.Choice.{Choice}
+use Rattle.scroll_layouts.specs.declared.choice.Choice.TheVariants.{First, Second}
+
+-- a kind of value that isn't put together from others, such as a number in LEB128: how many bytes a
+-- value has, which these are, what a read gives and refuses, and which values a write refuses; with
+-- its laws
+pub record Leaf (E X : Type 0) : Type 1 where
+  pub leaf_len : X → ℕ
+  pub leaf_bytes : Endian → X → List ℕ
+  pub leaf_reads : Endian → List ℕ → ℕ → X → Type 0
+  pub leaf_refuses : Endian → List ℕ → ℕ → E → Type 0
+  pub leaf_agrees : Endian → X → Type 0
+  pub leaf_differs : Endian → X → E → Type 0
+  pub leaf_inside : (order : Endian) (s : List ℕ) (at : ℕ) (x : X) → at ≤ length s
+      → leaf_reads order s at x → at + leaf_len x ≤ length s
+  pub leaf_made : (order : Endian) (s : List ℕ) (at : ℕ) (x : X) → All (λ b. b < 256) s
+      → leaf_reads order s at x → leaf_agrees order x
+  pub leaf_bytes-len : (order : Endian) (x : X) → leaf_agrees order x
+      → length (leaf_bytes order x) ≡ leaf_len x
+  pub leaf_back : (order : Endian) (x : X) (prefix rest : List ℕ) → leaf_agrees order x
+      → leaf_reads order (prefix ++ (leaf_bytes order x ++ rest)) (length prefix) x
+  pub leaf_kept : (order : Endian) (s : List ℕ) (at : ℕ) (x : X) → All (λ b. b < 256) s
+      → leaf_reads order s at x → leaf_bytes order x ≡ take (leaf_len x) (drop at s)
+
+-- `Format E X`: the format of values of `X`, whose errors are of `E`. `gives` says which error of
+-- `E` an `Error` becomes.
+-- `run gives p`: a value with the layout `p`
+-- `counted gives n`: `n` bytes
+-- `zeros gives n`: `n` zero bytes, which are no part of the value
+-- `last f get`: the one part that `get` takes out of the value, in the format `f`
+-- `part f get rest`: the part that `get` takes out of the value, in the format `f`, and then what
+-- `rest` says of it
+-- `rule P fails f`: `P` holds, or `fails` says the error
+-- `within gives n f`: a value in the format `f` that uses up `n` bytes
+-- `leaf l`: a value of the kind `l`
+-- `choice gives b f g`: one of two values, by `b`
+-- `when gives b f`: a value that is there if `b` says so
+pub data Format (E : Type 0) : Type 0 → Type 1 where
+  run : {P : Type 0} → (Error → E → Type 0) → Layout P → Format E P
+  counted : (Error → E → Type 0) → ℕ → Format E (List ℕ)
+  zeros : {X : Type 0} → (Error → E → Type 0) → ℕ → Format E X
+  last : {X Y : Type 0} → Format E Y → (X → Y) → Format E X
+  part : {X Y : Type 0} → Format E Y → (X → Y) → (Y → Format E X) → Format E X
+  rule : {X : Type 0} → (P : Type 0) → (E → Type 0) → Format E X → Format E X
+  within : {X : Type 0} → (Error → E → Type 0) → ℕ → Format E X → Format E X
+  leaf : {X : Type 0} → Leaf E X → Format E X
+  choice : {A B : Type 0} → (Error → E → Type 0) → Bool → Format E A → Format E B
+      → Format E (Choice A B)
+  when : {X : Type 0} → (Error → E → Type 0) → Bool → Format E X → Format E (Option X)
+
+-- `len f x`: how many bytes a value has
+abbrev pub len : {E X : Type 0} → Format E X → X → ℕ
+len (run gives p) x = width p
+len (counted gives n) x = n
+len (zeros gives n) x = n
+len (last f get) x = len f (get x)
+len (part f get rest) x = len f (get x) + len (rest (get x)) x
+len (rule P fails f) x = len f x
+len (within gives n f) x = n
+len (leaf l) x = l.leaf_len x
+len (choice gives b f g) (First x) = len f x
+len (choice gives b f g) (Second x) = len g x
+len (when gives b f) (Some x) = len f x
+len (when gives b f) None = 0
+
+-- `bytes f order x`: the bytes of a value
+abbrev pub bytes : {E X : Type 0} → Format E X → Endian → X → List ℕ
+bytes (run gives p) order x = laid_bytes p order x
+bytes (counted gives n) order x = x
+bytes (zeros gives n) order x = replicate n 0
+bytes (last f get) order x = bytes f order (get x)
+bytes (part f get rest) order x = bytes f order (get x) ++ bytes (rest (get x)) order x
+bytes (rule P fails f) order x = bytes f order x
+bytes (within gives n f) order x = bytes f order x
+bytes (leaf l) order x = l.leaf_bytes order x
+bytes (choice gives b f g) order (First x) = bytes f order x
+bytes (choice gives b f g) order (Second x) = bytes g order x
+bytes (when gives b f) order (Some x) = bytes f order x
+bytes (when gives b f) order None = []
+
+-- `reads f order s at x`: the value `x` stands in `s` at the offset `at`. Each part stands
+-- behind those before it; a value within `n` bytes is read from these alone, and uses them up
+abbrev pub reads : {E X : Type 0} → Format E X → Endian → List ℕ → ℕ → X → Type 0
+reads (run gives p) order s at x = (at + width p ≤ length s) × makes p order s at x
+reads (counted gives n) order s at x = (at + n ≤ length s) × (x ≡ take n (drop at s))
+reads (zeros gives n) order s at x = (at + n ≤ length s) × (take n (drop at s) ≡ replicate n 0)
+reads (last f get) order s at x = reads f order s at (get x)
+reads (part f get rest) order s at x =
+    reads f order s at (get x) × reads (rest (get x)) order s (at + len f (get x)) x
+reads (rule P fails f) order s at x = P × reads f order s at x
+reads (within gives n f) order s at x =
+    (at + n ≤ length s) × reads f order (take n (drop at s)) 0 x × (len f x ≡ n)
+reads (leaf l) order s at x = l.leaf_reads order s at x
+reads (choice gives true f g) order s at (First x) = reads f order s at x
+reads (choice gives true f g) order s at (Second x) = ⊥
+reads (choice gives false f g) order s at (First x) = ⊥
+reads (choice gives false f g) order s at (Second x) = reads g order s at x
+reads (when gives true f) order s at (Some x) = reads f order s at x
+reads (when gives true f) order s at None = ⊥
+reads (when gives false f) order s at (Some x) = ⊥
+reads (when gives false f) order s at None = ⊤
+
+-- `refuses f order s at e`: the error of the first part that isn't there. Without its bytes it
+-- is `TooBig` with their number, at most the greatest `usize`, and the number of bytes there; a
+-- value that leaves some of its `n` bytes is `BadInput` with how many it has and the message `fewer
+-- bytes than its part`
+abbrev pub refuses : {E X : Type 0} → Format E X → Endian → List ℕ → ℕ → E → Type 0
+refuses (run gives p) order s at e = NoRoom gives (min (width p) (2 ^ 64 - 1)) (drop at s) e
+refuses (counted gives n) order s at e = NoRoom gives n (drop at s) e
+refuses (zeros gives n) order s at e =
+    (inner : Error) × RefusesZeros n (drop at s) inner × gives inner e
+refuses (last f get) order s at e = refuses f order s at e
+refuses (part {X} {Y} f get rest) order s at e =
+    refuses f order s at e
+    ⊎ ((y : Y) × reads f order s at y × refuses (rest y) order s (at + len f y) e)
+refuses (rule P fails f) order s at e = fails e ⊎ (P × refuses f order s at e)
+refuses (within {X} gives n f) order s at e =
+    NoRoom gives n (drop at s) e
+    ⊎ ((at + n ≤ length s) × refuses f order (take n (drop at s)) 0 e)
+    ⊎ ((x : X) × reads f order (take n (drop at s)) 0 x × (len f x ≢ n)
+    × GivesBadInput gives (len f x) (codes "fewer bytes than its part") e)
+refuses (leaf l) order s at e = l.leaf_refuses order s at e
+refuses (choice gives true f g) order s at e = refuses f order s at e
+refuses (choice gives false f g) order s at e = refuses g order s at e
+refuses (when gives true f) order s at e = refuses f order s at e
+refuses (when gives false f) order s at e = ⊥
+
+-- `agrees f order x`: a value can be written: its counts, constants, tags and conditions agree with
+-- its parts
+abbrev pub agrees : {E X : Type 0} → Format E X → Endian → X → Type 0
+agrees (run gives p) order x = fits p x
+agrees (counted gives n) order x = n ≡ length x
+agrees (zeros gives n) order x = ⊤
+agrees (last f get) order x = agrees f order (get x)
+agrees (part f get rest) order x = agrees f order (get x) × agrees (rest (get x)) order x
+agrees (rule P fails f) order x = P × agrees f order x
+agrees (within gives n f) order x = agrees f order x × (len f x ≡ n)
+agrees (leaf l) order x = l.leaf_agrees order x
+agrees (choice gives true f g) order (First x) = agrees f order x
+agrees (choice gives true f g) order (Second x) = ⊥
+agrees (choice gives false f g) order (First x) = ⊥
+agrees (choice gives false f g) order (Second x) = agrees g order x
+agrees (when gives true f) order (Some x) = agrees f order x
+agrees (when gives true f) order None = ⊥
+agrees (when gives false f) order (Some x) = ⊥
+agrees (when gives false f) order None = ⊤
+
+-- `differs f order x e`: the error of the first part that doesn't agree, or of a rule or a leaf. It
+-- is `BadInput` with the length of the bytes and the message `another length than its count`; the
+-- number of bytes that the value must use up and `another length than its part`; 1 if the first
+-- value must be there, and 0 if it mustn't, and `another variant than its tag`; 1 and `an optional
+-- part is missing`; or 0 and `an optional part is too many`
+abbrev pub differs : {E X : Type 0} → Format E X → Endian → X → E → Type 0
+differs (run gives p) order x e = ⊥
+differs (counted gives n) order x e =
+    (n ≢ length x) × GivesBadInput gives (length x) (codes "another length than its count") e
+differs (zeros gives n) order x e = ⊥
+differs (last f get) order x e = differs f order (get x) e
+differs (part f get rest) order x e =
+    differs f order (get x) e ⊎ (agrees f order (get x) × differs (rest (get x)) order x e)
+differs (rule P fails f) order x e = fails e ⊎ (P × differs f order x e)
+differs (within gives n f) order x e =
+    differs f order x e
+    ⊎ (agrees f order x × ((len f x ≢ n) ⊎ (n ≡ 2 ^ 64 - 1))
+    × GivesBadInput gives n (codes "another length than its part") e)
+differs (leaf l) order x e = l.leaf_differs order x e
+differs (choice gives true f g) order (First x) e = differs f order x e
+differs (choice gives true f g) order (Second x) e =
+    GivesBadInput gives 1 (codes "another variant than its tag") e
+differs (choice gives false f g) order (First x) e =
+    GivesBadInput gives 0 (codes "another variant than its tag") e
+differs (choice gives false f g) order (Second x) e = differs g order x e
+differs (when gives true f) order (Some x) e = differs f order x e
+differs (when gives true f) order None e =
+    GivesBadInput gives 1 (codes "an optional part is missing") e
+differs (when gives false f) order (Some x) e =
+    GivesBadInput gives 0 (codes "an optional part is too many") e
+differs (when gives false f) order None e = ⊥
+
+-- `exact f`: a value is written back byte for byte as it was read: no part of it has a float
+abbrev pub exact : {E X : Type 0} → Format E X → Type 0
+exact (run gives p) = exact_layout p
+exact (counted gives n) = ⊤
+exact (zeros gives n) = ⊤
+exact (last f get) = exact f
+exact (part {X} {Y} f get rest) = exact f × ((y : Y) → exact (rest y))
+exact (rule P fails f) = exact f
+exact (within gives n f) = exact f
+exact (leaf l) = ⊤
+exact (choice gives b f g) = exact f × exact g
+exact (when gives b f) = exact f
+
+-- a value, and the one after it
+abbrev pub pair : {E A B : Type 0} → Format E A → Format E B → Format E (A × B)
+pair f g = part f (λ x. x.0) (λ a. last g (λ x. x.1))
+
+-- a value that obeys a rule, and what it says of the one after it
+abbrev pub headed : {E A B : Type 0} → Format E A → (A → Type 0) → (A → E → Type 0)
+    → (A → Format E B) → Format E (A × B)
+headed f holds fails next =
+    part f (λ x. x.0) (λ a. rule (holds a) (fails a) (last (next a) (λ x. x.1)))
+
+-- a value, and zeros up to a multiple of a size, counted from its first byte
+abbrev pub padded : {E A : Type 0} → (Error → E → Type 0) → ℕ → Format E A → Format E A
+padded gives multiple f =
+    part f (λ x. x) (λ x. zeros gives (padding_len (len f x) multiple))

@@ -1,0 +1,93 @@
+-- Lists that are borrowed as their bytes, and read where they lie.
+use Rattle.std.proofs.Common.{refl}
+use Rattle.std.specs.Prelude.{◌≡◌, ◌≢◌, ◌+◌, ◌<◌, ◌≤◌, ◌⊎◌, ℕ, List, [], ◌∷◌, length, take, drop, codes}
+use Rattle.scroll.specs.declared.endian.Endian.{Endian}
+use Rattle.scroll.specs.declared.error.Error.{Error}
+use Rattle.scroll_layouts.specs.Errors.{NoRoom, GivesBadInput}
+use Rattle.scroll_layouts.specs.Formats.{Format, Leaf, reads, refuses, len}
+use Rattle.scroll_layouts.specs.lemmas.Parts.{part-within, slice-back}
+
+-- `Items f order s at xs to`: the values `xs` stand one after another from the offset `at` to the
+-- offset `to`, and each has a byte
+abbrev pub Items : {E X : Type 0} → Format E X → Endian → List ℕ → ℕ → List X → ℕ → Type 0
+Items f order s at [] to = at ≡ to
+Items f order s at (x ∷ xs) to =
+    reads f order s at x × (1 ≤ len f x) × Items f order s (at + len f x) xs to
+
+-- `Items` of some values
+pub record SomeItems {E X : Type 0} (f : Format E X) (order : Endian) (s : List ℕ)
+    (at to : ℕ) : Type 0 where
+  pub values : List X
+  pub each : Items f order s at values to
+
+-- `Items` of `n` values
+pub record CountedItems {E X : Type 0} (f : Format E X) (order : Endian) (s : List ℕ)
+    (at to n : ℕ) : Type 0 where
+  pub values : List X
+  pub each : Items f order s at values to
+  pub count : length values ≡ n
+
+-- the value at the offset `stop` is refused; or it has no byte, which is `BadInput` with the offset
+-- and the message `a value has no bytes`
+abbrev pub StopsAtItem : {E X : Type 0} → (Error → E → Type 0) → Format E X → Endian → List ℕ → ℕ
+    → E → Type 0
+StopsAtItem {E} {X} gives f order s stop e =
+    refuses f order s stop e
+    ⊎ ((x : X) × reads f order s stop x × (len f x ≡ 0)
+    × GivesBadInput gives stop (codes "a value has no bytes") e)
+
+-- after some values, and before the end of the bytes, the next one is refused or has no byte
+pub record RefusesItems {E X : Type 0} (gives : Error → E → Type 0) (f : Format E X)
+    (order : Endian) (s : List ℕ) (e : E) : Type 0 where
+  pub stop : ℕ
+  pub before : SomeItems f order s 0 stop
+  pub more : stop < length s
+  pub error : StopsAtItem gives f order s stop e
+
+-- after fewer than `n` values, the next one is refused or has no byte
+pub record RefusesCounted {E X : Type 0} (gives : Error → E → Type 0) (f : Format E X)
+    (order : Endian) (n : ℕ) (s : List ℕ) (e : E) : Type 0 where
+  pub stop : ℕ
+  pub done : ℕ
+  pub before : CountedItems f order s 0 stop done
+  pub fewer : done < n
+  pub error : StopsAtItem gives f order s stop e
+
+-- `held P refused other`: bytes that are borrowed, of which `P` holds; `refused` says the errors of
+-- a read, and `other` those of a write of bytes of which `P` doesn't hold
+abbrev pub held : {E : Type 0} → (Endian → List ℕ → Type 0) → (Endian → List ℕ → ℕ → E → Type 0)
+    → (Endian → List ℕ → E → Type 0) → Leaf E (List ℕ)
+held P refused other = record {
+  leaf_len = λ x. length x;
+  leaf_bytes = λ order x. x;
+  leaf_reads = λ order s at x.
+      (at + length x ≤ length s) × (x ≡ take (length x) (drop at s)) × P order x;
+  leaf_refuses = refused;
+  leaf_agrees = P;
+  leaf_differs = other;
+  leaf_inside = λ order s at x here h. h.0;
+  leaf_made = λ order s at x all h. h.2;
+  leaf_bytes-len = λ order x h. refl;
+  leaf_back = λ order x prefix rest h.
+      (part-within (length x) x prefix rest refl, slice-back (length x) x prefix rest refl, h);
+  leaf_kept = λ order s at x all h. h.1;
+}
+
+-- a list of values that use up `n` bytes. A list of another length is `BadInput` with its length
+-- and the message `another length than its count`
+abbrev pub list_within : {E X : Type 0} → (Error → E → Type 0) → Format E X → ℕ → Leaf E (List ℕ)
+list_within gives f n = held (λ order x. (n ≡ length x) × SomeItems f order x 0 (length x))
+    (λ order s at e. NoRoom gives n (drop at s) e
+    ⊎ ((at + n ≤ length s) × RefusesItems gives f order (take n (drop at s)) e))
+    (λ order x e. ((n ≢ length x)
+    × GivesBadInput gives (length x) (codes "another length than its count") e)
+    ⊎ ((n ≡ length x) × RefusesItems gives f order x e))
+
+-- a list of `n` values. One that has bytes after them is `BadInput` with the offset where they end
+-- and the message `another length than its values`
+abbrev pub list_of : {E X : Type 0} → (Error → E → Type 0) → Format E X → ℕ → Leaf E (List ℕ)
+list_of gives f n = held (λ order x. CountedItems f order x 0 (length x) n)
+    (λ order s at e. RefusesCounted gives f order n (drop at s) e)
+    (λ order x e. RefusesCounted gives f order n x e
+    ⊎ ((to : ℕ) × CountedItems f order x 0 to n × (to ≢ length x)
+    × GivesBadInput gives to (codes "another length than its values") e))

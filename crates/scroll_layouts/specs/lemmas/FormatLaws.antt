@@ -1,0 +1,198 @@
+-- The laws of formats, by recursion: a line or two for each form. They are proved, and promise
+-- nothing.
+use Rattle.std.proofs.Common.{◌≡◌, ℕ, ◌+◌, ◌<◌, ◌≤◌, ◌++◌, List, [], length, ◌∙◌, refl, take, drop, arith, subst, sym, ap}
+use Rattle.std.proofs.lemmas.List.{length-replicate, length-take-le, take-append-drop}
+use Rattle.std.specs.List.{All}
+use Rattle.std.specs.Prelude.{true, false, Some, None, replicate}
+use Rattle.scroll.specs.Fixed.{SameAt}
+use Rattle.scroll.specs.lemmas.FixedLemmas.{both-len, both-back, both-kept, same-first, same-second}
+use Rattle.scroll.specs.declared.endian.Endian.{Endian}
+use Rattle.scroll_layouts.specs.Formats.{Leaf, Format, run, counted, zeros, last, part, rule, within, leaf, choice, when, len, bytes, reads, agrees, exact}
+use Rattle.scroll_layouts.specs.Layouts.{width, laid_bytes}
+use Rattle.scroll_layouts.specs.lemmas.LayoutLaws.{layout-len, layout-back, layout-fits, layout-moved, layout-kept}
+use Rattle.scroll_layouts.specs.lemmas.Parts.{part-within, slice-agrees, slice-back, within-back, within-kept, bytes-taken, pair-within, first-within, second-within}
+use Rattle.scroll_layouts.specs.declared.choice.Choice.TheVariants.{First, Second}
+
+-- a value that was read is within its source
+pub inside : {E X : Type 0} (f : Format E X) (order : Endian) (s : List ℕ) (at : ℕ) (x : X)
+    → at ≤ length s → reads f order s at x → at + len f x ≤ length s
+inside (run gives p) order s at x here h = h.0
+inside (counted gives n) order s at x here h = h.0
+inside (zeros gives n) order s at x here h = h.0
+inside (last f get) order s at x here h = inside f order s at (get x) here h
+inside (part f get rest) order s at x here h =
+    pair-within at (len f (get x)) (len (rest (get x)) x) s
+    (inside (rest (get x)) order s (at + len f (get x)) x
+    (inside f order s at (get x) here h.0) h.1)
+inside (rule P fails f) order s at x here h = inside f order s at x here h.1
+inside (within gives n f) order s at x here h = h.0
+inside (leaf l) order s at x here h = l.leaf_inside order s at x here h
+inside (choice gives true f g) order s at (First x) here h = inside f order s at x here h
+inside (choice gives true f g) order s at (Second x) here h = absurd h
+inside (choice gives false f g) order s at (First x) here h = absurd h
+inside (choice gives false f g) order s at (Second x) here h = inside g order s at x here h
+inside (when gives true f) order s at (Some x) here h = inside f order s at x here h
+inside (when gives true f) order s at None here h = absurd h
+inside (when gives false f) order s at (Some x) here h = absurd h
+inside (when gives false f) order s at None here h = omega (arith, here)
+
+-- a value that was read agrees
+pub made-agrees : {E X : Type 0} (f : Format E X) (order : Endian) (s : List ℕ) (at : ℕ) (x : X)
+    → All (λ b. b < 256) s → reads f order s at x → agrees f order x
+made-agrees (run gives p) order s at x all h = layout-fits p order s at x all h.1
+made-agrees (counted gives n) order s at x all h = slice-agrees n s at x h.0 h.1
+made-agrees (zeros gives n) order s at x all h = tt
+made-agrees (last f get) order s at x all h = made-agrees f order s at (get x) all h
+made-agrees (part f get rest) order s at x all h = (
+  made-agrees f order s at (get x) all h.0,
+  made-agrees (rest (get x)) order s (at + len f (get x)) x all h.1,
+)
+made-agrees (rule P fails f) order s at x all h = (h.0, made-agrees f order s at x all h.1)
+made-agrees (within gives n f) order s at x all h =
+    (made-agrees f order (take n (drop at s)) 0 x (bytes-taken n at s all) h.1, h.2)
+made-agrees (leaf l) order s at x all h = l.leaf_made order s at x all h
+made-agrees (choice gives true f g) order s at (First x) all h = made-agrees f order s at x all h
+made-agrees (choice gives true f g) order s at (Second x) all h = absurd h
+made-agrees (choice gives false f g) order s at (First x) all h = absurd h
+made-agrees (choice gives false f g) order s at (Second x) all h = made-agrees g order s at x all h
+made-agrees (when gives true f) order s at (Some x) all h = made-agrees f order s at x all h
+made-agrees (when gives true f) order s at None all h = absurd h
+made-agrees (when gives false f) order s at (Some x) all h = absurd h
+made-agrees (when gives false f) order s at None all h = h
+
+-- a value that agrees has as many bytes as its length says
+pub bytes-len : {E X : Type 0} (f : Format E X) (order : Endian) (x : X) → agrees f order x
+    → length (bytes f order x) ≡ len f x
+bytes-len (run gives p) order x h = layout-len p order x
+bytes-len (counted gives n) order x h = sym h
+bytes-len (zeros gives n) order x h = length-replicate n 0
+bytes-len (last f get) order x h = bytes-len f order (get x) h
+bytes-len (part f get rest) order x h =
+    both-len (bytes f order (get x)) (bytes (rest (get x)) order x)
+    (bytes-len f order (get x) h.0) (bytes-len (rest (get x)) order x h.1)
+bytes-len (rule P fails f) order x h = bytes-len f order x h.1
+bytes-len (within gives n f) order x h = bytes-len f order x h.0 ∙ h.1
+bytes-len (leaf l) order x h = l.leaf_bytes-len order x h
+bytes-len (choice gives true f g) order (First x) h = bytes-len f order x h
+bytes-len (choice gives true f g) order (Second x) h = absurd h
+bytes-len (choice gives false f g) order (First x) h = absurd h
+bytes-len (choice gives false f g) order (Second x) h = bytes-len g order x h
+bytes-len (when gives true f) order (Some x) h = bytes-len f order x h
+bytes-len (when gives true f) order None h = absurd h
+bytes-len (when gives false f) order (Some x) h = absurd h
+bytes-len (when gives false f) order None h = refl
+
+-- what was written reads back, whatever stands before and after it
+pub back : {E X : Type 0} (f : Format E X) (order : Endian) (x : X) (prefix rest : List ℕ)
+    → agrees f order x → reads f order (prefix ++ (bytes f order x ++ rest)) (length prefix) x
+back (run gives p) order x prefix rest h = (
+  part-within (width p) (laid_bytes p order x) prefix rest (layout-len p order x),
+  layout-back p order x prefix rest h,
+)
+back (counted gives n) order x prefix rest h =
+    (part-within n x prefix rest (sym h), slice-back n x prefix rest h)
+back (zeros gives n) order x prefix rest h = (
+  part-within n (replicate n 0) prefix rest (length-replicate n 0),
+  sym (slice-back n (replicate n 0) prefix rest (sym (length-replicate n 0))),
+)
+back (last f get) order x prefix rest h = back f order (get x) prefix rest h
+back (part f get others) order x prefix rest h =
+    both-back (len f (get x)) (bytes f order (get x)) (bytes (others (get x)) order x) prefix rest
+    (bytes-len f order (get x) h.0)
+    (λ s at. reads f order s at (get x)) (λ s at. reads (others (get x)) order s at x)
+    (λ l t. back f order (get x) l t h.0) (λ l t. back (others (get x)) order x l t h.1)
+back (rule P fails f) order x prefix rest h = (h.0, back f order x prefix rest h.1)
+back (within gives n f) order x prefix rest h =
+    let size = bytes-len f order x h.0 ∙ h.1 in (
+      part-within n (bytes f order x) prefix rest size,
+      subst (λ s. reads f order s 0 x) (within-back n (bytes f order x) prefix rest size)
+          (back f order x [] [] h.0),
+      h.1,
+    )
+back (leaf l) order x prefix rest h = l.leaf_back order x prefix rest h
+back (choice gives true f g) order (First x) prefix rest h = back f order x prefix rest h
+back (choice gives true f g) order (Second x) prefix rest h = absurd h
+back (choice gives false f g) order (First x) prefix rest h = absurd h
+back (choice gives false f g) order (Second x) prefix rest h = back g order x prefix rest h
+back (when gives true f) order (Some x) prefix rest h = back f order x prefix rest h
+back (when gives true f) order None prefix rest h = absurd h
+back (when gives false f) order (Some x) prefix rest h = absurd h
+back (when gives false f) order None prefix rest h = h
+
+-- the bytes of a value are those of which it was read
+pub kept : {E X : Type 0} (f : Format E X) (order : Endian) (s : List ℕ) (at : ℕ) (x : X)
+    → exact f → All (λ b. b < 256) s → reads f order s at x
+    → bytes f order x ≡ take (len f x) (drop at s)
+kept (run gives p) order s at x e all h = layout-kept p order s at x e all h.0 h.1
+kept (counted gives n) order s at x e all h = h.1
+kept (zeros gives n) order s at x e all h = sym h.1
+kept (last f get) order s at x e all h = kept f order s at (get x) e all h
+kept (part f get rest) order s at x e all h =
+    both-kept (len f (get x)) (len (rest (get x)) x) s at
+    (kept f order s at (get x) e.0 all h.0)
+    (kept (rest (get x)) order s (at + len f (get x)) x (e.1 (get x)) all h.1)
+kept (rule P fails f) order s at x e all h = kept f order s at x e all h.1
+kept (within gives n f) order s at x e all h =
+    kept f order (take n (drop at s)) 0 x e (bytes-taken n at s all) h.1
+    ∙ within-kept n (len f x) (drop at s) h.2
+kept (leaf l) order s at x e all h = l.leaf_kept order s at x all h
+kept (choice gives true f g) order s at (First x) e all h = kept f order s at x e.0 all h
+kept (choice gives true f g) order s at (Second x) e all h = absurd h
+kept (choice gives false f g) order s at (First x) e all h = absurd h
+kept (choice gives false f g) order s at (Second x) e all h = kept g order s at x e.1 all h
+kept (when gives true f) order s at (Some x) e all h = kept f order s at x e all h
+kept (when gives true f) order s at None e all h = absurd h
+kept (when gives false f) order s at (Some x) e all h = absurd h
+kept (when gives false f) order s at None e all h = refl
+
+-- a leaf is read wherever its bytes stand, since it is written back as it was read
+leaf-moved : {E X : Type 0} (l : Leaf E X) (order : Endian) (s : List ℕ) (at : ℕ) (t : List ℕ)
+    (to : ℕ) (x : X) → All (λ b. b < 256) s → to + l.leaf_len x ≤ length t
+    → SameAt (l.leaf_len x) s at t to → l.leaf_reads order s at x → l.leaf_reads order t to x
+leaf-moved l order s at t to x all there same h =
+    let n : ℕ = l.leaf_len x in
+    let rest : List ℕ = drop n (drop to t) in
+    let front : length (take to t) ≡ to = length-take-le to t (omega (arith, there)) in
+    let here : l.leaf_bytes order x ≡ take n (drop to t) =
+    l.leaf_kept order s at x all h ∙ same in
+    let whole : take to t ++ (l.leaf_bytes order x ++ rest) ≡ t =
+    ap (λ b. take to t ++ (b ++ rest)) here
+    ∙ ap (λ b. take to t ++ b) (take-append-drop n (drop to t)) ∙ take-append-drop to t in
+    subst (λ k. l.leaf_reads order t k x) front
+    (subst (λ b. l.leaf_reads order b (length (take to t)) x) whole
+    (l.leaf_back order x (take to t) rest (l.leaf_made order s at x all h)))
+
+-- a value is read wherever its bytes stand
+pub moved : {E X : Type 0} (f : Format E X) (order : Endian) (s : List ℕ) (at : ℕ) (t : List ℕ)
+    (to : ℕ) (x : X) → All (λ b. b < 256) s → to + len f x ≤ length t
+    → SameAt (len f x) s at t to → reads f order s at x → reads f order t to x
+moved (run gives p) order s at t to x all there same h =
+    (there, layout-moved p order s at t to x same h.1)
+moved (counted gives n) order s at t to x all there same h = (there, h.1 ∙ same)
+moved (zeros gives n) order s at t to x all there same h = (there, sym same ∙ h.1)
+moved (last f get) order s at t to x all there same h =
+    moved f order s at t to (get x) all there same h
+moved (part f get rest) order s at t to x all there same h =
+    let a = len f (get x) in let b = len (rest (get x)) x in (
+      moved f order s at t to (get x) all (first-within to a b t there)
+          (same-first a b s at t to same) h.0,
+      moved (rest (get x)) order s (at + a) t (to + a) x all (second-within to a b t there)
+          (same-second a b s at t to same) h.1,
+    )
+moved (rule P fails f) order s at t to x all there same h =
+    (h.0, moved f order s at t to x all there same h.1)
+moved (within gives n f) order s at t to x all there same h =
+    (there, subst (λ u. reads f order u 0 x) same h.1, h.2)
+moved (leaf l) order s at t to x all there same h =
+    leaf-moved l order s at t to x all there same h
+moved (choice gives true f g) order s at t to (First x) all there same h =
+    moved f order s at t to x all there same h
+moved (choice gives true f g) order s at t to (Second x) all there same h = absurd h
+moved (choice gives false f g) order s at t to (First x) all there same h = absurd h
+moved (choice gives false f g) order s at t to (Second x) all there same h =
+    moved g order s at t to x all there same h
+moved (when gives true f) order s at t to (Some x) all there same h =
+    moved f order s at t to x all there same h
+moved (when gives true f) order s at t to None all there same h = absurd h
+moved (when gives false f) order s at t to (Some x) all there same h = absurd h
+moved (when gives false f) order s at t to None all there same h = h

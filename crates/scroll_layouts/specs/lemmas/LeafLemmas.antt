@@ -1,0 +1,103 @@
+-- What the leaves cite for their laws. The lemmas are proved, and promise nothing.
+use Rattle.std.proofs.Common.{◌≡◌, ◌≢◌, ℕ, ◌+◌, ◌<◌, ◌≤◌, ◌++◌, ◌==◌, true, false, List, [], ◌∷◌, length, take, drop, get_or, sym, ap, subst, ◌∙◌, arith, length-append, append_assoc}
+use Rattle.std.proofs.lemmas.List.{length-take-le, get_or-take, take_at, take_more, drop-drop, take-append-drop, length-replicate}
+use Rattle.std.proofs.lemmas.List.Elements.{All-from_get_or}
+use Rattle.std.proofs.lemmas.List.Sums.{fails_before_first, passes_at_first, position_or_len_is}
+use Rattle.std.proofs.Math.Seq.{drop-append_seam}
+use Rattle.std.specs.List.{All}
+use Rattle.std.specs.Prelude.{slice_index, replicate, ◌-◌}
+use Rattle.scroll.specs.CStrings.{ReadsCString}
+use Rattle.scroll.specs.Texts.{index_of}
+use Rattle.scroll.specs.declared.error.Error.{Error}
+use Rattle.scroll.specs.lemmas.Frames.{length-encoding}
+use Rattle.scroll_formats.specs.Zeros.{RefusesZeros, padding_len}
+
+-- a byte that a search for `d` passes is another one
+other-byte : (b d : ℕ) → (b == d) ≡ false → b ≢ d
+other-byte b d e h = grind (arith, h, e)
+
+same-byte : (b d : ℕ) → (b == d) ≡ true → b ≡ d
+same-byte b d e = grind (arith, e)
+
+-- a text in which `d` isn't found doesn't have it
+pub delimited : (d : ℕ) (text : List ℕ) → index_of d text ≡ length text → (i : ℕ)
+    → i < length text → slice_index text i ≢ d
+delimited d text h i l = other-byte (get_or text i 0) d
+    (fails_before_first (λ b. b == d) text i 0 (omega (arith, h, l)))
+
+pub without : (d : ℕ) (text : List ℕ) → index_of d text ≡ length text → All (λ b. b ≢ d) text
+without d text h = All-from_get_or (λ b. b ≢ d) text 0 (delimited d text h)
+
+-- the text before the first `d` doesn't have it
+pub without-before : (d : ℕ) (s text : List ℕ) → index_of d s ≤ length s
+    → text ≡ take (index_of d s) s → index_of d text ≡ length text
+without-before d s text le is =
+    let n : ℕ = index_of d s in
+    let long : length (take n s) ≡ n = length-take-le n s le in
+    let found : index_of d (take n s) ≡ n =
+    position_or_len_is (λ b. b == d) (take n s) n 0 (omega (arith, long))
+    (λ k l. rw (get_or-take n s k 0 l) (fails_before_first (λ b. b == d) s k 0 l))
+    (λ l. absurd (omega (arith, l, long))) in
+    omega (arith, ap (index_of d) is, found, ap length is, long)
+
+-- the bytes of a C string are its text and a zero
+pub zero-there : (s text : List ℕ) (n : ℕ) → ReadsCString s text n → take n s ≡ text ++ 0 ∷ []
+zero-there s text n r =
+    let zero : get_or s (index_of 0 s) 0 ≡ 0 =
+    same-byte (get_or s (index_of 0 s) 0) 0 (passes_at_first (λ b. b == 0) s 0 r.found) in
+    ap (λ m. take m s) r.size ∙ take_more s (index_of 0 s) 0 r.found
+    ∙ ap (λ b. take (index_of 0 s) s ++ b ∷ []) zero ∙ ap (λ t. t ++ 0 ∷ []) (sym r.value)
+
+pub ruleset leb_sizes = (length-encoding)
+
+-- zeros after a value whose length is the difference of two offsets
+pub gap-refused : {E : Type 0} (gives : Error → E → Type 0) (m at l end : ℕ) (s : List ℕ) (e : E)
+    → end ≡ at + l
+    → ((inner : Error) × RefusesZeros (padding_len (end - at) m) (drop end s) inner × gives inner e)
+    → (inner : Error) × RefusesZeros (padding_len l m) (drop (at + l) s) inner × gives inner e
+gap-refused gives m at l end s e is h =
+    let size : end - at ≡ l = omega (arith, is) in
+    subst (λ k. (inner : Error) × RefusesZeros (padding_len l m) (drop k s) inner
+    × gives inner e) is
+    (subst (λ k. (inner : Error) × RefusesZeros (padding_len k m) (drop end s) inner
+    × gives inner e) size h)
+
+pub gap-read : (m at l end : ℕ) (s : List ℕ) → end ≡ at + l
+    → (end + padding_len (end - at) m ≤ length s)
+    × (take (padding_len (end - at) m) (drop end s) ≡ replicate (padding_len (end - at) m) 0)
+    → (at + l + padding_len l m ≤ length s)
+    × (take (padding_len l m) (drop (at + l) s) ≡ replicate (padding_len l m) 0)
+gap-read m at l end s is h =
+    let size : end - at ≡ l = omega (arith, is) in
+    subst (λ k. (k + padding_len l m ≤ length s)
+    × (take (padding_len l m) (drop k s) ≡ replicate (padding_len l m) 0)) is
+    (subst (λ k. (end + padding_len k m ≤ length s)
+    × (take (padding_len k m) (drop end s) ≡ replicate (padding_len k m) 0)) size h)
+
+pub gap-moves : (m at l end n : ℕ) → end ≡ at + l → n ≡ end + padding_len (end - at) m
+    → n ≡ at + (l + padding_len l m)
+gap-moves m at l end n is h =
+    let size : end - at ≡ l = omega (arith, is) in
+    let moved : n ≡ end + padding_len l m = subst (λ k. n ≡ end + padding_len k m) size h in
+    omega (arith, moved, is)
+
+-- bytes are written, and zeros behind them
+pub gap-put : (b old mid new : List ℕ) (l size g : ℕ) → size ≡ l → length b ≡ l
+    → mid ≡ b ++ drop (length b) old → take size new ≡ take size mid
+    → drop size new ≡ replicate g 0 ++ drop g (drop size mid)
+    → new ≡ (b ++ replicate g 0) ++ drop (length (b ++ replicate g 0)) old
+gap-put b old mid new l size g is long written before after =
+    let front : take size mid ≡ b =
+    ap (take size) written ∙ take_at b (drop (length b) old) size (long ∙ sym is) in
+    let behind : drop size mid ≡ drop (length b) old =
+    ap (drop size) written ∙ ap (λ k. drop k (b ++ drop (length b) old)) (is ∙ sym long)
+    ∙ drop-append_seam b (drop (length b) old) in
+    let rest : drop g (drop size mid) ≡ drop (length (b ++ replicate g 0)) old =
+    ap (drop g) behind ∙ drop-drop g (length b) old
+    ∙ ap (λ k. drop k old) (sym (length-append b (replicate g 0)
+    ∙ ap (λ k. length b + k) (length-replicate g 0))) in
+    sym (take-append-drop size new) ∙ ap (λ k. k ++ drop size new) (before ∙ front)
+    ∙ ap (λ k. b ++ k) (after ∙ ap (λ k. replicate g 0 ++ k) rest)
+    ∙ sym (append_assoc b (replicate g 0) (drop (length (b ++ replicate g 0)) old))
+
+pub ruleset gaps = (gap-refused, gap-read, gap-moves)

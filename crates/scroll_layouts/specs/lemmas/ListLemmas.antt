@@ -1,0 +1,69 @@
+-- Lists that are read value by value. The lemmas are proved, and promise nothing.
+use Rattle.std.proofs.Common.{◌≡◌, ◌≢◌, ℕ, ◌+◌, ◌<◌, ◌≤◌, ◌++◌, List, [], ◌∷◌, length, take, drop, sym, ap, subst, ◌∙◌, arith, length-append}
+use Rattle.std.proofs.lemmas.List.{length-take-le, take-take, drop-take}
+use Rattle.std.specs.List.{All}
+use Rattle.scroll.specs.declared.endian.Endian.{Endian}
+use Rattle.scroll_layouts.specs.Formats.{Format, reads, len}
+use Rattle.scroll_layouts.specs.Lists.{Items, SomeItems, CountedItems}
+use Rattle.scroll_layouts.specs.lemmas.FormatLaws.{moved}
+
+-- one more value
+push : {E X : Type 0} (f : Format E X) (order : Endian) (s : List ℕ) (at : ℕ) (xs : List X)
+    (mid : ℕ) (x : X) → Items f order s at xs mid → reads f order s mid x → 1 ≤ len f x
+    → Items f order s at (xs ++ x ∷ []) (mid + len f x)
+push f order s at [] mid x h r some =
+    (subst (λ k. reads f order s k x) (sym h) r, some, ap (λ k. k + len f x) h)
+push f order s at (y ∷ ys) mid x h r some =
+    (h.0, h.1, push f order s (at + len f y) ys mid x h.2 r some)
+
+pub items-push : {E X : Type 0} (f : Format E X) (order : Endian) (s : List ℕ) (at mid to : ℕ)
+    (x : X) → SomeItems f order s at mid → reads f order s mid x → to ≡ mid + len f x → to ≢ mid
+    → SomeItems f order s at to
+items-push f order s at mid to x h r is other = record {
+  values = h.values ++ x ∷ [];
+  each = subst (λ k. Items f order s at (h.values ++ x ∷ []) k) (sym is)
+      (push f order s at h.values mid x h.each r (omega (arith, is, other)));
+}
+
+pub counted-push : {E X : Type 0} (f : Format E X) (order : Endian) (s : List ℕ)
+    (at mid to n : ℕ) (x : X) → CountedItems f order s at mid n → reads f order s mid x
+    → to ≡ mid + len f x → to ≢ mid → CountedItems f order s at to (n + 1)
+counted-push f order s at mid to n x h r is other = record {
+  values = h.values ++ x ∷ [];
+  each = subst (λ k. Items f order s at (h.values ++ x ∷ []) k) (sym is)
+      (push f order s at h.values mid x h.each r (omega (arith, is, other)));
+  count = length-append h.values (x ∷ []) ∙ ap (λ k. k + 1) h.count;
+}
+
+-- values end behind where they begin
+pub ends : {E X : Type 0} (f : Format E X) (order : Endian) (s : List ℕ) (at : ℕ) (xs : List X)
+    (to : ℕ) → Items f order s at xs to → at ≤ to
+ends f order s at [] to h = omega (arith, h)
+ends f order s at (x ∷ xs) to h = omega (arith, ends f order s (at + len f x) xs to h.2)
+
+-- they are values of the bytes up to their end
+items-cut : {E X : Type 0} (f : Format E X) (order : Endian) (s : List ℕ) (at : ℕ) (xs : List X)
+    (to : ℕ) → All (λ b. b < 256) s → to ≤ length s → Items f order s at xs to
+    → Items f order (take to s) at xs to
+items-cut f order s at [] to all le h = h
+items-cut f order s at (x ∷ xs) to all le h =
+    let n : ℕ = len f x in
+    let later : at + n ≤ to = ends f order s (at + n) xs to h.2 in
+    let long : length (take to s) ≡ to = length-take-le to s le in
+    let same : take n (drop at s) ≡ take n (drop at (take to s)) =
+    sym (drop-take at n s) ∙ ap (drop at) (sym (take-take (at + n) to s later))
+    ∙ drop-take at n (take to s) in (
+      moved f order s at (take to s) at x all (omega (arith, long, later)) same h.0,
+      h.1,
+      items-cut f order s (at + n) xs to all le h.2,
+    )
+
+pub counted-cut : {E X : Type 0} (f : Format E X) (order : Endian) (s : List ℕ) (to n : ℕ)
+    → All (λ b. b < 256) s → to ≤ length s → CountedItems f order s 0 to n
+    → CountedItems f order (take to s) 0 (length (take to s)) n
+counted-cut f order s to n all le h = record {
+  values = h.values;
+  each = subst (λ k. Items f order (take to s) 0 h.values k) (sym (length-take-le to s le))
+      (items-cut f order s 0 h.values to all le h.each);
+  count = h.count;
+}

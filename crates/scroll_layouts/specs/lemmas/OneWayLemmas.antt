@@ -1,0 +1,258 @@
+-- What follows where a source is read in one way. The lemmas are proved, and promise nothing.
+use Rattle.std.proofs.Common.{IsUtf8, ◌≡◌, ℕ, ◌+◌, ◌<◌, ◌≤◌, ◌-◌, ◌⊎◌, ◌^◌, List, [], ◌∷◌, length, take, drop, sym, ap, subst, ◌∙◌, arith, length-drop, refl, inl, inr}
+use Rattle.std.proofs.lemmas.List.{get_or-take, get_or-replicate, drop-drop}
+use Rattle.std.specs.List.{All}
+use Rattle.std.specs.Int.{w64}
+use Rattle.std.specs.Prelude.{true, false, Some, None, slice_index, FitsSigned}
+use Rattle.scroll.specs.Leb128.{unsigned_of, signed_of, ReadsLeb, RefusesLeb}
+use Rattle.scroll.specs.Texts.{ReadsText, RefusesText}
+use Rattle.scroll.specs.declared.ctx.str_ctx.StrCtx.{StrCtx}
+use Rattle.scroll.specs.declared.ctx.str_ctx.StrCtx.TheVariants.{Length, Required}
+use Rattle.scroll.specs.declared.error.Error.{Error}
+use Rattle.scroll_formats.specs.Zeros.{padding_len}
+use Rattle.scroll.specs.declared.endian.Endian.{Endian}
+use Rattle.scroll_layouts.specs.OneWay.{Alike, one_way}
+use Rattle.scroll_layouts.specs.Formats.{Format, run, counted, zeros, last, part, rule, within, leaf, choice, when, padded, reads, refuses, len}
+use Rattle.scroll_layouts.specs.Errors.{NoRoom}
+use Rattle.scroll_layouts.specs.Leaves.{uleb, sleb, c_string, text_of, text_until}
+use Rattle.scroll_layouts.specs.Lists.{Items, SomeItems, StopsAtItem, RefusesItems, list_within}
+use Rattle.scroll_layouts.specs.Starts.{start}
+use Rattle.scroll_layouts.specs.declared.choice.Choice.TheVariants.{First, Second}
+use Rattle.scroll_layouts.specs.lemmas.FormatLaws.{inside, moved}
+use Rattle.scroll_layouts.specs.lemmas.ListLemmas.{ends}
+
+-- what equal values say of what follows them is alike
+pub alike : {E X Y : Type 0} (rest : Y → Format E X) (y z : Y) → y ≡ z → Alike (rest y) (rest z)
+alike rest y z is = record {
+  reads_too = λ order s at x h. subst (λ a. reads (rest a) order s at x) is h;
+  refuses_too = λ order s at e h. subst (λ a. refuses (rest a) order s at e) is h;
+  long = λ x. ap (λ a. len (rest a) x) is;
+}
+
+-- a source has one length
+pub one-len : {E X : Type 0} (f : Format E X) → one_way f → (order : Endian) (s : List ℕ)
+    (at : ℕ) (x y : X) → reads f order s at x → reads f order s at y → len f x ≡ len f y
+one-len (run gives p) t order s at x y h k = refl
+one-len (counted gives n) t order s at x y h k = refl
+one-len (zeros gives n) t order s at x y h k = refl
+one-len (last p get) t order s at x y h k = one-len p t order s at (get x) (get y) h k
+one-len (part p get c) t order s at x y h k =
+    let first : len p (get x) ≡ len p (get y) = one-len p t.0 order s at (get x) (get y) h.0 k.0 in
+    let same : Alike (c (get y)) (c (get x)) = t.1 order s at (get y) (get x) k.0 h.0 in
+    let there : reads (c (get x)) order s (at + len p (get x)) y =
+    subst (λ n. reads (c (get x)) order s (at + n) y) (sym first)
+    (same.reads_too order s (at + len p (get y)) y k.1) in
+    let second : len (c (get x)) x ≡ len (c (get x)) y =
+    one-len (c (get x)) (t.2 (get x)) order s (at + len p (get x)) x y h.1 there in
+    let other : len (c (get y)) y ≡ len (c (get x)) y = same.long y in
+    omega (arith, first, second, other)
+one-len (rule P fails f) t order s at x y h k = one-len f t.1 order s at x y h.1 k.1
+one-len (within gives n f) t order s at x y h k = refl
+one-len (leaf l) t order s at x y h k = t.0 order s at x y h k
+one-len (choice gives true f g) t order s at (First x) (First y) h k =
+    one-len f t.0 order s at x y h k
+one-len (choice gives true f g) t order s at (First x) (Second y) h k = absurd k
+one-len (choice gives true f g) t order s at (Second x) y h k = absurd h
+one-len (choice gives false f g) t order s at (Second x) (Second y) h k =
+    one-len g t.1 order s at x y h k
+one-len (choice gives false f g) t order s at (Second x) (First y) h k = absurd k
+one-len (choice gives false f g) t order s at (First x) y h k = absurd h
+one-len (when gives true f) t order s at (Some x) (Some y) h k = one-len f t order s at x y h k
+one-len (when gives true f) t order s at (Some x) None h k = absurd k
+one-len (when gives true f) t order s at None y h k = absurd h
+one-len (when gives false f) t order s at None None h k = refl
+one-len (when gives false f) t order s at None (Some y) h k = absurd k
+one-len (when gives false f) t order s at (Some x) y h k = absurd h
+
+-- what is read isn't refused
+pub no-clash : {E X : Type 0} (f : Format E X) → one_way f → (order : Endian) (s : List ℕ)
+    (at : ℕ) (x : X) (e : E) → reads f order s at x → refuses f order s at e → ⊥
+no-clash (run gives p) t order s at x e h r = omega (arith, h.0, r.short, length-drop at s)
+no-clash (counted gives n) t order s at x e h r =
+    omega (arith, h.0, r.short, length-drop at s)
+no-clash (zeros gives n) t order s at x e h (inner, inl r, g) =
+    omega (arith, h.0, r.short, length-drop at s)
+no-clash (zeros gives n) t order s at x e h (inner, inr r, g) =
+    r.nonzero (sym (get_or-take n (drop at s) r.index 0 r.inside)
+    ∙ ap (λ l. slice_index l r.index) h.1
+    ∙ get_or-replicate n r.index 0 0 r.inside)
+no-clash (last p get) t order s at x e h r = no-clash p t order s at (get x) e h r
+no-clash (part p get c) t order s at x e h (inl r) = no-clash p t.0 order s at (get x) e h.0 r
+no-clash (part p get c) t order s at x e h (inr (y, k, r)) =
+    let first : len p y ≡ len p (get x) = one-len p t.0 order s at y (get x) k h.0 in
+    let same : Alike (c y) (c (get x)) = t.1 order s at y (get x) k h.0 in
+    no-clash (c (get x)) (t.2 (get x)) order s (at + len p (get x)) x e h.1
+    (subst (λ n. refuses (c (get x)) order s (at + n) e) first
+    (same.refuses_too order s (at + len p y) e r))
+no-clash (rule P fails f) t order s at x e h (inl r) = t.0 h.0 e r
+no-clash (rule P fails f) t order s at x e h (inr r) = no-clash f t.1 order s at x e h.1 r.1
+no-clash (within gives n f) t order s at x e h (inl r) =
+    omega (arith, h.0, r.short, length-drop at s)
+no-clash (within gives n f) t order s at x e h (inr (inl r)) =
+    no-clash f t order (take n (drop at s)) 0 x e h.1 r.1
+no-clash (within gives n f) t order s at x e h (inr (inr (y, k, other, g))) =
+    other (one-len f t order (take n (drop at s)) 0 y x k h.1 ∙ h.2)
+no-clash (leaf l) t order s at x e h r = t.1 order s at x e h r
+no-clash (choice gives true f g) t order s at (First x) e h r = no-clash f t.0 order s at x e h r
+no-clash (choice gives true f g) t order s at (Second x) e h r = absurd h
+no-clash (choice gives false f g) t order s at (First x) e h r = absurd h
+no-clash (choice gives false f g) t order s at (Second x) e h r = no-clash g t.1 order s at x e h r
+no-clash (when gives true f) t order s at (Some x) e h r = no-clash f t order s at x e h r
+no-clash (when gives true f) t order s at None e h r = absurd h
+no-clash (when gives false f) t order s at x e h r = absurd r
+
+-- the rest of a list after its first value, as a list of its own
+pub rest-items : {E X : Type 0} (f : Format E X) (order : Endian) (s : List ℕ) (at : ℕ)
+    (xs : List X) (n : ℕ) → All (λ b. b < 256) s → n ≤ at → Items f order s at xs (length s)
+    → at ≤ length s → Items f order (drop n s) (at - n) xs (length s - n)
+rest-items f order s at [] n all le h here = ap (λ k. k - n) h
+rest-items f order s at (x ∷ xs) n all le h here =
+    let there : drop (at - n) (drop n s) ≡ drop at s =
+    drop-drop (at - n) n s ∙ ap (λ k. drop k s) (omega (arith, le)) in
+    let inner : at + len f x ≤ length s = inside f order s at x here h.0 in
+    let next : (at + len f x) - n ≡ (at - n) + len f x = omega (arith, le) in (
+      moved f order s at (drop n s) (at - n) x all
+          (omega (arith, inner, le, length-drop n s)) (ap (take (len f x)) (sym there)) h.0,
+      h.1,
+      subst (λ k. Items f order (drop n s) k xs (length s - n)) next
+          (rest-items f order s (at + len f x) xs n all (omega (arith, le)) h.2 inner),
+    )
+
+-- a value was read at the start of a list: it is the first one, and the rest is a list
+pub list-next : {E X : Type 0} (f : Format E X) → one_way f → (order : Endian) (s : List ℕ) (y : X)
+    (n : ℕ) → All (λ b. b < 256) s → SomeItems f order s 0 (length s) → 0 < length s
+    → reads f order s 0 y → n ≡ len f y → SomeItems f order (drop n s) 0 (length (drop n s))
+list-next f t order s y n all h some k is = next h.values h.each where
+  next : (xs : List _) → Items f order s 0 xs (length s)
+      → SomeItems f order (drop n s) 0 (length (drop n s))
+  next [] each = absurd (omega (arith, some, each))
+  next (x ∷ xs) each =
+      let same : n ≡ len f x = is ∙ one-len f t order s 0 y x k each.0 in
+      let here : n ≤ length s = omega (arith, same, inside f order s 0 x (omega arith) each.0) in
+      let from : Items f order s n xs (length s) =
+      subst (λ m. Items f order s m xs (length s)) (omega (arith, same)) each.2 in
+      let rest = rest-items f order s n xs n all (omega arith) from here in
+      record {
+        values = xs;
+        each = subst (λ m. Items f order (drop n s) 0 xs m) (sym (length-drop n s))
+            (subst (λ m. Items f order (drop n s) m xs (length s - n)) (omega arith) rest);
+      }
+
+-- no value of a list is refused
+pub list-sound : {E X : Type 0} (f : Format E X) → one_way f → (order : Endian) (s : List ℕ) (e : E)
+    → SomeItems f order s 0 (length s) → 0 < length s → refuses f order s 0 e → ⊥
+list-sound f t order s e h some r = first h.values h.each where
+  first : (xs : List _) → Items f order s 0 xs (length s) → ⊥
+  first [] each = absurd (omega (arith, some, each))
+  first (x ∷ xs) each = no-clash f t order s 0 x e each.0 r
+
+-- values up to an offset, at which none can be read, aren't followed by more values
+items-clash : {E X : Type 0} (gives : Error → E → Type 0) (f : Format E X) → one_way f
+    → (order : Endian) (s : List ℕ) (at : ℕ) (xs ys : List X) (to stop : ℕ) (e : E)
+    → Items f order s at xs to → Items f order s at ys stop → stop < to
+    → StopsAtItem gives f order s stop e → ⊥
+items-clash gives f t order s at [] [] to stop e h k l r = omega (arith, h, k, l)
+items-clash gives f t order s at [] (y ∷ ys) to stop e h k l r =
+    omega (arith, h, l, ends f order s (at + len f y) ys stop k.2)
+items-clash gives f t order s at (x ∷ xs) [] to stop e h k l (inl r) =
+    no-clash f t order s stop x e (subst (λ n. reads f order s n x) k h.0) r
+items-clash gives f t order s at (x ∷ xs) [] to stop e h k l (inr (y, read, none, g)) =
+    let same : len f x ≡ len f y =
+    one-len f t order s stop x y (subst (λ n. reads f order s n x) k h.0) read in
+    omega (arith, same, none, h.1)
+items-clash gives f t order s at (x ∷ xs) (y ∷ ys) to stop e h k l r =
+    let same : len f y ≡ len f x = one-len f t order s at y x k.0 h.0 in
+    items-clash gives f t order s (at + len f x) xs ys to stop e h.2
+    (subst (λ n. Items f order s (at + n) ys stop) same k.2) l r
+
+-- a number in LEB128 isn't read and refused
+leb-clash : {V : Type 0} (value_of : List ℕ → V) (Fits : V → Type 0) (s : List ℕ) (x : V) (n : ℕ)
+    (e : Error) → ReadsLeb value_of Fits s x n → RefusesLeb value_of Fits s e → ⊥
+leb-clash value_of Fits s x n e h (inl r) = omega (arith, h.complete.0, r.cut.0)
+leb-clash value_of Fits s x n e h (inr r) = r.unfit h.complete h.fits
+
+-- nor is a text
+text-clash : (ctx : StrCtx) (s text : List ℕ) (n : ℕ) (e : Error) → ReadsText ctx s text n
+    → RefusesText ctx s e → ⊥
+text-clash ctx s text n e h (inl r) = omega (arith, h.room, r.short)
+text-clash ctx s text n e h (inr (inl r)) = r.invalid (subst IsUtf8 h.prefix h.utf8)
+text-clash ctx s text n e h (inr (inr r)) = r.missing h.there
+
+-- nor a list within a length
+within-clash : {E X : Type 0} (gives : Error → E → Type 0) (f : Format E X) (n : ℕ) → one_way f
+    → (order : Endian) (s : List ℕ) (at : ℕ) (x : List ℕ) (e : E)
+    → (at + length x ≤ length s) × (x ≡ take (length x) (drop at s))
+    × ((n ≡ length x) × SomeItems f order x 0 (length x))
+    → NoRoom gives n (drop at s) e
+    ⊎ ((at + n ≤ length s) × RefusesItems gives f order (take n (drop at s)) e) → ⊥
+within-clash gives f n t order s at x e h (inl r) =
+    omega (arith, h.0, h.2.0, r.short, length-drop at s)
+within-clash gives f n t order s at x e h (inr r) =
+    let same : take n (drop at s) ≡ x = ap (λ k. take k (drop at s)) h.2.0 ∙ sym h.1 in
+    let there = subst (λ l. RefusesItems gives f order l e) same r.1 in
+    items-clash gives f t order x 0 h.2.1.values there.before.values (length x) there.stop e
+    h.2.1.each there.before.each there.more there.error
+
+-- leaves that read a source in one way
+pub uleb-one-way : {E : Type 0} (gives : Error → E → Type 0) → one_way (leaf (start (uleb gives)))
+uleb-one-way gives = (
+  λ order s at x y h k. h.0.size ∙ sym k.0.size,
+  λ order s at x e h r.
+      leb-clash unsigned_of (λ v. v < 2 ^ 64) (drop at s) x.value x.count r.0 h.0 r.1,
+  tt,
+)
+
+pub sleb-one-way : {E : Type 0} (gives : Error → E → Type 0) → one_way (leaf (start (sleb gives)))
+sleb-one-way gives = (
+  λ order s at x y h k. h.0.size ∙ sym k.0.size,
+  λ order s at x e h r.
+      leb-clash signed_of (FitsSigned w64) (drop at s) x.value x.count r.0 h.0 r.1,
+  tt,
+)
+
+pub c_string-one-way : {E : Type 0} (gives : Error → E → Type 0)
+    → one_way (leaf (start (c_string gives)))
+c_string-one-way gives = (
+  λ order s at x y h k. omega (arith, h.size, k.size),
+  λ order s at x e h r. omega (arith, h.found, r.1.none),
+  tt,
+)
+
+pub text_of-one-way : {E : Type 0} (gives : Error → E → Type 0) (n : ℕ)
+    → one_way (leaf (start (text_of gives n)))
+text_of-one-way gives n = (
+  λ order s at x y h k. refl,
+  λ order s at x e h r. text-clash (Length n) (drop at s) x n r.0 h r.1,
+  tt,
+)
+
+pub text_until-one-way : {E : Type 0} (gives : Error → E → Type 0) (d : ℕ)
+    → one_way (leaf (start (text_until gives d)))
+text_until-one-way gives d = (
+  λ order s at x y h k. omega (arith, h.size, k.size),
+  λ order s at x e h r. text-clash (Required d) (drop at s) x (length x + 1) r.0 h r.1,
+  tt,
+)
+
+pub list_within-one-way : {E X : Type 0} (gives : Error → E → Type 0) (f : Format E X) (n : ℕ)
+    → one_way f → one_way (leaf (list_within gives f n))
+list_within-one-way gives f n t = (
+  λ order s at x y h k. sym h.2.0 ∙ k.2.0,
+  λ order s at x e h r. within-clash gives f n t order s at x e h r,
+  tt,
+)
+
+-- zeros up to a multiple of a size are as many where the value's length is one
+pub padded-one-way : {E X : Type 0} (gives : Error → E → Type 0) (multiple : ℕ) (f : Format E X)
+    → one_way f → one_way (padded gives multiple f)
+padded-one-way gives multiple f t = (
+  t,
+  λ order s at y z h k. alike (λ n. zeros gives (padding_len n multiple)) (len f y) (len f z)
+      (one-len f t order s at y z h k),
+  λ y. tt,
+)
+
+pub ruleset same_rest = (alike)
+
+pub ruleset leaves_one_way =
+    (uleb-one-way, sleb-one-way, c_string-one-way, text_of-one-way, text_until-one-way)

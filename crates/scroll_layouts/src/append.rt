@@ -1,0 +1,37 @@
+// Parts that are appended to a vector.
+ghost use Rattle.std.specs.Prelude.{◌≡◌, ◌≤◌, ◌+◌, ◌-◌, ◌^◌, ◌++◌, ◌⊎◌, length, drop, min, IfErr, OnOk, OnErr};
+ghost use Rattle.scroll.specs.declared.error.Error.TheVariants.{NoMemory};
+ghost use Rattle.scroll_layouts.specs.Formats.{len, bytes, agrees, differs};
+ghost use Rattle.scroll_layouts.specs.Wholes.{AppendsWhole};
+
+use crate::Part;
+use scroll::{Endian, Error};
+use std::result::Result;
+
+/// Appends the bytes of a part to a vector if its counts, constants, tags and conditions agree.
+///
+/// Returns the part's own error if they don't, and that of [`Error::NoMemory`] on an allocation
+/// failure. The vector is then unchanged.
+pub fn append_whole<C, E: From<Error>, L: Part<C, E>>(
+    target: &mut Vec<u8>,
+    value: &L,
+    order: Endian,
+    ctx: &C,
+) -> Result<(), E>
+    ensures appended { OnOk result (AppendsWhole (L.format ctx.now) order value.now
+        target.old.items target.new.items) }
+    ensures unchanged { OnErr result (target.new.items ≡ target.old.items) }
+    ensures refused { IfErr result (λ e. differs (L.format ctx.now) order value.now e
+        ⊎ E.from_gives NoMemory e) }
+{
+    value.check(order, ctx)?;
+    let start = target.len();
+    let Some(end) = start.checked_add(value.size(order, ctx)) else {
+        return Err(E::from(Error::NoMemory));
+    };
+    if target.resize(end, 0).is_err() {
+        return Err(E::from(Error::NoMemory));
+    }
+    value.put(&mut target.as_mut_slice()[start..], order, ctx);
+    Ok(())
+}

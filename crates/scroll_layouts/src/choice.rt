@@ -1,0 +1,12 @@
+// One of two values, as a tag says.
+
+/// One of two values. One of more is a `Choice` whose second value is a `Choice`.
+#[derive(Drop)]
+pub enum Choice<A, B> {
+    First(A),
+    Second(B),
+}
+
+/// The context of a [`Choice`]: whether it is the first value, and the context of each.
+#[derive(Drop)]
+pub struct Choose<C, D>(pub bool, pub C, pub D);

@@ -1,0 +1,74 @@
+// Values that are there if something before them says so.
+ghost use Rattle.std.specs.Prelude.{◌≡◌, ◌≤◌, ◌+◌, ◌-◌, ◌^◌, ◌++◌, length, drop, min, codes};
+ghost use Rattle.scroll_layouts.specs.Formats.{when, len, bytes, reads, refuses, agrees, differs};
+
+use crate::{Part, ReadPart};
+use scroll::{Endian, Error};
+use std::result::Result;
+
+/// The context of an optional value: whether it is there, and its own context.
+#[derive(Drop)]
+pub struct When<C>(pub bool, pub C);
+
+/// A value that is there if the context says so. A write of a value that mustn't be there is
+/// [`Error::BadInput`] with the size 0 and the message `an optional part is too many`; a write of
+/// none that must be there is one with the size 1 and the message `an optional part is missing`.
+impl<E: From<Error>, C: Drop, A: Part<C, E>> Part<When<C>, E> for Option<A> {
+    ghost format = { λ c. when E.from_gives c.0 (A.format c.1) };
+
+    fn check(&self, order: Endian, ctx: &When<C>) -> Result<(), E> {
+        match self {
+            Some(value) => {
+                if !ctx.0 {
+                    return Err(E::from(Error::BadInput {
+                        size: 0,
+                        msg: "an optional part is too many",
+                    }));
+                }
+                value.check(order, &ctx.1)
+            }
+            None => {
+                if ctx.0 {
+                    return Err(E::from(Error::BadInput {
+                        size: 1,
+                        msg: "an optional part is missing",
+                    }));
+                }
+                Ok(())
+            }
+        }
+    }
+
+    fn size(&self, order: Endian, ctx: &When<C>) -> usize {
+        match self {
+            Some(value) => value.size(order, &ctx.1),
+            None => 0,
+        }
+    }
+
+    #[inline(always)]
+    fn put(&self, dst: &mut [u8], order: Endian, ctx: &When<C>) {
+        match self {
+            Some(value) => value.put(dst, order, &ctx.1),
+            None => {}
+        }
+    }
+}
+
+impl<'a, E: From<Error>, C: Drop, A: ReadPart<'a, C, E>> ReadPart<'a, When<C>, E> for Option<A> {
+    ghost format = { λ c. when E.from_gives c.0 (A.format c.1) };
+
+    #[inline(always)]
+    fn read_at(
+        from: &'a [u8],
+        offset: usize,
+        order: Endian,
+        ctx: &When<C>,
+    ) -> Result<(Option<A>, usize), E> {
+        if !ctx.0 {
+            return Ok((None, offset));
+        }
+        let (value, end) = A::read_at(from, offset, order, &ctx.1)?;
+        Ok((Some(value), end))
+    }
+}

@@ -1,0 +1,56 @@
+// Tables: elements of one size, read where they lie.
+ghost use Rattle.std.specs.Prelude.{◌≡◌, ◌≢◌, ◌≤◌, ◌<◌, ◌+◌, ◌*◌, ◌-◌, ◌^◌, ◌++◌, length, take, drop, min, codes};
+ghost use Rattle.scroll_layouts.specs.Formats.{counted, last};
+
+use crate::{Part, ReadPart};
+use scroll::ctx::Plain;
+use scroll::{Endian, Error, check_room};
+use scroll_formats::Table;
+use std::result::Result;
+
+/// A table of as many elements as the context says. A shorter source is [`Error::TooBig`] with the
+/// number of their bytes, at most the greatest `usize`, and the number of bytes there. A write of a
+/// table of another number of bytes is [`Error::BadInput`] with that number and the message
+/// `another length than its count`.
+impl<'a, E: From<Error>, T: Plain> Part<usize, E> for Table<'a, T> {
+    ghost format = { λ n.
+        last (counted E.from_gives (min (n * T.width) (2 ^ 64 - 1))) (λ x. x.bytes.now) };
+
+    fn check(&self, _order: Endian, ctx: &usize) -> Result<(), E> {
+        let bytes = self.bytes;
+        if ctx.saturating_mul(T::width()) != bytes.len() {
+            return Err(E::from(Error::BadInput {
+                size: bytes.len(),
+                msg: "another length than its count",
+            }));
+        }
+        Ok(())
+    }
+
+    fn size(&self, _order: Endian, _ctx: &usize) -> usize {
+        self.bytes.len()
+    }
+
+    #[inline(always)]
+    fn put(&self, dst: &mut [u8], _order: Endian, _ctx: &usize) {
+        let bytes = self.bytes;
+        dst[..bytes.len()].copy_from_slice(bytes);
+    }
+}
+
+impl<'a, E: From<Error>, T: Plain> ReadPart<'a, usize, E> for Table<'a, T> {
+    ghost format = { λ n.
+        last (counted E.from_gives (min (n * T.width) (2 ^ 64 - 1))) (λ x. x.bytes.now) };
+
+    #[inline(always)]
+    fn read_at(
+        from: &'a [u8],
+        offset: usize,
+        _order: Endian,
+        ctx: &usize,
+    ) -> Result<(Table<'a, T>, usize), E> {
+        let size = ctx.saturating_mul(T::width());
+        check_room(size, from.len() - offset)?;
+        Ok((Table::new(&from[offset..offset + size]), offset + size))
+    }
+}

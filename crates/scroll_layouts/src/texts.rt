@@ -1,0 +1,117 @@
+// Texts as parts: of a counted length, or up to a byte.
+ghost use Rattle.std.specs.Prelude.{◌≡◌, ◌≢◌, ◌≤◌, ◌<◌, ◌+◌, ◌-◌, ◌^◌, ◌++◌, ℕ, length, take, drop, min, codes, slice_index, IfSome, IfNone};
+ghost use Rattle.scroll.specs.declared.error.Error.{Error};
+ghost use Rattle.scroll_layouts.specs.Formats.{leaf, last};
+ghost use Rattle.scroll_layouts.specs.Leaves.{text_of, text_until};
+ghost use Rattle.scroll_layouts.specs.Starts.{start};
+
+use crate::{Part, ReadPart};
+use scroll::ctx::{StrCtx, TryFromCtx};
+use scroll::{Endian, Error};
+use std::result::Result;
+
+/// The context of a text that ends before a byte.
+#[derive(Drop)]
+pub struct Ends(pub u8);
+
+/// A text of as many bytes as the context says. The errors of a read are those of a text with
+/// [`StrCtx::Length`]. A write of a text of another length is [`Error::BadInput`] with its length
+/// and the message `another length than its count`.
+impl<'a, E: From<Error>> Part<usize, E> for &'a str {
+    ghost format = { λ n. last (leaf (start (text_of E.from_gives n))) (λ x. x.now) };
+
+    fn check(&self, _order: Endian, ctx: &usize) -> Result<(), E> {
+        let text = self.as_bytes();
+        if *ctx != text.len() {
+            return Err(E::from(Error::BadInput {
+                size: text.len(),
+                msg: "another length than its count",
+            }));
+        }
+        Ok(())
+    }
+
+    fn size(&self, _order: Endian, _ctx: &usize) -> usize {
+        self.len()
+    }
+
+    #[inline(always)]
+    fn put(&self, dst: &mut [u8], _order: Endian, _ctx: &usize) {
+        dst[..self.len()].copy_from_slice(self.as_bytes());
+    }
+}
+
+impl<'a, E: From<Error>> ReadPart<'a, usize, E> for &'a str {
+    ghost format = { λ n. last (leaf (start (text_of E.from_gives n))) (λ x. x.now) };
+
+    #[inline(always)]
+    fn read_at(
+        from: &'a [u8],
+        offset: usize,
+        _order: Endian,
+        ctx: &usize,
+    ) -> Result<(&'a str, usize), E> {
+        let (value, size) = <&str as TryFromCtx<StrCtx>>::try_from_ctx(
+            &from[offset..],
+            StrCtx::Length(*ctx),
+        )?;
+        Ok((value, offset + size))
+    }
+}
+
+/// A text without the byte that the context says, and that byte. The errors of a read are those of
+/// a text with [`StrCtx::Required`]. A write of a text that has the byte is [`Error::BadInput`]
+/// with the offset of the first one and the message `a text has its delimiter`.
+impl<'a, E: From<Error>> Part<Ends, E> for &'a str {
+    ghost format = { λ c. last (leaf (start (text_until E.from_gives c.0))) (λ x. x.now) };
+
+    fn check(&self, _order: Endian, ctx: &Ends) -> Result<(), E> {
+        match first_of(ctx.0, self.as_bytes()) {
+            Some(size) => Err(E::from(Error::BadInput {
+                size,
+                msg: "a text has its delimiter",
+            })),
+            None => Ok(()),
+        }
+    }
+
+    fn size(&self, _order: Endian, _ctx: &Ends) -> usize {
+        self.len() + 1
+    }
+
+    #[inline(always)]
+    fn put(&self, dst: &mut [u8], _order: Endian, ctx: &Ends) {
+        let len = self.len();
+        dst[..len].copy_from_slice(self.as_bytes());
+        dst[len] = ctx.0;
+    }
+}
+
+impl<'a, E: From<Error>> ReadPart<'a, Ends, E> for &'a str {
+    ghost format = { λ c. last (leaf (start (text_until E.from_gives c.0))) (λ x. x.now) };
+
+    #[inline(always)]
+    fn read_at(
+        from: &'a [u8],
+        offset: usize,
+        _order: Endian,
+        ctx: &Ends,
+    ) -> Result<(&'a str, usize), E> {
+        let (value, size) = <&str as TryFromCtx<StrCtx>>::try_from_ctx(
+            &from[offset..],
+            StrCtx::Required(ctx.0),
+        )?;
+        Ok((value, offset + size))
+    }
+}
+
+// Returns the offset of the first byte that is `delimiter`.
+fn first_of(delimiter: u8, bytes: &[u8]) -> Option<usize>
+    ensures found { IfSome result (λ offset. (offset < length bytes.now)
+        × (slice_index bytes.now offset ≡ delimiter)
+        × ((i : ℕ) → i < offset → slice_index bytes.now i ≢ delimiter)) }
+    ensures none { IfNone result
+        ((i : ℕ) → i < length bytes.now → slice_index bytes.now i ≢ delimiter) }
+{
+    bytes.iter().position(|byte| *byte == delimiter)
+}

@@ -1,0 +1,109 @@
+// Parts that a source has in one way.
+ghost use Rattle.std.specs.Prelude.{◌≡◌, ℕ};
+ghost use Rattle.scroll_layouts.specs.OneWay.{one_way};
+ghost use Rattle.scroll_layouts.specs.Formats.{reads, refuses, len};
+
+use crate::walk::{Certain, CertainHead, Single};
+use crate::{
+    Ends, FixedLayout, Headed, Items, Listed, Padded, ReadPart, Run, Sleb, Uleb, When, Within,
+};
+use scroll::Error;
+use scroll::cstr::CStr;
+use scroll_formats::Zeros;
+
+impl<'a, E: From<Error>, P: FixedLayout> Certain<'a, (), E> for Run<P> {
+    fn certain() {}
+}
+
+impl<'a, E: From<Error>> Certain<'a, usize, E> for &'a [u8] {
+    fn certain()
+        ensures { (ctx : ℕ) → one_way (⟦<&'a [u8] as ReadPart<'a, usize, E>>⟧.format ctx) }
+    {}
+}
+
+impl<'a, E: From<Error>> Certain<'a, usize, E> for Zeros {
+    fn certain() {}
+}
+
+impl<'a, E: From<Error>> Certain<'a, (), E> for Uleb {
+    #[tactic(auto, using(crate::specs::lemmas::OneWayLemmas::leaves_one_way))]
+    fn certain() {}
+}
+
+impl<'a, E: From<Error>> Certain<'a, (), E> for Sleb {
+    #[tactic(auto, using(crate::specs::lemmas::OneWayLemmas::leaves_one_way))]
+    fn certain() {}
+}
+
+impl<'a, E: From<Error>> Certain<'a, (), E> for CStr<'a> {
+    #[tactic(auto, using(crate::specs::lemmas::OneWayLemmas::leaves_one_way))]
+    fn certain()
+        ensures { (ctx : Unit {0}) → one_way (⟦<CStr<'a> as ReadPart<'a, (), E>>⟧.format ctx) }
+    {}
+}
+
+impl<'a, E: From<Error>> Certain<'a, usize, E> for &'a str {
+    #[tactic(auto, using(crate::specs::lemmas::OneWayLemmas::leaves_one_way))]
+    fn certain()
+        ensures { (ctx : ℕ) → one_way (⟦<&'a str as ReadPart<'a, usize, E>>⟧.format ctx) }
+    {}
+}
+
+impl<'a, E: From<Error>> Certain<'a, Ends, E> for &'a str {
+    #[tactic(auto, using(crate::specs::lemmas::OneWayLemmas::leaves_one_way))]
+    fn certain()
+        ensures { (ctx : Ends) → one_way (⟦<&'a str as ReadPart<'a, Ends, E>>⟧.format ctx) }
+    {}
+}
+
+impl<'a, E: From<Error>, K: Listed<'a>> Certain<'a, usize, E> for Items<'a, K>
+where
+    K::Item: Certain<'a, (), E>,
+{
+    fn certain() {
+        <K::Item as Certain<'a, (), E>>::certain()
+    }
+}
+
+impl<'a, E: From<Error>, C: Drop, A: Certain<'a, C, E>> Certain<'a, Padded<C>, E> for A {
+    fn certain() {
+        A::certain()
+    }
+}
+
+impl<'a, E: From<Error>, C: Drop, A: Certain<'a, C, E>> Certain<'a, Within<C>, E> for A {
+    fn certain() {
+        A::certain()
+    }
+}
+
+impl<'a, E: From<Error>, C: Drop, A: Certain<'a, C, E>> Certain<'a, When<C>, E> for Option<A> {
+    fn certain() {
+        A::certain()
+    }
+}
+
+impl<'a, E, C: Drop, D: Drop, A: Certain<'a, C, E>, B: Certain<'a, D, E>> Certain<'a, (C, D), E>
+    for (A, B) {
+    #[tactic(auto, using(crate::specs::lemmas::OneWayLemmas::same_rest))]
+    fn certain() {
+        A::certain();
+        B::certain();
+    }
+}
+
+impl<
+    'a,
+    E: From<Error>,
+    D: Drop,
+    P: Single,
+    H: CertainHead<Run<P>, E, Next = D> + Drop,
+    B: Certain<'a, D, E>,
+> Certain<'a, Headed<(), D, H>, E> for (Run<P>, B) {
+    #[tactic(auto, using(crate::specs::lemmas::OneWayLemmas::same_rest))]
+    fn certain() {
+        P::single();
+        H::apart();
+        B::certain();
+    }
+}
