@@ -12,6 +12,13 @@ pub record Alike {E X : Type 0} (f g : Format E X) : Type 0 where
       → refuses g order s at e
   pub long : (x : X) → len f x ≡ len g x
 
+-- what one head says, another one does: that it obeys the rule, or the error, and what follows it
+pub record SaysAs {A D E : Type 0} (holds : A → Type 0) (fails : A → E → Type 0) (next : A → D)
+    (x y : A) : Type 0 where
+  pub holds_too : holds x → holds y
+  pub fails_too : (e : E) → fails x e → fails y e
+  pub next_is : next x ≡ next y
+
 -- `one_way f`: what is asked of a format for that: a rule isn't obeyed and broken by one value,
 -- values of one part that a source has say the same of what follows, and each leaf reads a source
 -- in one way

@@ -48,7 +48,7 @@ pub use crate::padding::Padded;
 pub use crate::run::Run;
 pub use crate::shape::{Given, Shape};
 pub use crate::texts::Ends;
-pub use crate::walk::{Certain, CertainHead, Single, next_item};
+pub use crate::walk::{Certain, CertainHead, Values};
 pub use crate::whole::{read_exact, read_whole, write_whole};
 pub use crate::within::Within;
 use scroll::Endian;

@@ -11,4 +11,5 @@ mod nested;
 mod numbers;
 mod stored;
 mod texts;
+mod walk;
 mod zip;

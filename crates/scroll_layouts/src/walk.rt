@@ -1,16 +1,17 @@
 // Lists that were read are walked where they lie, and no value fails.
-ghost use Rattle.std.specs.Prelude.{◌≡◌, ◌≤◌, ◌<◌, ℕ, List, length, drop, OnOk, IfSome, IfNone};
+ghost use Rattle.std.specs.Prelude.{◌≡◌, ◌≤◌, ◌<◌, ℕ, List, length};
+ghost use Rattle.std.specs.Iterator.{at_most};
 ghost use Rattle.std.specs.List.{All};
-ghost use Rattle.scroll_layouts.specs.OneWay.{one_way};
+ghost use Rattle.scroll.specs.declared.endian.Endian.{Endian};
+ghost use Rattle.scroll_layouts.specs.OneWay.{one_way, SaysAs};
 ghost use Rattle.scroll_layouts.specs.Formats.{reads, refuses, len};
-ghost use Rattle.scroll_layouts.specs.Lists.{SomeItems};
+ghost use Rattle.scroll_layouts.specs.Lists.{YieldsItem};
 
 mod parts;
-mod values;
 
-pub use crate::walk::values::Single;
-use crate::{Head, ReadPart};
+use crate::{Head, Items, Listed, ReadPart};
 use scroll::Endian;
+use std::marker::PhantomData;
 
 /// A part that a source has in one way: there are no two values of different lengths, and no value
 /// and an error. A struct whose list is walked says so of its items, in one line.
@@ -20,39 +21,68 @@ pub trait Certain<'a, Ctx, E>: ReadPart<'a, Ctx, E> {
         ensures { (ctx : Ctx) → one_way (Self.ReadPart.format ctx) };
 }
 
-/// A head whose rule no value obeys and breaks.
-pub trait CertainHead<A, E>: Head<A, E> {
+/// A head that says one thing of what follows it: no head obeys the rule and breaks it, and where a
+/// source has two heads, they say the same.
+pub trait CertainHead<'a, C, A: ReadPart<'a, C, E>, E>: Head<A, E> {
     /// Does nothing, and says so.
-    fn apart()
-        ensures { (rule : Self) (head : A) (e : E) → Self.Head.holds rule head
-            → Self.Head.fails rule head e → ⊥ };
+    fn certain_next()
+        ensures rule { (rule : Self) (head : A) (e : E) → Self.Head.holds rule head
+            → Self.Head.fails rule head e → ⊥ }
+        ensures same { (rule : Self) (ctx : C) (order : Endian) (s : List ℕ) (at : ℕ) (x y : A)
+            → reads (A.ReadPart.format ctx) order s at x
+            → reads (A.ReadPart.format ctx) order s at y
+            → SaysAs (Self.Head.holds rule) (Self.Head.fails rule) (Self.Head.next rule) x y };
 }
 
-/// Takes the next value of a list that was read. There is one as long as there are bytes.
-pub fn next_item<'a, E: Drop, T: Certain<'a, (), E>>(
-    rest: &mut &'a [u8],
-    order: Endian,
-) -> Option<T>
-    requires { SomeItems (T.ReadPart.format tt) order rest.old.now 0 (length rest.old.now) }
-    ensures value { IfSome result (reads (T.ReadPart.format tt) order rest.old.now 0) }
-    ensures moves { IfSome result
-        (λ x. rest.new.now ≡ drop (len (T.ReadPart.format tt) x) rest.old.now) }
-    ensures sound { SomeItems (T.ReadPart.format tt) order rest.new.now 0 (length rest.new.now) }
-    ensures none { IfNone result
-        ((length rest.old.now ≡ 0) × (rest.new.now ≡ rest.old.now)) }
-{
-    T::certain();
-    let bytes = *rest;
-    below(bytes);
-    if bytes.is_empty() {
-        return None;
-    }
-    match T::read_at(bytes, 0, order, &()) {
-        Ok((value, size)) => {
-            *rest = &bytes[size..];
-            Some(value)
+/// The values of a list that are left, in order. Of a list that was read none fails, so they end
+/// where its bytes do.
+#[derive(Drop)]
+pub struct Values<'a, E, T> {
+    /// The bytes that are left.
+    pub bytes: &'a [u8],
+    /// The order in which they are read.
+    pub order: Endian,
+    of: PhantomData<(E, T)>,
+}
+
+impl<'a, K: Listed<'a>> Items<'a, K> {
+    /// Returns the values of a list within a length or by a count, which are read where they lie,
+    /// without memory.
+    #[inline(always)]
+    pub fn values<E>(&self, order: Endian) -> Values<'a, E, K::Item>
+        ensures bytes { result.bytes.now ≡ self.now.0.now }
+        ensures order { result.order ≡ order }
+    {
+        Values {
+            bytes: self.0,
+            order,
+            of: PhantomData,
         }
-        Err(_) => unreachable!(),
+    }
+}
+
+impl<'a, E: Drop, T: Certain<'a, (), E>> Iterator for Values<'a, E, T> {
+    type Item = T;
+
+    ghost next_gives = { λ old found new. (new.order ≡ old.order)
+        × YieldsItem (T.ReadPart.format tt) old.order old.bytes.now found new.bytes.now };
+
+    ghost remaining = { λ it. at_most (length it.bytes.now) };
+
+    #[inline(always)]
+    fn next(&mut self) -> Option<T> {
+        T::certain();
+        below(self.bytes);
+        match T::read_at(self.bytes, 0, self.order, &()) {
+            Ok((value, size)) => {
+                if size == 0 {
+                    return None;
+                }
+                self.bytes = &self.bytes[size..];
+                Some(value)
+            }
+            Err(_) => None,
+        }
     }
 }
 

@@ -11,9 +11,11 @@ use Rattle.scroll.specs.declared.ctx.str_ctx.StrCtx.TheVariants.{Length, Require
 use Rattle.scroll.specs.declared.error.Error.{Error}
 use Rattle.scroll_formats.specs.Zeros.{padding_len}
 use Rattle.scroll.specs.declared.endian.Endian.{Endian}
-use Rattle.scroll_layouts.specs.OneWay.{Alike, one_way}
+use Rattle.scroll_layouts.specs.OneWay.{Alike, SaysAs, one_way}
 use Rattle.scroll_layouts.specs.Formats.{Format, run, counted, zeros, last, part, rule, within, leaf, choice, when, padded, reads, refuses, len}
+use Rattle.scroll_layouts.specs.Bits.{packed_in}
 use Rattle.scroll_layouts.specs.Errors.{NoRoom}
+use Rattle.scroll_layouts.specs.Fields.{Fields}
 use Rattle.scroll_layouts.specs.Leaves.{uleb, sleb, c_string, text_of, text_until}
 use Rattle.scroll_layouts.specs.Lists.{Items, SomeItems, StopsAtItem, RefusesItems, list_within}
 use Rattle.scroll_layouts.specs.Starts.{start}
@@ -27,6 +29,27 @@ alike rest y z is = record {
   reads_too = λ order s at x h. subst (λ a. reads (rest a) order s at x) is h;
   refuses_too = λ order s at e h. subst (λ a. refuses (rest a) order s at e) is h;
   long = λ x. ap (λ a. len (rest a) x) is;
+}
+
+-- what follows heads that say the same is alike
+pub refuses-as : {E A D X Y : Type 0} (holds : A → Type 0) (fails : A → E → Type 0) (next : A → D)
+    (f : D → Format E Y) (get : X → Y) (x y : A) → SaysAs holds fails next x y
+    → (order : Endian) (s : List ℕ) (at : ℕ) (e : E)
+    → refuses (rule (holds x) (fails x) (last {X = X} (f (next x)) get)) order s at e
+    → refuses (rule (holds y) (fails y) (last {X = X} (f (next y)) get)) order s at e
+refuses-as holds fails next f get x y same order s at e (inl r) = inl (same.fails_too e r)
+refuses-as holds fails next f get x y same order s at e (inr r) =
+    inr (same.holds_too r.0, subst (λ n. refuses (f n) order s at e) same.next_is r.1)
+
+pub alike-heads : {E A D X Y : Type 0} (holds : A → Type 0) (fails : A → E → Type 0) (next : A → D)
+    (f : D → Format E Y) (get : X → Y) (x y : A) → SaysAs holds fails next x y
+    → Alike (rule (holds x) (fails x) (last {X = X} (f (next x)) get))
+    (rule (holds y) (fails y) (last {X = X} (f (next y)) get))
+alike-heads holds fails next f get x y same = record {
+  reads_too = λ order s at v h.
+      (same.holds_too h.0, subst (λ n. reads (f n) order s at (get v)) same.next_is h.1);
+  refuses_too = refuses-as holds fails next f get x y same;
+  long = λ v. ap (λ n. len (f n) (get v)) same.next_is;
 }
 
 -- a source has one length
@@ -138,13 +161,21 @@ list-next f t order s y n all h some k is = next h.values h.each where
             (subst (λ m. Items f order (drop n s) m xs (length s - n)) (omega arith) rest);
       }
 
--- no value of a list is refused
-pub list-sound : {E X : Type 0} (f : Format E X) → one_way f → (order : Endian) (s : List ℕ) (e : E)
-    → SomeItems f order s 0 (length s) → 0 < length s → refuses f order s 0 e → ⊥
-list-sound f t order s e h some r = first h.values h.each where
-  first : (xs : List _) → Items f order s 0 xs (length s) → ⊥
-  first [] each = absurd (omega (arith, some, each))
-  first (x ∷ xs) each = no-clash f t order s 0 x e each.0 r
+-- a list in which a value without bytes is read, or one is refused, has none
+pub list-none : {E X : Type 0} (f : Format E X) → one_way f → (order : Endian) (s : List ℕ) (y : X)
+    → reads f order s 0 y → len f y ≡ 0 → SomeItems f order s 0 (length s) → length s ≡ 0
+list-none f t order s y k none h = first h.values h.each where
+  first : (xs : List _) → Items f order s 0 xs (length s) → length s ≡ 0
+  first [] each = sym each
+  first (x ∷ xs) each =
+      absurd (omega (arith, one-len f t order s 0 y x k each.0, each.1, none))
+
+pub list-refused : {E X : Type 0} (f : Format E X) → one_way f → (order : Endian) (s : List ℕ)
+    (e : E) → refuses f order s 0 e → SomeItems f order s 0 (length s) → length s ≡ 0
+list-refused f t order s e r h = first h.values h.each where
+  first : (xs : List _) → Items f order s 0 xs (length s) → length s ≡ 0
+  first [] each = sym each
+  first (x ∷ xs) each = absurd (no-clash f t order s 0 x e each.0 r)
 
 -- values up to an offset, at which none can be read, aren't followed by more values
 items-clash : {E X : Type 0} (gives : Error → E → Type 0) (f : Format E X) → one_way f
@@ -234,6 +265,14 @@ text_until-one-way gives d = (
   tt,
 )
 
+pub packed_in-one-way : {E X : Type 0} (gives : Error → E → Type 0) (w : ℕ) (f : Fields X)
+    → one_way (leaf (packed_in gives w f))
+packed_in-one-way gives w f = (
+  λ order s at x y h k. refl,
+  λ order s at x e h r. omega (arith, h.0, r.short, length-drop at s),
+  tt,
+)
+
 pub list_within-one-way : {E X : Type 0} (gives : Error → E → Type 0) (f : Format E X) (n : ℕ)
     → one_way f → one_way (leaf (list_within gives f n))
 list_within-one-way gives f n t = (
@@ -254,5 +293,11 @@ padded-one-way gives multiple f t = (
 
 pub ruleset same_rest = (alike)
 
-pub ruleset leaves_one_way =
-    (uleb-one-way, sleb-one-way, c_string-one-way, text_of-one-way, text_until-one-way)
+pub ruleset leaves_one_way = (
+  uleb-one-way,
+  sleb-one-way,
+  c_string-one-way,
+  text_of-one-way,
+  text_until-one-way,
+  packed_in-one-way,
+)

@@ -3,13 +3,15 @@ ghost use Rattle.std.specs.Prelude.{◌≡◌, ℕ};
 ghost use Rattle.scroll_layouts.specs.OneWay.{one_way};
 ghost use Rattle.scroll_layouts.specs.Formats.{reads, refuses, len};
 
-use crate::walk::{Certain, CertainHead, Single};
+use crate::walk::{Certain, CertainHead};
 use crate::{
-    Ends, FixedLayout, Headed, Items, Listed, Padded, ReadPart, Run, Sleb, Uleb, When, Within,
+    BitFields, Choice, Choose, Ends, FixedLayout, Headed, Items, Listed, Packed, Padded, ReadPart,
+    Run, Sleb, Uleb, When, Within, Word,
 };
 use scroll::Error;
 use scroll::cstr::CStr;
-use scroll_formats::Zeros;
+use scroll::ctx::Plain;
+use scroll_formats::{Table, Zeros};
 
 impl<'a, E: From<Error>, P: FixedLayout> Certain<'a, (), E> for Run<P> {
     fn certain() {}
@@ -56,6 +58,28 @@ impl<'a, E: From<Error>> Certain<'a, Ends, E> for &'a str {
     {}
 }
 
+impl<'a, E: From<Error>, T: Plain> Certain<'a, usize, E> for Table<'a, T> {
+    fn certain()
+        ensures { (ctx : ℕ) → one_way (⟦<Table<'a, T> as ReadPart<'a, usize, E>>⟧.format ctx) }
+    {}
+}
+
+impl<'a, E: From<Error>, W: Word, C: Drop, A: BitFields<W, C>> Certain<'a, Packed<W, C>, E> for A {
+    #[tactic(auto, using(crate::specs::lemmas::OneWayLemmas::leaves_one_way))]
+    fn certain() {}
+}
+
+impl<'a, E: From<Error>, C: Drop, D: Drop, A: Certain<'a, C, E>, B: Certain<'a, D, E>> Certain<
+    'a,
+    Choose<C, D>,
+    E,
+> for Choice<A, B> {
+    fn certain() {
+        A::certain();
+        B::certain();
+    }
+}
+
 impl<'a, E: From<Error>, K: Listed<'a>> Certain<'a, usize, E> for Items<'a, K>
 where
     K::Item: Certain<'a, (), E>,
@@ -94,16 +118,17 @@ impl<'a, E, C: Drop, D: Drop, A: Certain<'a, C, E>, B: Certain<'a, D, E>> Certai
 
 impl<
     'a,
-    E: From<Error>,
+    E,
+    C: Drop,
     D: Drop,
-    P: Single,
-    H: CertainHead<Run<P>, E, Next = D> + Drop,
+    A: Certain<'a, C, E>,
+    H: CertainHead<'a, C, A, E, Next = D> + Drop,
     B: Certain<'a, D, E>,
-> Certain<'a, Headed<(), D, H>, E> for (Run<P>, B) {
+> Certain<'a, Headed<C, D, H>, E> for (A, B) {
     #[tactic(auto, using(crate::specs::lemmas::OneWayLemmas::same_rest))]
     fn certain() {
-        P::single();
-        H::apart();
+        A::certain();
+        H::certain_next();
         B::certain();
     }
 }
