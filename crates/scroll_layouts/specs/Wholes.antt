@@ -1,8 +1,9 @@
--- Values that are read from the start of a source, and written to the start of a target.
-use Rattle.std.specs.Prelude.{◌≡◌, ◌≤◌, ◌-◌, ◌^◌, ◌⊎◌, ◌++◌, ℕ, List, length, take, min}
+-- Values that are read from the start of a source, written to the start of a target, and appended.
+use Rattle.std.specs.Prelude.{◌≡◌, ◌≤◌, ◌-◌, ◌^◌, ◌⊎◌, ◌++◌, ℕ, List, [], ◌∷◌, length, take, drop, min}
 use Rattle.scroll.specs.Bytes.{WritesPrefix, FailsShort}
 use Rattle.scroll.specs.declared.endian.Endian.{Endian}
 use Rattle.scroll.specs.declared.error.Error.{Error}
+use Rattle.scroll.specs.declared.error.Error.TheVariants.{NoMemory}
 use Rattle.scroll_layouts.specs.Formats.{Format, reads, len, bytes, agrees, differs}
 
 -- a value is read from the first `n` bytes of a source: it agrees, and has `n` bytes
@@ -30,6 +31,7 @@ pub record WritesWhole {E X : Type 0} (f : Format E X) (order : Endian) (x : X) 
     (n : ℕ) : Type 0 where
   pub agreed : agrees f order x
   pub wrote : WritesPrefix (length (bytes f order x)) (bytes f order x) old new n
+  pub size : n ≡ len f x
   pub written : take n new ≡ bytes f order x
   pub again : reads f order new 0 x
   pub kept : (rest : List ℕ) → reads f order (take n new ++ rest) 0 x
@@ -43,11 +45,31 @@ KeepsWhole gives f order x old new e =
     ⊎ ((inner : Error) × FailsShort (min (length (bytes f order x)) (2 ^ 64 - 1)) old new inner
     × gives inner e)
 
--- the bytes of a value that agrees stand behind those that were there, and it reads back there,
+-- the bytes of a value that agrees stand behind those that were there, and it is read there,
 -- whatever is appended after it
 pub record AppendsWhole {E X : Type 0} (f : Format E X) (order : Endian) (x : X)
     (old new : List ℕ) : Type 0 where
   pub agreed : agrees f order x
   pub is : new ≡ old ++ bytes f order x
-  pub again : reads f order new (length old) x
-  pub kept : (rest : List ℕ) → reads f order (new ++ rest) (length old) x
+  pub again : reads f order (drop (length old) new) 0 x
+  pub kept : (later rest : List ℕ) → later ≡ new ++ rest
+      → reads f order (drop (length old) later) 0 x
+
+-- `AppendsEach f order old xs new`: the values `xs` are appended, one after another, and each is read
+-- where it was appended
+abbrev pub AppendsEach : {E X : Type 0} → Format E X → Endian → List ℕ → List X → List ℕ → Type 0
+AppendsEach f order old [] new = new ≡ old
+AppendsEach f order old (x ∷ xs) new =
+    reads f order (drop (length old) new) 0 x
+    × ((mid : List ℕ) × AppendsWhole f order x old mid × AppendsEach f order mid xs new)
+
+-- the values of `all` before some value are appended, and that one doesn't agree, or there is no
+-- memory for it
+pub record FailsEach {E X : Type 0} (gives : Error → E → Type 0) (f : Format E X) (order : Endian)
+    (old : List ℕ) (all : List X) (new : List ℕ) (e : E) : Type 0 where
+  pub values : List X
+  pub value : X
+  pub others : List X
+  pub split : all ≡ values ++ value ∷ others
+  pub each : AppendsEach f order old values new
+  pub error : differs f order value e ⊎ gives NoMemory e

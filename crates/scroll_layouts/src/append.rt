@@ -2,7 +2,7 @@
 ghost use Rattle.std.specs.Prelude.{◌≡◌, ◌≤◌, ◌+◌, ◌-◌, ◌^◌, ◌++◌, ◌⊎◌, length, drop, min, IfErr, OnOk, OnErr};
 ghost use Rattle.scroll.specs.declared.error.Error.TheVariants.{NoMemory};
 ghost use Rattle.scroll_layouts.specs.Formats.{len, bytes, agrees, differs};
-ghost use Rattle.scroll_layouts.specs.Wholes.{AppendsWhole};
+ghost use Rattle.scroll_layouts.specs.Wholes.{AppendsWhole, AppendsEach, FailsEach};
 
 use crate::Part;
 use scroll::{Endian, Error};
@@ -12,6 +12,13 @@ use std::result::Result;
 ///
 /// Returns the part's own error if they don't, and that of [`Error::NoMemory`] on an allocation
 /// failure. The vector is then unchanged.
+///
+/// ```rust
+/// let mut out: Vec<u8> = Vec::new(rt.alloc());
+/// append_whole::<(), Error, Run<u16>>(&mut out, &Run(258), BE, &())?;
+/// append_whole::<usize, Error, &[u8]>(&mut out, &b"hi".as_slice(), BE, &2)?;
+/// assert_eq!(rt; out.as_slice(), [1, 2, b'h', b'i'].as_slice());
+/// ```
 pub fn append_whole<C, E: From<Error>, L: Part<C, E>>(
     target: &mut Vec<u8>,
     value: &L,
@@ -33,5 +40,35 @@ pub fn append_whole<C, E: From<Error>, L: Part<C, E>>(
         return Err(E::from(Error::NoMemory));
     }
     value.put(&mut target.as_mut_slice()[start..], order, ctx);
+    Ok(())
+}
+
+/// Appends the bytes of some values, one after another, each as [`append_whole`] does.
+///
+/// Returns the error of the first value that can't be appended. The values before it are then
+/// appended.
+///
+/// ```rust
+/// let mut out: Vec<u8> = Vec::new(rt.alloc());
+/// append_each::<(), Error, Uleb>(&mut out, &[Uleb::shortest(1), Uleb::shortest(300)], LE, &())?;
+/// assert_eq!(rt; out.as_slice(), [1, 0xac, 2].as_slice());
+/// ```
+pub fn append_each<C, E: From<Error>, L: Part<C, E>>(
+    target: &mut Vec<u8>,
+    values: &[L],
+    order: Endian,
+    ctx: &C,
+) -> Result<(), E>
+    ensures appended { OnOk result (AppendsEach (L.format ctx.now) order target.old.items
+        values.now target.new.items) }
+    ensures refused { IfErr result (FailsEach E.from_gives (L.format ctx.now) order
+        target.old.items values.now target.new.items) }
+{
+    for i in 0..values.len() {
+        match append_whole(target, &values[i], order, ctx) {
+            Ok(()) => (),
+            Err(error) => return Err(error),
+        }
+    }
     Ok(())
 }

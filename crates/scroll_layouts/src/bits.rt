@@ -70,6 +70,14 @@ pub trait BitFields<W: Word, C>: Drop {
 }
 
 /// The context of fields that are packed in a number `W`; then their own context.
+///
+/// ```rust
+/// let nibbles: Packed<u8, Low<u8, ()>> = Packed(std::marker::PhantomData, Low(0x0f, ()));
+/// let bytes: [u8; 1] = [0x45];
+/// let ((version, words), _) =
+///     read_whole::<Packed<u8, Low<u8, ()>>, Error, (u8, u8)>(&bytes, BE, &nibbles)?;
+/// assert_eq!(rt; (version, words), (4, 5));
+/// ```
 #[derive(Drop)]
 pub struct Packed<W, C>(pub PhantomData<W>, pub C);
 

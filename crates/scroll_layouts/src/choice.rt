@@ -1,6 +1,14 @@
 // One of two values, as a tag says.
 
 /// One of two values. One of more is a `Choice` whose second value is a `Choice`.
+///
+/// ```rust
+/// let bytes: [u8; 2] = [1, 2];
+/// let tag = Choose(false, (), ());
+/// let read =
+///     read_whole::<Choose<(), ()>, Error, Choice<Run<u8>, Run<u16>>>(&bytes, BE, &tag)?;
+/// assert!(rt; matches!(&read, (Choice::Second(Run(258)), 2)));
+/// ```
 #[derive(Drop)]
 pub enum Choice<A, B> {
     First(A),

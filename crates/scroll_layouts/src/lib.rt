@@ -13,6 +13,7 @@ ghost use Rattle.scroll_layouts.specs.Formats.{Format, len, bytes, reads, refuse
 
 mod append;
 mod bits;
+mod borrowed;
 mod bytes;
 mod c_strings;
 mod choice;
@@ -35,8 +36,9 @@ mod walk;
 mod whole;
 mod within;
 
-pub use crate::append::append_whole;
+pub use crate::append::{append_each, append_whole};
 pub use crate::bits::{BitFields, Low, Packed, Word};
+pub use crate::borrowed::Borrowed;
 pub use crate::choice::{Choice, Choose};
 pub use crate::fixed::{Field, FixedLayout, SameLayout};
 pub use crate::head::{Head, Headed, is};
@@ -60,7 +62,9 @@ use std::result::Result;
 ///
 /// | type | context | what stands there |
 /// |---|---|---|
-/// | [`Run<P>`](Run) | `()` | values of a fixed size, such as a tuple of numbers |
+/// | [`Run<P>`](Run) | `()` | a value of a fixed size: a number, or a tuple of such values |
+/// | `Run<[T; N]>` | `()` | an array of numbers, or of such arrays |
+/// | `Run<Field<R>>` | `()` | a [`Record`](scroll::ctx::Record) of fixed size, by [`Field`] |
 /// | `&[u8]` | `usize` | as many bytes as the context says |
 /// | [`Zeros`](scroll_formats::Zeros) | `usize` | as many zero bytes |
 /// | `A` | [`Padded`] | a value, and zeros up to a multiple of a size |
@@ -72,7 +76,7 @@ use std::result::Result;
 /// | [`Items`] | [`Count`] | as many values of any size as the context says |
 /// | [`Items`] | [`ToMark`] | values of any size, and the mark that ends them |
 /// | [`Table`](scroll_formats::Table) | `usize` | as many elements of one size |
-/// | pairs of numbers | [`Packed`] | fields of some bits in one number |
+/// | pairs of numbers | [`Packed`] | fields of bits of a [`Word`], each below the highest by [`Low`] |
 /// | `(A, B)` | `(C, D)` | one after the other |
 /// | `(A, B)` | [`Headed`] | a head with constants, which says the context of what follows |
 /// | `A` | [`Within`] | a value that uses up as many bytes as the context says |
@@ -80,6 +84,10 @@ use std::result::Result;
 /// | [`Choice<A, B>`](Choice) | [`Choose`] | one of two values, as the context says |
 /// | a struct | `()` | its parts |
 /// | a struct or an enum | [`Given`] | its parts, by a value that comes before |
+/// | `&A` | [`Borrowed`] | a value that is written where it is borrowed |
+///
+/// [`write_whole`] writes each of them over the start of a slice, [`append_whole`] behind a vector,
+/// and [`append_each`] several of one type.
 ///
 /// The error `E` is any that an [`Error`](scroll::Error) is converted to.
 pub trait Part<Ctx, E>: Drop {

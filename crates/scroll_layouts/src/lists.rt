@@ -10,6 +10,14 @@ use std::marker::PhantomData;
 use std::result::Result;
 
 /// A marker that names the type of the values of a list.
+///
+/// From `crates/scroll_layouts/src/tests/lists.rt`, whose lists are of a struct:
+///
+/// ```rust
+/// impl<'a> Listed<'a> for ItemKind {
+///     type Item = Item<'a>;
+/// }
+/// ```
 pub trait Listed<'a> {
     /// The type.
     type Item: Drop;

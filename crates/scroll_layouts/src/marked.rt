@@ -10,6 +10,20 @@ use std::marker::PhantomData;
 use std::result::Result;
 
 /// A list that ends with a mark, which stands where no value begins.
+///
+/// From `crates/scroll_layouts/src/tests/lists.rt`, whose lists end with a zero:
+///
+/// ```rust
+/// impl<'a> Marked<'a> for ItemKind {
+///     ghost mark_of = { 0 ∷ [] };
+///
+///     fn mark() -> &'static [u8]
+///         ensures { result.now ≡ 0 ∷ [] }
+///     {
+///         &[0]
+///     }
+/// }
+/// ```
 pub trait Marked<'a>: Listed<'a> {
     // The bytes of the mark.
     ghost mark_of: { List ℕ };

@@ -7,6 +7,16 @@ use scroll::{Endian, Error};
 use std::result::Result;
 
 /// The context of an optional value: whether it is there, and its own context.
+///
+/// ```rust
+/// let bytes: [u8; 1] = [7];
+/// let (there, _) = read_whole::<When<()>, Error, Option<Run<u8>>>(&bytes, LE, &When(true, ()))?;
+/// let (none, size) =
+///     read_whole::<When<()>, Error, Option<Run<u8>>>(&bytes, LE, &When(false, ()))?;
+/// assert!(rt; matches!(&there, Some(Run(7))));
+/// assert!(rt; none.is_none());
+/// assert_eq!(rt; size, 0);
+/// ```
 #[derive(Drop)]
 pub struct When<C>(pub bool, pub C);
 

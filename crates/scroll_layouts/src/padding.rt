@@ -12,6 +12,12 @@ use std::result::Result;
 
 /// The context of a value that is followed by zeros up to a multiple of a size; then the value's
 /// own context.
+///
+/// ```rust
+/// let mut bytes = [255u8; 6];
+/// write_whole::<Padded<usize>, Error, &[u8]>(&b"abc".as_slice(), &mut bytes, LE, &Padded(4, 3))?;
+/// assert_eq!(rt; bytes, [b'a', b'b', b'c', 0, 255, 255]);
+/// ```
 #[derive(Drop)]
 pub struct Padded<C>(pub usize, pub C);
 

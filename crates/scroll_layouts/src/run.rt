@@ -3,6 +3,8 @@ ghost use Rattle.std.specs.Prelude.{◌≡◌, ◌≤◌, ◌+◌, ◌-◌, ◌^
 ghost use Rattle.scroll_layouts.specs.Layouts.{width, laid_bytes, makes, fits};
 ghost use Rattle.scroll_layouts.specs.Formats.{run, last};
 
+mod contexts;
+
 use crate::{FixedLayout, Part, ReadPart};
 use scroll::{Endian, Error, check_room};
 use std::result::Result;
@@ -11,6 +13,14 @@ use std::result::Result;
 /// another. A read tests once that there are as many bytes.
 ///
 /// A shorter source is [`Error::TooBig`] with the size of the value and the number of bytes there.
+///
+/// ```rust
+/// let bytes: [u8; 3] = [7, 1, 2];
+/// let (Run((tag, len)), size) = read_whole::<(), Error, Run<(u8, u16)>>(&bytes, BE, &())?;
+/// assert_eq!(rt; (tag, len, size), (7, 258, 3));
+/// let short = read_whole::<(), Error, Run<(u8, u16)>>(&bytes[1..], BE, &());
+/// assert!(rt; matches!(&short, Err(Error::TooBig { size: 3, len: 2 })));
+/// ```
 #[derive(Drop)]
 pub struct Run<P>(pub P);
 

@@ -10,6 +10,37 @@ use std::result::Result;
 ///
 /// A struct that needs no context, `()`, is a [`Part`] and a [`ReadPart`] in it. An enum, whose tag
 /// comes before it, is one in [`Given`] that tag; it is a [`Choice`](crate::Choice).
+///
+/// From `crates/scroll_layouts/src/tests/mixed.rt`, a name behind its length:
+///
+/// ```rust
+/// impl<'a> Shape for Name<'a> {
+///     type Ctx = ();
+///
+///     type Inner = Headed<(), usize, NameLen>;
+///
+///     type Parts = NameParts<'a>;
+///
+///     ghost parts_of = { λ x. (record { 0 = (x.kind, x.len) }, x.name) };
+///
+///     ghost inner_of = { λ _. record { 0 = tt; 1 = record {}; 2 = record {} } };
+///
+///     fn split(&self) -> NameParts<'a> {
+///         (Run((self.kind, self.len)), self.name)
+///     }
+///
+///     fn join(parts: NameParts<'a>) -> Name<'a> {
+///         let (Run((kind, len)), name) = parts;
+///         Name { kind, len, name }
+///     }
+///
+///     fn inner(_ctx: &()) -> Headed<(), usize, NameLen>
+///         ensures { result ≡ ⟦<Name<'a> as Shape>⟧.inner_of _ctx.now }
+///     {
+///         Headed((), NameLen, PhantomData)
+///     }
+/// }
+/// ```
 pub trait Shape: Drop {
     /// The context of a value.
     type Ctx: Drop;

@@ -1,14 +1,22 @@
 // What no clause says: that calls succeed, on bytes from outside. The structs and their users are
 // proved with no word.
+mod appends;
+mod calls;
 mod codes;
+mod counts;
+mod fixed;
 mod floats;
 mod handshake;
 mod kinds;
 mod limits;
 mod lists;
+mod many;
 mod mixed;
 mod nested;
 mod numbers;
+mod places;
+mod refused;
+mod results;
 mod stored;
 mod texts;
 mod walk;

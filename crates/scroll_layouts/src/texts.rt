@@ -11,6 +11,12 @@ use scroll::{Endian, Error};
 use std::result::Result;
 
 /// The context of a text that ends before a byte.
+///
+/// ```rust
+/// let (line, size) = read_whole::<Ends, Error, &str>(b"one\ntwo", LE, &Ends(10))?;
+/// assert_eq!(rt; line, "one");
+/// assert_eq!(rt; size, 4);
+/// ```
 #[derive(Drop)]
 pub struct Ends(pub u8);
 

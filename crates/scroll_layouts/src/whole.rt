@@ -8,6 +8,15 @@ use scroll::{Endian, Error, check_room};
 use std::result::Result;
 
 /// Reads a part at the start of `from`, and returns it with its size.
+///
+/// ```rust
+/// let bytes: [u8; 6] = [2, b'h', b'i', 3, 0, 0];
+/// let (name, size) = read_whole::<usize, Error, &[u8]>(&bytes[1..], LE, &2)?;
+/// assert_eq!(rt; name, b"hi".as_slice());
+/// assert_eq!(rt; size, 2);
+/// let short = read_whole::<usize, Error, &[u8]>(&bytes[1..], LE, &6);
+/// assert!(rt; matches!(&short, Err(Error::TooBig { size: 6, len: 5 })));
+/// ```
 #[inline(always)]
 pub fn read_whole<'a, C, E, L: ReadPart<'a, C, E>>(
     from: &'a [u8],
@@ -22,6 +31,14 @@ pub fn read_whole<'a, C, E, L: ReadPart<'a, C, E>>(
 }
 
 /// The same of a part without floats: the bytes of the value are those that were read.
+///
+/// ```rust
+/// let bytes: [u8; 3] = [1, 2, 3];
+/// let (Run(pair), _) = read_exact::<(), Error, Run<(u8, u16)>>(&bytes, BE, &())?;
+/// let mut again = [0u8; 3];
+/// write_whole::<(), Error, Run<(u8, u16)>>(&Run(pair), &mut again, BE, &())?;
+/// assert_eq!(rt; again, bytes);
+/// ```
 #[inline(always)]
 pub fn read_exact<'a, C, E, L: ReadPart<'a, C, E>>(
     from: &'a [u8],
@@ -38,6 +55,23 @@ pub fn read_exact<'a, C, E, L: ReadPart<'a, C, E>>(
 
 /// Writes a part to the start of `dst` if its counts, constants, tags and conditions agree, and
 /// returns its size. On an error `dst` is unchanged.
+///
+/// ```rust
+/// let mut bytes = [0u8; 4];
+/// let name = b"hi".as_slice();
+/// assert_eq!(rt; write_whole::<usize, Error, &[u8]>(&name, &mut bytes, LE, &2)?, 2);
+/// assert_eq!(rt; bytes, [b'h', b'i', 0, 0]);
+/// let other = write_whole::<usize, Error, &[u8]>(&name, &mut bytes, LE, &3);
+/// assert!(rt;
+///     matches!(
+///         &other,
+///         Err(Error::BadInput {
+///             size: 2,
+///             msg: "another length than its count"
+///         })
+///     )
+/// );
+/// ```
 #[inline(always)]
 pub fn write_whole<C, E: From<Error>, L: Part<C, E>>(
     value: &L,

@@ -7,6 +7,20 @@ use scroll::{Endian, Error, check_room};
 use std::result::Result;
 
 /// The context of a value that uses up as many bytes as it says; then the value's own context.
+///
+/// ```rust
+/// let bytes: [u8; 3] = [1, 2, 3];
+/// let left = read_whole::<Within<usize>, Error, &[u8]>(&bytes, LE, &Within(3, 2));
+/// assert!(rt;
+///     matches!(
+///         &left,
+///         Err(Error::BadInput {
+///             size: 2,
+///             msg: "fewer bytes than its part"
+///         })
+///     )
+/// );
+/// ```
 #[derive(Drop)]
 pub struct Within<C>(pub usize, pub C);
 

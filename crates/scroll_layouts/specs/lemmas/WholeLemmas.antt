@@ -1,12 +1,15 @@
 -- What a read and a write of a whole value cite. The lemmas are proved, and promise nothing.
-use Rattle.std.proofs.Common.{◌≡◌, ℕ, ◌<◌, ◌++◌, List, [], length, take, drop, sym, ap, subst, ◌∙◌, arith, Fits, w8, slice_index, append_assoc}
-use Rattle.std.proofs.lemmas.List.{append-nil, take_at, get_or_default}
-use Rattle.std.specs.List.{All}
+use Rattle.std.proofs.Common.{◌≡◌, ℕ, ◌+◌, ◌<◌, ◌⊎◌, ◌++◌, List, [], ◌∷◌, length, take, drop, refl, sym, ap, subst, ◌∙◌, arith, Fits, w8, slice_index, append_assoc, length-append}
+use Rattle.std.proofs.Math.Seq.{drop-append_seam}
+use Rattle.std.proofs.lemmas.List.{append-nil, take_at, take_more, take-append-drop, get_or_default}
+use Rattle.std.specs.List.{All, slice_index_or}
 use Rattle.scroll.specs.Bytes.{WritesPrefix}
 use Rattle.scroll.specs.lemmas.Frames.{WritesPrefix-back}
 use Rattle.scroll.specs.declared.endian.Endian.{Endian}
-use Rattle.scroll_layouts.specs.Formats.{Format, reads, len, bytes, agrees, exact}
-use Rattle.scroll_layouts.specs.Wholes.{ReadsWhole, ReadsExact, WritesWhole, AppendsWhole}
+use Rattle.scroll.specs.declared.error.Error.{Error}
+use Rattle.scroll.specs.declared.error.Error.TheVariants.{NoMemory}
+use Rattle.scroll_layouts.specs.Formats.{Format, reads, len, bytes, agrees, differs, exact}
+use Rattle.scroll_layouts.specs.Wholes.{ReadsWhole, ReadsExact, WritesWhole, AppendsWhole, AppendsEach, FailsEach}
 use Rattle.scroll_layouts.specs.lemmas.FormatLaws.{inside, made-agrees, bytes-len, back, kept}
 use Rattle.scroll_layouts.specs.lemmas.LayoutLaws.{layout-len}
 
@@ -45,6 +48,7 @@ pub whole-written : {E X : Type 0} (f : Format E X) (order : Endian) (x : X) (ol
 whole-written f order x old new n agreed wrote = record {
   agreed = agreed;
   wrote = wrote;
+  size = wrote.size ∙ bytes-len f order x agreed;
   written = ap (λ l. take n l) wrote.after
       ∙ take_at (bytes f order x) (drop (length (bytes f order x)) old) n (sym wrote.size);
   again = subst (λ s. reads f order s 0 x) (sym wrote.after)
@@ -53,19 +57,92 @@ whole-written f order x old new n agreed wrote = record {
       (bytes f order x) old new rest n (back f order x [] rest agreed) wrote;
 }
 
+-- a value that was written is read, whatever is written after it
+pub whole-kept : {E X : Type 0} (f : Format E X) (order : Endian) (x : X) (old new : List ℕ)
+    (n : ℕ) → WritesWhole f order x old new n → (rest : List ℕ)
+    → ReadsExact f order (take n new ++ rest) x n
+whole-kept f order x old new n h rest =
+    let size : length (take n new) ≡ n = ap length h.written ∙ sym h.wrote.size in
+    record {
+      value = h.kept rest;
+      agreed = h.agreed;
+      size = h.size;
+      inside = omega (arith, size, length-append (take n new) rest);
+      count = sym h.wrote.size;
+      back = sym h.written ∙ sym (take_at (take n new) rest n size);
+    }
+
 -- a value that was appended
 pub whole-appended : {E X : Type 0} (f : Format E X) (order : Endian) (x : X) (old new : List ℕ)
     → agrees f order x → new ≡ old ++ bytes f order x → AppendsWhole f order x old new
 whole-appended f order x old new agreed is =
-    let kept : (rest : List ℕ) → reads f order (new ++ rest) (length old) x = λ rest.
-    subst (λ s. reads f order s (length old) x)
-    (sym (append_assoc old (bytes f order x) rest) ∙ ap (λ s. s ++ rest) (sym is))
-    (back f order x old rest agreed) in
+    let kept : (rest : List ℕ) → reads f order (drop (length old) (new ++ rest)) 0 x = λ rest.
+    subst (λ s. reads f order s 0 x)
+    (sym (drop-append_seam old (bytes f order x ++ rest))
+    ∙ ap (drop (length old)) (sym (append_assoc old (bytes f order x) rest))
+    ∙ ap (λ s. drop (length old) (s ++ rest)) (sym is))
+    (back f order x [] rest agreed) in
     record {
       agreed = agreed;
       is = is;
-      again = subst (λ s. reads f order s (length old) x) (append-nil new) (kept []);
-      kept = kept;
+      again = subst (λ s. reads f order (drop (length old) s) 0 x) (append-nil new) (kept []);
+      kept = λ later rest more.
+          subst (λ s. reads f order (drop (length old) s) 0 x) (sym more) (kept rest);
     }
+
+-- what is appended stands behind what was there
+each-behind : {E X : Type 0} (f : Format E X) (order : Endian) (old : List ℕ) (xs : List X)
+    (new : List ℕ) → AppendsEach f order old xs new → (rest : List ℕ) × (new ≡ old ++ rest)
+each-behind f order old [] new h = ([], h ∙ sym (append-nil old))
+each-behind f order old (x ∷ xs) new h =
+    let mid : List ℕ = h.1.0 in
+    let behind : (rest : List ℕ) × (new ≡ mid ++ rest) = each-behind f order mid xs new h.1.2 in (
+      bytes f order x ++ behind.0,
+      behind.1 ∙ ap (λ l. l ++ behind.0) h.1.1.is ∙ append_assoc old (bytes f order x) behind.0,
+    )
+
+-- one more value is appended
+each-push : {E X : Type 0} (f : Format E X) (order : Endian) (old : List ℕ) (xs : List X) (x : X)
+    (mid new : List ℕ) → AppendsEach f order old xs mid → AppendsWhole f order x mid new
+    → AppendsEach f order old (xs ++ x ∷ []) new
+each-push f order old [] x mid new h last =
+    let here : AppendsWhole f order x old new =
+    subst (λ l. AppendsWhole f order x l new) h last in (here.again, (new, here, refl))
+each-push f order old (y ∷ ys) x mid new h last =
+    let to : List ℕ = h.1.0 in
+    let others : AppendsEach f order to (ys ++ x ∷ []) new =
+    each-push f order to ys x mid new h.1.2 last in
+    let behind : (rest : List ℕ) × (new ≡ to ++ rest) =
+    each-behind f order to (ys ++ x ∷ []) new others in
+    (h.1.1.kept new behind.0 behind.1, (to, h.1.1, others))
+
+-- the first values, and the one after them
+more : {X : Type 0} (xs : List X) (i : ℕ) (x : X) → i < length xs → x ≡ slice_index_or xs i x
+    → take (i + 1) xs ≡ take i xs ++ x ∷ []
+more xs i x inside is = take_more xs i x inside ∙ ap (λ y. take i xs ++ y ∷ []) (sym is)
+
+pub each-next : {E X : Type 0} (f : Format E X) (order : Endian) (old : List ℕ) (xs : List X)
+    (i : ℕ) (x : X) (mid new : List ℕ) → i < length xs → x ≡ slice_index_or xs i x
+    → AppendsEach f order old (take i xs) mid → AppendsWhole f order x mid new
+    → AppendsEach f order old (take (i + 1) xs) new
+each-next f order old xs i x mid new inside is h last =
+    subst (λ l. AppendsEach f order old l new) (sym (more xs i x inside is))
+    (each-push f order old (take i xs) x mid new h last)
+
+-- one of them fails
+pub each-fails : {E X : Type 0} (gives : Error → E → Type 0) (f : Format E X) (order : Endian)
+    (old : List ℕ) (xs : List X) (i : ℕ) (x : X) (mid new : List ℕ) (e : E) → i < length xs
+    → x ≡ slice_index_or xs i x → AppendsEach f order old (take i xs) mid → new ≡ mid
+    → differs f order x e ⊎ gives NoMemory e → FailsEach gives f order old xs new e
+each-fails gives f order old xs i x mid new e inside is h same error = record {
+  values = take i xs;
+  value = x;
+  others = drop (i + 1) xs;
+  split = sym (take-append-drop (i + 1) xs)
+      ∙ ap (λ l. l ++ drop (i + 1) xs) (more xs i x inside is)
+      ∙ append_assoc (take i xs) (x ∷ []) (drop (i + 1) xs);
+  each = subst (λ l. AppendsEach f order old (take i xs) l) (sym same) h;
+  error = error;
+}
 
 pub ruleset sizes = (layout-len, bytes-len)

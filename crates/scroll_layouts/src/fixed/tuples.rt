@@ -2,7 +2,7 @@
 ghost use Rattle.std.specs.Prelude.{◌≡◌, ◌≤◌, ◌+◌, ◌-◌, ◌^◌, ◌++◌, length, take, drop, min};
 ghost use Rattle.scroll_layouts.specs.Layouts.{field, only, width, laid_bytes, makes, fits};
 
-use crate::FixedLayout;
+use crate::{FixedLayout, SameLayout};
 use scroll::Endian;
 
 impl<A: FixedLayout, B: FixedLayout> FixedLayout for (A, B) {
@@ -168,4 +168,28 @@ fn three_behind<B: FixedLayout, C: FixedLayout, D: FixedLayout>(
         ++ drop (width B.layout + (width C.layout + width D.layout)) (drop offset dst.old) }
 {
     store_three(second, third, fourth, &mut dst[offset..], order)
+}
+
+impl<A: SameLayout, B: SameLayout> SameLayout for (A, B) {
+    fn same() {
+        A::same();
+        B::same();
+    }
+}
+
+impl<A: SameLayout, B: SameLayout, C: SameLayout> SameLayout for (A, B, C) {
+    fn same() {
+        A::same();
+        B::same();
+        C::same();
+    }
+}
+
+impl<A: SameLayout, B: SameLayout, C: SameLayout, D: SameLayout> SameLayout for (A, B, C, D) {
+    fn same() {
+        A::same();
+        B::same();
+        C::same();
+        D::same();
+    }
 }

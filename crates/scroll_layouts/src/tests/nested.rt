@@ -5,12 +5,12 @@ use crate::tests::mixed::{copy_mixed, name_again, read_mixed};
 use scroll::{Error, LE};
 use std::test::Fail;
 
-static MIXED: [u8; 37] = [
+pub static MIXED: [u8; 37] = [
     7, 4, 4, 3, 2, 1, 3, 0, 6, 0, 0, 0, 97, 98, 99, 136, 119, 102, 85, 68, 51, 34, 17, 11, 10, 0,
     0, 9, 0, 2, 0, 120, 121, 5, 0, 1, 122,
 ];
 
-static MESSAGE: [u8; 25] = [
+pub static MESSAGE: [u8; 25] = [
     1, 0, 14, 3, 3, 2, 105, 100, 0, 4, 0, 1, 0, 2, 0, 1, 101, 0, 0, 0, 16, 0, 0, 0, 32,
 ];
 

@@ -3,7 +3,7 @@ use crate::tests::stored::{contents_again, copy_file, read_file};
 use scroll::Error;
 use std::test::Fail;
 
-static STORED: [u8; 37] = [
+pub static STORED: [u8; 37] = [
     80, 75, 3, 4, 20, 0, 0, 0, 0, 0, 92, 100, 93, 88, 172, 42, 147, 216, 2, 0, 0, 0, 2, 0, 0, 0, 5,
     0, 0, 0, 97, 46, 116, 120, 116, 104, 105,
 ];

@@ -1,0 +1,120 @@
+// Values from outside at offsets, appended, and one after another.
+use crate::Uleb;
+use crate::tests::appends::{appended_contents, appended_name, appended_suites, first_contents};
+use crate::tests::calls::{contents_again_at, read_file_at, read_two_files, write_file_at};
+use crate::tests::fixed::{Foo, foo_again, foo_at, read_foo, read_line, write_foo};
+use crate::tests::handshake::read_message;
+use crate::tests::many::second_again;
+use crate::tests::nested::MESSAGE;
+use crate::tests::results::{check_eq, check_error, check_value};
+use crate::tests::stored::{StoredFile, read_file};
+use crate::tests::zip::STORED;
+use scroll::{BE, Error, LE};
+use scroll_formats::{append_until, read_many, read_to_end};
+use std::test::Fail;
+
+#[test]
+fn files_that_are_appended(rt: HostRuntime) -> Result<(), Fail> {
+    let file = read_file(&STORED)?;
+    let mut out = Vec::new(rt.alloc());
+    check_eq(&rt, appended_contents(&mut out, &file)?, b"hi");
+    check_eq(&rt, first_contents(&mut out, file, file)?, b"hi");
+    let name = appended_name(&mut out, 9, Uleb::shortest(300), &file)?;
+    check_eq(&rt, name, b"a.txt");
+    let tag = out.as_slice().get(111..114);
+    check_eq(&rt, tag, Some([9, 0xac, 2].as_slice()));
+    check_eq(&rt, out.as_slice().get(114..), Some(STORED.as_slice()));
+    let (second, third) = read_two_files(out.as_slice(), 37)?;
+    check_eq(&rt, (second.name, third.contents), (b"a.txt", b"hi"));
+    check_error(
+        &rt,
+        read_file_at(out.as_slice(), 152),
+        ("BadOffset", 152, 0),
+    );
+    check_error(&rt, read_file_at(out.as_slice(), 140), ("TooBig", 30, 11));
+    Ok(())
+}
+
+#[test]
+fn a_message_that_is_appended(rt: HostRuntime) -> Result<(), Fail> {
+    let message = read_message(&MESSAGE)?;
+    let mut out = Vec::new(rt.alloc());
+    check_eq(
+        &rt,
+        appended_suites(&mut out, &message)?,
+        [0, 1, 0, 2].as_slice(),
+    );
+    check_eq(&rt, out.as_slice(), &MESSAGE);
+    Ok(())
+}
+
+#[test]
+fn files_at_an_offset(rt: HostRuntime) -> Result<(), Fail> {
+    let file = read_file(&STORED)?;
+    let mut target = [7u8; 76];
+    let mut at = 1;
+    check_value(&rt, write_file_at(&mut target, file, &mut at), 37);
+    check_eq(&rt, at, 38);
+    check_eq(&rt, target[0], 7);
+    check_eq(&rt, &target[1..38], &STORED);
+    check_eq(&rt, contents_again_at(&mut target, file, 39)?, b"hi");
+    check_error(
+        &rt,
+        write_file_at(&mut target, file, &mut 40),
+        ("TooBig", 37, 36),
+    );
+    check_error(
+        &rt,
+        write_file_at(&mut target, file, &mut 77),
+        ("BadOffset", 77, 0),
+    );
+    Ok(())
+}
+
+#[test]
+fn many_files(rt: HostRuntime) -> Result<(), Fail> {
+    let file = read_file(&STORED)?;
+    let mut archive = [0u8; 75];
+    check_eq(&rt, second_again(&mut archive, file, file)?, b"hi");
+    let files: Vec<StoredFile> = read_many(rt.alloc(), &archive, &mut 0, 2, LE)?;
+    check_eq(&rt, files.len(), 2);
+    let mut offset = 37;
+    let last: Vec<StoredFile> = read_to_end(rt.alloc(), &archive[..74], &mut offset, LE)?;
+    check_eq(&rt, (last.len(), offset), (1, 74));
+    let mut until: Vec<StoredFile> = Vec::new(rt.alloc());
+    let bytes = append_until(&mut until, &archive, &mut 0, LE)?;
+    check_eq(&rt, (until.len(), bytes.len()), (2, 75));
+    Ok(())
+}
+
+static FOO: [u8; 12] = [0x0b, 0x0b, 0, 0, 0, 0, 0, 0, 0, 0, 0xbe, 0xef];
+
+static LINE: [u8; 17] = [3, 255, 254, 0, 0, 0, 7, 0, 1, 0, 1, 0, 0, 0, 2, b'h', b'i'];
+
+#[test]
+fn structs_of_a_fixed_size(rt: HostRuntime) -> Result<(), Fail> {
+    let mut source: &[u8] = &FOO;
+    let foo = read_foo(&mut source, BE)?;
+    let wanted = Foo {
+        foo: 0x0b0b_0000_0000_0000,
+        bar: 48879,
+    };
+    check_eq(&rt, foo, wanted);
+    check_eq(&rt, source.is_empty(), true);
+    check_eq(&rt, read_foo(&mut source, BE).is_err(), true);
+    let mut out = Vec::new(rt.alloc());
+    write_foo(&mut out, foo, BE)?;
+    check_eq(&rt, out.as_slice(), &FOO);
+    check_eq(&rt, foo_at(&FOO, 0, BE), foo);
+    let mut target = [7u8; 13];
+    check_eq(&rt, foo_again(&mut target, foo, 1, BE), foo);
+    check_eq(&rt, target[0], 7);
+    let line = read_line(&LINE, BE)?;
+    check_eq(
+        &rt,
+        (line.from.x, line.from.y, line.to.x, line.to.y),
+        (-2, 7, 1, 65536),
+    );
+    check_eq(&rt, line.label, b"hi");
+    Ok(())
+}
