@@ -8,8 +8,8 @@ from format_parts import Part, last_back, lifetime, resolve
 from format_structs import ERROR, Say, Struct
 
 IMPORTS = """// A struct with those in it, and what uses it.
-ghost use Rattle.std.specs.Prelude.{◌≡◌, ◌≢◌, ◌<◌, ◌≤◌, ◌+◌, ◌-◌, ◌*◌, ◌/◌, ◌%◌, ◌^◌, ◌⊎◌, ℕ, List, [], ◌∷◌, length, take, drop, Some, None};
-ghost use Rattle.std.specs.Prelude.{codes, min, IfOk, IfErr, nat_eq, nat_lt, option_map};
+ghost use Rattle.std.specs.Prelude.{◌≡◌, ◌≢◌, ◌<◌, ◌≤◌, ◌+◌, ◌-◌, ◌*◌, ◌/◌, ◌%◌, ◌^◌, ◌⊎◌, ℕ, List, [], ◌∷◌, length, take, drop};
+ghost use Rattle.std.specs.Prelude.{codes, min, Some, None, IfOk, IfErr, nat_eq, nat_lt, option_map};
 ghost use Rattle.std.specs.Float.{binary32, binary64};
 ghost use Rattle.std.proofs.Common.{refl, rules};
 ghost use Rattle.scroll.specs.CStringTexts.{c_str_text};

@@ -1,10 +1,12 @@
 """Draws random structs of `scroll_layouts` for gate/random_formats.py, of all kinds of parts."""
 
+import itertools
 import random
 from typing import Callable, Dict, List, NamedTuple, Sequence, Tuple
 
 import format_parts as parts
-from format_parts import ARRAYS, ARRAYS_OF_ARRAYS, ARRAYS_OF_FLOATS, COUNTED, FLOATS, SIGNED, SMALL, UNSIGNED, WIDTHS, Fixed, Number, Part, Value
+from format_parts import ARRAYS, ARRAYS_OF_ARRAYS, ARRAYS_OF_FLOATS, COUNTED, FLOATS, SIGNED, SMALL, UNSIGNED, WIDTHS
+from format_parts import Fixed, Number, Part, Value
 from format_structs import ERROR, Enum, Group, Printer, Rule, Struct, print_error, print_list, print_record
 
 # The kinds of parts, of heads, of counts and of conditions.
@@ -29,12 +31,16 @@ KINDS = (
     *(f"rule: {it}" for it in RULES),
     *(f"field: {it}" for it in (*FIXED, *FLOATING)),
 )
+# What is drawn besides.
+OWN_ERROR, NO_HEAD, PADDED = "rule: with an error of one's own", "no head at first", "a whole struct padded"
+OTHERS = (OWN_ERROR, NO_HEAD, PADDED)
 DEEPEST = 4
 # How many structs stand in one at most.
-STRUCTS = 4
+STRUCTS = 3
 # How deep the deep ones are.
 DEPTH = 10
-MOST_FIELDS = 15
+# As many fields a struct has at least, before its last head and what that says; and a struct within one.
+FIELDS, FIELDS_WITHIN = (3, 8), (1, 4)
 
 
 class Drawn(NamedTuple):
@@ -50,10 +56,9 @@ class Drawn(NamedTuple):
 class Draw(random.Random):
     """Draws a struct with those in it. Kinds are taken from a bag, so that each comes in its turn."""
 
-    def begin(self, name: str, bag: List[str]) -> None:
-        self.name, self.bag = name, bag
-        self.error = f"{name}Error" if self.chance(20) else ERROR
-        self.has_floats = self.chance(15)
+    def begin(self, name: str, bag: List[str], has_error: bool, has_floats: bool) -> None:
+        self.name, self.bag, self.has_floats = name, bag, has_floats
+        self.error = f"{name}Error" if has_error else ERROR
         self.types: List[str] = []
         self.variants: List[str] = []
         self.errors: List[Tuple[str, str]] = []
@@ -129,7 +134,7 @@ class Draw(random.Random):
         if self.error != ERROR:
             variant = f"Bad{len(self.errors)}"
             self.errors.append((variant, of.type))
-            self.kinds.append("rule: with an error of one's own")
+            self.kinds.append(OWN_ERROR)
             fails, error = f"{other} × (e ≡ {variant} {name})", f"{self.error}::{variant}({name})"
         elif kind == "constant":
             code = f'        is({name} as usize, {value}, "{text}")?;\n'
@@ -137,7 +142,8 @@ class Draw(random.Random):
         else:
             fails = f'{other} × IsBadInput e {name} (codes "{text}")'
             error = f'Error::BadInput {{\n                size: {name} as usize,\n                msg: "{text}",\n            }}'
-        return Rule(f"({name} {sign} {value})", fails, f"        if {name} {test} {value} {{\n            return Err({error});\n        }}\n")
+        code = f"        if {name} {test} {value} {{\n            return Err({error});\n        }}\n"
+        return Rule(f"({name} {sign} {value})", fails, code)
 
     # Parts
 
@@ -266,7 +272,7 @@ class Draw(random.Random):
         head = self.head(field, known)
         own = [it for part in head for it in part.numbers]
         told = [it for it in own if it.type in COUNTED and not it.said.endswith(".value")]
-        rules = [self.rule(it) for it in self.sample(told, 1 if len(told) > 1 and self.chance(40) else 0)]
+        rules = [self.rule(it) for it in self.sample(told, 1 if len(told) > 1 and (self.error != ERROR or self.chance(40)) else 0)]
         every = [*known, *own]
         wrapped = WRAPPED if any(it.type in COUNTED for it in every) else WRAPPED[:-1]
         kinds = [*LEAVES, *LISTS, *wrapped, *self.nested(depth, every)]
@@ -275,15 +281,9 @@ class Draw(random.Random):
 
     def chain(self, levels: int) -> Struct:
         """A struct that is nested to so many levels. The innermost stands behind four heads."""
-        name = self.new_type() if levels < DEPTH else self.name
-        groups: List[Group] = []
-        names: List[str] = []
-
-        def field() -> str:
-            names.append(f"f{len(names)}")
-            return names[-1]
-
+        name, field = self.new_type() if levels < DEPTH else self.name, field_names()
         inner = self.chain(levels - 1) if levels > 1 else None
+        groups: List[Group] = []
         known: List[Number] = []
         for _ in range(4 if levels == 2 else 1):
             head = parts.numbers([self.fixed(field(), False), Fixed(field(), "u8", 1)])
@@ -299,30 +299,29 @@ class Draw(random.Random):
         """A struct, with those in it before it."""
         name, known = self.name if depth == 1 else self.new_type(), [Number("given", "usize", "", "", "")] * is_given
         self.structs_left -= depth > 1
-        most, groups, names = self.randint(4, MOST_FIELDS - 4) if depth == 1 else self.randint(2, 5), [], []
-
-        def field() -> str:
-            names.append(f"f{len(names)}")
-            return names[-1]
-
+        made, field = Struct(name, [], self.choice([0, 0, 0, 4, 8]), is_given, self.error), field_names()
         if self.chance(15):
-            self.kinds.append("no head at first")
-            groups.append(Group([], [self.part(self.take("", TOLD_NOTHING), field(), known, depth)]))
-        while not any(it.head for it in groups) or len(names) < most and len(groups) < 4:
-            groups.append(self.group(field, known, depth))
-            known = [*known, *groups[-1].said().values()]
-        made = Struct(name, groups, self.choice([0, 0, 0, 4, 8]), is_given, self.error)
+            self.kinds.append(NO_HEAD)
+            made.groups.append(Group([], [self.part(self.take("", TOLD_NOTHING), field(), known, depth)]))
+        fewest = self.randint(*(FIELDS if depth == 1 else FIELDS_WITHIN))
+        while not any(it.head for it in made.groups) or len(made.fields) < fewest:
+            made.groups.append(self.group(field, known, depth))
+            known = [*known, *made.groups[-1].said().values()]
         if made.multiple:
-            self.kinds.append("a whole struct padded")
+            self.kinds.append(PADDED)
         self.types.append(Printer(made).print())
         return made
 
 
-def draw(name: str, seed: str, bag: List[str], is_deep: bool) -> Drawn:
-    """Draws a struct, with those in it."""
-    drawing = Draw(seed)
-    drawing.begin(name, bag)
-    struct = drawing.chain(DEPTH) if is_deep else drawing.struct(1)
+def field_names() -> Callable[[], str]:
+    return map("f{}".format, itertools.count()).__next__
+
+
+def draw(name: str, seed: int, at: int, bag: List[str]) -> Drawn:
+    """Draws a struct, with those in it. The first of a seed is deep; some have an error of their own, and some have floats."""
+    drawing = Draw(f"{seed} {at}")
+    drawing.begin(name, bag, at % 5 == 1, at % 5 == 3)
+    struct = drawing.struct(1) if at else drawing.chain(DEPTH)
     types, variants = drawing.types, drawing.variants
     if drawing.error != ERROR:
         types = [print_error(drawing.error, drawing.errors), *types]

@@ -3,19 +3,19 @@
 
     python3 gate/random_formats.py [SEED [COUNT]]
 
-COUNT structs (32) are drawn from SEED (1) by gate/formats_drawn.py, of all kinds of parts that the library has, and printed by
+COUNT structs (16) are drawn from SEED (1) by gate/formats_drawn.py, of all kinds of parts that the library has, and printed by
 gate/format_users.py, each with the structs and enums in it. The first one is nested to depth 10. Each has three functions that use it: a
-reader that says where fields stand and which error a short source is, a writer that reads a field back, and a copier. All is proved by
-`rt check` in crates of a few structs, side by side, over the libraries as `rt lib` proves them in this repository.
+reader that says where fields stand and which error a short source is, a writer that reads a field back, and a copier. `rt check` proves
+them in crates of some structs, over the libraries as `rt lib` proves them in this repository.
 
 Each struct is a check. One that isn't proved is named with its functions that aren't, and with the prover's reasons; with `--keep FOLDER`
-the crates stay there. That each kind is in a struct is a check where COUNT is at least 32, and so is that a false claim is refused.
+the crates stay there. That each kind is in a struct is a check where COUNT is at least 16, and so is that a false claim is refused.
 
 What is left out, since it isn't proved:
 
-- A writer doesn't read back what stands behind a list of a count or to a mark, or that list: two readings of one source aren't known to
-  have lists of one length. (A list within a length has that one, and so has any part within a length.)
-- A reader says no place behind an optional value or an enum, whose size is no sum of fields.
+- A writer doesn't read back a list of a count or to a mark, or what stands behind one: two readings of one source aren't known to have
+  lists of one length. (A list within a length has that one, and so has such a list within a length.)
+- A writer doesn't read back an array: two readings of one source aren't known to make one array.
 - A struct with floats has no copier, since a NaN isn't written back as it was read.
 - No field is an array of arrays of arrays, which the borrow checker doesn't cover in a struct.
 """
@@ -24,7 +24,7 @@ import argparse
 import random
 import re
 import sys
-from concurrent.futures import ThreadPoolExecutor
+import time
 from pathlib import Path
 from typing import Dict, List, NamedTuple, Optional
 
@@ -34,9 +34,9 @@ from format_users import print_module
 from step import FOLDERS, TOP, Step, Stop, below, copy_kept, count_workers, read_crates, run_step
 
 LIBRARY = "scroll_layouts"
-SEED, COUNT = 1, 32
-# How many structs are in a crate.
-MOST = 6
+SEED, COUNT = 1, 16
+# How many structs are in a crate at most: the more, the more memory a check takes.
+MOST = 5
 VERDICT = re.compile(r"(?m)^(?:so far: )?((?:fn|impl|struct|enum) (\S+?)::(\w+)::\S+): (.*)")
 
 
@@ -59,7 +59,7 @@ def draw_modules(seed: int, count: int) -> List[Module]:
             random.Random(f"{seed} {at}").shuffle(more)
             bag += more
         crate, name = f"formats{at // MOST}", f"F{at}"
-        made = drawn.draw(name, f"{seed} {name}", bag, at == 0)
+        made = drawn.draw(name, seed, at, bag)
         variants = [f"Rattle.{crate}.specs.declared.{name.lower()}.{it}" for it in made.variants]
         text = print_module(made.struct, made.types, variants, not made.has_floats)
         modules.append(Module(crate, name.lower(), made.kinds, text, re.findall(r"(?m)^pub fn (\w+)", text)))
@@ -116,15 +116,18 @@ def work(step: Step, given: argparse.Namespace) -> None:
     lie = claim_falsely(modules)
     top = Path(given.keep) if given.keep else step.room
     names = write_crates(step, [*modules, lie], top)
-    with ThreadPoolExecutor(count_workers()) as pool:
-        jobs = {name: pool.submit(step.run, top / "crates" / name, "rt", "check", "--jobs", 1) for name in names}
-    ran = {name: job.result() for name, job in jobs.items()}
-    for it in modules:
-        step.count(f"{it.crate}::{it.name}: {', '.join(dict.fromkeys(it.kinds))}", fault_of(it, ran[it.crate].said))
-    refused = fault_of(lie, ran[lie.crate].said)
+    said: Dict[str, str] = {}
+    for name in names:
+        begun = time.time()
+        said[name] = step.run(top / "crates" / name, "rt", "check", "--jobs", count_workers()).said
+        step.tell(f"{name}, {time.time() - begun:.0f} s")
+        for it in modules:
+            if it.crate == name:
+                step.count(f"{name}::{it.name}: {', '.join(dict.fromkeys(it.kinds))}", fault_of(it, said[name]))
+    refused = fault_of(lie, said[lie.crate])
     is_refused = refused and f"fn {lie.crate}::a_lie::{lie.users[0]}: no proof" in refused and "`short`" in refused
     step.count("a false claim is proved", None if is_refused else refused or "")
-    used: Dict[str, int] = {kind: sum(kind in it.kinds for it in modules) for kind in drawn.KINDS}
+    used = {kind: sum(kind in it.kinds for it in modules) for kind in (*drawn.KINDS, *drawn.OTHERS)}
     if given.count >= COUNT:
         missing = [kind for kind, number in used.items() if not number]
         step.count("kinds that no struct has", f"    {', '.join(missing)}\n" if missing else None)
