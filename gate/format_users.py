@@ -85,17 +85,22 @@ def facts_of(struct: Struct, of: str, at: str, given: Say) -> Tuple[List[str], O
     def say(text: str) -> str:
         return resolve(text.replace("$", of), lambda name: said[name] if name in said else given(name))
 
-    for part in struct.parts:
-        here, size = at, size_of(part, say)
-        if part.fact:
-            facts.append(re.sub(r"%(\+\d+)?", lambda it: rest_at(here, it[1]), say(part.fact)))
-        if part.struct:
-            told = say(part.given)
-            facts += facts_of(part.struct, f"{of}{part.fields[0][0]}.", at, lambda _: told)[0]
-        if not size:
-            return facts, None
-        sizes.append(size)
-        at = size if at == "0" else f"{at} + {size}"
+    for group in struct.groups:
+        terms: List[str] = []
+        for part in (*group.head, *group.parts):
+            here, size = at, size_of(part, say)
+            if part.fact:
+                facts.append(re.sub(r"%(\+\d+)?", lambda it: rest_at(here, it[1]), say(part.fact)))
+            if part.struct:
+                told = say(part.given)
+                facts += facts_of(part.struct, f"{of}{part.fields[0][0]}.", at, lambda _: told)[0]
+            if not size:
+                return facts, None
+            terms.append(size)
+            at = size if at == "0" else f"{at} + {size}"
+        # (a head of two parts is one part)
+        count = len(group.head)
+        sizes += [f"({' + '.join(terms[:count])})", *terms[count:]] if count == 2 else terms
     whole = sum_of(sizes)
     return facts, f"({whole} + padding_len ({whole}) {struct.multiple})" if struct.multiple else f"({whole})"
 

@@ -125,7 +125,7 @@ def work(step: Step, given: argparse.Namespace) -> None:
             if it.crate == name:
                 step.count(f"{name}::{it.name}: {', '.join(dict.fromkeys(it.kinds))}", fault_of(it, said[name]))
     refused = fault_of(lie, said[lie.crate])
-    is_refused = refused and f"fn {lie.crate}::a_lie::{lie.users[0]}: no proof" in refused and "`short`" in refused
+    is_refused = refused and f"fn {lie.crate}::a_lie::{lie.users[0]}: no proof" in refused and "-short`" in refused
     step.count("a false claim is proved", None if is_refused else refused or "")
     used = {kind: sum(kind in it.kinds for it in modules) for kind in (*drawn.KINDS, *drawn.OTHERS)}
     if given.count >= COUNT:
