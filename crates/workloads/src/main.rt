@@ -1,6 +1,7 @@
 //! The jobs that users of the libraries wait for, which bench/run times. `workloads JOB SEED
 //! ROUNDS` makes the inputs of a job from a seed, runs it over them as often as is said, each time
-//! on other bytes, and prints a digest of all results. The job `all` runs each of them.
+//! on other bytes, and prints a digest of all results. The job `all` runs each of them, and
+//! `own.values`, for example, a part of the job `own`.
 #![tactic(auto)]
 
 mod archives;
@@ -40,7 +41,10 @@ fn run_job(alloc: Global, job: &str, seed: u64, rounds: u64) -> Result<Option<Di
         }
         "commands" => commands::run(alloc, seed, rounds, &mut digest)?,
         "own" => own::run(alloc, seed, rounds, &mut digest)?,
-        _ => return Ok(None),
+        _ => match job.strip_prefix("own.") {
+            Some(part) if own::run_part(alloc, part, seed, rounds, &mut digest)? => (),
+            _ => return Ok(None),
+        },
     }
     Ok(Some(digest))
 }
