@@ -55,8 +55,8 @@ pub record AppendsWhole {E X : Type 0} (f : Format E X) (order : Endian) (x : X)
   pub kept : (later rest : List ℕ) → later ≡ new ++ rest
       → reads f order (drop (length old) later) 0 x
 
--- `AppendsEach f order old xs new`: the values `xs` are appended, one after another, and each is read
--- where it was appended
+-- `AppendsEach f order old xs new`: the values `xs` are appended, one after another, and each is
+-- read where it was appended
 abbrev pub AppendsEach : {E X : Type 0} → Format E X → Endian → List ℕ → List X → List ℕ → Type 0
 AppendsEach f order old [] new = new ≡ old
 AppendsEach f order old (x ∷ xs) new =

@@ -76,7 +76,7 @@ use std::result::Result;
 /// | [`Items`] | [`Count`] | as many values of any size as the context says |
 /// | [`Items`] | [`ToMark`] | values of any size, and the mark that ends them |
 /// | [`Table`](scroll_formats::Table) | `usize` | as many elements of one size |
-/// | pairs of numbers | [`Packed`] | fields of bits of a [`Word`], each below the highest by [`Low`] |
+/// | pairs of numbers | [`Packed`] | fields of bits of a [`Word`], the lower ones by [`Low`] |
 /// | `(A, B)` | `(C, D)` | one after the other |
 /// | `(A, B)` | [`Headed`] | a head with constants, which says the context of what follows |
 /// | `A` | [`Within`] | a value that uses up as many bytes as the context says |
