@@ -173,8 +173,9 @@ def print_writer(struct: Struct) -> str:
     if not back:
         return ""
     life, entry = lifetime(back.type), ".entry" if lifetime(struct.type) else ""
-    target = f"target: &{life and chr(39) + 'a '}mut [u8]"
-    return f"""pub fn again_{struct.name.lower()}{life}({target}, value: {struct.name}, order: Endian) -> Result<{back.type}, {struct.error}>
+    target = "&'a mut [u8]" if life else "&mut [u8]"
+    arguments = f"target: {target}, value: {struct.name}, order: Endian"
+    return f"""pub fn again_{struct.name.lower()}{life}({arguments}) -> Result<{back.type}, {struct.error}>
     ensures {{ IfOk result (λ x. {back.form.format("x")} ≡ {back.form.format(f"value{entry}.{back.path}")}) }}
 {{
     slice::gwrite_with(target, value, &mut 0, order)?;
