@@ -203,7 +203,7 @@ pub fn add_lengths(source: &[u8]) -> Result<u64> {
 #[test]
 fn fields_are_walked(rt: HostRuntime) -> result::Result<(), Fail> {
     assert_eq!(rt;
-        add_lengths(b"\x0b\0m\0\x01\x02ab\x02\x00\x03\x83\x80\x00abc")?,
+        add_lengths(b"\x0d\0m\0\x01\x02ab\x02\x00\x03\x83\x80\x00abc")?,
         5
     );
     Ok(())
