@@ -10,5 +10,6 @@ pub mod Fields
 pub mod Bits
 pub mod OneWay
 pub mod Wholes
+pub mod Each
 -- Lemmas, and no definitions, which the laws of implementations cite.
 pub mod lemmas
