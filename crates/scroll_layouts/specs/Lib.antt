@@ -11,5 +11,6 @@ pub mod ListLeaves
 pub mod Fields
 pub mod Bits
 pub mod Wholes
+pub mod Each
 -- Lemmas, and no definitions, which the laws of implementations cite.
 pub mod lemmas

@@ -1,5 +1,6 @@
 pub mod ArrayLemmas
 pub mod BitLemmas
+pub mod EachLemmas
 pub mod FormatLaws
 pub mod LayoutLaws
 pub mod LeafLemmas

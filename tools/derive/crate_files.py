@@ -1,0 +1,100 @@
+"""The text of each `derived.rt` of a crate."""
+
+import re
+from pathlib import Path
+from typing import Any, Dict, List, Sequence, Set, Tuple
+
+from items import Item, SourceFile
+from model import Crate, Enum, OwnError, Struct
+from printing import Printer
+from reader import form_of
+from records import record_blocks
+from text import ghost_lines, use_lines
+from tokens import Refused
+
+PRELUDE = ("◌≡◌", "◌≢◌", "◌<◌", "◌≤◌", "◌+◌", "◌-◌", "◌*◌", "◌/◌", "◌%◌", "◌^◌", "◌⊎◌", "[]", "◌∷◌")
+GHOST: Dict[str, Sequence[str]] = {
+    "Rattle.std.specs.Prelude": (*PRELUDE, "length", "drop", "codes", "nat_eq", "nat_lt", "option_map"),
+    "Rattle.std.specs.Float": ("binary32", "binary64"),
+    "Rattle.std.proofs.Common": ("refl", "rules"),
+    "Rattle.scroll.specs.Arrays": ("MakesArray",),
+    "Rattle.scroll.specs.Errors": ("IsBadInput",),
+    "Rattle.scroll.specs.Numbers": ("float", "number", "signed_number"),
+    "Rattle.scroll.specs.lemmas.Frames": ("WritesPrefix-keeps",),
+    "Rattle.scroll_formats.specs.SmallErrors": ("small_error",),
+    "Rattle.scroll_layouts.specs.Errors": ("GivesBadInput", "IsNot"),
+    "Rattle.scroll_layouts.specs.Formats": ("refuses",),
+    "Rattle.scroll_layouts.specs.OneWay": ("one_way",),
+    "Rattle.scroll_layouts.specs.Wholes": ("KeepsWhole", "ReadsExact", "ReadsWhole", "WritesWhole"),
+    "Rattle.scroll_layouts.specs.declared.choice.Choice.TheVariants": ("First", "Second"),
+}
+CODE: Dict[str, Sequence[str]] = {
+    "scroll::cstr": ("CStr",),
+    "scroll::ctx": ("Record", "TryFromCtx", "TryIntoCtx", "Written"),
+    "scroll": ("Endian", "Error"),
+    "scroll_formats": ("SmallError", "Table", "Zeros"),
+    "scroll_layouts": tuple(
+        "Certain CertainHead Choice Choose Count Ends Field Given Head Headed Items Listed Low Marked Packed Padded Part ReadPart Run "
+        "Shape Sleb ToMark Uleb When Within is read_exact read_whole write_whole".split()
+    ),
+    "std::marker": ("PhantomData",),
+    "std::result": ("Result",),
+}
+
+
+def derived_path(path: str) -> Path:
+    """Returns where the implementations for a file stand."""
+    file = Path(path)
+    return file.with_name("derived.rt") if file.stem in ("lib", "main") else file.with_suffix("") / "derived.rt"
+
+
+def derived_files(folder: Path) -> Dict[Path, str]:
+    """Returns the text of each file that is to be written."""
+    crate = Crate(folder)
+    marked = [(file, item) for file in crate.files.values() for item in crate.marked(file)]
+    forms = {id(item): None if crate.is_fixed(item) else form_of(crate, item) for _, item in marked}
+    files: Dict[Path, str] = {}
+    for file in crate.files.values():
+        items = crate.marked(file)
+        if items:
+            files[derived_path(file.path)] = print_file(crate, file, [(it, forms[id(it)]) for it in items])
+    return files
+
+
+def print_file(crate: Crate, file: SourceFile, items: List[Tuple[Item, Any]]) -> str:
+    blocks: List[List[str]] = []
+    own: Set[str] = {item.name for item, _ in items}
+    modules: Dict[str, List[str]] = {}
+    for item, form in items:
+        if form is None:
+            blocks += record_blocks(crate.record(item))
+            continue
+        printer = Printer(form, item.name in crate.listed or bool(getattr(form, "ends", ())), crate.is_walked(item.name))
+        blocks += printer.print()
+        own |= {*form.used}
+        if form.error and form.error.name != "SmallError":
+            own.add(form.error.name)
+            modules.setdefault(form.error.module, []).extend(form.error.variants)
+        if isinstance(form, Enum):
+            modules.setdefault(f"{crate.declared(item)}.TheVariants", []).extend(it.name for it in form.variants)
+        for name in printer.names:
+            if crate.find(name, file.path):
+                raise Refused(file.path, item.line, f"the {item.word} {item.name} has a type {name} printed, whose name another has")
+    body = "\n\n".join("\n".join(it) for it in blocks)
+    ghost = "\n".join(re.findall(r"ghost \w+ = \{.*?\};|ensures \{.*?\}$", body, re.S | re.M))
+    words = {*re.findall(r"[\w-]+", body)}
+    imports = {module: [it for it in names if is_said(it, ghost)] for module, names in GHOST.items()}
+    imports.update({module: [it for it in names if re.search(rf"\b{it}\b", ghost)] for module, names in modules.items()})
+    code = {"super": sorted(own & words)}
+    for module, names in CODE.items():
+        module = re.sub(rf"^{crate.name}\b", "crate", module)
+        code[module] = [it for it in names if it in words]
+    head = f"// Printed by tools/derive from {Path(file.path).name}."
+    return "\n".join([head, *ghost_lines(imports), "", *use_lines(code), "", body, ""])
+
+
+def is_said(name: str, ghost: str) -> bool:
+    """Returns whether a name stands in clauses."""
+    if "◌" in name:
+        return name in ("◌≡◌", "◌<◌", "◌^◌") or f" {name.strip('◌')} " in ghost
+    return name in ghost if name == "[]" else re.search(rf"(?<![\w.-]){re.escape(name)}(?![\w-])", ghost) is not None

@@ -1,0 +1,262 @@
+"""The fields of a struct of any size: one class for each kind, which reads the notes before a field and makes its part."""
+
+from typing import TYPE_CHECKING, Callable, Dict, List, NoReturn, Optional, Tuple, Type as TypeOf
+
+from fixed_types import PLAIN, Fixed, Record
+from forms import NOTHING, Number, Numbers, One, Part, There, array_depth, record
+from items import Note, RawField, Type
+from model import Enum, Struct
+from sums import Sum, Value, number_of
+from text import Call
+
+if TYPE_CHECKING:
+    from reader import Reader
+
+# The notes of any field.
+WRAPPERS = ("if", "within", "padded")
+
+
+class Kind:
+    """A kind of field. `words` are the notes that it takes, besides those of any field."""
+
+    words: Tuple[str, ...] = ()
+    # What to write where `ctx` is missing.
+    example = ""
+
+    def __init__(self, reader: "Reader", at: RawField, of: Type) -> None:
+        self.reader, self.at, self.of = reader, at, of
+        for word, note in at.notes.items():
+            if word not in (*self.words, *WRAPPERS):
+                words = " or ".join(f"`{it} = ..`" for it in self.words) or "no note but " + ", ".join(f"`{it}`" for it in WRAPPERS)
+                reader.refuse_note(at, note, f"has the note `{word} = ..`; {of.text} takes {words}")
+        if of.has_lifetime and not reader.item.lifetime:
+            reader.refuse(at, f"borrows, and the {reader.item.word} has no lifetime: `{reader.item.name}<'a>`")
+
+    @property
+    def ctx(self) -> Note:
+        note = self.at.notes.get("ctx")
+        if not note:
+            self.reader.refuse(self.at, f"has no `ctx = ..`: {self.example}")
+        return note
+
+    def make(self) -> Part:
+        raise NotImplementedError
+
+    def one(self, context_type: str, context: Value, numbers: Optional[List[Number]] = None) -> One:
+        return One(self.of.text, context_type, context, numbers or [], name=self.at.name)
+
+    def length(self) -> List[Number]:
+        """The length of a slice or a text."""
+        return [Number(f"{self.at.name}.len()", "usize", "(length ^.now)", "^.len()")]
+
+
+class Slice(Kind):
+    words = ("ctx", "else")
+    example = "how many bytes it has, as `ctx = len as usize`"
+
+    def make(self) -> Part:
+        return self.one("usize", self.reader.count(self.at, self.ctx), self.length())
+
+
+class Text(Kind):
+    words = ("ctx", "else")
+    example = "`StrCtx::Length(len as usize)`, or `StrCtx::Required(0)` up to a byte"
+
+    def make(self) -> Part:
+        note = self.ctx
+        call, inside = self.reader.call(note)
+        if call == "StrCtx::Required":
+            byte = self.reader.constant(inside.text)
+            if not 0 <= byte < 256:
+                self.reader.refuse_note(self.at, note, f"ends at {inside.text}, which is no literal of a byte")
+            if "else" in self.at.notes:
+                self.reader.refuse_note(self.at, note, "has the note `else = ..`, which only a context that subtracts takes")
+            return self.one("Ends", Value(record(str(byte)), Call("Ends", (str(byte),))), self.length())
+        if call in ("StrCtx::Delimiter", "StrCtx::DelimiterUntil"):
+            self.reader.refuse_note(self.at, note, f"may end without its delimiter, which has no layout: write `StrCtx::Required({inside.text})`")
+        if call != "StrCtx::Length":
+            self.reader.refuse_note(self.at, note, f"has the context {note.text}: write `StrCtx::Length({note.text})`, or `StrCtx::Required(0)`")
+        return self.one("usize", self.reader.count(self.at, inside), self.length())
+
+
+class CString(Kind):
+    def make(self) -> Part:
+        return self.one("()", NOTHING)
+
+
+class Leb(Kind):
+    def make(self) -> Part:
+        if self.of.name == "Sleb":
+            return self.one("()", NOTHING)
+        name = self.at.name
+        return self.one("()", NOTHING, [Number(it, "u64", "^.value", "^.value") for it in (name, f"{name}.value")])
+
+
+class Gap(Kind):
+    words = ("ctx",)
+    example = "how many zeros there are, as `ctx = 4` or `ctx = padding(offset, 8)`"
+
+    def make(self) -> Part:
+        return self.one("usize", self.reader.count(self.at, self.ctx))
+
+
+class TableOf(Kind):
+    words = ("ctx", "else")
+    example = "how many elements it has, as `ctx = count as usize`"
+
+    def make(self) -> Part:
+        element = self.of.arguments[0] if len(self.of.arguments) == 1 else self.of
+        if element.name == "[;]":
+            self.reader.refuse(self.at, f"is a table of arrays: put {element.text} into a struct of one field, and take a table of it")
+        found = self.reader.crate.find(element.name, self.reader.item.path)
+        if found and not self.reader.crate.is_fixed_type(self.reader.item, element) and found.is_marked:
+            self.reader.refuse(self.at, f"is a table of {element.text}, which has no fixed size: take `Items<'a, {element.text}>`")
+        self.reader.use(self.reader.crate.fixed(self.reader.item, self.at, element))
+        return self.one("usize", self.reader.count(self.at, self.ctx))
+
+
+class ListOf(Kind):
+    words = ("ctx", "else")
+    example = "as `ctx = len as usize` for so many bytes, `ctx = Count(n as usize)` for so many values, or `ctx = ToMark`"
+
+    def make(self) -> Part:
+        element = self.of.arguments[0] if len(self.of.arguments) == 1 else self.of
+        if element.name not in ("Uleb", "Sleb", "CStr"):
+            form = self.reader.inner(self.at, element)
+            if not isinstance(form, Struct) or form.given:
+                self.reader.refuse(self.at, f"is a list of {element.text}, which needs a context: put it into a struct with its tag or number")
+            self.reader.crate.listed.append(element.name)
+            self.reader.same_error(self.at, form)
+            ends = form.ends
+        else:
+            ends = []
+        call, inside = self.reader.call(self.ctx)
+        if call == "Count":
+            count = self.reader.count(self.at, inside)
+            part = self.one("Count", Value(record(count.ghost), Call("Count", (count.code,))))
+            part.is_certain = False
+        elif self.ctx.text == "ToMark":
+            if not ends:
+                self.reader.refuse(self.at, f"is a list up to a mark, and {element.text} has no `ends = ..` before it, which says the mark's bytes")
+            part = self.one("ToMark", Value("record {}", "ToMark"))
+            part.is_certain = False
+        else:
+            part = self.one("usize", self.reader.count(self.at, self.ctx))
+        return part
+
+
+class FixedSize(Kind):
+    """A number, an array, or a struct of a fixed size."""
+
+    words = ("is", "else")
+
+    def fixed(self) -> Fixed:
+        made = self.reader.crate.fixed(self.reader.item, self.at, self.of)
+        if isinstance(made, Record):
+            if any(isinstance(it, Record) or not is_of_numbers(it) for _, it in made.fields):
+                self.reader.refuse(self.at, f"is of {made.text}, which has a struct in it: as a part of a format it has numbers and arrays alone")
+            self.reader.use(made)
+        elif not is_of_numbers(made):
+            self.reader.refuse(self.at, f"is an array of structs: take `Table<'a, ..>`, or put the structs into a struct")
+        if array_depth(made) > 2:
+            self.reader.refuse(self.at, "is an array of arrays of arrays: put the inner array into a struct")
+        return made
+
+    def make(self) -> Part:
+        made = self.fixed()
+        if "is" in self.at.notes:
+            self.reader.constant_rule(self.at, made)
+        elif "else" in self.at.notes:
+            self.reader.refuse_note(self.at, self.at.notes["else"], "has the note `else = ..` without `is = ..`")
+        return Numbers("", "()", NOTHING, fields=[(self.at.name, made)])
+
+
+def is_of_numbers(of: Fixed) -> bool:
+    return of in PLAIN.values() or (not isinstance(of, Record) and is_of_numbers(of.element))  # type: ignore[union-attr]
+
+
+class Nested(Kind):
+    """A struct of any size, or an enum whose tag stands before it."""
+
+    words = ("ctx",)
+
+    def make(self) -> Part:
+        form = self.reader.inner(self.at, self.of)
+        self.reader.same_error(self.at, form)
+        if isinstance(form, Enum):
+            part = self.enum(form)
+        elif form.given:
+            self.example = f"the number `{form.given}` that {form.item.name} is given, as `ctx = len as usize`"
+            count = self.reader.count(self.at, self.ctx)
+            part = self.one("Given<usize>", Value(record(count.ghost), Call("Given", (count.code,))))
+        else:
+            if "ctx" in self.at.notes:
+                self.reader.refuse_note(self.at, self.ctx, f"has the note `ctx = ..`, and {form.item.name} is given no number")
+            part = self.one("()", NOTHING)
+        if isinstance(form, Struct):
+            part.numbers = self.numbers(form)
+        part.is_exact, part.is_certain = form.is_exact, form.is_certain
+        return part
+
+    def numbers(self, form: Struct) -> List[Number]:
+        """The numbers that are fields of a struct."""
+        found: Dict[str, Number] = {}
+        fields = {it.name: it.type.name for it in form.item.fields if it.types}
+        for name, kind in fields.items():
+            if kind in PLAIN and PLAIN[kind].kind == "unsigned" and PLAIN[kind].width <= 8:
+                found[name] = Number(f"{self.at.name}.{name}", kind, f"^.{name}", f"^.{name}")
+            elif kind == "Uleb":
+                found[name] = Number(f"{self.at.name}.{name}", "u64", f"^.{name}.value", f"^.{name}.value")
+        return list(found.values())
+
+    def enum(self, form: Enum) -> One:
+        needs = f"({form.tag} as its tag, and a length)" if form.given else f"its tag, a `{form.tag}`"
+        self.example = f"{form.item.name} is given {needs}: " + ("`ctx = (kind, len as usize)`" if form.given else "`ctx = kind`")
+        note = self.ctx
+        call, inside = self.reader.call(note)
+        tokens = inside.value if call == "" and note.text.startswith("(") else note.value
+        tag = self.reader.tag(self.at, note, tokens, form)
+        said = Value(f"@{tag}@", f"@{tag}@")
+        if form.given:
+            rest = self.reader.rest_of(note, tokens)
+            if not rest:
+                self.reader.refuse_note(self.at, note, f"has no length: {self.example}")
+            count = self.reader.count(self.at, rest)
+            said = Value(f"(@{tag}@, {count.ghost})", "")
+            code = Call("Given", ((f"@{tag}@", count.code),))
+        else:
+            code = Call("Given", (said.code,))
+        self.reader.tag_rule(form, tag)
+        return self.one(f"Given<{form.context_type}>", Value(record(said.ghost), code))
+
+
+class Optional_(Kind):
+    """A field that may be absent."""
+
+    words = ("ctx", "else")
+
+    def make(self) -> Part:
+        if "if" not in self.at.notes:
+            self.reader.refuse(self.at, "has no `if = ..`, which says when it is there, as `if = flags & 1 != 0`")
+        if len(self.of.arguments) != 1 or self.of.arguments[0].name == "Option":
+            self.reader.refuse(self.at, f"is of {self.of.text}, and takes one type")
+        inside = self.reader.part(self.at, self.of.arguments[0], {k: v for k, v in self.at.notes.items() if k != "if"})
+        if isinstance(inside, (There,)):
+            self.reader.refuse(self.at, f"is of {self.of.text}")
+        said = self.reader.condition(self.at, self.at.notes["if"])
+        kind = f"Option<{f'Run<{inside.tree()}>' if isinstance(inside, Numbers) else inside.type}>"
+        context = Value(record(said.ghost, inside.context.ghost), Call("When", (said.code, inside.context.code)))
+        return There(kind, f"When<{inside.context_type}>", context, name=self.at.name, inside=inside)
+
+
+KINDS: Dict[str, TypeOf[Kind]] = {
+    "&[u8]": Slice,
+    "&str": Text,
+    "CStr": CString,
+    "Uleb": Leb,
+    "Sleb": Leb,
+    "Zeros": Gap,
+    "Table": TableOf,
+    "Items": ListOf,
+    "Option": Optional_,
+}
