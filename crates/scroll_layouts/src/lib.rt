@@ -40,7 +40,7 @@ pub use crate::append::{append_each, append_whole};
 pub use crate::bits::{BitFields, Low, Packed, Word};
 pub use crate::borrowed::Borrowed;
 pub use crate::choice::{Choice, Choose};
-pub use crate::fixed::{Field, FixedLayout, SameLayout};
+pub use crate::fixed::{Field, FixedLayout, Number, SameLayout};
 pub use crate::head::{Head, Headed, is};
 pub use crate::leb128::{Sleb, Uleb};
 pub use crate::lists::{Count, Items, Listed};
