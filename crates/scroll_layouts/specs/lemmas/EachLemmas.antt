@@ -87,7 +87,7 @@ one-differs f order xs i x e inside is before error = record {
 }
 
 -- values that were read one after another up to the end of a source are its bytes
-pub all-kept : {E X : Type 0} (f : Format E X) (order : Endian) (s : List ℕ) (xs : List X)
+pub list_written_back : {E X : Type 0} (f : Format E X) (order : Endian) (s : List ℕ) (xs : List X)
     → ReadsAll (ReadsExact f order) s 0 xs (length s) → flat_map (bytes f order) xs ≡ s
-all-kept f order s xs h =
+list_written_back f order s xs h =
     all-back (ReadsExact f order) (bytes f order) s xs (λ at x n one. one.value.back) h refl
