@@ -4,13 +4,13 @@ from typing import Any, Dict, List, NoReturn, Optional, Sequence, Tuple
 
 from fields import KINDS, FixedSize, Kind, Nested
 from fixed_types import PLAIN, Fixed, Plain, Record, is_counter
-from forms import NOTHING, Bits, Number, Numbers, One, Part, Rule, record
-from items import Item, Note, Notes, RawField, Type
-from model import Crate, Enum, OwnError, Struct, Variant
-from shapes import Sequence_, Together, nothing
-from sums import Condition, Sum, SumReader, Value, as_usize, number_of, read_condition, read_path
-from text import Call
-from tokens import Tokens
+from forms import NOTHING, Number, Part, Rule, bits, fixed_tree, nothing, numbers, run_type
+from items import Item, Note, Notes, RawField, Type, read_type
+from model import Crate, Enum, ListType, OwnError, Struct, Variant
+from shapes import Chain, together
+from sums import Sum, SumReader, Value, as_usize, bracketed, number_of, read_condition, read_path, side_text
+from text import call_lines
+from tokens import Refused, Tokens
 
 
 def split_call(note: Note) -> Tuple[str, Note]:
@@ -68,6 +68,8 @@ class Reader:
 
     def same_error(self, at: RawField, form: Any) -> None:
         own, other = (it.name if it else "scroll::Error" for it in (self.error, form.error))
+        if isinstance(form, ListType) and not form.form:
+            return
         if own != other:
             self.refuse(at, f"is of {form.item.name}, whose error is {other}, not {own}: write one `error = ..` before both")
 
@@ -174,8 +176,6 @@ class Reader:
             lines = [f"        if {name} != {said} {{", *lines, "        }"]
             rule = Rule(f"({name} ≡ {value})", f"({name} ≢ {value}) × {fails}", lines)
         else:
-            from text import call_lines
-
             lines = call_lines("is", [as_usize(at.name), said, f'"{text}"'], "?;", 8)
             rule = Rule(f"({name} ≡ {value})", f'IsNot {value} {name} (codes "{text}") e', lines)
         self.rules.append((rule, [at.name]))
@@ -192,10 +192,8 @@ class Reader:
             name = f"@{found.terms[0][0]}@"
             fails, lines = f"(e ≡ {other} {name})", [f"            return Err({self.error.name}::{other}({name}));"]
         else:
-            from sums import side_text
-
             text = f"{side_text(list(found.terms), found.number)} is less than {less.text}"
-            fails, lines = self.refusal(bracket(whole.ghost), whole.code, text)
+            fails, lines = self.refusal(bracketed(whole.ghost), whole.code, text)
         rule = Rule(f"({below.ghost} ≤ {whole.ghost})", f"({whole.ghost} < {below.ghost}) × {fails}", [test, *lines, "        }"])
         self.rules.append((rule, found.names))
 
@@ -251,34 +249,29 @@ class Reader:
             found = self.crate.find(of.name, self.item.path)
             kind = FixedSize if is_fixed or not found or not found.is_marked else Nested
         made = kind(self, bare, of).make()
-        if isinstance(made, Numbers) and (notes.keys() & {"within", "padded"}) and made.fields:
-            self.place(made)
+        if of.name == "Option":
+            return made
         if "within" in notes:
             count = self.count(RawField(at.name, [of], {}, at.line), notes["within"])
-            context = Value(record(count.ghost, made.context.ghost), Call("Within", (count.code, made.context.code)))
-            made.context, made.context_type = context, f"Within<{made.context_type}>"
+            made = made.around("Within", made.type, *count)
         if "padded" in notes:
             multiple = self.constant(notes["padded"].text)
             if multiple < 1:
                 self.refuse_note(at, notes["padded"], f"is padded to a multiple of {notes['padded'].text}, which is no literal")
-            context = Value(record(str(multiple), made.context.ghost), Call("Padded", (str(multiple), made.context.code)))
-            made.context, made.context_type = context, f"Padded<{made.context_type}>"
+            made = made.around("Padded", made.type, str(multiple), str(multiple))
         return made
 
-    def place(self, part: Numbers) -> None:
-        """Names the type and the variable of fields of a fixed size."""
-        count = sum(isinstance(it, Numbers) for it in self.every())
-        part.variable = f"numbers_{count + 1}" if count else "numbers"
-        while part.variable in [it.name for it in self.item.fields]:
-            part.variable += "_"
-        tree = part.tree()
-        part.type = f"Run<{tree}>" if isinstance(tree, str) else Call("Run<>", (tree,))
-
-    def every(self) -> List[Part]:
-        found: List[Part] = []
-        for it in self.parts:
-            found += it.sequence.each_part() if isinstance(it, Together) and it.sequence else [it]
-        return found
+    def together(self, fields: Sequence[Tuple[str, Fixed]]) -> Part:
+        """Returns fields of a fixed size as one part, with a name for its type and a variable where it is long."""
+        every = [it for part in self.parts for it in (part.inside.parts if part.inside else [part])]
+        count = sum(len(it.fields) > 1 for it in every)
+        variable = f"numbers_{count + 1}" if count else "numbers"
+        while variable in [it.name for it in self.item.fields]:
+            variable += "_"
+        made = numbers(fields, variable)
+        if len(made.type) > 64 and len(fields) > 1:
+            made.type = f"Run<{self.item.name}Numbers{count + 1 if count else ''}>"
+        return made
 
     def read_struct(self) -> Struct:
         item = self.item
@@ -286,8 +279,8 @@ class Reader:
             raise self.crate.refuse_field(item, item.fields[0], f"of the struct {item.name} has no name, which a struct of any size needs")
         self.read_given()
         for word, note in item.notes.items():
-            if word not in ("error", "ends", "given", "padded"):
-                self.refuse_head(note, f"has the note `{word} = ..`; a struct takes `error`, `ends`, `given` and `padded`")
+            if word not in ("error", "given", "padded"):
+                self.refuse_head(note, f"has the note `{word} = ..`; a struct takes `error`, `given` and `padded`")
         multiple = self.read_multiple()
         for at, field in enumerate(item.fields):
             self.read_field(field, at + 1 == len(item.fields))
@@ -300,9 +293,31 @@ class Reader:
             self.refuse(self.bits[-1][0], "is the last of fields of bits that don't fill their number")
         self.attach()
         given = self.given[0].name if self.given else ""
-        made = Struct(item, self.parts, multiple, given, self.error, self.read_ends(), self.forms, self.used)
-        made.gaps = self.gaps  # type: ignore[attr-defined]
-        return made
+        return Struct(item, self.parts, multiple, given, self.error, self.forms, self.used, self.gaps)
+
+    def read_list(self) -> ListType:
+        """Reads a struct that names the values of a list."""
+        item = self.item
+        for word, note in item.notes.items():
+            if word not in ("items", "ends"):
+                self.refuse_head(note, f"has the note `{word} = ..`; a list takes `items` and `ends`")
+        note = item.notes["items"]
+        of = read_type(Tokens(item.path, note.value.tokens))
+        at = RawField(item.name, [of], {}, note.line)
+        found = self.crate.find(of.name, item.path)
+        if of.name in ("Uleb", "Sleb", "CStr"):
+            return ListType(item, of.text if of.name != "CStr" else "CStr<'a>", self.read_ends(), None, None, self.used)
+        if self.crate.is_fixed_type(item, of) or not found or not found.is_marked:
+            if not self.crate.is_fixed_type(item, of):
+                self.refuse_head(note, self.crate.why_not(item, of).replace("is of", "is a list of", 1))
+            made = FixedSize(self, at, of).fixed()
+            text = f"Run<Field<{made.text}>>" if isinstance(made, Record) else f"Run<{made.text}>"
+            return ListType(item, text, self.read_ends(), None, None, self.used)
+        form = self.inner(at, of)
+        if not isinstance(form, Struct) or form.given:
+            self.refuse_head(note, f"is a list of {of.text}, which is given a number: put it into a struct with that")
+        self.crate.listed.append(of.name)
+        return ListType(item, form.type, self.read_ends(), form.error, form, self.used, [form])
 
     padding = 0
     gaps: Tuple[str, ...] = ()
@@ -332,24 +347,17 @@ class Reader:
                 return
         made = self.part(field, field.type, field.notes)
         last = self.parts[-1] if self.parts else None
-        if isinstance(made, Numbers) and not made.variable:
-            if isinstance(last, Numbers) and last.context == NOTHING:
-                made = Numbers("", "()", NOTHING, fields=[*last.fields, *made.fields], rules=last.rules)
-                self.parts.pop()
-            self.place(made)
+        if made.fields and made.context == NOTHING and last and last.fields and last.context == NOTHING:
+            self.parts.pop()
+            made = self.together([*last.fields, *made.fields])
         self.parts.append(made)
 
     def close(self, multiple: int) -> None:
         """Puts the parts so far into one, with zeros behind it."""
         self.attach()
-        sequence = Sequence_(self.item.name, self.parts, self.heads)
-        self.heads = sequence.next_index
-        context = sequence.context()
-        kind, context = f"Padded<{sequence_context(sequence)}>", Value(record(str(multiple), context.ghost), Call("Padded", (str(multiple), context.code)))
-        numbers = sequence.numbers()
-        made = Together(sequence.type(0), kind, context, numbers, is_exact=all(it.is_exact for it in self.parts), sequence=sequence)
-        made.is_certain = all(it.is_certain for it in self.parts)
-        self.parts = [made]
+        chain = Chain(self.item.name, self.parts, self.heads)
+        self.heads = chain.end
+        self.parts = [together(chain, multiple, len(self.gaps))]
 
     def read_bits(self, field: RawField) -> None:
         note = field.notes["bits"]
@@ -370,20 +378,12 @@ class Reader:
         if len(self.bits) == 1:
             self.refuse_note(field, note, f"fills {word.text} alone, and needs no `bits = ..`")
         fields = [(it.name, it.type.name) for it, _ in self.bits]
-        type_, context_type, ghost, code = fields[0][1], "()", "tt", "()"
-        for (_, kind), (_, bits) in zip(fields[1:], self.bits[1:]):
-            mask = 2**bits - 1
-            type_, context_type = f"({type_}, {kind})", f"Low<{kind}, {context_type}>"
-            ghost, code = record(str(mask), ghost), f"Low({mask}, {code})"
-        context = Value(record("record {}", ghost), f"Packed(PhantomData, {code})")
-        self.parts.append(Bits(type_, f"Packed<{word.text}, {context_type}>", context, fields=fields))
+        self.parts.append(bits(fields, [2**it - 1 for _, it in self.bits[1:]]))
         self.bits = []
 
     # What stands before a struct or an enum
 
     def refuse_head(self, note: Note, message: str) -> NoReturn:
-        from tokens import Refused
-
         raise Refused(self.item.path, note.line, f"the {self.item.word} {self.item.name} {message}")
 
     def read_multiple(self) -> int:
@@ -428,9 +428,7 @@ class Reader:
                 self.refuse_head(note, f"has the note `{word} = ..`; an enum takes `given`, `error` and `else`{hint}")
         found = self.read_given()
         if not found:
-            from tokens import Refused
-
-            raise Refused(item.path, item.line, f"the enum {item.name} has no tag: write `given = kind: u8` before it, and `ctx = kind` before a field of it")
+                raise Refused(item.path, item.line, f"the enum {item.name} has no tag: write `given = kind: u8` before it, and `ctx = kind` before a field of it")
         variants: List[Variant] = []
         for raw in item.fields:
             variants.append(self.read_variant(raw, found[0][1], [it.tag for it in variants]))
@@ -454,30 +452,18 @@ class Reader:
             part: Part = nothing()
         elif len(raw.types) == 1:
             part = self.part(RawField(names[0], raw.types, notes, raw.line), raw.types[0], notes)
-            if isinstance(part, Numbers) and not part.variable:
-                self.place(part)
         else:
             made = [FixedSize(self, RawField(it, [of], notes, raw.line), of).fixed() for it, of in zip(names, raw.types)]
-            part = Numbers("", "()", NOTHING, fields=list(zip(names, made)))
-            self.place(part)
+            part = numbers([*zip(names, made)], "")
         if self.rules:
             self.refuse_note(raw, note, "has a note with a rule, which a variant doesn't take: put it into a struct")
         return Variant(raw.name, number, names, part)
-
-
-def bracket(text: str) -> str:
-    return f"({text})" if " " in text else text
-
-
-def sequence_context(sequence: Sequence_) -> str:
-    from text import flat
-
-    return flat(sequence.context_type())
 
 
 def form_of(crate: Crate, item: Item, outer: Tuple[Item, ...] = ()) -> Any:
     """Returns a struct of any size or an enum, which is read once."""
     if id(item) not in crate.forms:
         reader = Reader(crate, item, outer)
-        crate.forms[id(item)] = reader.read_enum() if item.is_enum else reader.read_struct()
+        is_list = "items" in item.notes
+        crate.forms[id(item)] = reader.read_enum() if item.is_enum else reader.read_list() if is_list else reader.read_struct()
     return crate.forms[id(item)]
