@@ -7,7 +7,7 @@ from typing import Any, Dict, List, Sequence, Set, Tuple
 from items import Item, SourceFile
 from model import Crate, Enum, ListType
 from printing import Printer
-from reader import form_of
+from readers import read_form
 from records import record_blocks
 from text import ghost_lines, use_lines
 from tokens import Refused
@@ -51,9 +51,9 @@ def derived_path(path: str) -> Path:
 
 def derived_files(folder: Path) -> Dict[Path, str]:
     """Returns the text of each file that is to be written."""
-    crate = Crate(folder)
+    crate = Crate(folder, read_form)
     marked = [(file, item) for file in crate.files.values() for item in crate.marked(file)]
-    forms = {id(item): None if crate.is_fixed(item) else form_of(crate, item) for _, item in marked}
+    forms = {id(item): None if crate.is_fixed(item) else crate.form(item) for _, item in marked}
     files: Dict[Path, str] = {}
     for file in crate.files.values():
         items = crate.marked(file)

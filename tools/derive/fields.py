@@ -1,12 +1,12 @@
 """The fields of a struct of any size: one class for each kind, which reads the notes before a field and makes its part."""
 
-from dataclasses import replace
 from typing import TYPE_CHECKING, Dict, List, Tuple, Type as TypeOf
 
 from fixed_types import PLAIN, Array, Fixed, Record
 from forms import NOTHING, Number, Part, numbers, one, record, there
 from items import Note, RawField, Type
 from model import Enum, ListType, Struct
+from rules import constant_rule, tag_rule
 from sums import Value
 from text import Call
 
@@ -164,7 +164,7 @@ class FixedSize(Kind):
     def make(self) -> Part:
         made = self.fixed()
         if "is" in self.at.notes:
-            self.reader.constant_rule(self.at, made)
+            self.reader.rules.append((constant_rule(self.reader, self.at, made), [self.at.name]))
         elif "else" in self.at.notes:
             self.reader.refuse_note(self.at, self.at.notes["else"], "has the note `else = ..` without `is = ..`")
         return numbers([(self.at.name, made)], "")
@@ -231,7 +231,7 @@ class Nested(Kind):
             code = Call("Given", ((f"@{tag}@", count.code),))
         else:
             code = Call("Given", (said.code,))
-        self.reader.tag_rule(form, tag)
+        self.reader.rules.append((tag_rule(self.reader, self.at, form, tag), [tag]))
         return self.one(f"Given<{form.context_type}>", Value(record(said.ghost), code))
 
 

@@ -3,7 +3,7 @@
 import re
 from dataclasses import dataclass, field
 from pathlib import Path
-from typing import Any, Dict, List, Optional, Tuple
+from typing import Any, Callable, Dict, List, Optional, Tuple
 
 from fixed_types import PLAIN, Array, Fixed, Record, width_of
 from forms import Part
@@ -122,8 +122,8 @@ class ListType:
 class Crate:
     """The files of a crate's src/. A path in a message is that of the crate and below it."""
 
-    def __init__(self, folder: Path) -> None:
-        self.folder, self.name = folder, folder.resolve().name
+    def __init__(self, folder: Path, read: "Callable[[Crate, Item, Tuple[Item, ...]], Any]") -> None:
+        self.folder, self.name, self.read = folder, folder.resolve().name, read
         source = folder / "src"
         if not source.is_dir():
             raise Refused(str(folder), 0, "there is no src/ in this folder, so it is no crate")
@@ -169,6 +169,12 @@ class Crate:
             if form and form.is_certain and it == name:
                 return True
         return False
+
+    def form(self, item: Item, outer: Tuple[Item, ...] = ()) -> Any:
+        """Returns a struct of any size, an enum or a list, which is read once."""
+        if id(item) not in self.forms:
+            self.forms[id(item)] = self.read(self, item, outer)
+        return self.forms[id(item)]
 
     def marked(self, file: SourceFile) -> List[Item]:
         return [it for it in file.items if it.is_marked]

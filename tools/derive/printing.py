@@ -7,7 +7,7 @@ from forms import Part, fixed_tree, local
 from model import Enum, ListType, Struct
 from shapes import Chain, Group, resolve
 from sums import Value, bracketed
-from text import Call, Tree, flat, ghost_text, impl_lines, label, lifetime, pattern_lines, right
+from text import Call, Tree, flat, ghost_text, impl_lines, lifetime, pattern_lines
 from text import signature_lines, struct_lines, tuple_lines
 
 
