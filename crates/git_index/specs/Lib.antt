@@ -1,3 +1,1 @@
-pub mod EntryBack
-pub mod EntryFormat
 pub mod Indexes

@@ -13,11 +13,12 @@
 #![tactic(auto)]
 
 ghost use Rattle.std.specs.Prelude.{◌≡◌, IfOk, IfErr, OnOk};
-ghost use Rattle.git_index.specs.Indexes.{IsIndex, RefusesIndex, HasHeader, entry_count};
+ghost use Rattle.git_index.specs.Indexes.{IsIndex, RefusesIndex, HasHeader, RefusesHeader, entry_count};
 ghost use Rattle.git_index.specs.declared.IndexError.TheVariants.{Short, Refused};
 
 use scroll::{BE, Cread, Error, check_room};
 use scroll_formats::{At, read_many};
+use scroll_layouts::ReadPart;
 use std::alloc::Global;
 
 mod entry;
@@ -66,7 +67,7 @@ const SIGNATURE: u32 = 0x4449_5243;
 fn read_header(file: &[u8]) -> Result<u32, IndexError>
     ensures header { OnOk result (HasHeader file.now) }
     ensures count { IfOk result (λ count. count ≡ entry_count file.now) }
-    ensures refused { IfErr result (RefusesIndex file.now) }
+    ensures refused { IfErr result (RefusesHeader file.now) }
 {
     check_room(HEADER, file.len())?;
     let signature: u32 = file.cread_with(0, BE);
@@ -82,11 +83,13 @@ fn read_header(file: &[u8]) -> Result<u32, IndexError>
 
 /// Reads the entries of an index, in order.
 pub fn read_index<'a>(alloc: Global, file: &'a [u8]) -> Result<Vec<Entry<'a>>, IndexError>
-    ensures read { IfOk result (λ entries. IsIndex file.now entries.items) }
-    ensures refused { IfErr result (RefusesIndex file.now) }
+    ensures read { IfOk result (λ entries. IsIndex (⟦<Entry<'a> as ReadPart<'a, (), Error>>⟧.format tt) file.now entries.items) }
+    ensures refused { IfErr result (RefusesIndex (⟦<Entry<'a> as ReadPart<'a, (), Error>>⟧.format tt) file.now) }
 {
     let count = read_header(file)?;
     let mut offset = HEADER;
-    let entries = read_many(alloc, file, &mut offset, count as usize, BE)?;
-    Ok(entries)
+    match read_many(alloc, file, &mut offset, count as usize, BE) {
+        Ok(entries) => Ok(entries),
+        Err(located) => Err(IndexError::Refused(located)),
+    }
 }

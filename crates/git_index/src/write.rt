@@ -1,15 +1,13 @@
 // Writes of an index.
-ghost use Rattle.std.specs.Prelude.{◌≡◌, IfOk, IfErr, OnOk};
-ghost use Rattle.scroll_formats.specs.Spans.{Puts};
-ghost use Rattle.std.specs.List.{All};
-ghost use Rattle.git_index.specs.EntryBack.{FitsEntry};
+ghost use Rattle.std.specs.Prelude.{◌≡◌, IfOk, IfErr, OnOk, length};
+ghost use Rattle.scroll.specs.Bytes.{WritesPrefix};
 ghost use Rattle.git_index.specs.Indexes.{IsIndex, index_bytes, RefusesWrite};
 
 use crate::SIGNATURE;
 use crate::entry::Entry;
 use crate::header::Header;
 use scroll::{BE, Error};
-use scroll_formats::{Each, Value, put_at};
+use scroll_layouts::{Field, Part, Run, write_list};
 
 /// Why writing an index failed.
 #[derive(Debug, Drop)]
@@ -24,10 +22,10 @@ pub enum WriteError {
 /// The target then reads as an index of these entries. On an error it is unchanged.
 ///
 /// In a file the SHA-1 of these bytes follows.
-pub fn write_index(target: &mut [u8], entries: &[Entry]) -> Result<usize, WriteError>
-    ensures wrote { IfOk result (Puts (index_bytes entries.now) target.old target.new 0) }
-    ensures again { OnOk result (All FitsEntry entries.now → IsIndex target.new entries.now) }
-    ensures refused { IfErr result (RefusesWrite entries.now target.old target.new) }
+pub fn write_index<'a>(target: &mut [u8], entries: &[Entry<'a>]) -> Result<usize, WriteError>
+    ensures wrote { IfOk result (WritesPrefix (length (index_bytes (⟦<Entry<'a> as Part<(), Error>>⟧.format tt) entries.now)) (index_bytes (⟦<Entry<'a> as Part<(), Error>>⟧.format tt) entries.now) target.old target.new) }
+    ensures again { OnOk result (IsIndex (⟦<Entry<'a> as Part<(), Error>>⟧.format tt) target.new entries.now) }
+    ensures refused { IfErr result (RefusesWrite (⟦<Entry<'a> as Part<(), Error>>⟧.format tt) entries.now target.old target.new) }
 {
     let Ok(count) = u32::try_from(entries.len()) else {
         return Err(WriteError::TooMany(entries.len()));
@@ -37,11 +35,15 @@ pub fn write_index(target: &mut [u8], entries: &[Entry]) -> Result<usize, WriteE
         version: 2,
         count,
     };
-    match put_at(target, 0, (Value(header), Each(entries)), BE) {
+    match write_list::<(), (), Error, Run<Field<Header>>, Entry<'a>>(
+        &Run(Field(header)),
+        entries,
+        target,
+        BE,
+        &(),
+        &(),
+    ) {
         Ok(size) => Ok(size),
-        Err(size) => Err(WriteError::Short(Error::TooBig {
-            size,
-            len: target.len(),
-        })),
+        Err(error) => Err(WriteError::Short(error)),
     }
 }

@@ -1,3 +1,1 @@
-pub mod ChunkBack
-pub mod ChunkFormat
 pub mod Chunks

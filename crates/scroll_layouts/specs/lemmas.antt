@@ -1,5 +1,6 @@
 pub mod ArrayLemmas
 pub mod BitLemmas
+pub mod EachLemmas
 pub mod FormatLaws
 pub mod LayoutLaws
 pub mod LeafLemmas
@@ -7,4 +8,5 @@ pub mod ListLemmas
 pub mod MarkLemmas
 pub mod OneWayLemmas
 pub mod Parts
+pub mod SameLaws
 pub mod WholeLemmas

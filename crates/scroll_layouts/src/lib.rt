@@ -17,6 +17,7 @@ mod borrowed;
 mod bytes;
 mod c_strings;
 mod choice;
+mod each;
 mod fixed;
 mod head;
 mod leb128;
@@ -27,6 +28,7 @@ mod padding;
 mod pairs;
 mod run;
 mod shape;
+mod std_c_strings;
 mod tables;
 #[cfg(test)]
 mod tests;
@@ -40,6 +42,7 @@ pub use crate::append::{append_each, append_whole};
 pub use crate::bits::{BitFields, Low, Packed, Word};
 pub use crate::borrowed::Borrowed;
 pub use crate::choice::{Choice, Choose};
+pub use crate::each::write_list;
 pub use crate::fixed::{Field, FixedLayout, SameLayout};
 pub use crate::head::{Head, Headed, is};
 pub use crate::leb128::{Sleb, Uleb};
@@ -69,7 +72,7 @@ use std::result::Result;
 /// | [`Zeros`](scroll_formats::Zeros) | `usize` | as many zero bytes |
 /// | `A` | [`Padded`] | a value, and zeros up to a multiple of a size |
 /// | [`Uleb`], [`Sleb`] | `()` | a number in LEB128 |
-/// | [`CStr`](scroll::cstr::CStr) | `()` | a C string |
+/// | [`CStr`](scroll::cstr::CStr), of the crate or of std | `()` | a C string |
 /// | `&str` | `usize` | a text of as many bytes as the context says |
 /// | `&str` | [`Ends`] | a text, and the byte that ends it |
 /// | [`Items`] | `usize` | values of any size, in as many bytes as the context says |
@@ -86,8 +89,8 @@ use std::result::Result;
 /// | a struct or an enum | [`Given`] | its parts, by a value that comes before |
 /// | `&A` | [`Borrowed`] | a value that is written where it is borrowed |
 ///
-/// [`write_whole`] writes each of them over the start of a slice, [`append_whole`] behind a vector,
-/// and [`append_each`] several of one type.
+/// [`write_whole`] writes each of them over the start of a slice, [`write_list`] one and several of
+/// one type behind it, [`append_whole`] one behind a vector, and [`append_each`] several.
 ///
 /// The error `E` is any that an [`Error`](scroll::Error) is converted to.
 pub trait Part<Ctx, E>: Drop {

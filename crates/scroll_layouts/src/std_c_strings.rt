@@ -1,0 +1,49 @@
+// The C strings of std as parts.
+ghost use Rattle.std.specs.CStr.{c_str_bytes};
+ghost use Rattle.std.specs.Prelude.{◌≡◌, ◌≤◌, ◌<◌, ◌+◌, ◌-◌, ◌^◌, ◌++◌, length, take, drop, min};
+ghost use Rattle.scroll.specs.declared.error.Error.{Error};
+ghost use Rattle.scroll_layouts.specs.Formats.{leaf, last};
+ghost use Rattle.scroll_layouts.specs.Leaves.{c_string};
+ghost use Rattle.scroll_layouts.specs.Starts.{start};
+
+use crate::{Part, ReadPart};
+use scroll::ctx::TryFromCtx;
+use scroll::{Endian, Error, cstr};
+use std::ffi::CStr;
+use std::result::Result;
+
+/// Like a [`CStr`](scroll::cstr::CStr) of the crate.
+impl<'a, E: From<Error>> Part<(), E> for CStr<'a> {
+    ghost format = { λ _. last (leaf (start (c_string E.from_gives))) c_str_bytes };
+
+    fn check(&self, _order: Endian, _ctx: &()) -> Result<(), E> {
+        let text = cstr::CStr::from(*self);
+        let _text = text.to_bytes();
+        Ok(())
+    }
+
+    fn size(&self, _order: Endian, _ctx: &()) -> usize {
+        self.to_bytes().len() + 1
+    }
+
+    #[inline(always)]
+    fn put(&self, dst: &mut [u8], _order: Endian, _ctx: &()) {
+        let text = self.to_bytes_with_nul();
+        dst[..text.len()].copy_from_slice(text);
+    }
+}
+
+impl<'a, E: From<Error>> ReadPart<'a, (), E> for CStr<'a> {
+    ghost format = { λ _. last (leaf (start (c_string E.from_gives))) c_str_bytes };
+
+    #[inline(always)]
+    fn read_at(
+        from: &'a [u8],
+        offset: usize,
+        _order: Endian,
+        _ctx: &(),
+    ) -> Result<(CStr<'a>, usize), E> {
+        let (value, size) = CStr::try_from_ctx(&from[offset..], ())?;
+        Ok((value, offset + size))
+    }
+}
