@@ -30,7 +30,6 @@ GHOST: Dict[str, Sequence[str]] = {
     "Rattle.scroll_layouts.specs.declared.choice.Choice.TheVariants": ("First", "Second"),
 }
 CODE: Dict[str, Sequence[str]] = {
-    "scroll::cstr": ("CStr",),
     "scroll::ctx": ("Record", "TryFromCtx", "TryIntoCtx", "Written"),
     "scroll": ("Endian", "Error"),
     "scroll_formats": ("SmallError", "Table", "Zeros"),
@@ -70,7 +69,8 @@ def left_over(folder: Path, files: Dict[Path, str]) -> List[Path]:
 
 def print_file(crate: Crate, file: SourceFile, items: List[Tuple[Item, Any]]) -> str:
     blocks: List[List[str]] = []
-    own: Set[str] = {item.name for item, _ in items}
+    # (a C string is that of the crate or of std, as the file imports it)
+    own: Set[str] = {"CStr", *(item.name for item, _ in items)}
     modules: Dict[str, List[str]] = {}
     for item, form in items:
         if form is None:
