@@ -3,7 +3,7 @@
 import re
 from dataclasses import dataclass, field
 from pathlib import Path
-from typing import Any, Dict, List, Optional, Tuple
+from typing import Any, Callable, Dict, List, Optional, Tuple
 
 from fixed_types import PLAIN, Array, Fixed, Record, width_of
 from forms import Part
@@ -32,22 +32,23 @@ class OwnError:
     @property
     def gives(self) -> str:
         """Which of its errors one of the library's becomes."""
-        return f"(λ error e. e ≡ {self.variant} error)" if self.variant else "(λ error e. e ≡ small_error error)"
+        return f"(λ error e. e ≡ {self.variant} error)" if self.variant else "⟦<SmallError as From<Error>>⟧.from_gives"
 
 
 @dataclass
 class Struct:
     """A struct of any size: its parts, the size up to a multiple of which it is padded, the number that it is given, its error, the
-    bytes that end a list of it, and the types of the crate that its fields have."""
+    structs and enums in it, and the types of the crate that its fields have."""
 
     item: Item
     parts: List[Part]
     multiple: int
     given: str
     error: Optional[OwnError]
-    ends: List[int]
     inner: "List[Any]" = field(default_factory=list)
     used: List[str] = field(default_factory=list)
+    # The fields that are zeros up to a multiple.
+    gaps: Tuple[str, ...] = ()
 
     @property
     def type(self) -> str:
@@ -100,11 +101,29 @@ class Enum:
         return all(it.part.is_certain for it in self.variants)
 
 
+@dataclass
+class ListType:
+    """A struct without fields that names the values of a list: their type, the bytes that end a list of them, and what they are if
+    they are structs of any size."""
+
+    item: Item
+    of: str
+    ends: List[int]
+    error: Optional[OwnError]
+    form: Optional[Struct]
+    used: List[str]
+    inner: "List[Any]" = field(default_factory=list)
+
+    @property
+    def type(self) -> str:
+        return self.item.name
+
+
 class Crate:
     """The files of a crate's src/. A path in a message is that of the crate and below it."""
 
-    def __init__(self, folder: Path) -> None:
-        self.folder, self.name = folder, folder.resolve().name
+    def __init__(self, folder: Path, read: "Callable[[Crate, Item, Tuple[Item, ...]], Any]") -> None:
+        self.folder, self.name, self.read = folder, folder.resolve().name, read
         source = folder / "src"
         if not source.is_dir():
             raise Refused(str(folder), 0, "there is no src/ in this folder, so it is no crate")
@@ -135,7 +154,9 @@ class Crate:
                 raise Refused(file.path, item.line, f"the {item.word} {item.name} has parameters, and takes one lifetime at most")
             if item.name in LIBRARY:
                 raise Refused(file.path, item.line, f"the {item.word} {item.name} has a name that the printed text has: give it another")
-            if not item.fields:
+            if "items" in item.notes and (item.fields or item.is_enum or item.lifetime):
+                raise Refused(file.path, item.line, f"the {item.word} {item.name} names a list: write `struct {item.name};`")
+            if not item.fields and "items" not in item.notes:
                 raise Refused(file.path, item.line, f"the {item.word} {item.name} has no {'variants' if item.is_enum else 'fields'}")
 
     def is_walked(self, name: str) -> bool:
@@ -148,6 +169,12 @@ class Crate:
             if form and form.is_certain and it == name:
                 return True
         return False
+
+    def form(self, item: Item, outer: Tuple[Item, ...] = ()) -> Any:
+        """Returns a struct of any size, an enum or a list, which is read once."""
+        if id(item) not in self.forms:
+            self.forms[id(item)] = self.read(self, item, outer)
+        return self.forms[id(item)]
 
     def marked(self, file: SourceFile) -> List[Item]:
         return [it for it in file.items if it.is_marked]

@@ -1,8 +1,8 @@
 -- Arrays. The elements are read or written one after another; an array of none has the size 0, and
 -- never fails. A value of a type takes fewer than 2^63 bytes wherever there is one. Generic code
 -- can't know that, so there a contract states the errors of an array under a condition: what holds
--- the elements meanwhile fits. For a known type that is an inequality between two numbers, which
--- the prover decides.
+-- the elements meanwhile fits; if it doesn't, the error is `NoMemory`. For a known type that is an
+-- inequality between two numbers, which the prover decides.
 use Rattle.std.specs.Prelude.{◌≡◌, ◌<◌, ℕ, ◌+◌, ◌*◌, ◌++◌, List, [], ◌∷◌, length, take, drop, slice_index_or}
 use Rattle.scroll.specs.Reads.{ReadsAll, RefusesAt}
 use Rattle.scroll.specs.Writes.{WritesAt, FailsAt}
@@ -106,6 +106,11 @@ pub record FillsArray {V : Type 0} (width : ℕ) (overwrites : V → List ℕ �
     (count : ℕ) (vs : List V) (old new : List ℕ) : Type 0 where
   pub len : length vs ≡ count
   pub each : OverwritesAll width overwrites old 0 vs new
+
+-- `fails` holds of an error where what holds the elements fits in memory, and `lacks` where it
+-- doesn't
+abbrev pub FailsIfFits : Type 0 → Type 0 → Type 0 → Type 0
+FailsIfFits fit fails lacks = (fit → fails) × ((fit → ⊥) → lacks)
 
 -- an optional value of the type `X` takes fewer than 2^63 bytes
 abbrev pub OptionFits : RattleType → Type 0

@@ -79,24 +79,24 @@ pub trait IOread<Ctx: Copy>: Read {
             let mut scratch = [0u8; SMALL];
             return read_value(self, &mut scratch[..size], ctx);
         }
-        read_large(self, size, ctx)
+        read_large(self, ctx)
     }
 }
 
 impl<Ctx: Copy, R: Read> IOread<Ctx> for R {}
 
-// Reads a value of any size. It isn't inlined, so that its room isn't its caller's.
-#[inline(never)]
-fn read_large<R: Read, Ctx: Copy, N: FromCtx<Ctx>>(
+// Reads a value of any size. Its room is its caller's only where the compiler inlines it, as it
+// does into a loop. It asks for the size itself, which is then a constant.
+fn read_large<R: Read, Ctx: Copy, N: FromCtx<Ctx> + SizeWith<Ctx>>(
     reader: &mut R,
-    size: usize,
     ctx: Ctx,
 ) -> io::Result<N>
-    requires need { N.need ctx ≤ size }
-    requires size { size ≤ 256 }
+    requires need { N.need ctx ≤ N.size ctx }
+    requires size { N.size ctx ≤ 256 }
     ensures took { IfOk result (λ x. TakesValue (R.remaining reader.old)
-        (R.remaining reader.new) size (λ bytes. N.makes ctx bytes x)) }
+        (R.remaining reader.new) (N.size ctx) (λ bytes. N.makes ctx bytes x)) }
 {
+    let size = N::size_with(&ctx);
     let mut scratch = [0u8; 256];
     read_value(reader, &mut scratch[..size], ctx)
 }
@@ -190,25 +190,24 @@ pub trait IOwrite<Ctx: Copy>: Write {
             let mut scratch = [0u8; SMALL];
             return write_value(self, n, &mut scratch[..size], ctx);
         }
-        write_large(self, n, size, ctx)
+        write_large(self, n, ctx)
     }
 }
 
 impl<Ctx: Copy, W: Write> IOwrite<Ctx> for W {}
 
-// Appends a value of any size. It isn't inlined, so that its room isn't its caller's.
-#[inline(never)]
-fn write_large<W: Write, Ctx: Copy, N: IntoCtx<Ctx>>(
+// Appends a value of any size, with room as that of `read_large`.
+fn write_large<W: Write, Ctx: Copy, N: SizeWith<Ctx> + IntoCtx<Ctx>>(
     writer: &mut W,
     n: N,
-    size: usize,
     ctx: Ctx,
 ) -> io::Result<()>
-    requires need { N.need ctx ≤ size }
-    requires size { size ≤ 256 }
+    requires need { N.need ctx ≤ N.size ctx }
+    requires size { N.size ctx ≤ 256 }
     ensures appended { OnOk result (AppendsValue (W.contents writer.old)
-        (W.contents writer.new) size (N.overwrites ctx n (replicate size 0))) }
+        (W.contents writer.new) (N.size ctx) (N.overwrites ctx n (replicate (N.size ctx) 0))) }
 {
+    let size = N::size_with(&ctx);
     let mut scratch = [0u8; 256];
     write_value(writer, n, &mut scratch[..size], ctx)
 }

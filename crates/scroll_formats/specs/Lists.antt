@@ -6,7 +6,7 @@ use Rattle.scroll.specs.Reads.{ReadsAll, RefusesAt}
 use Rattle.scroll_formats.specs.Spans.{Stands}
 use Rattle.scroll.specs.Errors.{PastEnd}
 use Rattle.scroll.specs.declared.error.Error.{Error}
-use Rattle.scroll.specs.declared.error.Error.TheVariants.{NoMemory}
+use Rattle.scroll_formats.specs.Many.{LacksMemory}
 
 -- the size of the number in LEB128 at the start of `s` if it is zero
 abbrev pub zero_size : List ℕ → Option ℕ
@@ -89,7 +89,8 @@ pub record RefusesAppend {V E : Type 0} (reads : List ℕ → V → ℕ → Type
     (buffer : List ℕ) (from : ℕ) (old new : List V) (stop : ℕ) (e : E) : Type 0 where
   pub values : AppendsListed reads mark buffer from stop old new
   pub more : stop ≤ length buffer → mark (drop stop buffer) ≡ None
-  pub error : RefusesAt refuses (PastEnd gives) buffer stop e ⊎ gives NoMemory e
+  pub error : RefusesAt refuses (PastEnd gives) buffer stop e
+      ⊎ LacksMemory reads gives buffer stop e
 
 -- no value of a list is left: there is the mark, or the next value can't be read
 abbrev pub NoneListed : {V E : Type 0} → (List ℕ → V → ℕ → Type 0) → (List ℕ → Option ℕ)

@@ -8,6 +8,17 @@ use Rattle.scroll.specs.Errors.{IsBadInput, PastEnd}
 use Rattle.scroll.specs.declared.error.Error.{Error}
 use Rattle.scroll.specs.declared.error.Error.TheVariants.{NoMemory}
 
+-- a value is read at the offset `stop`, and `e` says that there is no memory for it
+pub record LacksMemory {V E : Type 0} (reads : List ℕ → V → ℕ → Type 0) (gives : Error → E → Type 0)
+    (buffer : List ℕ) (stop : ℕ) (e : E) : Type 0 where
+  pub value : V
+  pub there : ReadsSome reads buffer stop value
+  pub error : gives NoMemory e
+
+-- a value that is read has at least one byte
+abbrev pub WithBytes : {V : Type 0} → (List ℕ → V → ℕ → Type 0) → List ℕ → V → ℕ → Type 0
+WithBytes reads s x n = reads s x n × (1 ≤ n)
+
 -- fewer than `count` values are read one after another from `from`, and the next, at `stop`, fails
 -- with `e`, or there is no memory for it
 pub record RefusesMany {V E : Type 0} (reads : List ℕ → V → ℕ → Type 0)
@@ -16,7 +27,8 @@ pub record RefusesMany {V E : Type 0} (reads : List ℕ → V → ℕ → Type 0
   pub values : List V
   pub fewer : length values < count
   pub each : ReadsAll reads buffer from values stop
-  pub error : RefusesAt refuses (PastEnd gives) buffer stop e ⊎ gives NoMemory e
+  pub error : RefusesAt refuses (PastEnd gives) buffer stop e
+      ⊎ LacksMemory reads gives buffer stop e
 
 -- the value at the offset `stop` has no bytes, or its size goes past the end; the error `e` is made
 -- of a `BadInput` with that size
@@ -37,10 +49,10 @@ pub record RefusesToEnd {V E : Type 0} (reads : List ℕ → V → ℕ → Type 
     (refuses : List ℕ → E → Type 0) (gives : Error → E → Type 0) (buffer : List ℕ)
     (from stop : ℕ) (e : E) : Type 0 where
   pub values : List V
-  pub each : ReadsAll reads buffer from values stop
+  pub each : ReadsAll (WithBytes reads) buffer from values stop
   pub more : stop ≢ length buffer
-  pub error : RefusesAt refuses (PastEnd gives) buffer stop e ⊎ gives NoMemory e
-      ⊎ RefusesSize reads gives buffer stop e
+  pub error : RefusesAt refuses (PastEnd gives) buffer stop e
+      ⊎ LacksMemory (WithBytes reads) gives buffer stop e ⊎ RefusesSize reads gives buffer stop e
 
 -- the values of `all` before some value are written one after another from `from`, and the write of
 -- that one, at `stop`, fails with `e` and leaves `new`

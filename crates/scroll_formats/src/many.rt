@@ -2,7 +2,7 @@
 ghost use Rattle.std.specs.Prelude.{◌≡◌, ◌≤◌, ◌<◌, ◌+◌, ◌∷◌, [], ℕ, List, length, take, IfOk, IfErr, OnOk, OnErr, ◌↔◌, ◌++◌, ◌⊎◌, IsTrue};
 ghost use Rattle.scroll.specs.Arrays.{WritesAll};
 ghost use Rattle.std.specs.List.{All};
-ghost use Rattle.scroll_formats.specs.Many.{RefusesMany, RefusesSize, RefusesToEnd, FailsMany, ChangesBetween, KeepsOne, KeepsAll, StopsBefore, KeepsPlaced};
+ghost use Rattle.scroll_formats.specs.Many.{LacksMemory, WithBytes, RefusesMany, RefusesSize, RefusesToEnd, FailsMany, ChangesBetween, KeepsOne, KeepsAll, StopsBefore, KeepsPlaced};
 ghost use Rattle.scroll.specs.Reads.{ReadsAll, ReadsBetween, RefusesAt};
 ghost use Rattle.scroll.specs.Errors.{PastEnd};
 ghost use Rattle.scroll.specs.Writes.{WritesAt, RefusesWriteAt};
@@ -22,8 +22,8 @@ use std::result::Result;
 ///
 /// Returns the error of the first value that can't be read, with the offset at which it starts, and
 /// leaves the cursor there. An allocation failure is the error [`Error::NoMemory`] of the value for
-/// which there was no memory. Memory is allocated as values are read, so a count that is too large
-/// costs none.
+/// which there was no memory, and hides no other error. Memory is allocated as values are read, so
+/// a count that is too large costs none.
 ///
 /// ```rust
 /// let file: &[u8] = &[1, 0, 2, 0, 3];
@@ -69,7 +69,7 @@ pub(crate) fn read_next<'a, Ctx: Copy, E: From<Error>, T: TryFromCtx<'a, Ctx, Er
     ensures read { OnOk result ((value : T) × (values.new.items ≡ values.old.items ++ value ∷ [])
         × ReadsBetween (T.reads ctx) from.now offset.old offset.new value) }
     ensures refused { IfErr result (λ e. RefusesAt (T.refuses ctx) (PastEnd E.from_gives)
-        from.now offset.old e ⊎ E.from_gives NoMemory e) }
+        from.now offset.old e ⊎ LacksMemory (T.reads ctx) E.from_gives from.now offset.old e) }
     ensures same { OnErr result (values.new.items ≡ values.old.items) }
     ensures stays { OnErr result (offset.new ≡ offset.old) }
 {
@@ -104,6 +104,8 @@ pub fn read_to_end<'a, Ctx: Copy, E: From<Error>, T: TryFromCtx<'a, Ctx, Error =
 ) -> Result<Vec<T>, At<E>>
     ensures read { IfOk result (λ values.
         ReadsAll (T.reads ctx) from.now offset.old values.items (length from.now)) }
+    ensures each { IfOk result (λ values. ReadsAll (WithBytes (T.reads ctx)) from.now offset.old
+        values.items (length from.now)) }
     ensures moves { OnOk result (offset.new ≡ length from.now) }
     ensures refused { IfErr result (λ located.
         RefusesToEnd (T.reads ctx) (T.refuses ctx) E.from_gives from.now offset.old
@@ -134,11 +136,12 @@ fn read_some<'a, Ctx: Copy, E: From<Error>, T: TryFromCtx<'a, Ctx, Error = E> + 
     ctx: Ctx,
 ) -> Result<(), E>
     ensures read { OnOk result ((value : T) × (values.new.items ≡ values.old.items ++ value ∷ [])
-        × ReadsBetween (T.reads ctx) from.now offset.old offset.new value) }
+        × ReadsBetween (WithBytes (T.reads ctx)) from.now offset.old offset.new value) }
     ensures forward { OnOk result (offset.old < offset.new) }
     ensures inside { OnOk result (offset.new ≤ length from.now) }
     ensures refused { IfErr result (λ e. RefusesAt (T.refuses ctx) (PastEnd E.from_gives)
-        from.now offset.old e ⊎ E.from_gives NoMemory e
+        from.now offset.old e
+        ⊎ LacksMemory (WithBytes (T.reads ctx)) E.from_gives from.now offset.old e
         ⊎ RefusesSize (T.reads ctx) E.from_gives from.now offset.old e) }
 {
     let start = *offset;

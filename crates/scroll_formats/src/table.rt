@@ -37,6 +37,8 @@ pub struct Table<'a, T> {
 impl<'a, T> Copy for Table<'a, T> {}
 
 impl<'a, T> Clone for Table<'a, T> {
+    ghost is_clone = { λ old new. new ≡ old };
+
     ghost is_infallible = { λ _. ⊤ };
 
     #[inline(always)]
@@ -109,6 +111,8 @@ pub struct Elements<'a, T> {
 impl<'a, T> Copy for Elements<'a, T> {}
 
 impl<'a, T> Clone for Elements<'a, T> {
+    ghost is_clone = { λ old new. new ≡ old };
+
     ghost is_infallible = { λ _. ⊤ };
 
     #[inline(always)]

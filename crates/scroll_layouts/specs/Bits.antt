@@ -1,14 +1,15 @@
 -- Fields of some bits in one number of some bytes.
-use Rattle.std.specs.Prelude.{◌+◌, ◌<◌, ◌≤◌, ◌⊎◌, ◌^◌, ℕ, length, drop, codes}
+use Rattle.std.proofs.Common.{refl}
+use Rattle.std.specs.Prelude.{◌+◌, ◌<◌, ◌≤◌, ◌⊎◌, ◌^◌, ⊤, ℕ, length, drop, codes}
 use Rattle.scroll.specs.Numbers.{number, number_bytes}
 use Rattle.scroll.specs.declared.error.Error.{Error}
 use Rattle.scroll.specs.lemmas.FixedLemmas.{number-back-at, number-kept, number-bound}
 use Rattle.scroll.specs.lemmas.Frames.{length-number_bytes}
 use Rattle.scroll.specs.lemmas.NumberLemmas.{bytes-fit}
 use Rattle.scroll_layouts.specs.Errors.{NoRoom, GivesBadInput}
-use Rattle.scroll_layouts.specs.Fields.{Fields, packed, splits, small, highest, TooLarge}
+use Rattle.scroll_layouts.specs.Fields.{Fields, packed, splits, small, highest, same_bits, TooLarge}
 use Rattle.scroll_layouts.specs.Formats.{Leaf}
-use Rattle.scroll_layouts.specs.lemmas.BitLemmas.{splits-packed, packed-splits, splits-small, splits-bound}
+use Rattle.scroll_layouts.specs.lemmas.BitLemmas.{splits-packed, packed-splits, splits-small, splits-bound, splits-one}
 use Rattle.scroll_layouts.specs.lemmas.Parts.{part-within}
 
 -- fields in a number of `w` bytes. A highest field that has no room is `BadInput` with the field
@@ -23,6 +24,8 @@ packed_in gives w f = record {
   leaf_differs = λ order x e. TooLarge gives f x e
       ⊎ (small f x × (256 ^ w ≤ packed f x)
       × GivesBadInput gives (highest f x) (codes "a field has more bits") e);
+  leaf_same = same_bits f;
+  leaf_told = ⊤;
   leaf_inside = λ order s at x here h. h.0;
   leaf_made = λ order s at x all h. (
     splits-small f (number order w (drop at s)) x h.1,
@@ -38,4 +41,6 @@ packed_in gives w f = record {
   leaf_kept = λ order s at x all h.
       number-kept order w s at (packed f x) all h.0
       (packed-splits f (number order w (drop at s)) x h.1);
+  leaf_one = λ t order s at x y all h k.
+      (refl, splits-one f (number order w (drop at s)) x y h.1 k.1);
 }

@@ -29,6 +29,11 @@ abbrev pub highest : {X : Type 0} → Fields X → X → ℕ
 highest top x = x
 highest (below f mask) x = highest f x.0
 
+-- `same_bits f x y`: each field of the one is that of the other
+abbrev pub same_bits : {X : Type 0} → Fields X → X → X → Type 0
+same_bits top x y = x ≡ y
+same_bits (below f mask) x y = same_bits f x.0 y.0 × (x.1 ≡ y.1)
+
 -- `TooLarge gives f x e`: the first field, from the highest on, that is above its mask is
 -- `BadInput` with the field and the message `a field has more bits`
 abbrev pub TooLarge : {E X : Type 0} → (Error → E → Type 0) → Fields X → X → E → Type 0

@@ -13,8 +13,8 @@ use Rattle.scroll_layouts.specs.declared.choice.Choice.{Choice}
 use Rattle.scroll_layouts.specs.declared.choice.Choice.TheVariants.{First, Second}
 
 -- a kind of value that isn't put together from others, such as a number in LEB128: how many bytes a
--- value has, which these are, what a read gives and refuses, and which values a write refuses; with
--- its laws
+-- value has, which these are, what a read gives and refuses, which values a write refuses, which
+-- values are the same, and what has to be so for a source to have one value; with its laws
 pub record Leaf (E X : Type 0) : Type 1 where
   pub leaf_len : X → ℕ
   pub leaf_bytes : Endian → X → List ℕ
@@ -22,6 +22,8 @@ pub record Leaf (E X : Type 0) : Type 1 where
   pub leaf_refuses : Endian → List ℕ → ℕ → E → Type 0
   pub leaf_agrees : Endian → X → Type 0
   pub leaf_differs : Endian → X → E → Type 0
+  pub leaf_same : X → X → Type 0
+  pub leaf_told : Type 0
   pub leaf_inside : (order : Endian) (s : List ℕ) (at : ℕ) (x : X) → at ≤ length s
       → leaf_reads order s at x → at + leaf_len x ≤ length s
   pub leaf_made : (order : Endian) (s : List ℕ) (at : ℕ) (x : X) → All (λ b. b < 256) s
@@ -32,6 +34,9 @@ pub record Leaf (E X : Type 0) : Type 1 where
       → leaf_reads order (prefix ++ (leaf_bytes order x ++ rest)) (length prefix) x
   pub leaf_kept : (order : Endian) (s : List ℕ) (at : ℕ) (x : X) → All (λ b. b < 256) s
       → leaf_reads order s at x → leaf_bytes order x ≡ take (leaf_len x) (drop at s)
+  pub leaf_one : leaf_told → (order : Endian) (s : List ℕ) (at : ℕ) (x y : X)
+      → All (λ b. b < 256) s → leaf_reads order s at x → leaf_reads order s at y
+      → (leaf_len x ≡ leaf_len y) × leaf_same x y
 
 -- `Format E X`: the format of values of `X`, whose errors are of `E`. `gives` says which error of
 -- `E` an `Error` becomes.
@@ -39,9 +44,10 @@ pub record Leaf (E X : Type 0) : Type 1 where
 -- `counted gives n`: `n` bytes
 -- `zeros gives n`: `n` zero bytes, which are no part of the value
 -- `last f get`: the one part that `get` takes out of the value, in the format `f`
--- `part f get rest`: the part that `get` takes out of the value, in the format `f`, and then what
--- `rest` says of it
--- `rule P fails f`: `P` holds, or `fails` says the error
+-- `pair f g`: a value, and the one after it
+-- `headed f holds fails next rest`: a head that `holds` of, or `fails` says the error; and the value
+-- after it, in the format that `rest` says for what the head says by `next`
+-- `padded gives m f`: a value, and zeros up to a multiple of `m` bytes, counted from its first one
 -- `within gives n f`: a value in the format `f` that uses up `n` bytes
 -- `leaf l`: a value of the kind `l`
 -- `choice gives b f g`: one of two values, by `b`
@@ -51,8 +57,10 @@ pub data Format (E : Type 0) : Type 0 → Type 1 where
   counted : (Error → E → Type 0) → ℕ → Format E (List ℕ)
   zeros : {X : Type 0} → (Error → E → Type 0) → ℕ → Format E X
   last : {X Y : Type 0} → Format E Y → (X → Y) → Format E X
-  part : {X Y : Type 0} → Format E Y → (X → Y) → (Y → Format E X) → Format E X
-  rule : {X : Type 0} → (P : Type 0) → (E → Type 0) → Format E X → Format E X
+  pair : {A B : Type 0} → Format E A → Format E B → Format E (A × B)
+  headed : {A B D : Type 0} → Format E A → (A → Type 0) → (A → E → Type 0) → (A → D)
+      → (D → Format E B) → Format E (A × B)
+  padded : {A : Type 0} → (Error → E → Type 0) → ℕ → Format E A → Format E A
   within : {X : Type 0} → (Error → E → Type 0) → ℕ → Format E X → Format E X
   leaf : {X : Type 0} → Leaf E X → Format E X
   choice : {A B : Type 0} → (Error → E → Type 0) → Bool → Format E A → Format E B
@@ -65,8 +73,9 @@ len (run gives p) x = width p
 len (counted gives n) x = n
 len (zeros gives n) x = n
 len (last f get) x = len f (get x)
-len (part f get rest) x = len f (get x) + len (rest (get x)) x
-len (rule P fails f) x = len f x
+len (pair f g) x = len f x.0 + len g x.1
+len (headed f holds fails next rest) x = len f x.0 + len (rest (next x.0)) x.1
+len (padded gives m f) x = len f x + padding_len (len f x) m
 len (within gives n f) x = n
 len (leaf l) x = l.leaf_len x
 len (choice gives b f g) (First x) = len f x
@@ -80,8 +89,11 @@ bytes (run gives p) order x = laid_bytes p order x
 bytes (counted gives n) order x = x
 bytes (zeros gives n) order x = replicate n 0
 bytes (last f get) order x = bytes f order (get x)
-bytes (part f get rest) order x = bytes f order (get x) ++ bytes (rest (get x)) order x
-bytes (rule P fails f) order x = bytes f order x
+bytes (pair f g) order x = bytes f order x.0 ++ bytes g order x.1
+bytes (headed f holds fails next rest) order x =
+    bytes f order x.0 ++ bytes (rest (next x.0)) order x.1
+bytes (padded gives m f) order x =
+    bytes f order x ++ replicate (padding_len (len f x) m) 0
 bytes (within gives n f) order x = bytes f order x
 bytes (leaf l) order x = l.leaf_bytes order x
 bytes (choice gives b f g) order (First x) = bytes f order x
@@ -96,9 +108,16 @@ reads (run gives p) order s at x = (at + width p ≤ length s) × makes p order 
 reads (counted gives n) order s at x = (at + n ≤ length s) × (x ≡ take n (drop at s))
 reads (zeros gives n) order s at x = (at + n ≤ length s) × (take n (drop at s) ≡ replicate n 0)
 reads (last f get) order s at x = reads f order s at (get x)
-reads (part f get rest) order s at x =
-    reads f order s at (get x) × reads (rest (get x)) order s (at + len f (get x)) x
-reads (rule P fails f) order s at x = P × reads f order s at x
+reads (pair f g) order s at x =
+    reads f order s at x.0 × reads g order s (at + len f x.0) x.1
+reads (headed f holds fails next rest) order s at x =
+    reads f order s at x.0
+    × (holds x.0 × reads (rest (next x.0)) order s (at + len f x.0) x.1)
+reads (padded gives m f) order s at x =
+    reads f order s at x
+    × ((at + len f x + padding_len (len f x) m ≤ length s)
+    × (take (padding_len (len f x) m) (drop (at + len f x) s)
+    ≡ replicate (padding_len (len f x) m) 0))
 reads (within gives n f) order s at x =
     (at + n ≤ length s) × reads f order (take n (drop at s)) 0 x × (len f x ≡ n)
 reads (leaf l) order s at x = l.leaf_reads order s at x
@@ -121,10 +140,17 @@ refuses (counted gives n) order s at e = NoRoom gives n (drop at s) e
 refuses (zeros gives n) order s at e =
     (inner : Error) × RefusesZeros n (drop at s) inner × gives inner e
 refuses (last f get) order s at e = refuses f order s at e
-refuses (part {X} {Y} f get rest) order s at e =
+refuses (pair {A} {B} f g) order s at e =
     refuses f order s at e
-    ⊎ ((y : Y) × reads f order s at y × refuses (rest y) order s (at + len f y) e)
-refuses (rule P fails f) order s at e = fails e ⊎ (P × refuses f order s at e)
+    ⊎ ((y : A) × reads f order s at y × refuses g order s (at + len f y) e)
+refuses (headed {A} {B} {D} f holds fails next rest) order s at e =
+    refuses f order s at e
+    ⊎ ((y : A) × reads f order s at y
+    × (fails y e ⊎ (holds y × refuses (rest (next y)) order s (at + len f y) e)))
+refuses (padded {A} gives m f) order s at e =
+    refuses f order s at e
+    ⊎ ((y : A) × reads f order s at y × ((inner : Error)
+    × RefusesZeros (padding_len (len f y) m) (drop (at + len f y) s) inner × gives inner e))
 refuses (within {X} gives n f) order s at e =
     NoRoom gives n (drop at s) e
     ⊎ ((at + n ≤ length s) × refuses f order (take n (drop at s)) 0 e)
@@ -143,8 +169,10 @@ agrees (run gives p) order x = fits p x
 agrees (counted gives n) order x = n ≡ length x
 agrees (zeros gives n) order x = ⊤
 agrees (last f get) order x = agrees f order (get x)
-agrees (part f get rest) order x = agrees f order (get x) × agrees (rest (get x)) order x
-agrees (rule P fails f) order x = P × agrees f order x
+agrees (pair f g) order x = agrees f order x.0 × agrees g order x.1
+agrees (headed f holds fails next rest) order x =
+    agrees f order x.0 × (holds x.0 × agrees (rest (next x.0)) order x.1)
+agrees (padded gives m f) order x = agrees f order x
 agrees (within gives n f) order x = agrees f order x × (len f x ≡ n)
 agrees (leaf l) order x = l.leaf_agrees order x
 agrees (choice gives true f g) order (First x) = agrees f order x
@@ -167,9 +195,13 @@ differs (counted gives n) order x e =
     (n ≢ length x) × GivesBadInput gives (length x) (codes "another length than its count") e
 differs (zeros gives n) order x e = ⊥
 differs (last f get) order x e = differs f order (get x) e
-differs (part f get rest) order x e =
-    differs f order (get x) e ⊎ (agrees f order (get x) × differs (rest (get x)) order x e)
-differs (rule P fails f) order x e = fails e ⊎ (P × differs f order x e)
+differs (pair f g) order x e =
+    differs f order x.0 e ⊎ (agrees f order x.0 × differs g order x.1 e)
+differs (headed f holds fails next rest) order x e =
+    differs f order x.0 e
+    ⊎ (agrees f order x.0
+    × (fails x.0 e ⊎ (holds x.0 × differs (rest (next x.0)) order x.1 e)))
+differs (padded gives m f) order x e = differs f order x e
 differs (within gives n f) order x e =
     differs f order x e
     ⊎ (agrees f order x × ((len f x ≢ n) ⊎ (n ≡ 2 ^ 64 - 1))
@@ -194,24 +226,10 @@ exact (run gives p) = exact_layout p
 exact (counted gives n) = ⊤
 exact (zeros gives n) = ⊤
 exact (last f get) = exact f
-exact (part {X} {Y} f get rest) = exact f × ((y : Y) → exact (rest y))
-exact (rule P fails f) = exact f
+exact (pair f g) = exact f × exact g
+exact (headed {A} {B} {D} f holds fails next rest) = exact f × ((d : D) → exact (rest d))
+exact (padded gives m f) = exact f
 exact (within gives n f) = exact f
 exact (leaf l) = ⊤
 exact (choice gives b f g) = exact f × exact g
 exact (when gives b f) = exact f
-
--- a value, and the one after it
-abbrev pub pair : {E A B : Type 0} → Format E A → Format E B → Format E (A × B)
-pair f g = part f (λ x. x.0) (λ a. last g (λ x. x.1))
-
--- a value that obeys a rule, and what it says of the one after it
-abbrev pub headed : {E A B : Type 0} → Format E A → (A → Type 0) → (A → E → Type 0)
-    → (A → Format E B) → Format E (A × B)
-headed f holds fails next =
-    part f (λ x. x.0) (λ a. rule (holds a) (fails a) (last (next a) (λ x. x.1)))
-
--- a value, and zeros up to a multiple of a size, counted from its first byte
-abbrev pub padded : {E A : Type 0} → (Error → E → Type 0) → ℕ → Format E A → Format E A
-padded gives multiple f =
-    part f (λ x. x) (λ x. zeros gives (padding_len (len f x) multiple))

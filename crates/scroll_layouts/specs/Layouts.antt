@@ -1,6 +1,6 @@
 -- Values of a fixed size. A layout says what stands in their bytes: a number, an array, or fields,
 -- one after another.
-use Rattle.std.specs.Prelude.{◌≡◌, ◌<◌, ◌+◌, ◌*◌, ◌^◌, ◌++◌, ⊤, T, ℕ, List, length, drop, ℤ, pos, neg_ℤ, ◌*ℤ◌, ◌≤ℤ◌, ◌<ℤ◌}
+use Rattle.std.specs.Prelude.{◌≡◌, ◌<◌, ◌+◌, ◌*◌, ◌^◌, ◌++◌, ⊤, T, ℕ, List, length, drop, ℤ, pos, neg_ℤ, ◌*ℤ◌, ◌≤ℤ◌, ◌<ℤ◌, Bool, true, false, slice_index_or}
 use Rattle.std.specs.Float.{Float, Format}
 use Rattle.std.specs.Float.Ieee as ieee
 use Rattle.std.specs.List.{All, flat_map}
@@ -69,3 +69,28 @@ exact_layout (floating form) = ⊥
 exact_layout (array n p) = exact_layout p
 exact_layout (only p get) = exact_layout p
 exact_layout (field p get rest) = exact_layout p × exact_layout rest
+
+-- `is_plain p`: whether a value is a number or an array of numbers, and so no struct or tuple
+abbrev pub is_plain : {X : Type 0} → Layout X → Bool
+is_plain (unsigned w) = true
+is_plain (signed w) = true
+is_plain (floating form) = true
+is_plain (array n p) = is_plain p
+is_plain (only p get) = false
+is_plain (field p get rest) = false
+
+-- `same_elements b same xs ys`: two lists of one length are equal; or, if `b` is false, their
+-- elements are the same, each by `same`
+abbrev pub same_elements : {X : Type 0} → Bool → (X → X → Type 0) → List X → List X → Type 0
+same_elements true same xs ys = xs ≡ ys
+same_elements {X} false same xs ys =
+    (i : ℕ) (d : X) → i < length xs → same (slice_index_or xs i d) (slice_index_or ys i d)
+
+-- `same_fields p x y`: each field of the one value is that of the other
+abbrev pub same_fields : {X : Type 0} → Layout X → X → X → Type 0
+same_fields (unsigned w) x y = x ≡ y
+same_fields (signed w) x y = x ≡ y
+same_fields (floating form) x y = x ≡ y
+same_fields (array n p) xs ys = same_elements (is_plain p) (same_fields p) xs ys
+same_fields (only p get) x y = same_fields p (get x) (get y)
+same_fields (field p get rest) x y = same_fields p (get x) (get y) × same_fields rest x y

@@ -1,5 +1,5 @@
 -- Numbers in LEB128, C strings and texts, as `scroll` reads and writes them.
-use Rattle.std.proofs.Common.{◌≡◌, ◌≢◌, ℕ, ℤ, ◌+◌, ◌<◌, ◌++◌, List, [], ◌∷◌, length, take, sym, ap, subst, ◌∙◌, arith, IsUtf8, length-append, append_assoc}
+use Rattle.std.proofs.Common.{refl, ◌≡◌, ◌≢◌, ℕ, ℤ, ◌+◌, ◌<◌, ◌++◌, List, [], ◌∷◌, length, take, sym, ap, subst, ◌∙◌, arith, IsUtf8, length-append, append_assoc}
 use Rattle.std.proofs.lemmas.List.{length-take-le}
 use Rattle.std.proofs.lemmas.List.Elements.{All-from_get_or}
 use Rattle.std.specs.Prelude.{codes, slice_index}
@@ -34,6 +34,7 @@ uleb gives = record {
   start_refuses = λ s e. (inner : Error) × RefusesUleb s inner × gives inner e;
   start_agrees = λ x. HasEncoding x.value x.count;
   start_differs = λ x e. ⊥;
+  start_same = λ x y. (x.value ≡ y.value) × (x.count ≡ y.count);
   start_inside = uleb-inside;
   start_made = λ s x n all h. subst (HasEncoding x.value) (sym h.1)
       ((reads_encoding unsigned-form s x.value n all).0 h.0).has;
@@ -42,6 +43,8 @@ uleb gives = record {
   start_kept = λ s x n all h.
       ap (λ k. uleb_text (record { value = x.value; count = k })) h.1
       ∙ sym ((reads_encoding unsigned-form s x.value n all).0 h.0).prefix;
+  start_one = λ s x y h k.
+      (h.0.size ∙ sym k.0.size, (h.0.value ∙ sym k.0.value, h.0.size ∙ sym k.0.size));
 }
 
 -- a signed number in LEB128
@@ -53,6 +56,7 @@ sleb gives = record {
   start_refuses = λ s e. (inner : Error) × RefusesSleb s inner × gives inner e;
   start_agrees = λ x. HasSignedEncoding x.value x.count;
   start_differs = λ x e. ⊥;
+  start_same = λ x y. (x.value ≡ y.value) × (x.count ≡ y.count);
   start_inside = sleb-inside;
   start_made = λ s x n all h. subst (HasSignedEncoding x.value) (sym h.1)
       ((reads_encoding signed-form s x.value n all).0 h.0).has;
@@ -61,6 +65,8 @@ sleb gives = record {
   start_kept = λ s x n all h.
       ap (λ k. sleb_text (record { value = x.value; count = k })) h.1
       ∙ sym ((reads_encoding signed-form s x.value n all).0 h.0).prefix;
+  start_one = λ s x y h k.
+      (h.0.size ∙ sym k.0.size, (h.0.value ∙ sym k.0.value, h.0.size ∙ sym k.0.size));
 }
 
 -- a C string: a text without a zero, and a zero
@@ -72,11 +78,13 @@ c_string gives = record {
   start_refuses = λ s e. (inner : Error) × RefusesCString s inner × gives inner e;
   start_agrees = λ text. index_of 0 text ≡ length text;
   start_differs = λ text e. ⊥;
+  start_same = λ x y. x ≡ y;
   start_inside = λ s x n h. omega (arith, h.found, h.size);
   start_made = λ s x n all h. without-before 0 s x (omega (arith, h.found)) h.value;
   start_bytes-len = λ x h. length-append x (0 ∷ []);
   start_back = λ x rest h. c_string-begins x rest (without 0 x h);
   start_kept = λ s x n all h. sym (zero-there s x n h);
+  start_one = λ s x y h k. (h.size ∙ sym k.size, h.value ∙ sym k.value);
 }
 
 -- a text of `n` bytes. A text of another length is `BadInput` with its length and the message
@@ -90,11 +98,13 @@ text_of gives n = record {
   start_agrees = λ text. (n ≡ length text) × IsUtf8 text;
   start_differs = λ text e. (n ≢ length text)
       × GivesBadInput gives (length text) (codes "another length than its count") e;
+  start_same = λ x y. x ≡ y;
   start_inside = λ s x m h. omega (arith, h.room, h.size);
   start_made = λ s x m all h. (sym (ap length h.prefix ∙ length-take-le n s h.room), h.utf8);
   start_bytes-len = λ x h. sym h.0;
   start_back = λ x rest h. text-begins x n (sym h.0) h.1 rest;
   start_kept = λ s x m all h. h.prefix ∙ ap (λ k. take k s) (omega (arith, h.size));
+  start_one = λ s x y h k. (refl, h.prefix ∙ sym k.prefix);
 }
 
 -- a text without the byte `d`, and that byte. A text that has it is `BadInput` with the offset of
@@ -109,6 +119,7 @@ text_until gives d = record {
   start_differs = λ text e. (i : ℕ) × (i < length text) × (slice_index text i ≡ d)
       × ((k : ℕ) → k < i → slice_index text k ≢ d)
       × GivesBadInput gives i (codes "a text has its delimiter") e;
+  start_same = λ x y. x ≡ y;
   start_inside = λ s x m h. omega (arith, h.there, h.size);
   start_made = λ s x m all h.
       (delimited d x (without-before d s x (omega (arith, h.there)) h.prefix), h.utf8);
@@ -117,4 +128,5 @@ text_until gives d = record {
       subst (λ l. ReadsText (Required d) l x (length x + 1)) (sym (append_assoc x (d ∷ []) rest))
       (required-again d x rest (All-from_get_or (λ b. b ≢ d) x 0 h.0) h.1);
   start_kept = λ s x m all h. sym (required-back d s x m h);
+  start_one = λ s x y h k. (h.size ∙ sym k.size, h.prefix ∙ sym k.prefix);
 }

@@ -2,13 +2,14 @@
 pub mod Errors
 pub mod Layouts
 pub mod Formats
+pub mod OneWay
 pub mod Starts
 pub mod Leaves
 pub mod Lists
 pub mod Marks
+pub mod ListLeaves
 pub mod Fields
 pub mod Bits
-pub mod OneWay
 pub mod Wholes
 pub mod Each
 -- Lemmas, and no definitions, which the laws of implementations cite.

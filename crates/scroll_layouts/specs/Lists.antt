@@ -1,11 +1,9 @@
--- Lists that are borrowed as their bytes, and read where they lie.
-use Rattle.std.proofs.Common.{refl}
+-- Lists of values of any size, and what is read of them where they lie.
 use Rattle.std.specs.Prelude.{◌≡◌, ◌≢◌, ◌+◌, ◌<◌, ◌≤◌, ◌⊎◌, ℕ, List, [], ◌∷◌, length, take, drop, codes, Option, Some, None}
 use Rattle.scroll.specs.declared.endian.Endian.{Endian}
 use Rattle.scroll.specs.declared.error.Error.{Error}
-use Rattle.scroll_layouts.specs.Errors.{NoRoom, GivesBadInput}
-use Rattle.scroll_layouts.specs.Formats.{Format, Leaf, reads, refuses, len}
-use Rattle.scroll_layouts.specs.lemmas.Parts.{part-within, slice-back}
+use Rattle.scroll_layouts.specs.Errors.{GivesBadInput}
+use Rattle.scroll_layouts.specs.Formats.{Format, reads, refuses, len}
 
 -- `Items f order s at xs to`: the values `xs` stand one after another from the offset `at` to the
 -- offset `to`, and each has a byte
@@ -63,42 +61,3 @@ pub record RefusesCounted {E X : Type 0} (gives : Error → E → Type 0) (f : F
   pub before : CountedItems f order s 0 stop done
   pub fewer : done < n
   pub error : StopsAtItem gives f order s stop e
-
--- `held P refused other`: bytes that are borrowed, of which `P` holds; `refused` says the errors of
--- a read, and `other` those of a write of bytes of which `P` doesn't hold
-abbrev pub held : {E : Type 0} → (Endian → List ℕ → Type 0) → (Endian → List ℕ → ℕ → E → Type 0)
-    → (Endian → List ℕ → E → Type 0) → Leaf E (List ℕ)
-held P refused other = record {
-  leaf_len = λ x. length x;
-  leaf_bytes = λ order x. x;
-  leaf_reads = λ order s at x.
-      (at + length x ≤ length s) × (x ≡ take (length x) (drop at s)) × P order x;
-  leaf_refuses = refused;
-  leaf_agrees = P;
-  leaf_differs = other;
-  leaf_inside = λ order s at x here h. h.0;
-  leaf_made = λ order s at x all h. h.2;
-  leaf_bytes-len = λ order x h. refl;
-  leaf_back = λ order x prefix rest h.
-      (part-within (length x) x prefix rest refl, slice-back (length x) x prefix rest refl, h);
-  leaf_kept = λ order s at x all h. h.1;
-}
-
--- a list of values that use up `n` bytes. A list of another length is `BadInput` with its length
--- and the message `another length than its count`
-abbrev pub list_within : {E X : Type 0} → (Error → E → Type 0) → Format E X → ℕ → Leaf E (List ℕ)
-list_within gives f n = held (λ order x. (n ≡ length x) × SomeItems f order x 0 (length x))
-    (λ order s at e. NoRoom gives n (drop at s) e
-    ⊎ ((at + n ≤ length s) × RefusesItems gives f order (take n (drop at s)) e))
-    (λ order x e. ((n ≢ length x)
-    × GivesBadInput gives (length x) (codes "another length than its count") e)
-    ⊎ ((n ≡ length x) × RefusesItems gives f order x e))
-
--- a list of `n` values. One that has bytes after them is `BadInput` with the offset where they end
--- and the message `another length than its values`
-abbrev pub list_of : {E X : Type 0} → (Error → E → Type 0) → Format E X → ℕ → Leaf E (List ℕ)
-list_of gives f n = held (λ order x. CountedItems f order x 0 (length x) n)
-    (λ order s at e. RefusesCounted gives f order n (drop at s) e)
-    (λ order x e. RefusesCounted gives f order n x e
-    ⊎ ((to : ℕ) × CountedItems f order x 0 to n × (to ≢ length x)
-    × GivesBadInput gives to (codes "another length than its values") e))

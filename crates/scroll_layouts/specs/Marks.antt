@@ -1,10 +1,9 @@
 -- Lists that end with a mark, such as a zero byte in the place of a value.
-use Rattle.std.specs.Prelude.{◌≡◌, ◌≢◌, ◌+◌, ◌≤◌, ◌⊎◌, ℕ, List, [], ◌∷◌, length, take, drop, codes}
+use Rattle.std.specs.Prelude.{◌≡◌, ◌+◌, ◌≤◌, ℕ, List, [], ◌∷◌, length, take, drop}
 use Rattle.scroll.specs.declared.endian.Endian.{Endian}
 use Rattle.scroll.specs.declared.error.Error.{Error}
-use Rattle.scroll_layouts.specs.Errors.{GivesBadInput}
-use Rattle.scroll_layouts.specs.Formats.{Format, Leaf, reads, len}
-use Rattle.scroll_layouts.specs.Lists.{StopsAtItem, held}
+use Rattle.scroll_layouts.specs.Formats.{Format, reads, len}
+use Rattle.scroll_layouts.specs.Lists.{StopsAtItem}
 
 -- the mark stands at the offset `at`
 abbrev pub MarkAt : List ℕ → List ℕ → ℕ → Type 0
@@ -40,13 +39,3 @@ pub record RefusesMarked {E X : Type 0} (gives : Error → E → Type 0) (mark :
   pub before : SomeBefore mark f order s 0 stop
   pub other : MarkAt mark s stop → ⊥
   pub error : StopsAtItem gives f order s stop e
-
--- a list of values up to a mark, with the mark. One that has bytes after the mark is `BadInput`
--- with the offset where the mark ends and the message `another length than its values`
-abbrev pub list_until : {E X : Type 0} → (Error → E → Type 0) → List ℕ → Format E X
-    → Leaf E (List ℕ)
-list_until gives mark f = held (λ order x. MarkedItems mark f order x 0 (length x))
-    (λ order s at e. RefusesMarked gives mark f order (drop at s) e)
-    (λ order x e. RefusesMarked gives mark f order x e
-    ⊎ ((end : ℕ) × MarkedItems mark f order x 0 end × (end ≢ length x)
-    × GivesBadInput gives end (codes "another length than its values") e))

@@ -1,44 +1,66 @@
--- Formats that read a source in one way. It has one length, and no value and an error. Lists of
--- such values are walked where they lie.
-use Rattle.std.specs.Prelude.{◌≡◌, ⊤, ℕ, List}
+-- Formats that read a source in one way: all values that it has are the same, and it has no value
+-- and an error. So what was written and is read again is the same, and lists of such values are
+-- walked where they lie.
+use Rattle.std.specs.List.{All}
+use Rattle.std.specs.Prelude.{◌≡◌, ◌<◌, ⊤, ℕ, List, Some, None}
 use Rattle.scroll.specs.declared.endian.Endian.{Endian}
-use Rattle.scroll_layouts.specs.Formats.{Format, run, counted, zeros, last, part, rule, within, leaf, choice, when, reads, refuses, len}
+use Rattle.scroll_layouts.specs.Layouts.{same_fields}
+use Rattle.scroll_layouts.specs.Formats.{Format, run, counted, zeros, last, pair, headed, padded, within, leaf, choice, when}
+use Rattle.scroll_layouts.specs.declared.choice.Choice.TheVariants.{First, Second}
 
--- what the one format reads and refuses, the other does, and their lengths are equal
-pub record Alike {E X : Type 0} (f g : Format E X) : Type 0 where
-  pub reads_too : (order : Endian) (s : List ℕ) (at : ℕ) (x : X) → reads f order s at x
-      → reads g order s at x
-  pub refuses_too : (order : Endian) (s : List ℕ) (at : ℕ) (e : E) → refuses f order s at e
-      → refuses g order s at e
-  pub long : (x : X) → len f x ≡ len g x
+-- `same f x y`: each part of the one value is that of the other
+abbrev pub same : {E X : Type 0} → Format E X → X → X → Type 0
+same (run gives p) x y = same_fields p x y
+same (counted gives n) x y = x ≡ y
+same (zeros gives n) x y = ⊤
+same (last f get) x y = same f (get x) (get y)
+same (pair f g) x y = same f x.0 y.0 × same g x.1 y.1
+same (headed f holds fails next rest) x y = same f x.0 y.0 × same (rest (next x.0)) x.1 y.1
+same (padded gives m f) x y = same f x y
+same (within gives n f) x y = same f x y
+same (leaf l) x y = l.leaf_same x y
+same (choice gives b f g) (First x) (First y) = same f x y
+same (choice gives b f g) (First x) (Second y) = ⊥
+same (choice gives b f g) (Second x) (First y) = ⊥
+same (choice gives b f g) (Second x) (Second y) = same g x y
+same (when gives b f) (Some x) (Some y) = same f x y
+same (when gives b f) (Some x) None = ⊥
+same (when gives b f) None (Some y) = ⊥
+same (when gives b f) None None = ⊤
 
--- what one head says, another one does: that it obeys the rule, or the error, and what follows it
-pub record SaysAs {A D E : Type 0} (holds : A → Type 0) (fails : A → E → Type 0) (next : A → D)
-    (x y : A) : Type 0 where
-  pub holds_too : holds x → holds y
-  pub fails_too : (e : E) → fails x e → fails y e
-  pub next_is : next x ≡ next y
+-- `told f`: heads whose parts are the same say the same of what follows them
+abbrev pub told : {E X : Type 0} → Format E X → Type 0
+told (run gives p) = ⊤
+told (counted gives n) = ⊤
+told (zeros gives n) = ⊤
+told (last f get) = told f
+told (pair f g) = told f × told g
+told (headed {A} {B} {D} f holds fails next rest) =
+    told f × ((x y : A) → same f x y → next x ≡ next y) × ((d : D) → told (rest d))
+told (padded gives m f) = told f
+told (within gives n f) = told f
+told (leaf l) = l.leaf_told
+told (choice gives b f g) = told f × told g
+told (when gives b f) = told f
 
--- `one_way f`: what is asked of a format for that: a rule isn't obeyed and broken by one value,
--- values of one part that a source has say the same of what follows, and each leaf reads a source
--- in one way
+-- `one_way f`: the same; and of heads whose parts are the same none obeys the rule where another
+-- one breaks it, and a source has no value of a leaf and an error
 abbrev pub one_way : {E X : Type 0} → Format E X → Type 0
 one_way (run gives p) = ⊤
 one_way (counted gives n) = ⊤
 one_way (zeros gives n) = ⊤
 one_way (last f get) = one_way f
-one_way (part {X} {Y} f get rest) =
+one_way (pair f g) = one_way f × one_way g
+one_way {E} (headed {A} {B} {D} f holds fails next rest) =
     one_way f
-    × ((order : Endian) (s : List ℕ) (at : ℕ) (y z : Y) → reads f order s at y
-    → reads f order s at z → Alike (rest y) (rest z))
-    × ((y : Y) → one_way (rest y))
-one_way {E} (rule P fails f) = (P → (e : E) → fails e → ⊥) × one_way f
+    × ((x y : A) → same f x y → next x ≡ next y)
+    × ((x y : A) (e : E) → same f x y → holds x → fails y e → ⊥)
+    × ((d : D) → one_way (rest d))
+one_way (padded gives m f) = one_way f
 one_way (within gives n f) = one_way f
 one_way {E} {X} (leaf l) =
-    ((order : Endian) (s : List ℕ) (at : ℕ) (x y : X) → l.leaf_reads order s at x
-    → l.leaf_reads order s at y → l.leaf_len x ≡ l.leaf_len y)
-    × ((order : Endian) (s : List ℕ) (at : ℕ) (x : X) (e : E) → l.leaf_reads order s at x
-    → l.leaf_refuses order s at e → ⊥)
-    × ⊤
+    l.leaf_told
+    × ((order : Endian) (s : List ℕ) (at : ℕ) (x : X) (e : E) → All (λ b. b < 256) s
+    → l.leaf_reads order s at x → l.leaf_refuses order s at e → ⊥)
 one_way (choice gives b f g) = one_way f × one_way g
 one_way (when gives b f) = one_way f

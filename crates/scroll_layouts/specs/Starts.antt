@@ -3,10 +3,11 @@ use Rattle.std.proofs.Common.{◌≡◌, ℕ, ◌<◌, ◌≤◌, ◌++◌, List
 use Rattle.std.proofs.Math.Seq.{drop-append_seam}
 use Rattle.std.proofs.lemmas.List.Elements.{All-drop}
 use Rattle.std.specs.List.{All}
+use Rattle.std.specs.Prelude.{⊤}
 use Rattle.scroll_layouts.specs.Formats.{Leaf}
 
--- how many bytes a value has and which these are, what a read at the start gives and refuses, and
--- which values a write refuses; with what is known of these
+-- how many bytes a value has and which these are, what a read at the start gives and refuses,
+-- which values a write refuses, and which are the same; with what is known of these
 pub record Start (E X : Type 0) : Type 1 where
   pub start_len : X → ℕ
   pub start_bytes : X → List ℕ
@@ -14,6 +15,7 @@ pub record Start (E X : Type 0) : Type 1 where
   pub start_refuses : List ℕ → E → Type 0
   pub start_agrees : X → Type 0
   pub start_differs : X → E → Type 0
+  pub start_same : X → X → Type 0
   pub start_inside : (s : List ℕ) (x : X) (n : ℕ) → start_reads s x n → n ≤ length s
   pub start_made : (s : List ℕ) (x : X) (n : ℕ) → All (λ b. b < 256) s → start_reads s x n
       → start_agrees x
@@ -22,6 +24,8 @@ pub record Start (E X : Type 0) : Type 1 where
       → start_reads (start_bytes x ++ rest) x (start_len x)
   pub start_kept : (s : List ℕ) (x : X) (n : ℕ) → All (λ b. b < 256) s → start_reads s x n
       → start_bytes x ≡ take n s
+  pub start_one : (s : List ℕ) (x y : X) → start_reads s x (start_len x)
+      → start_reads s y (start_len y) → (start_len x ≡ start_len y) × start_same x y
 
 -- such a kind at an offset: what it reads at the start of the rest there
 abbrev pub start : {E X : Type 0} → Start E X → Leaf E X
@@ -32,6 +36,8 @@ start k = record {
   leaf_refuses = λ order s at e. k.start_refuses (drop at s) e;
   leaf_agrees = λ order x. k.start_agrees x;
   leaf_differs = λ order x e. k.start_differs x e;
+  leaf_same = k.start_same;
+  leaf_told = ⊤;
   leaf_inside = λ order s at x here h.
       omega (arith, here, k.start_inside (drop at s) x (k.start_len x) h, length-drop at s);
   leaf_made = λ order s at x all h.
@@ -42,4 +48,5 @@ start k = record {
       (sym (drop-append_seam prefix (k.start_bytes x ++ rest))) (k.start_back x rest h);
   leaf_kept = λ order s at x all h.
       k.start_kept (drop at s) x (k.start_len x) (All-drop (λ b. b < 256) at s all) h;
+  leaf_one = λ t order s at x y all h r. k.start_one (drop at s) x y h r;
 }

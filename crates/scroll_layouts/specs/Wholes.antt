@@ -5,8 +5,10 @@ use Rattle.scroll.specs.declared.endian.Endian.{Endian}
 use Rattle.scroll.specs.declared.error.Error.{Error}
 use Rattle.scroll.specs.declared.error.Error.TheVariants.{NoMemory}
 use Rattle.scroll_layouts.specs.Formats.{Format, reads, len, bytes, agrees, differs}
+use Rattle.scroll_layouts.specs.OneWay.{same}
 
--- a value is read from the first `n` bytes of a source: it agrees, and has `n` bytes
+-- a value is read from the first `n` bytes of a source: it agrees, and has `n` bytes; and each value
+-- that the source has there is the same
 pub record ReadsWhole {E X : Type 0} (f : Format E X) (order : Endian) (s : List ℕ) (x : X)
     (n : ℕ) : Type 0 where
   pub value : reads f order s 0 x
@@ -14,9 +16,21 @@ pub record ReadsWhole {E X : Type 0} (f : Format E X) (order : Endian) (s : List
   pub size : n ≡ len f x
   pub inside : n ≤ length s
   pub count : length (bytes f order x) ≡ n
+  pub only : (y : X) → reads f order s 0 y → same f x y
 
 -- the same, and the bytes of the value are those that were read
 pub record ReadsExact {E X : Type 0} (f : Format E X) (order : Endian) (s : List ℕ) (x : X)
+    (n : ℕ) : Type 0 where
+  pub value : reads f order s 0 x
+  pub agreed : agrees f order x
+  pub size : n ≡ len f x
+  pub inside : n ≤ length s
+  pub count : length (bytes f order x) ≡ n
+  pub back : bytes f order x ≡ take n s
+  pub only : (y : X) → reads f order s 0 y → same f x y
+
+-- a value that was written is read from the first `n` bytes of a source that begins with its bytes
+pub record ReadsBack {E X : Type 0} (f : Format E X) (order : Endian) (s : List ℕ) (x : X)
     (n : ℕ) : Type 0 where
   pub value : reads f order s 0 x
   pub agreed : agrees f order x

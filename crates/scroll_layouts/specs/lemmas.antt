@@ -8,4 +8,5 @@ pub mod ListLemmas
 pub mod MarkLemmas
 pub mod OneWayLemmas
 pub mod Parts
+pub mod SameLaws
 pub mod WholeLemmas

@@ -1,7 +1,7 @@
 // Heads: values that obey a rule and say what follows them.
 ghost use Rattle.std.specs.Prelude.{◌≡◌, ◌≤◌, ◌+◌, ◌-◌, ◌^◌, ◌++◌, ◌⊎◌, length, take, drop, min, IfErr, OnOk};
 ghost use Rattle.scroll_layouts.specs.Errors.{IsNot};
-ghost use Rattle.scroll_layouts.specs.Formats.{headed, last, part, rule, len, bytes, reads, refuses, agrees, differs};
+ghost use Rattle.scroll_layouts.specs.Formats.{headed, len, bytes, reads, refuses, agrees, differs};
 
 use crate::pairs::put_behind;
 use crate::{Part, ReadPart};
@@ -44,7 +44,7 @@ pub struct Headed<C, D, H>(pub C, pub H, pub PhantomData<D>);
 impl<E, C, D: Drop, A: Part<C, E>, H: Head<A, E, Next = D>, B: Part<D, E>> Part<Headed<C, D, H>, E>
     for (A, B) {
     ghost format = { λ c.
-        headed (A.format c.0) (H.holds c.1) (H.fails c.1) (λ h. B.format (H.next c.1 h)) };
+        headed (A.format c.0) (H.holds c.1) (H.fails c.1) (H.next c.1) B.format };
 
     fn check(&self, order: Endian, ctx: &Headed<C, D, H>) -> Result<(), E> {
         self.0.check(order, &ctx.0)?;
@@ -76,7 +76,7 @@ impl<
     B: ReadPart<'a, D, E>,
 > ReadPart<'a, Headed<C, D, H>, E> for (A, B) {
     ghost format = { λ c.
-        headed (A.format c.0) (H.holds c.1) (H.fails c.1) (λ h. B.format (H.next c.1 h)) };
+        headed (A.format c.0) (H.holds c.1) (H.fails c.1) (H.next c.1) B.format };
 
     #[inline(always)]
     fn read_at(

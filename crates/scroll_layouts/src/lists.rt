@@ -1,7 +1,8 @@
 // Lists that are borrowed as their bytes, and read where they lie.
 ghost use Rattle.std.specs.Prelude.{◌≡◌, ◌≢◌, ◌≤◌, ◌<◌, ◌+◌, ◌-◌, ◌^◌, ◌++◌, ◌⊎◌, ⊤, length, take, drop, min, codes, IfOk, IfErr, OnOk};
 ghost use Rattle.scroll_layouts.specs.Formats.{leaf, last, len, reads, refuses};
-ghost use Rattle.scroll_layouts.specs.Lists.{SomeItems, CountedItems, RefusesItems, RefusesCounted, list_within, list_of};
+ghost use Rattle.scroll_layouts.specs.ListLeaves.{list_within, list_of};
+ghost use Rattle.scroll_layouts.specs.Lists.{SomeItems, CountedItems, RefusesItems, RefusesCounted};
 
 use crate::{Part, ReadPart};
 use scroll::{Endian, Error, check_room};

@@ -2,7 +2,8 @@
 ghost use Rattle.std.specs.Prelude.{◌≡◌, ◌≢◌, ◌≤◌, ◌<◌, ◌+◌, ◌-◌, ◌^◌, ◌++◌, ◌⊎◌, List, ℕ, length, take, drop, min, codes, IfOk, IfErr, OnOk};
 ghost use Rattle.std.specs.Bool.{OnTrue, OnFalse};
 ghost use Rattle.scroll_layouts.specs.Formats.{leaf, last, len, reads, refuses};
-ghost use Rattle.scroll_layouts.specs.Marks.{MarkAt, MarkedItems, RefusesMarked, list_until};
+ghost use Rattle.scroll_layouts.specs.ListLeaves.{list_until};
+ghost use Rattle.scroll_layouts.specs.Marks.{MarkAt, MarkedItems, RefusesMarked};
 
 use crate::{Items, Listed, Part, ReadPart};
 use scroll::{Endian, Error};

@@ -1,6 +1,6 @@
 // One value after another.
 ghost use Rattle.std.specs.Prelude.{◌≡◌, ◌≤◌, ◌+◌, ◌-◌, ◌^◌, ◌++◌, ◌⊎◌, length, take, drop, min};
-ghost use Rattle.scroll_layouts.specs.Formats.{pair, last, part, len, bytes, reads, refuses, agrees, differs};
+ghost use Rattle.scroll_layouts.specs.Formats.{pair, len, bytes, reads, refuses, agrees, differs};
 
 use crate::{Part, ReadPart};
 use scroll::Endian;

@@ -1,9 +1,8 @@
 // Lists that were read are walked where they lie, and no value fails.
-ghost use Rattle.std.specs.Prelude.{◌≡◌, ◌≤◌, ◌<◌, ℕ, List, length};
+ghost use Rattle.std.specs.Prelude.{◌≡◌, ◌≤◌, ◌<◌, length};
 ghost use Rattle.std.specs.Iterator.{at_most};
 ghost use Rattle.std.specs.List.{All};
-ghost use Rattle.scroll.specs.declared.endian.Endian.{Endian};
-ghost use Rattle.scroll_layouts.specs.OneWay.{one_way, SaysAs};
+ghost use Rattle.scroll_layouts.specs.OneWay.{same, one_way};
 ghost use Rattle.scroll_layouts.specs.Formats.{reads, refuses, len};
 ghost use Rattle.scroll_layouts.specs.Lists.{YieldsItem};
 
@@ -13,25 +12,24 @@ use crate::{Head, Items, Listed, ReadPart};
 use scroll::Endian;
 use std::marker::PhantomData;
 
-/// A part that a source has in one way: there are no two values of different lengths, and no value
-/// and an error. A struct whose list is walked says so of its items, in one line.
+/// A part that a source has in one way: all values that it has are the same, and it has no value and
+/// an error. A struct whose list is walked says so of its items, in one line.
 pub trait Certain<'a, Ctx, E>: ReadPart<'a, Ctx, E> {
     /// Does nothing, and says so.
     fn certain()
         ensures { (ctx : Ctx) → one_way (Self.ReadPart.format ctx) };
 }
 
-/// A head that says one thing of what follows it: no head obeys the rule and breaks it, and where a
-/// source has two heads, they say the same.
+/// A head that says one thing of what follows it: heads whose parts are the same say the same, and
+/// none of them obeys the rule where another one breaks it.
 pub trait CertainHead<'a, C, A: ReadPart<'a, C, E>, E>: Head<A, E> {
     /// Does nothing, and says so.
     fn certain_next()
-        ensures rule { (rule : Self) (head : A) (e : E) → Self.Head.holds rule head
-            → Self.Head.fails rule head e → ⊥ }
-        ensures same { (rule : Self) (ctx : C) (order : Endian) (s : List ℕ) (at : ℕ) (x y : A)
-            → reads (A.ReadPart.format ctx) order s at x
-            → reads (A.ReadPart.format ctx) order s at y
-            → SaysAs (Self.Head.holds rule) (Self.Head.fails rule) (Self.Head.next rule) x y };
+        ensures next { (rule : Self) (ctx : C) (x y : A) → same (A.ReadPart.format ctx) x y
+            → Self.Head.next rule x ≡ Self.Head.next rule y }
+        ensures rule { (rule : Self) (ctx : C) (x y : A) (e : E)
+            → same (A.ReadPart.format ctx) x y → Self.Head.holds rule x
+            → Self.Head.fails rule y e → ⊥ };
 }
 
 /// The values of a list that are left, in order. Of a list that was read none fails, so they end

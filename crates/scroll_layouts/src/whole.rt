@@ -1,13 +1,17 @@
 // Parts that are read from the start of a source, and written to the start of a target.
 ghost use Rattle.std.specs.Prelude.{◌≡◌, ◌≤◌, ◌<◌, ◌+◌, ◌-◌, ◌^◌, ◌++◌, length, take, drop, min, IfOk, IfErr};
 ghost use Rattle.scroll_layouts.specs.Formats.{exact, len, bytes, reads, refuses, agrees, differs};
+ghost use Rattle.scroll_layouts.specs.OneWay.{told};
 ghost use Rattle.scroll_layouts.specs.Wholes.{ReadsWhole, ReadsExact, WritesWhole, KeepsWhole};
 
 use crate::{Part, ReadPart};
 use scroll::{Endian, Error, check_room};
 use std::result::Result;
 
-/// Reads a part at the start of `from`, and returns it with its size.
+/// Reads a part at the start of `from`, and returns it with its size. Each part of another value
+/// that the source has there, such as one that was written, is the same.
+///
+/// What a head says of what follows it must depend on the head's parts alone.
 ///
 /// ```rust
 /// let bytes: [u8; 6] = [2, b'h', b'i', 3, 0, 0];
@@ -23,6 +27,7 @@ pub fn read_whole<'a, C, E, L: ReadPart<'a, C, E>>(
     order: Endian,
     ctx: &C,
 ) -> Result<(L, usize), E>
+    requires { told (L.format ctx.now) }
     ensures read { IfOk result (λ r. ReadsWhole (L.format ctx.now) order from.now r.0 r.1) }
     ensures refused { IfErr result (refuses (L.format ctx.now) order from.now 0) }
 {
@@ -45,7 +50,8 @@ pub fn read_exact<'a, C, E, L: ReadPart<'a, C, E>>(
     order: Endian,
     ctx: &C,
 ) -> Result<(L, usize), E>
-    requires { exact (L.format ctx.now) }
+    requires exact { exact (L.format ctx.now) }
+    requires told { told (L.format ctx.now) }
     ensures read { IfOk result (λ r. ReadsExact (L.format ctx.now) order from.now r.0 r.1) }
     ensures refused { IfErr result (refuses (L.format ctx.now) order from.now 0) }
 {

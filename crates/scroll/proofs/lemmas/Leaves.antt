@@ -9,7 +9,7 @@ use Rattle.std.specs.List.{sum_by, flat_map}
 use Rattle.scroll.proofs.lemmas.ArrayLemmas.{leaves-of-array}
 use Rattle.scroll.proofs.lemmas.HistoryLemmas.{pieces-fits, pieces-misfit, pieces-past, left_over-fits, left_over-misfit, left_over-drop, refusal-inside, refusal-past, seen-rest, prefix-piece, length-seen, seen-append, seen-nil}
 use Rattle.scroll.proofs.lemmas.StandLemmas.{seen-exchange, pieces-behind}
-use Rattle.scroll.specs.Arrays.{WritesArray, FailsArray}
+use Rattle.scroll.specs.Arrays.{WritesArray, FailsArray, FailsIfFits}
 use Rattle.scroll.specs.Bytes.{WritesPrefix, FailsShort}
 use Rattle.scroll.specs.Errors.{IsBadOffset}
 use Rattle.scroll.specs.Numbers.{number_bytes, signed_bytes, WritesNumber, WritesSigned}
@@ -18,6 +18,7 @@ use Rattle.scroll.specs.Laws.{Apart, WritesNested, FailsNested, leaves_nested}
 use Rattle.scroll.specs.Leb128.{Counted}
 use Rattle.scroll.specs.Encoding.{uleb_text, sleb_text, WritesUleb, WritesSleb, unsigned_form}
 use Rattle.scroll.specs.Writes.{WritesAt, RefusesWriteAt, AnswersWrite}
+use Rattle.scroll.specs.declared.error.Error.TheVariants.{NoMemory}
 use Rattle.scroll.specs.declared.endian.Endian.{Endian}
 use Rattle.scroll.specs.declared.error.Error.{Error}
 use Rattle.scroll.specs.declared.error.Error.TheVariants.{TooBig}
@@ -83,10 +84,10 @@ nested-leaves leaves writes refuses has (count ∷ counts) =
     array-leaves (leaves_nested leaves counts) (WritesNested writes counts) (FailsNested writes refuses counts) (nested-leaves leaves writes refuses has counts)
 
 -- an error that is stated under a condition that holds, like an array's in generic code
-pub leaves-where : {V : Type 0} (leaves : V → List (List ℕ)) (writes : V → List ℕ → List ℕ → ℕ → Type 0) (refuses : V → List ℕ → List ℕ → Error → Type 0) (P : Type 0) → P → HasLeaves leaves writes refuses → HasLeaves leaves writes (λ v old new e. P → refuses v old new e)
-leaves-where leaves writes refuses P p has = record {
+pub leaves-where : {V : Type 0} (leaves : V → List (List ℕ)) (writes : V → List ℕ → List ℕ → ℕ → Type 0) (refuses lacks : V → List ℕ → List ℕ → Error → Type 0) (P : Type 0) → P → HasLeaves leaves writes refuses → HasLeaves leaves writes (λ v old new e. FailsIfFits P (refuses v old new e) (lacks v old new e))
+leaves-where leaves writes refuses lacks P p has = record {
   written = has.written;
-  refused = λ v old new e h. has.refused v old new e (h p);
+  refused = λ v old new e h. has.refused v old new e (h.0 p);
 }
 
 -- A WRITE AT AN OFFSET
@@ -150,15 +151,15 @@ one_each f [] = refl
 one_each f (x ∷ xs) = ap (λ ls. f x ∷ ls) (one_each f xs)
 
 -- an array of numbers that is written at an offset, where it fits in memory
-pub numbers-leaves : {P : Type 0} (w : ℕ) (order : Endian) (xs : List ℕ) (old : List ℕ) (o : ℕ) (new : List ℕ) (r : Result ℕ Error) → AnswersWrite (WritesArray (WritesNumber w order) xs) (λ old new e. P → FailsArray (WritesNumber w order) (λ _. FailsShort w) xs old new e) IsBadOffset old o new r → P → WritesLeaves old o (map (number_bytes order w) xs) new r
+pub numbers-leaves : {P : Type 0} (w : ℕ) (order : Endian) (xs : List ℕ) (old : List ℕ) (o : ℕ) (new : List ℕ) (r : Result ℕ Error) → AnswersWrite (WritesArray (WritesNumber w order) xs) (λ old new e. FailsIfFits P (FailsArray (WritesNumber w order) (λ _. FailsShort w) xs old new e) ((e ≡ NoMemory) × (new ≡ old))) IsBadOffset old o new r → P → WritesLeaves old o (map (number_bytes order w) xs) new r
 numbers-leaves {P} w order xs old o new r h p =
     subst (λ ls. WritesLeaves old o ls new r) (one_each (number_bytes order w) xs)
-    (at-leaves _ _ _ (leaves-where _ _ _ P p (array-leaves _ _ _ (number-leaves w order))) xs old o new r h)
+    (at-leaves _ _ _ (leaves-where _ _ _ (λ _ old new e. (e ≡ NoMemory) × (new ≡ old)) P p (array-leaves _ _ _ (number-leaves w order))) xs old o new r h)
 
 -- an array of slices that is written at an offset, where it fits in memory
-pub slices-leaves : {P : Type 0} (xs : List (Bor (List ℕ))) (old : List ℕ) (o : ℕ) (new : List ℕ) (r : Result ℕ Error) → AnswersWrite (WritesArray (λ x. WritesPrefix (length x.now) x.now) xs) (λ old new e. P → FailsArray (λ x. WritesPrefix (length x.now) x.now) (λ x. FailsShort (length x.now)) xs old new e) IsBadOffset old o new r → P → WritesLeaves old o (flat_map (λ x. x.now ∷ []) xs) new r
+pub slices-leaves : {P : Type 0} (xs : List (Bor (List ℕ))) (old : List ℕ) (o : ℕ) (new : List ℕ) (r : Result ℕ Error) → AnswersWrite (WritesArray (λ x. WritesPrefix (length x.now) x.now) xs) (λ old new e. FailsIfFits P (FailsArray (λ x. WritesPrefix (length x.now) x.now) (λ x. FailsShort (length x.now)) xs old new e) ((e ≡ NoMemory) × (new ≡ old))) IsBadOffset old o new r → P → WritesLeaves old o (flat_map (λ x. x.now ∷ []) xs) new r
 slices-leaves {P} xs old o new r h p =
-    at-leaves _ _ _ (leaves-where _ _ _ P p (array-leaves _ _ _ (bytes-leaves (λ x. x.now)))) xs old o new r h
+    at-leaves _ _ _ (leaves-where _ _ _ (λ _ old new e. (e ≡ NoMemory) × (new ≡ old)) P p (array-leaves _ _ _ (bytes-leaves (λ x. x.now)))) xs old o new r h
 
 -- WRITES IN EITHER ORDER
 -- leaves that end where others begin, or before, don't overlap them

@@ -1,9 +1,10 @@
 // Arrays of values that can be read or written, in the context of the elements.
 ghost use Rattle.std.specs.Prelude.{◌≡◌, ℕ, ◌+◌, ◌*◌, ◌<◌, ◌≤◌, List, length, drop, map, max, Some, None, IfOk, IfErr, slice_index_or, slice_set};
-ghost use Rattle.scroll.specs.Arrays.{SlotsFit, ItemsFit, ReadsArray, RefusesArray, WritesArray, FailsArray, MakesArray, OverwritesValue, FillsArray};
+ghost use Rattle.scroll.specs.Arrays.{FailsIfFits, SlotsFit, ItemsFit, ReadsArray, RefusesArray, WritesArray, FailsArray, MakesArray, OverwritesValue, FillsArray};
 ghost use Rattle.scroll.specs.lemmas.Frames.{ReadsArray-bounded, WritesArray-bounded, WritesArray-keeps, FillsArray-keeps};
 ghost use Rattle.scroll.specs.Writes.{WritesAt, FailsAt};
 ghost use Rattle.scroll.specs.Errors.{PastEnd};
+ghost use Rattle.scroll.specs.declared.error.Error.TheVariants.{NoMemory};
 
 use crate::ctx::memory::fits;
 use crate::ctx::{FromCtx, IntoCtx, SizeWith, TryFromCtx, TryIntoCtx};
@@ -55,8 +56,8 @@ fn write_next<Ctx: Copy, T: TryIntoCtx<Ctx, Error = Error> + Drop>(
 
 /// Reads the elements one after another. One that would start past the end returns
 /// `E::from(Error::BadOffset(offset))`, where the offset counts from the start of the array; every
-/// other error is that of the first element that fails. The contract states the errors of arrays
-/// that fit in memory: see [`array_fits`](crate::ctx::array_fits).
+/// other error is that of the first element that fails. An array whose storage doesn't fit in
+/// memory is `E::from(Error::NoMemory)`: see [`array_fits`](crate::ctx::array_fits).
 ///
 /// ```rust
 /// let source: &[u8] = &[1, 0, 2, 0, 3, 0];
@@ -86,8 +87,9 @@ impl<
 
     ghost reads = { λ ctx. ReadsArray (T.reads ctx) N };
 
-    ghost refuses = { λ ctx source e. SlotsFit T.row N.row
-        → RefusesArray (T.reads ctx) (T.refuses ctx) (PastEnd E.from_gives) N source e };
+    ghost refuses = { λ ctx source e. FailsIfFits (SlotsFit T.row N.row)
+        (RefusesArray (T.reads ctx) (T.refuses ctx) (PastEnd E.from_gives) N source e)
+        (E.from_gives NoMemory e) };
 
     ghost reads_bounded = { λ ctx. ReadsArray-bounded (T.reads ctx) (T.reads_bounded ctx) N };
 
@@ -108,7 +110,8 @@ impl<
 }
 
 /// Writes the elements one after another. The error is that of the first element that fails; those
-/// before it are then written.
+/// before it are then written. An array whose storage doesn't fit in memory is [`Error::NoMemory`],
+/// and nothing is written.
 ///
 /// ```rust
 /// let mut bytes = [0xffu8; 7];
@@ -126,8 +129,9 @@ impl<Ctx: Copy, T: TryIntoCtx<Ctx, Error = Error> + Drop, const N: usize> TryInt
 
     ghost writes = { λ ctx. WritesArray (T.writes ctx) };
 
-    ghost refuses = { λ ctx xs old new e. ItemsFit T.row N.row
-        → FailsArray (T.writes ctx) (T.refuses ctx) xs old new e };
+    ghost refuses = { λ ctx xs old new e. FailsIfFits (ItemsFit T.row N.row)
+        (FailsArray (T.writes ctx) (T.refuses ctx) xs old new e)
+        ((e ≡ NoMemory) × (new ≡ old)) };
 
     ghost writes_bounded = { λ ctx. WritesArray-bounded (T.writes ctx) (T.writes_bounded ctx) };
 

@@ -10,6 +10,7 @@ use std::{array, mem};
 pub(crate) fn fits<X>() -> bool
     ensures fits { IsTrue result → FitsInMemory X.row }
     ensures small { OptionFits X.row → IsTrue result }
+    ensures only { IsTrue result → OptionFits X.row }
 {
     let none: Option<X> = None;
     let small = mem::size_of_val(&none) <= isize::MAX as usize;

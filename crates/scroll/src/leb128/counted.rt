@@ -80,6 +80,8 @@ impl<V: LebNumber> Model for Leb128<V> {
 impl<V: LebNumber> Copy for Leb128<V> {}
 
 impl<V: LebNumber> Clone for Leb128<V> {
+    ghost is_clone = { λ old new. new ≡ old };
+
     ghost is_infallible = { λ _. ⊤ };
 
     #[inline(always)]

@@ -11,7 +11,7 @@ use Rattle.scroll.specs.declared.error.Error.{Error}
 use Rattle.scroll.specs.lemmas.Frames.{drop-same}
 use Rattle.scroll.proofs.lemmas.callers.Cursors.{ReadsAll-next, WritesAll-push}
 use Rattle.scroll_formats.specs.Lists.{ReadsListed}
-use Rattle.scroll_formats.specs.Many.{FailsMany, StopsBefore, ChangesBetween, KeepsOne, KeepsAll}
+use Rattle.scroll_formats.specs.Many.{WithBytes, FailsMany, StopsBefore, ChangesBetween, KeepsOne, KeepsAll}
 
 -- one more value of a list, where there is no mark
 pub listed-next : {V : Type 0} {reads : List ℕ → V → ℕ → Type 0} (mark : List ℕ → Option ℕ) {buffer : List ℕ} (from : ℕ) {mid to : ℕ} (vs : List V) {v : V}
@@ -19,6 +19,12 @@ pub listed-next : {V : Type 0} {reads : List ℕ → V → ℕ → Type 0} (mark
     → ReadsAll (ReadsListed reads mark) buffer from (vs ++ v ∷ []) to
 listed-next {V} {reads} mark {buffer} from {mid} {to} vs {v} h read more =
     ReadsAll-next (ReadsListed reads mark) buffer from vs mid to v h (read.0, read.1, record { inside = read.2.inside; value = record { more = more read.2.inside; value = read.2.value } })
+
+-- values that have bytes are values
+pub with-bytes-read : {V : Type 0} (reads : List ℕ → V → ℕ → Type 0) (buffer : List ℕ) (from : ℕ) (vs : List V) (to : ℕ) → ReadsAll (WithBytes reads) buffer from vs to → ReadsAll reads buffer from vs to
+with-bytes-read reads buffer from [] to h = h
+with-bytes-read reads buffer from (v ∷ vs) to h =
+    (h.0, record { inside = h.1.inside; value = h.1.value.0 }, with-bytes-read reads buffer (from + h.0) vs to h.2)
 
 -- the first values, and the one after them
 more : {V : Type 0} (vs : List V) (i : ℕ) (v : V) → i < length vs → v ≡ slice_index_or vs i v → take (i + 1) vs ≡ take i vs ++ v ∷ []

@@ -3,7 +3,7 @@ use Rattle.std.proofs.Common.{◌≡◌, ℕ, suc, ◌+◌, ◌*◌, ◌/◌, �
 use Rattle.std.proofs.lemmas.Nat.{div-mul-add, div-add-mod'}
 use Rattle.std.proofs.Math.Nat.{mod-lt}
 use Rattle.scroll.specs.lemmas.Frames.{length-number_bytes}
-use Rattle.scroll_layouts.specs.Fields.{Fields, top, below, packed, splits, small}
+use Rattle.scroll_layouts.specs.Fields.{Fields, top, below, packed, splits, small, same_bits}
 
 -- the low field of a number
 low-field : (x y m : ℕ) → y < m → (x * m + y) % m ≡ y
@@ -41,5 +41,12 @@ splits-small (below f mask) n x h = (
 pub splits-bound : {X : Type 0} (f : Fields X) (n most : ℕ) (x : X) → splits f n x → n < most
     → packed f x < most
 splits-bound f n most x h l = subst (λ k. k < most) (sym (packed-splits f n x h)) l
+
+-- a number has one value of each field
+pub splits-one : {X : Type 0} (f : Fields X) (n : ℕ) (x y : X) → splits f n x → splits f n y
+    → same_bits f x y
+splits-one top n x y h k = h ∙ sym k
+splits-one (below f mask) n x y h k =
+    (splits-one f (n / suc mask) x.0 y.0 h.0 k.0, h.1 ∙ sym k.1)
 
 pub ruleset word_sizes = (length-number_bytes)

@@ -7,7 +7,8 @@ use Rattle.std.specs.Prelude.{true, false, Some, None, replicate}
 use Rattle.scroll.specs.Fixed.{SameAt}
 use Rattle.scroll.specs.lemmas.FixedLemmas.{both-len, both-back, both-kept, same-first, same-second}
 use Rattle.scroll.specs.declared.endian.Endian.{Endian}
-use Rattle.scroll_layouts.specs.Formats.{Leaf, Format, run, counted, zeros, last, part, rule, within, leaf, choice, when, len, bytes, reads, agrees, exact}
+use Rattle.scroll_layouts.specs.Formats.{Leaf, Format, run, counted, zeros, last, pair, headed, padded, within, leaf, choice, when, len, bytes, reads, agrees, exact}
+use Rattle.scroll_formats.specs.Zeros.{padding_len}
 use Rattle.scroll_layouts.specs.Layouts.{width, laid_bytes}
 use Rattle.scroll_layouts.specs.lemmas.LayoutLaws.{layout-len, layout-back, layout-fits, layout-moved, layout-kept}
 use Rattle.scroll_layouts.specs.lemmas.Parts.{part-within, slice-agrees, slice-back, within-back, within-kept, bytes-taken, pair-within, first-within, second-within}
@@ -20,11 +21,15 @@ inside (run gives p) order s at x here h = h.0
 inside (counted gives n) order s at x here h = h.0
 inside (zeros gives n) order s at x here h = h.0
 inside (last f get) order s at x here h = inside f order s at (get x) here h
-inside (part f get rest) order s at x here h =
-    pair-within at (len f (get x)) (len (rest (get x)) x) s
-    (inside (rest (get x)) order s (at + len f (get x)) x
-    (inside f order s at (get x) here h.0) h.1)
-inside (rule P fails f) order s at x here h = inside f order s at x here h.1
+inside (pair f g) order s at x here h =
+    pair-within at (len f x.0) (len g x.1) s
+    (inside g order s (at + len f x.0) x.1 (inside f order s at x.0 here h.0) h.1)
+inside (headed f holds fails next rest) order s at x here h =
+    pair-within at (len f x.0) (len (rest (next x.0)) x.1) s
+    (inside (rest (next x.0)) order s (at + len f x.0) x.1
+    (inside f order s at x.0 here h.0) h.1.1)
+inside (padded gives m f) order s at x here h =
+    pair-within at (len f x) (padding_len (len f x) m) s h.1.0
 inside (within gives n f) order s at x here h = h.0
 inside (leaf l) order s at x here h = l.leaf_inside order s at x here h
 inside (choice gives true f g) order s at (First x) here h = inside f order s at x here h
@@ -43,11 +48,15 @@ made-agrees (run gives p) order s at x all h = layout-fits p order s at x all h.
 made-agrees (counted gives n) order s at x all h = slice-agrees n s at x h.0 h.1
 made-agrees (zeros gives n) order s at x all h = tt
 made-agrees (last f get) order s at x all h = made-agrees f order s at (get x) all h
-made-agrees (part f get rest) order s at x all h = (
-  made-agrees f order s at (get x) all h.0,
-  made-agrees (rest (get x)) order s (at + len f (get x)) x all h.1,
+made-agrees (pair f g) order s at x all h = (
+  made-agrees f order s at x.0 all h.0,
+  made-agrees g order s (at + len f x.0) x.1 all h.1,
 )
-made-agrees (rule P fails f) order s at x all h = (h.0, made-agrees f order s at x all h.1)
+made-agrees (headed f holds fails next rest) order s at x all h = (
+  made-agrees f order s at x.0 all h.0,
+  (h.1.0, made-agrees (rest (next x.0)) order s (at + len f x.0) x.1 all h.1.1),
+)
+made-agrees (padded gives m f) order s at x all h = made-agrees f order s at x all h.0
 made-agrees (within gives n f) order s at x all h =
     (made-agrees f order (take n (drop at s)) 0 x (bytes-taken n at s all) h.1, h.2)
 made-agrees (leaf l) order s at x all h = l.leaf_made order s at x all h
@@ -67,10 +76,15 @@ bytes-len (run gives p) order x h = layout-len p order x
 bytes-len (counted gives n) order x h = sym h
 bytes-len (zeros gives n) order x h = length-replicate n 0
 bytes-len (last f get) order x h = bytes-len f order (get x) h
-bytes-len (part f get rest) order x h =
-    both-len (bytes f order (get x)) (bytes (rest (get x)) order x)
-    (bytes-len f order (get x) h.0) (bytes-len (rest (get x)) order x h.1)
-bytes-len (rule P fails f) order x h = bytes-len f order x h.1
+bytes-len (pair f g) order x h =
+    both-len (bytes f order x.0) (bytes g order x.1) (bytes-len f order x.0 h.0)
+    (bytes-len g order x.1 h.1)
+bytes-len (headed f holds fails next rest) order x h =
+    both-len (bytes f order x.0) (bytes (rest (next x.0)) order x.1)
+    (bytes-len f order x.0 h.0) (bytes-len (rest (next x.0)) order x.1 h.1.1)
+bytes-len (padded gives m f) order x h =
+    both-len (bytes f order x) (replicate (padding_len (len f x) m) 0) (bytes-len f order x h)
+    (length-replicate (padding_len (len f x) m) 0)
 bytes-len (within gives n f) order x h = bytes-len f order x h.0 ∙ h.1
 bytes-len (leaf l) order x h = l.leaf_bytes-len order x h
 bytes-len (choice gives true f g) order (First x) h = bytes-len f order x h
@@ -82,6 +96,17 @@ bytes-len (when gives true f) order None h = absurd h
 bytes-len (when gives false f) order (Some x) h = absurd h
 bytes-len (when gives false f) order None h = refl
 
+-- zeros that were written are there
+abbrev zeros-at : ℕ → List ℕ → ℕ → Type 0
+zeros-at n s at = (at + n ≤ length s) × (take n (drop at s) ≡ replicate n 0)
+
+zeros-back : (n : ℕ) (prefix rest : List ℕ)
+    → zeros-at n (prefix ++ (replicate n 0 ++ rest)) (length prefix)
+zeros-back n prefix rest = (
+  part-within n (replicate n 0) prefix rest (length-replicate n 0),
+  sym (slice-back n (replicate n 0) prefix rest (sym (length-replicate n 0))),
+)
+
 -- what was written reads back, whatever stands before and after it
 pub back : {E X : Type 0} (f : Format E X) (order : Endian) (x : X) (prefix rest : List ℕ)
     → agrees f order x → reads f order (prefix ++ (bytes f order x ++ rest)) (length prefix) x
@@ -91,17 +116,24 @@ back (run gives p) order x prefix rest h = (
 )
 back (counted gives n) order x prefix rest h =
     (part-within n x prefix rest (sym h), slice-back n x prefix rest h)
-back (zeros gives n) order x prefix rest h = (
-  part-within n (replicate n 0) prefix rest (length-replicate n 0),
-  sym (slice-back n (replicate n 0) prefix rest (sym (length-replicate n 0))),
-)
+back (zeros gives n) order x prefix rest h = zeros-back n prefix rest
 back (last f get) order x prefix rest h = back f order (get x) prefix rest h
-back (part f get others) order x prefix rest h =
-    both-back (len f (get x)) (bytes f order (get x)) (bytes (others (get x)) order x) prefix rest
-    (bytes-len f order (get x) h.0)
-    (λ s at. reads f order s at (get x)) (λ s at. reads (others (get x)) order s at x)
-    (λ l t. back f order (get x) l t h.0) (λ l t. back (others (get x)) order x l t h.1)
-back (rule P fails f) order x prefix rest h = (h.0, back f order x prefix rest h.1)
+back (pair f g) order x prefix rest h =
+    both-back (len f x.0) (bytes f order x.0) (bytes g order x.1) prefix rest
+    (bytes-len f order x.0 h.0)
+    (λ s at. reads f order s at x.0) (λ s at. reads g order s at x.1)
+    (λ l t. back f order x.0 l t h.0) (λ l t. back g order x.1 l t h.1)
+back (headed f holds fails next others) order x prefix rest h =
+    both-back (len f x.0) (bytes f order x.0) (bytes (others (next x.0)) order x.1) prefix rest
+    (bytes-len f order x.0 h.0) (λ s at. reads f order s at x.0)
+    (λ s at. holds x.0 × reads (others (next x.0)) order s at x.1)
+    (λ l t. back f order x.0 l t h.0)
+    (λ l t. (h.1.0, back (others (next x.0)) order x.1 l t h.1.1))
+back (padded gives m f) order x prefix rest h =
+    let n : ℕ = padding_len (len f x) m in
+    both-back (len f x) (bytes f order x) (replicate n 0) prefix rest (bytes-len f order x h)
+    (λ s at. reads f order s at x) (λ s at. zeros-at n s at)
+    (λ l t. back f order x l t h) (λ l t. zeros-back n l t)
 back (within gives n f) order x prefix rest h =
     let size = bytes-len f order x h.0 ∙ h.1 in (
       part-within n (bytes f order x) prefix rest size,
@@ -127,11 +159,15 @@ kept (run gives p) order s at x e all h = layout-kept p order s at x e all h.0 h
 kept (counted gives n) order s at x e all h = h.1
 kept (zeros gives n) order s at x e all h = sym h.1
 kept (last f get) order s at x e all h = kept f order s at (get x) e all h
-kept (part f get rest) order s at x e all h =
-    both-kept (len f (get x)) (len (rest (get x)) x) s at
-    (kept f order s at (get x) e.0 all h.0)
-    (kept (rest (get x)) order s (at + len f (get x)) x (e.1 (get x)) all h.1)
-kept (rule P fails f) order s at x e all h = kept f order s at x e all h.1
+kept (pair f g) order s at x e all h =
+    both-kept (len f x.0) (len g x.1) s at (kept f order s at x.0 e.0 all h.0)
+    (kept g order s (at + len f x.0) x.1 e.1 all h.1)
+kept (headed f holds fails next rest) order s at x e all h =
+    both-kept (len f x.0) (len (rest (next x.0)) x.1) s at (kept f order s at x.0 e.0 all h.0)
+    (kept (rest (next x.0)) order s (at + len f x.0) x.1 (e.1 (next x.0)) all h.1.1)
+kept (padded gives m f) order s at x e all h =
+    both-kept (len f x) (padding_len (len f x) m) s at (kept f order s at x e all h.0)
+    (sym h.1.1)
 kept (within gives n f) order s at x e all h =
     kept f order (take n (drop at s)) 0 x e (bytes-taken n at s all) h.1
     ∙ within-kept n (len f x) (drop at s) h.2
@@ -172,15 +208,29 @@ moved (counted gives n) order s at t to x all there same h = (there, h.1 ∙ sam
 moved (zeros gives n) order s at t to x all there same h = (there, sym same ∙ h.1)
 moved (last f get) order s at t to x all there same h =
     moved f order s at t to (get x) all there same h
-moved (part f get rest) order s at t to x all there same h =
-    let a = len f (get x) in let b = len (rest (get x)) x in (
-      moved f order s at t to (get x) all (first-within to a b t there)
+moved (pair f g) order s at t to x all there same h =
+    let a = len f x.0 in let b = len g x.1 in (
+      moved f order s at t to x.0 all (first-within to a b t there)
           (same-first a b s at t to same) h.0,
-      moved (rest (get x)) order s (at + a) t (to + a) x all (second-within to a b t there)
+      moved g order s (at + a) t (to + a) x.1 all (second-within to a b t there)
           (same-second a b s at t to same) h.1,
     )
-moved (rule P fails f) order s at t to x all there same h =
-    (h.0, moved f order s at t to x all there same h.1)
+moved (headed f holds fails next rest) order s at t to x all there same h =
+    let a = len f x.0 in let b = len (rest (next x.0)) x.1 in (
+      moved f order s at t to x.0 all (first-within to a b t there)
+          (same-first a b s at t to same) h.0,
+      (
+        h.1.0,
+        moved (rest (next x.0)) order s (at + a) t (to + a) x.1 all
+            (second-within to a b t there) (same-second a b s at t to same) h.1.1,
+      ),
+    )
+moved (padded gives m f) order s at t to x all there same h =
+    let a = len f x in let b = padding_len (len f x) m in (
+      moved f order s at t to x all (first-within to a b t there)
+          (same-first a b s at t to same) h.0,
+      (second-within to a b t there, sym (same-second a b s at t to same) ∙ h.1.1),
+    )
 moved (within gives n f) order s at t to x all there same h =
     (there, subst (λ u. reads f order u 0 x) same h.1, h.2)
 moved (leaf l) order s at t to x all there same h =

@@ -1,13 +1,15 @@
 -- The laws of layouts, by recursion: a line for each form. They are proved, and promise nothing.
-use Rattle.std.proofs.Common.{◌≡◌, ℕ, ◌+◌, ◌*◌, ◌<◌, ◌≤◌, ◌++◌, ◌^◌, List, length, take, drop, subst, sym, arith}
+use Rattle.std.proofs.Common.{◌≡◌, ℕ, ◌+◌, ◌*◌, ◌<◌, ◌≤◌, ◌++◌, ◌^◌, List, length, take, drop, subst, sym, arith, refl, ◌∙◌}
+use Rattle.std.proofs.lemmas.List.{same_lists}
 use Rattle.std.specs.List.{All, flat_map}
+use Rattle.std.specs.Prelude.{Bool, true, false, slice_index_or}
 use Rattle.scroll.specs.Fixed.{SameAt}
 use Rattle.scroll.specs.Numbers.{float_width}
 use Rattle.scroll.specs.lemmas.FixedLemmas.{both-len, both-back, both-kept, number-back-at, number-kept, number-bound, number-local, signed-back-at, signed-fits, signed-kept, signed-local, float-back-at, float-fits, float-local, array-back, array-fits, array-kept-at, array-local, length-exactly, same-first, same-second}
 use Rattle.scroll.specs.lemmas.Frames.{length-number_bytes, length-signed_bytes}
 use Rattle.scroll.specs.lemmas.NumberLemmas.{bytes-fit}
 use Rattle.scroll.specs.declared.endian.Endian.{Endian}
-use Rattle.scroll_layouts.specs.Layouts.{Layout, unsigned, signed, floating, array, only, field, width, laid_bytes, makes, fits, exact_layout}
+use Rattle.scroll_layouts.specs.Layouts.{Layout, unsigned, signed, floating, array, only, field, width, laid_bytes, makes, fits, exact_layout, is_plain, same_elements, same_fields}
 
 -- there are as many bytes as the width says
 pub layout-len : {X : Type 0} (p : Layout X) (order : Endian) (x : X)
@@ -85,3 +87,42 @@ layout-kept (field p get rest) order s at x exact all room h =
     both-kept (width p) (width rest) s at
     (layout-kept p order s at (get x) exact.0 all (omega (arith, room)) h.0)
     (layout-kept rest order s (at + width p) x exact.1 all (omega (arith, room)) h.1)
+
+not-plain : false ≡ true → ⊥
+not-plain e = cc
+
+-- where the fields of numbers and of arrays of numbers are the same, the values are equal
+plain-is : {X : Type 0} (p : Layout X) → is_plain p ≡ true → (x y : X) → same_fields p x y → x ≡ y
+plain-is (unsigned w) e x y h = h
+plain-is (signed w) e x y h = h
+plain-is (floating form) e x y h = h
+plain-is (array n p) e xs ys h = subst (λ b. same_elements b (same_fields p) xs ys) e h
+plain-is (only p get) e x y h = absurd (not-plain e)
+plain-is (field p get rest) e x y h = absurd (not-plain e)
+
+-- lists of one length whose elements are the same
+elements-same : {X : Type 0} (b : Bool) (same : X → X → Type 0)
+    → (b ≡ true → (x y : X) → same x y → x ≡ y) → (xs ys : List X) → length xs ≡ length ys
+    → ((i : ℕ) (d : X) → i < length xs → same (slice_index_or xs i d) (slice_index_or ys i d))
+    → same_elements b same xs ys
+elements-same true same is xs ys len each =
+    same_lists xs ys len
+    (λ i d l. is refl (slice_index_or xs i d) (slice_index_or ys i d) (each i d l))
+elements-same false same is xs ys len each = each
+
+-- bytes make one value
+pub layout-one : {X : Type 0} (p : Layout X) (order : Endian) (s : List ℕ) (at : ℕ) (x y : X)
+    → makes p order s at x → makes p order s at y → same_fields p x y
+layout-one (unsigned w) order s at x y h k = h ∙ sym k
+layout-one (signed w) order s at x y h k = h ∙ sym k
+layout-one (floating form) order s at x y h k = h ∙ sym k
+layout-one (array n p) order s at xs ys h k =
+    elements-same (is_plain p) (same_fields p) (plain-is p) xs ys (h.len ∙ sym k.len) (λ i d l.
+    let inside : i < n = omega (arith, l, h.len) in
+    layout-one p order (drop (width p * i) (drop at s)) 0 (slice_index_or xs i d)
+    (slice_index_or ys i d) (h.each i d inside) (k.each i d inside))
+layout-one (only p get) order s at x y h k = layout-one p order s at (get x) (get y) h k
+layout-one (field p get rest) order s at x y h k = (
+  layout-one p order s at (get x) (get y) h.0 k.0,
+  layout-one rest order s (at + width p) x y h.1 k.1,
+)

@@ -1,11 +1,15 @@
 -- Lists that are read value by value. The lemmas are proved, and promise nothing.
 use Rattle.std.proofs.Common.{◌≡◌, ◌≢◌, ℕ, ◌+◌, ◌<◌, ◌≤◌, ◌++◌, List, [], ◌∷◌, length, take, drop, sym, ap, subst, ◌∙◌, arith, length-append}
-use Rattle.std.proofs.lemmas.List.{length-take-le, take-take, drop-take}
+use Rattle.std.proofs.lemmas.List.{length-take-le}
+use Rattle.std.proofs.lemmas.List.Elements.{All-take}
 use Rattle.std.specs.List.{All}
 use Rattle.scroll.specs.declared.endian.Endian.{Endian}
 use Rattle.scroll_layouts.specs.Formats.{Format, reads, len}
 use Rattle.scroll_layouts.specs.Lists.{Items, SomeItems, CountedItems}
+use Rattle.scroll_layouts.specs.OneWay.{told}
 use Rattle.scroll_layouts.specs.lemmas.FormatLaws.{moved}
+use Rattle.scroll_layouts.specs.lemmas.Parts.{same-part}
+use Rattle.scroll_layouts.specs.lemmas.SameLaws.{one-len}
 
 -- one more value
 push : {E X : Type 0} (f : Format E X) (order : Endian) (s : List ℕ) (at : ℕ) (xs : List X)
@@ -49,11 +53,9 @@ items-cut f order s at [] to all le h = h
 items-cut f order s at (x ∷ xs) to all le h =
     let n : ℕ = len f x in
     let later : at + n ≤ to = ends f order s (at + n) xs to h.2 in
-    let long : length (take to s) ≡ to = length-take-le to s le in
-    let same : take n (drop at s) ≡ take n (drop at (take to s)) =
-    sym (drop-take at n s) ∙ ap (drop at) (sym (take-take (at + n) to s later))
-    ∙ drop-take at n (take to s) in (
-      moved f order s at (take to s) at x all (omega (arith, long, later)) same h.0,
+    let long : length (take to s) ≡ to = length-take-le to s le in (
+      moved f order s at (take to s) at x all (omega (arith, long, later))
+          (same-part n at to s later) h.0,
       h.1,
       items-cut f order s (at + n) xs to all le h.2,
     )
@@ -67,3 +69,42 @@ counted-cut f order s to n all le h = record {
       (items-cut f order s 0 h.values to all le h.each);
   count = h.count;
 }
+
+-- values of the bytes up to an offset are values of the source
+items-grown : {E X : Type 0} (f : Format E X) (order : Endian) (s : List ℕ) (at : ℕ) (xs : List X)
+    (to : ℕ) → All (λ b. b < 256) s → to ≤ length s → Items f order (take to s) at xs to
+    → Items f order s at xs to
+items-grown f order s at [] to all le h = h
+items-grown f order s at (x ∷ xs) to all le h =
+    let n : ℕ = len f x in
+    let later : at + n ≤ to = ends f order (take to s) (at + n) xs to h.2 in (
+      moved f order (take to s) at s at x (All-take (λ b. b < 256) to s all)
+          (omega (arith, later, le)) (sym (same-part n at to s later)) h.0,
+      h.1,
+      items-grown f order s (at + n) xs to all le h.2,
+    )
+
+-- as many values end at one offset
+items-one : {E X : Type 0} (f : Format E X) → told f → (order : Endian) (s : List ℕ) (at : ℕ)
+    (xs ys : List X) (to stop : ℕ) → All (λ b. b < 256) s → Items f order s at xs to
+    → Items f order s at ys stop → length xs ≡ length ys → to ≡ stop
+items-one f t order s at [] [] to stop all h k l = sym h ∙ k
+items-one f t order s at [] (y ∷ ys) to stop all h k l = absurd (omega (arith, l))
+items-one f t order s at (x ∷ xs) [] to stop all h k l = absurd (omega (arith, l))
+items-one f t order s at (x ∷ xs) (y ∷ ys) to stop all h k l =
+    let same : len f y ≡ len f x = one-len f t order s at y x all k.0 h.0 in
+    items-one f t order s (at + len f x) xs ys to stop all h.2
+    (subst (λ n. Items f order s (at + n) ys stop) same k.2) (omega (arith, l))
+
+-- a source begins with one list of so many values
+pub counted-one : {E X : Type 0} (f : Format E X) → told f → (order : Endian) (s : List ℕ) (n : ℕ)
+    (x y : List ℕ) → All (λ b. b < 256) s → length x ≤ length s → length y ≤ length s
+    → x ≡ take (length x) s → y ≡ take (length y) s → CountedItems f order x 0 (length x) n
+    → CountedItems f order y 0 (length y) n → length x ≡ length y
+counted-one f t order s n x y all inside within begins starts h k =
+    items-one f t order s 0 h.values k.values (length x) (length y) all
+    (items-grown f order s 0 h.values (length x) all inside
+    (subst (λ l. Items f order l 0 h.values (length x)) begins h.each))
+    (items-grown f order s 0 k.values (length y) all within
+    (subst (λ l. Items f order l 0 k.values (length y)) starts k.each))
+    (h.count ∙ sym k.count)

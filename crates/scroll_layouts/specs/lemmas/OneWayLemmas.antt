@@ -1,128 +1,93 @@
 -- What follows where a source is read in one way. The lemmas are proved, and promise nothing.
-use Rattle.std.proofs.Common.{IsUtf8, ◌≡◌, ℕ, ◌+◌, ◌<◌, ◌≤◌, ◌-◌, ◌⊎◌, ◌^◌, List, [], ◌∷◌, length, take, drop, sym, ap, subst, ◌∙◌, arith, length-drop, refl, inl, inr}
+use Rattle.std.proofs.Common.{IsUtf8, ◌≡◌, ℕ, ◌+◌, ◌<◌, ◌≤◌, ◌-◌, ◌⊎◌, ◌^◌, List, [], ◌∷◌, length, take, drop, sym, ap, subst, ◌∙◌, arith, length-drop, inl, inr}
 use Rattle.std.proofs.lemmas.List.{get_or-take, get_or-replicate, drop-drop}
+use Rattle.std.proofs.lemmas.List.Elements.{All-drop}
 use Rattle.std.specs.List.{All}
 use Rattle.std.specs.Int.{w64}
-use Rattle.std.specs.Prelude.{true, false, Some, None, slice_index, FitsSigned}
+use Rattle.std.specs.Prelude.{true, false, Some, None, slice_index, replicate, FitsSigned}
 use Rattle.scroll.specs.Leb128.{unsigned_of, signed_of, ReadsLeb, RefusesLeb}
 use Rattle.scroll.specs.Texts.{ReadsText, RefusesText}
 use Rattle.scroll.specs.declared.ctx.str_ctx.StrCtx.{StrCtx}
 use Rattle.scroll.specs.declared.ctx.str_ctx.StrCtx.TheVariants.{Length, Required}
 use Rattle.scroll.specs.declared.error.Error.{Error}
-use Rattle.scroll_formats.specs.Zeros.{padding_len}
 use Rattle.scroll.specs.declared.endian.Endian.{Endian}
-use Rattle.scroll_layouts.specs.OneWay.{Alike, SaysAs, one_way}
-use Rattle.scroll_layouts.specs.Formats.{Format, run, counted, zeros, last, part, rule, within, leaf, choice, when, padded, reads, refuses, len}
+use Rattle.scroll_formats.specs.Zeros.{RefusesZeros, padding_len}
+use Rattle.scroll_layouts.specs.OneWay.{same, one_way}
+use Rattle.scroll_layouts.specs.Formats.{Format, run, counted, zeros, last, pair, headed, padded, within, leaf, choice, when, reads, refuses, len}
 use Rattle.scroll_layouts.specs.Bits.{packed_in}
 use Rattle.scroll_layouts.specs.Errors.{NoRoom}
 use Rattle.scroll_layouts.specs.Fields.{Fields}
 use Rattle.scroll_layouts.specs.Leaves.{uleb, sleb, c_string, text_of, text_until}
-use Rattle.scroll_layouts.specs.Lists.{Items, SomeItems, StopsAtItem, RefusesItems, list_within}
+use Rattle.scroll_layouts.specs.ListLeaves.{list_within}
+use Rattle.scroll_layouts.specs.Lists.{Items, SomeItems, StopsAtItem, RefusesItems}
 use Rattle.scroll_layouts.specs.Starts.{start}
 use Rattle.scroll_layouts.specs.declared.choice.Choice.TheVariants.{First, Second}
 use Rattle.scroll_layouts.specs.lemmas.FormatLaws.{inside, moved}
 use Rattle.scroll_layouts.specs.lemmas.ListLemmas.{ends}
+use Rattle.scroll_layouts.specs.lemmas.Parts.{bytes-taken}
+use Rattle.scroll_layouts.specs.lemmas.SameLaws.{one-len, one-value, tells}
 
--- what equal values say of what follows them is alike
-pub alike : {E X Y : Type 0} (rest : Y → Format E X) (y z : Y) → y ≡ z → Alike (rest y) (rest z)
-alike rest y z is = record {
-  reads_too = λ order s at x h. subst (λ a. reads (rest a) order s at x) is h;
-  refuses_too = λ order s at e h. subst (λ a. refuses (rest a) order s at e) is h;
-  long = λ x. ap (λ a. len (rest a) x) is;
-}
-
--- what follows heads that say the same is alike
-pub refuses-as : {E A D X Y : Type 0} (holds : A → Type 0) (fails : A → E → Type 0) (next : A → D)
-    (f : D → Format E Y) (get : X → Y) (x y : A) → SaysAs holds fails next x y
-    → (order : Endian) (s : List ℕ) (at : ℕ) (e : E)
-    → refuses (rule (holds x) (fails x) (last {X = X} (f (next x)) get)) order s at e
-    → refuses (rule (holds y) (fails y) (last {X = X} (f (next y)) get)) order s at e
-refuses-as holds fails next f get x y same order s at e (inl r) = inl (same.fails_too e r)
-refuses-as holds fails next f get x y same order s at e (inr r) =
-    inr (same.holds_too r.0, subst (λ n. refuses (f n) order s at e) same.next_is r.1)
-
-pub alike-heads : {E A D X Y : Type 0} (holds : A → Type 0) (fails : A → E → Type 0) (next : A → D)
-    (f : D → Format E Y) (get : X → Y) (x y : A) → SaysAs holds fails next x y
-    → Alike (rule (holds x) (fails x) (last {X = X} (f (next x)) get))
-    (rule (holds y) (fails y) (last {X = X} (f (next y)) get))
-alike-heads holds fails next f get x y same = record {
-  reads_too = λ order s at v h.
-      (same.holds_too h.0, subst (λ n. reads (f n) order s at (get v)) same.next_is h.1);
-  refuses_too = refuses-as holds fails next f get x y same;
-  long = λ v. ap (λ n. len (f n) (get v)) same.next_is;
-}
-
--- a source has one length
-pub one-len : {E X : Type 0} (f : Format E X) → one_way f → (order : Endian) (s : List ℕ)
-    (at : ℕ) (x y : X) → reads f order s at x → reads f order s at y → len f x ≡ len f y
-one-len (run gives p) t order s at x y h k = refl
-one-len (counted gives n) t order s at x y h k = refl
-one-len (zeros gives n) t order s at x y h k = refl
-one-len (last p get) t order s at x y h k = one-len p t order s at (get x) (get y) h k
-one-len (part p get c) t order s at x y h k =
-    let first : len p (get x) ≡ len p (get y) = one-len p t.0 order s at (get x) (get y) h.0 k.0 in
-    let same : Alike (c (get y)) (c (get x)) = t.1 order s at (get y) (get x) k.0 h.0 in
-    let there : reads (c (get x)) order s (at + len p (get x)) y =
-    subst (λ n. reads (c (get x)) order s (at + n) y) (sym first)
-    (same.reads_too order s (at + len p (get y)) y k.1) in
-    let second : len (c (get x)) x ≡ len (c (get x)) y =
-    one-len (c (get x)) (t.2 (get x)) order s (at + len p (get x)) x y h.1 there in
-    let other : len (c (get y)) y ≡ len (c (get x)) y = same.long y in
-    omega (arith, first, second, other)
-one-len (rule P fails f) t order s at x y h k = one-len f t.1 order s at x y h.1 k.1
-one-len (within gives n f) t order s at x y h k = refl
-one-len (leaf l) t order s at x y h k = t.0 order s at x y h k
-one-len (choice gives true f g) t order s at (First x) (First y) h k =
-    one-len f t.0 order s at x y h k
-one-len (choice gives true f g) t order s at (First x) (Second y) h k = absurd k
-one-len (choice gives true f g) t order s at (Second x) y h k = absurd h
-one-len (choice gives false f g) t order s at (Second x) (Second y) h k =
-    one-len g t.1 order s at x y h k
-one-len (choice gives false f g) t order s at (Second x) (First y) h k = absurd k
-one-len (choice gives false f g) t order s at (First x) y h k = absurd h
-one-len (when gives true f) t order s at (Some x) (Some y) h k = one-len f t order s at x y h k
-one-len (when gives true f) t order s at (Some x) None h k = absurd k
-one-len (when gives true f) t order s at None y h k = absurd h
-one-len (when gives false f) t order s at None None h k = refl
-one-len (when gives false f) t order s at None (Some y) h k = absurd k
-one-len (when gives false f) t order s at (Some x) y h k = absurd h
-
--- what is read isn't refused
-pub no-clash : {E X : Type 0} (f : Format E X) → one_way f → (order : Endian) (s : List ℕ)
-    (at : ℕ) (x : X) (e : E) → reads f order s at x → refuses f order s at e → ⊥
-no-clash (run gives p) t order s at x e h r = omega (arith, h.0, r.short, length-drop at s)
-no-clash (counted gives n) t order s at x e h r =
-    omega (arith, h.0, r.short, length-drop at s)
-no-clash (zeros gives n) t order s at x e h (inner, inl r, g) =
-    omega (arith, h.0, r.short, length-drop at s)
-no-clash (zeros gives n) t order s at x e h (inner, inr r, g) =
+-- zeros that are there aren't refused
+zeros-clash : {E : Type 0} (gives : Error → E → Type 0) (n at : ℕ) (s : List ℕ) (e : E)
+    → (at + n ≤ length s) × (take n (drop at s) ≡ replicate n 0)
+    → (inner : Error) × RefusesZeros n (drop at s) inner × gives inner e → ⊥
+zeros-clash gives n at s e h (inner, inl r, g) = omega (arith, h.0, r.short, length-drop at s)
+zeros-clash gives n at s e h (inner, inr r, g) =
     r.nonzero (sym (get_or-take n (drop at s) r.index 0 r.inside)
     ∙ ap (λ l. slice_index l r.index) h.1
     ∙ get_or-replicate n r.index 0 0 r.inside)
-no-clash (last p get) t order s at x e h r = no-clash p t order s at (get x) e h r
-no-clash (part p get c) t order s at x e h (inl r) = no-clash p t.0 order s at (get x) e h.0 r
-no-clash (part p get c) t order s at x e h (inr (y, k, r)) =
-    let first : len p y ≡ len p (get x) = one-len p t.0 order s at y (get x) k h.0 in
-    let same : Alike (c y) (c (get x)) = t.1 order s at y (get x) k h.0 in
-    no-clash (c (get x)) (t.2 (get x)) order s (at + len p (get x)) x e h.1
-    (subst (λ n. refuses (c (get x)) order s (at + n) e) first
-    (same.refuses_too order s (at + len p y) e r))
-no-clash (rule P fails f) t order s at x e h (inl r) = t.0 h.0 e r
-no-clash (rule P fails f) t order s at x e h (inr r) = no-clash f t.1 order s at x e h.1 r.1
-no-clash (within gives n f) t order s at x e h (inl r) =
+
+-- what is read isn't refused
+pub no-clash : {E X : Type 0} (f : Format E X) → one_way f → (order : Endian) (s : List ℕ)
+    (at : ℕ) (x : X) (e : E) → All (λ b. b < 256) s → reads f order s at x → refuses f order s at e
+    → ⊥
+no-clash (run gives p) t order s at x e all h r =
     omega (arith, h.0, r.short, length-drop at s)
-no-clash (within gives n f) t order s at x e h (inr (inl r)) =
-    no-clash f t order (take n (drop at s)) 0 x e h.1 r.1
-no-clash (within gives n f) t order s at x e h (inr (inr (y, k, other, g))) =
-    other (one-len f t order (take n (drop at s)) 0 y x k h.1 ∙ h.2)
-no-clash (leaf l) t order s at x e h r = t.1 order s at x e h r
-no-clash (choice gives true f g) t order s at (First x) e h r = no-clash f t.0 order s at x e h r
-no-clash (choice gives true f g) t order s at (Second x) e h r = absurd h
-no-clash (choice gives false f g) t order s at (First x) e h r = absurd h
-no-clash (choice gives false f g) t order s at (Second x) e h r = no-clash g t.1 order s at x e h r
-no-clash (when gives true f) t order s at (Some x) e h r = no-clash f t order s at x e h r
-no-clash (when gives true f) t order s at None e h r = absurd h
-no-clash (when gives false f) t order s at x e h r = absurd r
+no-clash (counted gives n) t order s at x e all h r =
+    omega (arith, h.0, r.short, length-drop at s)
+no-clash (zeros gives n) t order s at x e all h r = zeros-clash gives n at s e h r
+no-clash (last f get) t order s at x e all h r = no-clash f t order s at (get x) e all h r
+no-clash (pair f g) t order s at x e all h (inl r) =
+    no-clash f t.0 order s at x.0 e all h.0 r
+no-clash (pair f g) t order s at x e all h (inr (y, k, r)) =
+    let size : len f y ≡ len f x.0 = one-len f (tells f t.0) order s at y x.0 all k h.0 in
+    no-clash g t.1 order s (at + len f x.0) x.1 e all h.1
+    (subst (λ n. refuses g order s (at + n) e) size r)
+no-clash (headed f holds fails next rest) t order s at x e all h (inl r) =
+    no-clash f t.0 order s at x.0 e all h.0 r
+no-clash (headed f holds fails next rest) t order s at x e all h (inr (y, k, inl r)) =
+    t.2 x.0 y e (one-value f (tells f t.0) order s at x.0 y all h.0 k) h.1.0 r
+no-clash (headed f holds fails next rest) t order s at x e all h (inr (y, k, inr r)) =
+    let size : len f y ≡ len f x.0 = one-len f (tells f t.0) order s at y x.0 all k h.0 in
+    let is : next y ≡ next x.0 =
+    t.1 y x.0 (one-value f (tells f t.0) order s at y x.0 all k h.0) in
+    no-clash (rest (next x.0)) (t.3 (next x.0)) order s (at + len f x.0) x.1 e all h.1.1
+    (subst (λ n. refuses (rest (next x.0)) order s (at + n) e) size
+    (subst (λ d. refuses (rest d) order s (at + len f y) e) is r.1))
+no-clash (padded gives m f) t order s at x e all h (inl r) =
+    no-clash f t order s at x e all h.0 r
+no-clash (padded gives m f) t order s at x e all h (inr (y, k, r)) =
+    let size : len f y ≡ len f x = one-len f (tells f t) order s at y x all k h.0 in
+    zeros-clash gives (padding_len (len f x) m) (at + len f x) s e h.1
+    (subst (λ n. (inner : Error) × RefusesZeros (padding_len n m) (drop (at + n) s) inner
+    × gives inner e) size r)
+no-clash (within gives n f) t order s at x e all h (inl r) =
+    omega (arith, h.0, r.short, length-drop at s)
+no-clash (within gives n f) t order s at x e all h (inr (inl r)) =
+    no-clash f t order (take n (drop at s)) 0 x e (bytes-taken n at s all) h.1 r.1
+no-clash (within gives n f) t order s at x e all h (inr (inr (y, k, other, g))) =
+    other (one-len f (tells f t) order (take n (drop at s)) 0 y x (bytes-taken n at s all) k h.1
+    ∙ h.2)
+no-clash (leaf l) t order s at x e all h r = t.1 order s at x e all h r
+no-clash (choice gives true f g) t order s at (First x) e all h r =
+    no-clash f t.0 order s at x e all h r
+no-clash (choice gives true f g) t order s at (Second x) e all h r = absurd h
+no-clash (choice gives false f g) t order s at (First x) e all h r = absurd h
+no-clash (choice gives false f g) t order s at (Second x) e all h r =
+    no-clash g t.1 order s at x e all h r
+no-clash (when gives true f) t order s at (Some x) e all h r = no-clash f t order s at x e all h r
+no-clash (when gives true f) t order s at None e all h r = absurd h
+no-clash (when gives false f) t order s at x e all h r = absurd r
 
 -- the rest of a list after its first value, as a list of its own
 pub rest-items : {E X : Type 0} (f : Format E X) (order : Endian) (s : List ℕ) (at : ℕ)
@@ -150,7 +115,7 @@ list-next f t order s y n all h some k is = next h.values h.each where
       → SomeItems f order (drop n s) 0 (length (drop n s))
   next [] each = absurd (omega (arith, some, each))
   next (x ∷ xs) each =
-      let same : n ≡ len f x = is ∙ one-len f t order s 0 y x k each.0 in
+      let same : n ≡ len f x = is ∙ one-len f (tells f t) order s 0 y x all k each.0 in
       let here : n ≤ length s = omega (arith, same, inside f order s 0 x (omega arith) each.0) in
       let from : Items f order s n xs (length s) =
       subst (λ m. Items f order s m xs (length s)) (omega (arith, same)) each.2 in
@@ -163,37 +128,43 @@ list-next f t order s y n all h some k is = next h.values h.each where
 
 -- a list in which a value without bytes is read, or one is refused, has none
 pub list-none : {E X : Type 0} (f : Format E X) → one_way f → (order : Endian) (s : List ℕ) (y : X)
-    → reads f order s 0 y → len f y ≡ 0 → SomeItems f order s 0 (length s) → length s ≡ 0
-list-none f t order s y k none h = first h.values h.each where
+    → All (λ b. b < 256) s → reads f order s 0 y → len f y ≡ 0 → SomeItems f order s 0 (length s)
+    → length s ≡ 0
+list-none f t order s y all k none h = first h.values h.each where
   first : (xs : List _) → Items f order s 0 xs (length s) → length s ≡ 0
   first [] each = sym each
-  first (x ∷ xs) each =
-      absurd (omega (arith, one-len f t order s 0 y x k each.0, each.1, none))
+  first (x ∷ xs) each = absurd (omega (
+    arith,
+    one-len f (tells f t) order s 0 y x all k each.0,
+    each.1,
+    none,
+  ))
 
 pub list-refused : {E X : Type 0} (f : Format E X) → one_way f → (order : Endian) (s : List ℕ)
-    (e : E) → refuses f order s 0 e → SomeItems f order s 0 (length s) → length s ≡ 0
-list-refused f t order s e r h = first h.values h.each where
+    (e : E) → All (λ b. b < 256) s → refuses f order s 0 e → SomeItems f order s 0 (length s)
+    → length s ≡ 0
+list-refused f t order s e all r h = first h.values h.each where
   first : (xs : List _) → Items f order s 0 xs (length s) → length s ≡ 0
   first [] each = sym each
-  first (x ∷ xs) each = absurd (no-clash f t order s 0 x e each.0 r)
+  first (x ∷ xs) each = absurd (no-clash f t order s 0 x e all each.0 r)
 
 -- values up to an offset, at which none can be read, aren't followed by more values
 items-clash : {E X : Type 0} (gives : Error → E → Type 0) (f : Format E X) → one_way f
     → (order : Endian) (s : List ℕ) (at : ℕ) (xs ys : List X) (to stop : ℕ) (e : E)
-    → Items f order s at xs to → Items f order s at ys stop → stop < to
+    → All (λ b. b < 256) s → Items f order s at xs to → Items f order s at ys stop → stop < to
     → StopsAtItem gives f order s stop e → ⊥
-items-clash gives f t order s at [] [] to stop e h k l r = omega (arith, h, k, l)
-items-clash gives f t order s at [] (y ∷ ys) to stop e h k l r =
+items-clash gives f t order s at [] [] to stop e all h k l r = omega (arith, h, k, l)
+items-clash gives f t order s at [] (y ∷ ys) to stop e all h k l r =
     omega (arith, h, l, ends f order s (at + len f y) ys stop k.2)
-items-clash gives f t order s at (x ∷ xs) [] to stop e h k l (inl r) =
-    no-clash f t order s stop x e (subst (λ n. reads f order s n x) k h.0) r
-items-clash gives f t order s at (x ∷ xs) [] to stop e h k l (inr (y, read, none, g)) =
+items-clash gives f t order s at (x ∷ xs) [] to stop e all h k l (inl r) =
+    no-clash f t order s stop x e all (subst (λ n. reads f order s n x) k h.0) r
+items-clash gives f t order s at (x ∷ xs) [] to stop e all h k l (inr (y, read, none, g)) =
     let same : len f x ≡ len f y =
-    one-len f t order s stop x y (subst (λ n. reads f order s n x) k h.0) read in
+    one-len f (tells f t) order s stop x y all (subst (λ n. reads f order s n x) k h.0) read in
     omega (arith, same, none, h.1)
-items-clash gives f t order s at (x ∷ xs) (y ∷ ys) to stop e h k l r =
-    let same : len f y ≡ len f x = one-len f t order s at y x k.0 h.0 in
-    items-clash gives f t order s (at + len f x) xs ys to stop e h.2
+items-clash gives f t order s at (x ∷ xs) (y ∷ ys) to stop e all h k l r =
+    let same : len f y ≡ len f x = one-len f (tells f t) order s at y x all k.0 h.0 in
+    items-clash gives f t order s (at + len f x) xs ys to stop e all h.2
     (subst (λ n. Items f order s (at + n) ys stop) same k.2) l r
 
 -- a number in LEB128 isn't read and refused
@@ -211,87 +182,53 @@ text-clash ctx s text n e h (inr (inr r)) = r.missing h.there
 
 -- nor a list within a length
 within-clash : {E X : Type 0} (gives : Error → E → Type 0) (f : Format E X) (n : ℕ) → one_way f
-    → (order : Endian) (s : List ℕ) (at : ℕ) (x : List ℕ) (e : E)
+    → (order : Endian) (s : List ℕ) (at : ℕ) (x : List ℕ) (e : E) → All (λ b. b < 256) s
     → (at + length x ≤ length s) × (x ≡ take (length x) (drop at s))
     × ((n ≡ length x) × SomeItems f order x 0 (length x))
     → NoRoom gives n (drop at s) e
     ⊎ ((at + n ≤ length s) × RefusesItems gives f order (take n (drop at s)) e) → ⊥
-within-clash gives f n t order s at x e h (inl r) =
+within-clash gives f n t order s at x e all h (inl r) =
     omega (arith, h.0, h.2.0, r.short, length-drop at s)
-within-clash gives f n t order s at x e h (inr r) =
+within-clash gives f n t order s at x e all h (inr r) =
     let same : take n (drop at s) ≡ x = ap (λ k. take k (drop at s)) h.2.0 ∙ sym h.1 in
     let there = subst (λ l. RefusesItems gives f order l e) same r.1 in
-    items-clash gives f t order x 0 h.2.1.values there.before.values (length x) there.stop e
+    let below : All (λ b. b < 256) x =
+    subst (λ l. All (λ b. b < 256) l) same (bytes-taken n at s all) in
+    items-clash gives f t order x 0 h.2.1.values there.before.values (length x) there.stop e below
     h.2.1.each there.before.each there.more there.error
 
 -- leaves that read a source in one way
 pub uleb-one-way : {E : Type 0} (gives : Error → E → Type 0) → one_way (leaf (start (uleb gives)))
-uleb-one-way gives = (
-  λ order s at x y h k. h.0.size ∙ sym k.0.size,
-  λ order s at x e h r.
-      leb-clash unsigned_of (λ v. v < 2 ^ 64) (drop at s) x.value x.count r.0 h.0 r.1,
-  tt,
-)
+uleb-one-way gives = (tt, λ order s at x e all h r.
+    leb-clash unsigned_of (λ v. v < 2 ^ 64) (drop at s) x.value x.count r.0 h.0 r.1)
 
 pub sleb-one-way : {E : Type 0} (gives : Error → E → Type 0) → one_way (leaf (start (sleb gives)))
-sleb-one-way gives = (
-  λ order s at x y h k. h.0.size ∙ sym k.0.size,
-  λ order s at x e h r.
-      leb-clash signed_of (FitsSigned w64) (drop at s) x.value x.count r.0 h.0 r.1,
-  tt,
-)
+sleb-one-way gives = (tt, λ order s at x e all h r.
+    leb-clash signed_of (FitsSigned w64) (drop at s) x.value x.count r.0 h.0 r.1)
 
 pub c_string-one-way : {E : Type 0} (gives : Error → E → Type 0)
     → one_way (leaf (start (c_string gives)))
-c_string-one-way gives = (
-  λ order s at x y h k. omega (arith, h.size, k.size),
-  λ order s at x e h r. omega (arith, h.found, r.1.none),
-  tt,
-)
+c_string-one-way gives = (tt, λ order s at x e all h r. omega (arith, h.found, r.1.none))
 
 pub text_of-one-way : {E : Type 0} (gives : Error → E → Type 0) (n : ℕ)
     → one_way (leaf (start (text_of gives n)))
-text_of-one-way gives n = (
-  λ order s at x y h k. refl,
-  λ order s at x e h r. text-clash (Length n) (drop at s) x n r.0 h r.1,
-  tt,
-)
+text_of-one-way gives n =
+    (tt, λ order s at x e all h r. text-clash (Length n) (drop at s) x n r.0 h r.1)
 
 pub text_until-one-way : {E : Type 0} (gives : Error → E → Type 0) (d : ℕ)
     → one_way (leaf (start (text_until gives d)))
-text_until-one-way gives d = (
-  λ order s at x y h k. omega (arith, h.size, k.size),
-  λ order s at x e h r. text-clash (Required d) (drop at s) x (length x + 1) r.0 h r.1,
-  tt,
-)
+text_until-one-way gives d = (tt, λ order s at x e all h r.
+    text-clash (Required d) (drop at s) x (length x + 1) r.0 h r.1)
 
 pub packed_in-one-way : {E X : Type 0} (gives : Error → E → Type 0) (w : ℕ) (f : Fields X)
     → one_way (leaf (packed_in gives w f))
-packed_in-one-way gives w f = (
-  λ order s at x y h k. refl,
-  λ order s at x e h r. omega (arith, h.0, r.short, length-drop at s),
-  tt,
-)
+packed_in-one-way gives w f =
+    (tt, λ order s at x e all h r. omega (arith, h.0, r.short, length-drop at s))
 
 pub list_within-one-way : {E X : Type 0} (gives : Error → E → Type 0) (f : Format E X) (n : ℕ)
     → one_way f → one_way (leaf (list_within gives f n))
-list_within-one-way gives f n t = (
-  λ order s at x y h k. sym h.2.0 ∙ k.2.0,
-  λ order s at x e h r. within-clash gives f n t order s at x e h r,
-  tt,
-)
-
--- zeros up to a multiple of a size are as many where the value's length is one
-pub padded-one-way : {E X : Type 0} (gives : Error → E → Type 0) (multiple : ℕ) (f : Format E X)
-    → one_way f → one_way (padded gives multiple f)
-padded-one-way gives multiple f t = (
-  t,
-  λ order s at y z h k. alike (λ n. zeros gives (padding_len n multiple)) (len f y) (len f z)
-      (one-len f t order s at y z h k),
-  λ y. tt,
-)
-
-pub ruleset same_rest = (alike)
+list_within-one-way gives f n t =
+    (tt, λ order s at x e all h r. within-clash gives f n t order s at x e all h r)
 
 pub ruleset leaves_one_way = (
   uleb-one-way,

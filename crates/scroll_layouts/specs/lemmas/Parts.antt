@@ -2,7 +2,7 @@
 use Rattle.std.proofs.Common.{◌≡◌, ℕ, ◌+◌, ◌<◌, ◌≤◌, ◌++◌, List, [], length, take, drop, sym, ap, ◌∙◌, arith, length-append, length-drop, slice_index}
 use Rattle.std.proofs.Math.Seq.{drop-append_seam}
 use Rattle.std.proofs.lemmas.Grind.{same_number_lists}
-use Rattle.std.proofs.lemmas.List.{append-nil, take_at, take-take, length-take-le, get_or-take, get_or-replicate, length-replicate}
+use Rattle.std.proofs.lemmas.List.{append-nil, take_at, take-take, drop-take, length-take-le, get_or-take, get_or-replicate, length-replicate}
 use Rattle.std.proofs.lemmas.List.Elements.{All-drop, All-take}
 use Rattle.std.specs.List.{All}
 use Rattle.scroll_formats.specs.Zeros.{zeros}
@@ -49,6 +49,13 @@ pub bytes-taken : (n at : ℕ) (s : List ℕ) → All (λ b. b < 256) s
     → All (λ b. b < 256) (take n (drop at s))
 bytes-taken n at s all =
     All-take (λ b. b < 256) n (drop at s) (All-drop (λ b. b < 256) at s all)
+
+-- bytes up to an offset are those of the source
+pub same-part : (n at end : ℕ) (s : List ℕ) → at + n ≤ end
+    → take n (drop at s) ≡ take n (drop at (take end s))
+same-part n at end s le =
+    sym (drop-take at n s) ∙ ap (drop at) (sym (take-take (at + n) end s le))
+    ∙ drop-take at n (take end s)
 
 -- bytes that are each zero
 pub zeros-there : (n : ℕ) (s : List ℕ) → n ≤ length s → ((i : ℕ) → i < n → slice_index s i ≡ 0)

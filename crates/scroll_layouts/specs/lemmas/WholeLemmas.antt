@@ -9,9 +9,11 @@ use Rattle.scroll.specs.declared.endian.Endian.{Endian}
 use Rattle.scroll.specs.declared.error.Error.{Error}
 use Rattle.scroll.specs.declared.error.Error.TheVariants.{NoMemory}
 use Rattle.scroll_layouts.specs.Formats.{Format, reads, len, bytes, agrees, differs, exact}
-use Rattle.scroll_layouts.specs.Wholes.{ReadsWhole, ReadsExact, WritesWhole, AppendsWhole, AppendsEach, FailsEach}
+use Rattle.scroll_layouts.specs.OneWay.{told}
+use Rattle.scroll_layouts.specs.Wholes.{ReadsWhole, ReadsExact, ReadsBack, WritesWhole, AppendsWhole, AppendsEach, FailsEach}
 use Rattle.scroll_layouts.specs.lemmas.FormatLaws.{inside, made-agrees, bytes-len, back, kept}
 use Rattle.scroll_layouts.specs.lemmas.LayoutLaws.{layout-len}
+use Rattle.scroll_layouts.specs.lemmas.SameLaws.{one-value}
 
 -- the bytes of a slice are below 256
 pub bytes-below : (s : List ℕ) → ((i : ℕ) → Fits w8 (slice_index s i)) → All (λ b. b < 256) s
@@ -19,8 +21,9 @@ bytes-below s h = λ i d l. subst (λ n. n < 256) (get_or_default s i 0 d l) (h 
 
 -- a value that was read at the start
 pub whole-read : {E X : Type 0} (f : Format E X) (order : Endian) (s : List ℕ) (x : X) (n : ℕ)
-    → All (λ b. b < 256) s → reads f order s 0 x → n ≡ len f x → ReadsWhole f order s x n
-whole-read f order s x n all h size =
+    → told f → All (λ b. b < 256) s → reads f order s 0 x → n ≡ len f x
+    → ReadsWhole f order s x n
+whole-read f order s x n t all h size =
     let agreed : agrees f order x = made-agrees f order s 0 x all h in
     record {
       value = h;
@@ -28,6 +31,7 @@ whole-read f order s x n all h size =
       size = size;
       inside = omega (arith, size, inside f order s 0 x (omega arith) h);
       count = bytes-len f order x agreed ∙ sym size;
+      only = λ y k. one-value f t order s 0 x y all h k;
     }
 
 pub exact-read : {E X : Type 0} (f : Format E X) (order : Endian) (s : List ℕ) (x : X) (n : ℕ)
@@ -39,6 +43,7 @@ exact-read f order s x n e all h = record {
   inside = h.inside;
   count = h.count;
   back = kept f order s 0 x e all h.value ∙ ap (λ k. take k s) (sym h.size);
+  only = h.only;
 }
 
 -- a value that was written at the start
@@ -60,7 +65,7 @@ whole-written f order x old new n agreed wrote = record {
 -- a value that was written is read, whatever is written after it
 pub whole-kept : {E X : Type 0} (f : Format E X) (order : Endian) (x : X) (old new : List ℕ)
     (n : ℕ) → WritesWhole f order x old new n → (rest : List ℕ)
-    → ReadsExact f order (take n new ++ rest) x n
+    → ReadsBack f order (take n new ++ rest) x n
 whole-kept f order x old new n h rest =
     let size : length (take n new) ≡ n = ap length h.written ∙ sym h.wrote.size in
     record {

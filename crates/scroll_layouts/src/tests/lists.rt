@@ -220,6 +220,24 @@ pub fn again_lists(target: &mut [u8], value: Lists, order: Endian) -> Result<u16
     Ok(again.a)
 }
 
+/// Writes lists and reads them: the list of a count is the same.
+pub fn some_again<'a>(target: &'a mut [u8], value: Lists, order: Endian) -> Result<&'a [u8]>
+    ensures { IfOk result (λ some. some.now ≡ value.entry.some.0.now) }
+{
+    slice::gwrite_with(target, value, &mut 0, order)?;
+    let again: Lists = (&*target).pread_with(0, order)?;
+    Ok(again.some.0)
+}
+
+/// Writes lists and reads them: the list up to a mark, which stands behind the others, is the same.
+pub fn others_again<'a>(target: &'a mut [u8], value: Lists, order: Endian) -> Result<&'a [u8]>
+    ensures { IfOk result (λ others. others.now ≡ value.entry.others.0.now) }
+{
+    slice::gwrite_with(target, value, &mut 0, order)?;
+    let again: Lists = (&*target).pread_with(0, order)?;
+    Ok(again.others.0)
+}
+
 pub fn copy_lists(from: &[u8], to: &mut [u8], order: Endian) -> Result<usize>
     ensures { IfOk result (λ n. take n to.new ≡ take n from.now) }
 {

@@ -109,7 +109,6 @@ impl<'a, E: From<Error>, C: Drop, A: Certain<'a, C, E>> Certain<'a, When<C>, E> 
 
 impl<'a, E, C: Drop, D: Drop, A: Certain<'a, C, E>, B: Certain<'a, D, E>> Certain<'a, (C, D), E>
     for (A, B) {
-    #[tactic(auto, using(crate::specs::lemmas::OneWayLemmas::same_rest))]
     fn certain() {
         A::certain();
         B::certain();
@@ -125,7 +124,6 @@ impl<
     H: CertainHead<'a, C, A, E, Next = D> + Drop,
     B: Certain<'a, D, E>,
 > Certain<'a, Headed<C, D, H>, E> for (A, B) {
-    #[tactic(auto, using(crate::specs::lemmas::OneWayLemmas::same_rest))]
     fn certain() {
         A::certain();
         H::certain_next();

@@ -6,9 +6,12 @@ use Rattle.scroll.proofs.lemmas.ArrayLemmas.{IsFilled-none, IsFilled-push, IsFil
 use Rattle.scroll.proofs.ctx.arrays.ArrayTryFromCtx.try_from_ctx.Goals as goal
 
 pub returns-then-not-fits-clause-refused : goal.returns-then-not-fits-clause-refused
-returns-then-not-fits-clause-refused g c = λ h.
-    let is_true : c.fits.result ≡ true = c.fits.ensures.small h in
-    absurd (cc)
+returns-then-not-fits-clause-refused g c = (
+      λ h.
+        let is_true : c.fits.result ≡ true = c.fits.ensures.small h in
+        absurd (cc),
+      λ _. c.from.ensures,
+    )
 
 pub loop-i-init : goal.loop-i-init
 loop-i-init g c = IsFilled-none (g.T.TryFromCtx.reads c.args.ctx) c.args.from.now c.new-slots.result.items (search rules)
@@ -28,7 +31,7 @@ returns-in_err-value-clause-refused g c =
     let refused = IsFilled-refused (g.T.TryFromCtx.reads c.args.ctx) (g.T.TryFromCtx.refuses c.args.ctx) (PastEnd g.E.From.from_gives) c.args.from.now
     _ _ g.row.N _ c.in_err-value.field-0.0 c.loop-i.invariant c.loop-i-test.true c.in_err-value.ensures.refused in
     let p = err_from_is_err_and c.from_residual.result c.from_residual.ensures.1 in
-    rw (p.1, p.2) (λ _. refused)
+    rw (p.1, p.2) (λ _. refused, λ no. absurd (no (c.if-not-fits.ensures.only refl)))
 
 pub push-requires : goal.push-requires
 push-requires g c =

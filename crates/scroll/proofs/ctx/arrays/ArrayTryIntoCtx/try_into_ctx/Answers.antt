@@ -15,9 +15,12 @@ loop-i-preserved g c =
     c.loop-i.invariant c.in-Some.ensures.steps c.in_ok-offset-in-Some.ensures.wrote c.in_ok-offset-in-Some.ensures.inside
 
 pub returns-then-not-fits-clause-refused : goal.returns-then-not-fits-clause-refused
-returns-then-not-fits-clause-refused g c = λ h.
-    let is_true : c.fits.result ≡ true = c.fits.ensures.small h in
-    absurd (cc)
+returns-then-not-fits-clause-refused g c = (
+      λ h.
+        let is_true : c.fits.result ≡ true = c.fits.ensures.small h in
+        absurd (cc),
+      λ _. (refl, refl),
+    )
 
 pub into_iter-values-requires : goal.into_iter-values-requires
 into_iter-values-requires g c = (search rules, c.if-not-fits.ensures.fits refl)
@@ -36,7 +39,7 @@ returns-in_err-offset-in-Some-clause-refused g c =
     let failed = IsPartWritten-fails (g.T.TryIntoCtx.writes c.args.ctx) (g.T.TryIntoCtx.refuses c.args.ctx) c.args.self _ _ c.args.dst.now _ _ _ _ c.in-Some.value _
     c.loop-i.invariant c.in-Some.ensures.steps c.in_err-offset-in-Some.ensures.refused in
     let p = err_from_is_err_and c.from_residual.result c.from_residual.ensures.1 in
-    rw (p.1, p.2) (λ _. failed)
+    rw (p.1, p.2) (λ _. failed, λ no. absurd (no (c.if-not-fits.ensures.only refl)))
 
 pub unreachable-requires : goal.unreachable-requires
 unreachable-requires g c = grind (arith, common_steps)

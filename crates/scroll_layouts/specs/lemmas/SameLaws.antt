@@ -1,0 +1,85 @@
+-- The values of a source are the same, by recursion: a line or two for each form. The lemmas are
+-- proved, and promise nothing.
+use Rattle.std.proofs.Common.{◌≡◌, ℕ, ◌+◌, ◌<◌, List, take, drop, refl, sym, ap, subst, ◌∙◌, arith}
+use Rattle.std.specs.List.{All}
+use Rattle.std.specs.Prelude.{true, false, Some, None}
+use Rattle.scroll.specs.declared.endian.Endian.{Endian}
+use Rattle.scroll_formats.specs.Zeros.{padding_len}
+use Rattle.scroll_layouts.specs.Formats.{Format, run, counted, zeros, last, pair, headed, padded, within, leaf, choice, when, reads, len}
+use Rattle.scroll_layouts.specs.OneWay.{same, told, one_way}
+use Rattle.scroll_layouts.specs.declared.choice.Choice.TheVariants.{First, Second}
+use Rattle.scroll_layouts.specs.lemmas.LayoutLaws.{layout-one}
+use Rattle.scroll_layouts.specs.lemmas.Parts.{bytes-taken}
+
+-- a source has one length at an offset, and its values are the same
+one : {E X : Type 0} (f : Format E X) → told f → (order : Endian) (s : List ℕ) (at : ℕ) (x y : X)
+    → All (λ b. b < 256) s → reads f order s at x → reads f order s at y
+    → (len f x ≡ len f y) × same f x y
+one (run gives p) t order s at x y all h k = (refl, layout-one p order s at x y h.1 k.1)
+one (counted gives n) t order s at x y all h k = (refl, h.1 ∙ sym k.1)
+one (zeros gives n) t order s at x y all h k = (refl, tt)
+one (last f get) t order s at x y all h k = one f t order s at (get x) (get y) all h k
+one (pair f g) t order s at x y all h k =
+    let first : (len f x.0 ≡ len f y.0) × same f x.0 y.0 =
+    one f t.0 order s at x.0 y.0 all h.0 k.0 in
+    let there : reads g order s (at + len f x.0) y.1 =
+    subst (λ n. reads g order s (at + n) y.1) (sym first.0) k.1 in
+    let second : (len g x.1 ≡ len g y.1) × same g x.1 y.1 =
+    one g t.1 order s (at + len f x.0) x.1 y.1 all h.1 there in
+    (omega (arith, first.0, second.0), (first.1, second.1))
+one (headed f holds fails next rest) t order s at x y all h k =
+    let first : (len f x.0 ≡ len f y.0) × same f x.0 y.0 =
+    one f t.0 order s at x.0 y.0 all h.0 k.0 in
+    let is : next x.0 ≡ next y.0 = t.1 x.0 y.0 first.1 in
+    let there : reads (rest (next x.0)) order s (at + len f x.0) y.1 =
+    subst (λ d. reads (rest d) order s (at + len f x.0) y.1) (sym is)
+    (subst (λ n. reads (rest (next y.0)) order s (at + n) y.1) (sym first.0) k.1.1) in
+    let second : (len (rest (next x.0)) x.1 ≡ len (rest (next x.0)) y.1)
+    × same (rest (next x.0)) x.1 y.1 =
+    one (rest (next x.0)) (t.2 (next x.0)) order s (at + len f x.0) x.1 y.1 all h.1.1 there in
+    let other : len (rest (next x.0)) y.1 ≡ len (rest (next y.0)) y.1 =
+    ap (λ d. len (rest d) y.1) is in
+    (omega (arith, first.0, second.0, other), (first.1, second.1))
+one (padded gives m f) t order s at x y all h k =
+    let first : (len f x ≡ len f y) × same f x y = one f t order s at x y all h.0 k.0 in
+    (ap (λ n. n + padding_len n m) first.0, first.1)
+one (within gives n f) t order s at x y all h k =
+    (refl, (one f t order (take n (drop at s)) 0 x y (bytes-taken n at s all) h.1 k.1).1)
+one (leaf l) t order s at x y all h k = l.leaf_one t order s at x y all h k
+one (choice gives true f g) t order s at (First x) (First y) all h k =
+    one f t.0 order s at x y all h k
+one (choice gives true f g) t order s at (First x) (Second y) all h k = absurd k
+one (choice gives true f g) t order s at (Second x) y all h k = absurd h
+one (choice gives false f g) t order s at (Second x) (Second y) all h k =
+    one g t.1 order s at x y all h k
+one (choice gives false f g) t order s at (Second x) (First y) all h k = absurd k
+one (choice gives false f g) t order s at (First x) y all h k = absurd h
+one (when gives true f) t order s at (Some x) (Some y) all h k = one f t order s at x y all h k
+one (when gives true f) t order s at (Some x) None all h k = absurd k
+one (when gives true f) t order s at None y all h k = absurd h
+one (when gives false f) t order s at None None all h k = (refl, tt)
+one (when gives false f) t order s at None (Some y) all h k = absurd k
+one (when gives false f) t order s at (Some x) y all h k = absurd h
+
+pub one-len : {E X : Type 0} (f : Format E X) → told f → (order : Endian) (s : List ℕ) (at : ℕ)
+    (x y : X) → All (λ b. b < 256) s → reads f order s at x → reads f order s at y
+    → len f x ≡ len f y
+one-len f t order s at x y all h k = (one f t order s at x y all h k).0
+
+pub one-value : {E X : Type 0} (f : Format E X) → told f → (order : Endian) (s : List ℕ) (at : ℕ)
+    (x y : X) → All (λ b. b < 256) s → reads f order s at x → reads f order s at y → same f x y
+one-value f t order s at x y all h k = (one f t order s at x y all h k).1
+
+-- where a source is read in one way, heads say one thing of what follows them
+pub tells : {E X : Type 0} (f : Format E X) → one_way f → told f
+tells (run gives p) t = tt
+tells (counted gives n) t = tt
+tells (zeros gives n) t = tt
+tells (last f get) t = tells f t
+tells (pair f g) t = (tells f t.0, tells g t.1)
+tells (headed f holds fails next rest) t = (tells f t.0, t.1, λ d. tells (rest d) (t.3 d))
+tells (padded gives m f) t = tells f t
+tells (within gives n f) t = tells f t
+tells (leaf l) t = t.0
+tells (choice gives b f g) t = (tells f t.0, tells g t.1)
+tells (when gives b f) t = tells f t
