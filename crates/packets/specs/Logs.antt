@@ -9,12 +9,12 @@ use Rattle.scroll.specs.declared.endian.Endian.{Endian}
 use Rattle.scroll.specs.declared.error.Error.{Error}
 use Rattle.scroll_formats.specs.declared.located.At.{At}
 use Rattle.scroll_layouts.specs.Formats.{Format, bytes, refuses}
-use Rattle.scroll_layouts.specs.Wholes.{ReadsExact, WritesWhole, KeepsWhole}
+use Rattle.scroll_layouts.specs.Wholes.{ReadsBack, ReadsExact, WritesWhole, KeepsWhole}
 use Rattle.packets.specs.declared.log.Record.{Record}
 
 -- the whole log is these records
 abbrev pub IsLog : Format Error Record → Endian → List ℕ → List Record → Type 0
-IsLog format order log records = ReadsAll (ReadsExact format order) log 0 records (length log)
+IsLog format order log records = ReadsAll (ReadsBack format order) log 0 records (length log)
 
 -- the error of reading a log: that of a record after those before it, or out of memory
 abbrev pub RefusesLog : Format Error Record → Endian → List ℕ → At Error → Type 0

@@ -8,7 +8,7 @@ use Rattle.scroll.specs.Reads.{RefusesAt}
 use Rattle.scroll.specs.declared.endian.Endian.TheVariants.{Big}
 use Rattle.packets.specs.Headers.{udp_bytes, dns_bytes}
 use Rattle.scroll_layouts.specs.Formats.{Format}
-use Rattle.scroll_layouts.specs.Wholes.{ReadsExact}
+use Rattle.scroll_layouts.specs.Wholes.{ReadsBack}
 use Rattle.packets.specs.declared.packet.UdpHeader.{UdpHeader}
 use Rattle.packets.specs.declared.packet.DnsHeader.{DnsHeader}
 use Rattle.packets.specs.declared.packet.Packet.{Packet}
@@ -18,7 +18,7 @@ use Rattle.packets.specs.declared.packet.PacketError.TheVariants.{Short}
 -- the packet at the start of a source, in network order, has as many bytes as its header says
 pub record IsPacket (format : Format PacketError Packet) (s : List ℕ) (p : Packet) : Type 0 where
   pub size : ℕ
-  pub read : ReadsExact format Big s p size
+  pub read : ReadsBack format Big s p size
   pub whole : size ≡ p.udp.len
 
 -- the two headers, written in their order in the packet

@@ -11,7 +11,7 @@
 //! let first: Record = bytes.pread_with(0, LE)?;
 //! ```
 ghost use Rattle.std.specs.Prelude.{◌≡◌, length, take, IfOk, IfErr};
-ghost use Rattle.scroll_layouts.specs.Wholes.{ReadsExact};
+ghost use Rattle.scroll_layouts.specs.Wholes.{ReadsBack};
 ghost use Rattle.scroll_layouts.specs.lemmas.WholeLemmas.{whole-kept};
 ghost use Rattle.packets.specs.Logs.{IsLog, RefusesLog, WritesLog, FailsLog, log_bytes};
 
@@ -36,7 +36,7 @@ pub struct Record<'a> {
 }
 
 /// Reads the records of a whole log, in order.
-#[tactic(auto, using(scroll_layouts::specs::lemmas::EachLemmas::list_written_back))]
+#[tactic(auto, using(scroll_layouts::specs::lemmas::EachLemmas::list_written_back, scroll_layouts::specs::lemmas::EachLemmas::list_read_back))]
 pub fn read_records<'a>(
     alloc: Global,
     log: &'a [u8],
@@ -67,7 +67,7 @@ pub fn write_records<'a>(
 }
 
 impl<'a> Kept<Endian> for Record<'a> {
-    ghost reads = { ReadsExact (⟦<Record<'a> as ReadPart<'a, (), Error>>⟧.format tt) };
+    ghost reads = { ReadsBack (⟦<Record<'a> as ReadPart<'a, (), Error>>⟧.format tt) };
 
     ghost fits = { λ _. Unit {0} };
 
