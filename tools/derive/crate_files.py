@@ -24,7 +24,7 @@ GHOST: Dict[str, Sequence[str]] = {
     "Rattle.scroll.specs.lemmas.Frames": ("WritesPrefix-keeps",),
     "Rattle.scroll_formats.specs.SmallErrors": ("small_error",),
     "Rattle.scroll_layouts.specs.Errors": ("GivesBadInput", "IsNot"),
-    "Rattle.scroll_layouts.specs.Formats": ("refuses",),
+    "Rattle.scroll_layouts.specs.Formats": ("choice", "last", "part", "refuses", "rule"),
     "Rattle.scroll_layouts.specs.OneWay": ("one_way",),
     "Rattle.scroll_layouts.specs.Wholes": ("KeepsWhole", "ReadsExact", "ReadsWhole", "WritesWhole"),
     "Rattle.scroll_layouts.specs.declared.choice.Choice.TheVariants": ("First", "Second"),
