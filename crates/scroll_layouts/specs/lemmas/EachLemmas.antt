@@ -10,12 +10,12 @@ use Rattle.scroll.proofs.lemmas.callers.RoundTrips.{all-back}
 use Rattle.scroll_formats.proofs.lemmas.callers.Written.{ReadsAll-again}
 use Rattle.scroll_layouts.specs.Each.{list_bytes, ReadsList, WritesList, DiffersOne}
 use Rattle.scroll_layouts.specs.Formats.{Format, reads, bytes, agrees, differs}
-use Rattle.scroll_layouts.specs.Wholes.{ReadsExact}
+use Rattle.scroll_layouts.specs.Wholes.{ReadsBack}
 use Rattle.scroll_layouts.specs.lemmas.FormatLaws.{bytes-len, back}
 
 -- a value that agrees is read from what begins with its bytes
 exact-back : {E X : Type 0} (f : Format E X) (order : Endian) (x : X) → agrees f order x
-    → (rest : List ℕ) → ReadsExact f order (bytes f order x ++ rest) x (length (bytes f order x))
+    → (rest : List ℕ) → ReadsBack f order (bytes f order x ++ rest) x (length (bytes f order x))
 exact-back f order x agreed rest = record {
   value = back f order x [] rest agreed;
   agreed = agreed;
@@ -34,17 +34,17 @@ list-back {E} {A} {X} h f order head xs agreed all rest =
     let first : List ℕ = bytes h order head in
     let others : List ℕ = flat_map (bytes f order) xs in
     let again : All (λ x. (rest : List ℕ)
-    → ReadsExact f order (bytes f order x ++ rest) x (length (bytes f order x))) xs =
+    → ReadsBack f order (bytes f order x ++ rest) x (length (bytes f order x))) xs =
     All-weaker (agrees f order)
-    (λ x. (rest : List ℕ) → ReadsExact f order (bytes f order x ++ rest) x (length (bytes f order x)))
+    (λ x. (rest : List ℕ) → ReadsBack f order (bytes f order x ++ rest) x (length (bytes f order x)))
     (exact-back f order) xs all in
     record {
       first = subst (λ s. reads h order s 0 head) (sym (append_assoc first others rest))
           (back h order head [] (others ++ rest) agreed);
       each = subst
-          (λ k. ReadsAll (ReadsExact f order) (first ++ others ++ rest) k xs
+          (λ k. ReadsAll (ReadsBack f order) (first ++ others ++ rest) k xs
           (length (first ++ others))) (bytes-len h order head agreed)
-          (ReadsAll-again (ReadsExact f order) (bytes f order) xs again first rest);
+          (ReadsAll-again (ReadsBack f order) (bytes f order) xs again first rest);
     }
 
 -- a list that was written at the start
@@ -88,6 +88,6 @@ one-differs f order xs i x e inside is before error = record {
 
 -- values that were read one after another up to the end of a source are its bytes
 pub all-kept : {E X : Type 0} (f : Format E X) (order : Endian) (s : List ℕ) (xs : List X)
-    → ReadsAll (ReadsExact f order) s 0 xs (length s) → flat_map (bytes f order) xs ≡ s
+    → ReadsAll (ReadsBack f order) s 0 xs (length s) → flat_map (bytes f order) xs ≡ s
 all-kept f order s xs h =
-    all-back (ReadsExact f order) (bytes f order) s xs (λ at x n one. one.value.back) h refl
+    all-back (ReadsBack f order) (bytes f order) s xs (λ at x n one. one.value.back) h refl
