@@ -15,8 +15,8 @@ from tokens import MARK, Refused
 # What the library has under these names, which a struct's can't be, since the printed text imports them.
 LIBRARY = {
     *("BitFields Borrowed CStr Certain CertainHead Choice Choose Count Endian Ends Error Field FixedLayout Given Head Headed Items").split(),
-    *("Kept Listed Low Marked Packed Padded Part PhantomData ReadPart Record Result Run Shape Sleb Table ToMark TryFromCtx").split(),
-    *("TryIntoCtx Uleb When Within Written Word Zeros Option Vec String").split(),
+    *("Kept Listed Low Marked Packed Padded Part PhantomData ReadPart Result Run Shape Sleb Table ToMark TryFromCtx").split(),
+    *("TryIntoCtx Uleb When Within Word Zeros Option Vec String").split(),
 }
 
 
@@ -175,7 +175,8 @@ class Crate:
                 continue
             if item.has_parameters:
                 raise Refused(file.path, item.line, f"the {item.word} {item.name} has parameters, and takes one lifetime at most")
-            if item.name in LIBRARY:
+            has_records = item.name in ("Record", "Written") and any(it.is_marked and self.is_fixed(it) for it in file.items)
+            if item.name in LIBRARY or has_records:
                 raise Refused(file.path, item.line, f"the {item.word} {item.name} has a name that the printed text has: give it another")
             if "items" in item.notes and (item.fields or item.is_enum or item.lifetime):
                 raise Refused(file.path, item.line, f"the {item.word} {item.name} names a list: write `struct {item.name};`")

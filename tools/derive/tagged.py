@@ -4,7 +4,8 @@ from typing import List
 
 from model import Enum, Variant
 from rules import bad_input
-from text import WIDTH, call_lines, flat, impl_lines, lifetime, signature_lines
+from sums import bracketed
+from text import WIDTH, call_lines, flat, ghost_text, impl_lines, lifetime, signature_lines
 
 
 def tagged_blocks(form: Enum) -> List[List[str]]:
@@ -57,22 +58,17 @@ def format_lines(form: Enum, error: str) -> List[str]:
     known = " ⊎ ".join(f"(t.0 ≡ {it.tag})" for it in form.variants)
     others = " × ".join(f"(t.0 ≢ {it.tag})" for it in form.variants)
     lines = [
-        f"    ghost format = {{ λ _. part (⟦<Run<{form.tag}> as Part<(), {error}>>⟧.format tt)",
-        *elim_lines(form, [f"record {{ 0 = {it.tag} }}" for it in form.variants], ""),
-        f"        (λ t. rule ({known})",
-        f"        (λ e. ({others}) × {refused(form)})",
+        f"    ghost format = {{ λ _. last (headed (⟦<Run<{form.tag}> as Part<(), {error}>>⟧.format tt)",
+        *ghost_text("    (λ t. ", known, ")", 4),
+        *ghost_text("    (λ t e. ", f"({others}) × {refused(form)}", ")", 4),
+        "        (λ t. t.0)",
     ]
     for at, it in enumerate(form.variants):
-        inner = f"(⟦<{it.part.type} as Part<{it.part.context_type}, {error}>>⟧.format {bracket(it.part.context.ghost)})"
+        inner = f"(⟦<{it.part.type} as Part<{it.part.context_type}, {error}>>⟧.format {bracketed(it.part.context.ghost)})"
         is_last = at + 1 == len(form.variants)
-        head = "(last " if at == 0 else ""
-        lines.append(f"        {head}" + (inner if is_last else f"(choice {gives} (nat_eq t.0 {it.tag}) {inner}"))
-    lines[-1] += ")" * (len(form.variants) - 1)
-    return [*lines, *elim_lines(form, [form.ghost(at) for at in range(len(form.variants))], ")) };")]
-
-
-def bracket(text: str) -> str:
-    return f"({text})" if " " in text else text
+        lines.append(f"        {'(λ t. ' if at == 0 else '' if is_last else '('}{'' if is_last else f'choice {gives} (nat_eq t {it.tag}) '}{inner}")
+    lines[-1] += ")" * max(len(form.variants), 2)
+    return [*lines, *elim_lines(form)]
 
 
 def match_lines(form: Enum, error: str, name: str, arguments: str) -> List[str]:
@@ -91,11 +87,12 @@ def read_lines(head: str, type_: str, kind: str, error: str, offset: str, contex
     return call_lines(call, ["from", offset, "order", f"&{context}"], "?;", indent)
 
 
-def elim_lines(form: Enum, said: List[str], tail: str) -> List[str]:
-    """Returns what is said of each variant."""
+def elim_lines(form: Enum) -> List[str]:
+    """Returns the tag and the value of each variant."""
+    said = [f"(record {{ 0 = {it.tag} }}, {form.ghost(at)})" for at, it in enumerate(form.variants)]
     cases = [f"{' '.join([it.name, *it.fields])} ↦ {value}" for it, value in zip(form.variants, said)]
-    line = f"        (elim [ {' | '.join(cases)} ]){tail}"
-    return [line] if len(line) <= WIDTH else ["        (elim [", *(f"          | {it}" for it in cases), f"        ]){tail}"]
+    line = f"        (elim [ {' | '.join(cases)} ]) }};"
+    return [line] if len(line) <= WIDTH else ["        (elim [", *(f"          | {it}" for it in cases), "        ]) };"]
 
 
 def variant_lines(form: Enum, it: Variant, error: str) -> List[str]:
