@@ -24,7 +24,7 @@ GHOST: Dict[str, Sequence[str]] = {
     "Rattle.scroll.specs.lemmas.Frames": ("WritesPrefix-keeps",),
     "Rattle.scroll_formats.specs.SmallErrors": ("small_error",),
     "Rattle.scroll_layouts.specs.Errors": ("GivesBadInput", "IsNot"),
-    "Rattle.scroll_layouts.specs.Formats": ("refuses",),
+    "Rattle.scroll_layouts.specs.Formats": ("choice", "headed", "last", "refuses"),
     "Rattle.scroll_layouts.specs.OneWay": ("one_way",),
     "Rattle.scroll_layouts.specs.Wholes": ("KeepsWhole", "ReadsExact", "ReadsWhole", "WritesWhole"),
     "Rattle.scroll_layouts.specs.declared.choice.Choice.TheVariants": ("First", "Second"),
@@ -95,7 +95,7 @@ def print_file(crate: Crate, file: SourceFile, items: List[Tuple[Item, Any]]) ->
     code = {"super": sorted(own & words)}
     for module, names in CODE.items():
         module = re.sub(rf"^{crate.name}\b", "crate", module)
-        code[module] = [it for it in names if it in words]
+        code[module] = [it for it in names if it in words - own]
     head = f"{HEAD}{Path(file.path).name}."
     return "\n".join([head, *ghost_lines(imports), "", *use_lines(code), "", body, ""])
 

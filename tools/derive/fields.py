@@ -188,7 +188,7 @@ class Nested(Kind):
         if isinstance(form, ListType):
             self.reader.refuse(self.at, f"is of {form.item.name}, which names a list: take `Items<'a, {form.item.name}>`")
         self.reader.same_error(self.at, form)
-        if isinstance(form, Enum):
+        if isinstance(form, Enum) and not form.is_own:
             part = self.enum(form)
         elif form.given:
             self.example = f"the number `{form.given}` that {form.item.name} is given, as `ctx = len as usize`"

@@ -8,14 +8,15 @@ from typing import Any, Callable, Dict, List, Optional, Tuple
 from fixed_types import PLAIN, Array, Fixed, Record, width_of
 from forms import Part
 from items import Item, RawField, SourceFile, Type, read_file
-from sums import number_of
+from sums import bracketed, number_of
+from text import flat
 from tokens import MARK, Refused
 
 # What the library has under these names, which a struct's can't be, since the printed text imports them.
 LIBRARY = {
     *("BitFields Borrowed CStr Certain CertainHead Choice Choose Count Endian Ends Error Field FixedLayout Given Head Headed Items").split(),
-    *("Kept Listed Low Marked Packed Padded Part PhantomData ReadPart Record Result Run Shape Sleb Table ToMark TryFromCtx").split(),
-    *("TryIntoCtx Uleb When Within Written Word Zeros Option Vec String").split(),
+    *("Kept Listed Low Marked Packed Padded Part PhantomData ReadPart Result Run Shape Sleb Table ToMark TryFromCtx").split(),
+    *("TryIntoCtx Uleb When Within Word Zeros Option Vec String").split(),
 }
 
 
@@ -70,13 +71,20 @@ class Variant:
     fields: List[str]
     part: Part
 
+    @property
+    def code(self) -> str:
+        """The part in code, of the values that are borrowed."""
+        return flat(self.part.split).replace("self.v", "*v")
+
 
 @dataclass
 class Enum:
-    """An enum by a tag that it is given, and perhaps a number; the variant of its error for an unknown tag."""
+    """An enum by a tag of this type, which it is given, perhaps with a number, or which is its own first part; and the variant of its
+    error for an unknown tag."""
 
     item: Item
     tag: str
+    is_own: bool
     given: str
     variants: List[Variant]
     error: Optional[OwnError]
@@ -92,13 +100,28 @@ class Enum:
     def context_type(self) -> str:
         return f"({self.tag}, usize)" if self.given else self.tag
 
+    def ways(self, at: int) -> List[str]:
+        """Returns which of two choices a variant is, one in another."""
+        return ["Second"] * at + ["First"] * (at + 1 < len(self.variants))
+
+    def ghost(self, at: int) -> str:
+        """Returns a variant's choice in the logic."""
+        said = self.variants[at].part.ghost.replace("x.v", "v")
+        for way in reversed(self.ways(at)):
+            said = f"{way} {bracketed(said)}"
+        return said
+
+    def pattern(self, variant: Variant) -> str:
+        values = f"({', '.join(variant.fields)})" if variant.fields else ""
+        return f"{self.item.name}::{variant.name}{values}"
+
     @property
     def is_exact(self) -> bool:
         return all(it.part.is_exact for it in self.variants)
 
     @property
     def is_certain(self) -> bool:
-        return all(it.part.is_certain for it in self.variants)
+        return False
 
 
 @dataclass
@@ -152,7 +175,8 @@ class Crate:
                 continue
             if item.has_parameters:
                 raise Refused(file.path, item.line, f"the {item.word} {item.name} has parameters, and takes one lifetime at most")
-            if item.name in LIBRARY:
+            has_records = item.name in ("Record", "Written") and any(it.is_marked and self.is_fixed(it) for it in file.items)
+            if item.name in LIBRARY or has_records:
                 raise Refused(file.path, item.line, f"the {item.word} {item.name} has a name that the printed text has: give it another")
             if "items" in item.notes and (item.fields or item.is_enum or item.lifetime):
                 raise Refused(file.path, item.line, f"the {item.word} {item.name} names a list: write `struct {item.name};`")

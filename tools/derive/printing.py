@@ -6,7 +6,8 @@ from typing import Any, Dict, List, Set, Tuple
 from forms import Part, fixed_tree, local
 from model import Enum, ListType, Struct
 from shapes import Chain, Group, resolve
-from sums import Value, bracketed
+from sums import Value
+from tagged import tagged_blocks
 from text import Call, Tree, flat, ghost_text, impl_lines, lifetime, pattern_lines
 from text import signature_lines, struct_lines, tuple_lines
 
@@ -247,14 +248,18 @@ class Printer:
 
     def print_enum(self) -> None:
         form: Enum = self.form
+        if form.is_own:
+            self.blocks = tagged_blocks(form)
+            self.print_reader()
+            self.print_writer()
+            return
         types, kinds, inner = self.choices()
         ghosts, split, join = ["    ghost parts_of = { elim ["], ["        match self {"], ["        match parts {"]
         for at, it in enumerate(form.variants):
-            ghost, code, made = it.part.ghost.replace("x.v", "v"), flat(it.part.split).replace("self.v", "*v"), flat(it.part.join)
-            for way in reversed(["Second"] * at + ["First"] * (at + 1 < len(form.variants))):
-                ghost, code, made = f"{way} {bracketed(ghost)}", f"Choice::{way}({code})", f"Choice::{way}({made})"
-            name = f"{self.name}::{it.name}" + (f"({', '.join(it.fields)})" if it.fields else "")
-            ghosts.append(f"      | {' '.join([it.name, *it.fields])} ↦ {ghost}")
-            split.append(f"            {name} => {code},")
-            join.append(f"            {made} => {name},")
+            code, made = it.code, flat(it.part.join)
+            for way in reversed(form.ways(at)):
+                code, made = f"Choice::{way}({code})", f"Choice::{way}({made})"
+            ghosts.append(f"      | {' '.join([it.name, *it.fields])} ↦ {form.ghost(at)}")
+            split.append(f"            {form.pattern(it)} => {code},")
+            join.append(f"            {made} => {form.pattern(it)},")
         self.print_shape(form.context_type, "t", types, kinds, inner, [*ghosts, "    ] };"], [*split, "        }"], [*join, "        }"])

@@ -31,9 +31,7 @@ class Reader:
         for word, note in item.notes.items():
             if word not in self.words:
                 known = ", ".join(f"`{it}`" for it in self.words)
-                self.refuse_head(note, f"has the note `{word} = ..`, and takes {known}{self.hint if word == 'tag' else ''}")
-
-    hint = "; a tag is given: `given = kind: u8`"
+                self.refuse_head(note, f"has the note `{word} = ..`, and takes {known}")
 
     def read(self) -> Any:
         raise NotImplementedError

@@ -112,21 +112,23 @@ class StructReader(Reader):
 
 
 class EnumReader(Reader):
-    words = ("given", "error", "else")
+    words = ("tag", "given", "error", "else")
 
     def read(self) -> Enum:
         item = self.item
-        found = self.read_given()
-        if not found:
-            said = "has no tag: write `given = kind: u8` before it, and `ctx = kind` before a field of it"
+        own, found = item.notes.get("tag"), self.read_given()
+        if own and (found or own.text not in ("u8", "u16", "u32", "u64")):
+            self.refuse_head(own, f"has the tag {own.text}: write `tag = u8` of its own, or `given = kind: u8` of one before it")
+        if not own and not found:
+            said = "has no tag: write `tag = u8` before it, or `given = kind: u8` where a field before it has its tag"
             raise Refused(item.path, item.line, f"the enum {item.name} {said}")
+        tag, given = own.text if own else found[0][1], found[1][0] if len(found) > 1 else ""
         variants: List[Variant] = []
         for raw in item.fields:
-            variants.append(self.read_variant(raw, found[0][1], [it.tag for it in variants]))
+            variants.append(self.read_variant(raw, tag, [it.tag for it in variants]))
         note = item.notes.get("else")
         other = own_variant(self, RawField(item.name, [], {}, item.line), note) if note else ""
-        given = found[1][0] if len(found) > 1 else ""
-        return Enum(item, found[0][1], given, variants, self.error, other, self.forms, self.used)
+        return Enum(item, tag, own is not None, given, variants, self.error, other, self.forms, self.used)
 
     def read_variant(self, raw: RawField, tag: str, before: Sequence[int]) -> Variant:
         if raw.has_names:

@@ -36,7 +36,8 @@ list-back {E} {A} {X} h f order head xs agreed all rest =
     let again : All (λ x. (rest : List ℕ)
     → ReadsBack f order (bytes f order x ++ rest) x (length (bytes f order x))) xs =
     All-weaker (agrees f order)
-    (λ x. (rest : List ℕ) → ReadsBack f order (bytes f order x ++ rest) x (length (bytes f order x)))
+    (λ x. (rest : List ℕ)
+    → ReadsBack f order (bytes f order x ++ rest) x (length (bytes f order x)))
     (exact-back f order) xs all in
     record {
       first = subst (λ s. reads h order s 0 head) (sym (append_assoc first others rest))
