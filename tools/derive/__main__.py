@@ -6,7 +6,9 @@
 CRATE is the folder of a crate. For each file of its src/ in which a struct or an enum stands behind the line
 `// #[derive(Pread, Pwrite)]` a file `derived.rt` is written, a module of that file, which says `mod derived;`. GUIDE has the notes.
 
-The exit status is 0; or 1 if --check finds a file that is stale, or none where one is needed; or 2 with one line on standard error,
+A file that no struct asks for any more is removed.
+
+The exit status is 0; or 1 if --check finds a file that is stale, missing or left over; or 2 with one line on standard error,
 with the file and the line, where something isn't supported. Then nothing is written.
 """
 
@@ -16,7 +18,7 @@ from typing import List
 
 sys.dont_write_bytecode = True
 
-from crate_files import derived_files
+from crate_files import derived_files, left_over
 from tokens import Refused
 
 USAGE = "usage: python3 tools/derive [--check] CRATE"
@@ -30,6 +32,7 @@ def main(words: List[str]) -> int:
         return 2
     try:
         files = derived_files(Path(names[0]))
+        left = left_over(Path(names[0]), files)
     except Refused as refused:
         print(f"derive: {refused}", file=sys.stderr)
         return 2
@@ -37,10 +40,14 @@ def main(words: List[str]) -> int:
     if is_check:
         for path in stale:
             print(f"{path} is stale: run `python3 tools/derive {names[0]}`")
-        return 1 if stale else 0
+        for path in left:
+            print(f"{path} is left over: run `python3 tools/derive {names[0]}`")
+        return 1 if stale or left else 0
     for path in stale:
         path.parent.mkdir(parents=True, exist_ok=True)
         path.write_text(files[path], encoding="utf-8")
+    for path in left:
+        path.unlink()
     return 0
 
 

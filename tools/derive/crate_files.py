@@ -5,13 +5,14 @@ from pathlib import Path
 from typing import Any, Dict, List, Sequence, Set, Tuple
 
 from items import Item, SourceFile
-from model import Crate, Enum, OwnError, Struct
+from model import Crate, Enum, ListType
 from printing import Printer
-from reader import form_of
+from readers import read_form
 from records import record_blocks
 from text import ghost_lines, use_lines
 from tokens import Refused
 
+HEAD = "// Printed by tools/derive from "
 PRELUDE = ("◌≡◌", "◌≢◌", "◌<◌", "◌≤◌", "◌+◌", "◌-◌", "◌*◌", "◌/◌", "◌%◌", "◌^◌", "◌⊎◌", "[]", "◌∷◌")
 GHOST: Dict[str, Sequence[str]] = {
     "Rattle.std.specs.Prelude": (*PRELUDE, "length", "drop", "codes", "nat_eq", "nat_lt", "option_map"),
@@ -23,13 +24,12 @@ GHOST: Dict[str, Sequence[str]] = {
     "Rattle.scroll.specs.lemmas.Frames": ("WritesPrefix-keeps",),
     "Rattle.scroll_formats.specs.SmallErrors": ("small_error",),
     "Rattle.scroll_layouts.specs.Errors": ("GivesBadInput", "IsNot"),
-    "Rattle.scroll_layouts.specs.Formats": ("refuses",),
+    "Rattle.scroll_layouts.specs.Formats": ("choice", "headed", "last", "refuses"),
     "Rattle.scroll_layouts.specs.OneWay": ("one_way",),
     "Rattle.scroll_layouts.specs.Wholes": ("KeepsWhole", "ReadsExact", "ReadsWhole", "WritesWhole"),
     "Rattle.scroll_layouts.specs.declared.choice.Choice.TheVariants": ("First", "Second"),
 }
 CODE: Dict[str, Sequence[str]] = {
-    "scroll::cstr": ("CStr",),
     "scroll::ctx": ("Record", "TryFromCtx", "TryIntoCtx", "Written"),
     "scroll": ("Endian", "Error"),
     "scroll_formats": ("SmallError", "Table", "Zeros"),
@@ -50,9 +50,9 @@ def derived_path(path: str) -> Path:
 
 def derived_files(folder: Path) -> Dict[Path, str]:
     """Returns the text of each file that is to be written."""
-    crate = Crate(folder)
+    crate = Crate(folder, read_form)
     marked = [(file, item) for file in crate.files.values() for item in crate.marked(file)]
-    forms = {id(item): None if crate.is_fixed(item) else form_of(crate, item) for _, item in marked}
+    forms = {id(item): None if crate.is_fixed(item) else crate.form(item) for _, item in marked}
     files: Dict[Path, str] = {}
     for file in crate.files.values():
         items = crate.marked(file)
@@ -61,18 +61,25 @@ def derived_files(folder: Path) -> Dict[Path, str]:
     return files
 
 
+def left_over(folder: Path, files: Dict[Path, str]) -> List[Path]:
+    """Returns the files that were written and that no struct asks for any more."""
+    found = [it for it in sorted((folder / "src").rglob("derived.rt")) if it not in files]
+    return [it for it in found if it.read_text(encoding="utf-8").startswith(HEAD)]
+
+
 def print_file(crate: Crate, file: SourceFile, items: List[Tuple[Item, Any]]) -> str:
     blocks: List[List[str]] = []
-    own: Set[str] = {item.name for item, _ in items}
+    # (a C string is that of the crate or of std, as the file imports it)
+    own: Set[str] = {"CStr", *(item.name for item, _ in items)}
     modules: Dict[str, List[str]] = {}
     for item, form in items:
         if form is None:
             blocks += record_blocks(crate.record(item))
             continue
-        printer = Printer(form, item.name in crate.listed or bool(getattr(form, "ends", ())), crate.is_walked(item.name))
+        printer = Printer(form, crate.is_walked(item.name))
         blocks += printer.print()
         own |= {*form.used}
-        if form.error and form.error.name != "SmallError":
+        if form.error and form.error.name != "SmallError" and not isinstance(form, ListType):
             own.add(form.error.name)
             modules.setdefault(form.error.module, []).extend(form.error.variants)
         if isinstance(form, Enum):
@@ -88,8 +95,8 @@ def print_file(crate: Crate, file: SourceFile, items: List[Tuple[Item, Any]]) ->
     code = {"super": sorted(own & words)}
     for module, names in CODE.items():
         module = re.sub(rf"^{crate.name}\b", "crate", module)
-        code[module] = [it for it in names if it in words]
-    head = f"// Printed by tools/derive from {Path(file.path).name}."
+        code[module] = [it for it in names if it in words - own]
+    head = f"{HEAD}{Path(file.path).name}."
     return "\n".join([head, *ghost_lines(imports), "", *use_lines(code), "", body, ""])
 
 

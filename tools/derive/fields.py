@@ -1,12 +1,13 @@
 """The fields of a struct of any size: one class for each kind, which reads the notes before a field and makes its part."""
 
-from typing import TYPE_CHECKING, Callable, Dict, List, NoReturn, Optional, Tuple, Type as TypeOf
+from typing import TYPE_CHECKING, Dict, List, Tuple, Type as TypeOf
 
-from fixed_types import PLAIN, Fixed, Record
-from forms import NOTHING, Number, Numbers, One, Part, There, array_depth, record
+from fixed_types import PLAIN, Array, Fixed, Record
+from forms import NOTHING, Number, Part, numbers, one, record, there
 from items import Note, RawField, Type
-from model import Enum, Struct
-from sums import Sum, Value, number_of
+from model import Enum, ListType, Struct
+from rules import constant_rule, tag_rule
+from sums import Value
 from text import Call
 
 if TYPE_CHECKING:
@@ -42,12 +43,12 @@ class Kind:
     def make(self) -> Part:
         raise NotImplementedError
 
-    def one(self, context_type: str, context: Value, numbers: Optional[List[Number]] = None) -> One:
-        return One(self.of.text, context_type, context, numbers or [], name=self.at.name)
+    def one(self, context_type: str, context: Value, told: Tuple[Number, ...] = ()) -> Part:
+        return one(self.at.name, self.of.text, context_type, context, told)
 
-    def length(self) -> List[Number]:
+    def length(self) -> Tuple[Number, ...]:
         """The length of a slice or a text."""
-        return [Number(f"{self.at.name}.len()", "usize", "(length ^.now)", "^.len()")]
+        return (Number(f"{self.at.name}.len()", "usize", "(length ^.now)", "^.len()"),)
 
 
 class Slice(Kind):
@@ -89,7 +90,7 @@ class Leb(Kind):
         if self.of.name == "Sleb":
             return self.one("()", NOTHING)
         name = self.at.name
-        return self.one("()", NOTHING, [Number(it, "u64", "^.value", "^.value") for it in (name, f"{name}.value")])
+        return self.one("()", NOTHING, (*(Number(it, "u64", "^.value", "^.value") for it in (name, f"{name}.value")),))
 
 
 class Gap(Kind):
@@ -121,23 +122,21 @@ class ListOf(Kind):
 
     def make(self) -> Part:
         element = self.of.arguments[0] if len(self.of.arguments) == 1 else self.of
-        if element.name not in ("Uleb", "Sleb", "CStr"):
-            form = self.reader.inner(self.at, element)
-            if not isinstance(form, Struct) or form.given:
-                self.reader.refuse(self.at, f"is a list of {element.text}, which needs a context: put it into a struct with its tag or number")
-            self.reader.crate.listed.append(element.name)
-            self.reader.same_error(self.at, form)
-            ends = form.ends
-        else:
-            ends = []
+        found = self.reader.crate.find(element.name, self.reader.item.path)
+        if not found or "items" not in found.notes:
+            name = f"{element.name}s" if found else "Numbers"
+            said = f"name the list, `// #[scroll(items = {element.text})] struct {name};`, and take `Items<'a, {name}>`"
+            self.reader.refuse(self.at, f"is a list of {element.text}: {said}")
+        form = self.reader.inner(self.at, element)
+        self.reader.same_error(self.at, form)
         call, inside = self.reader.call(self.ctx)
         if call == "Count":
             count = self.reader.count(self.at, inside)
             part = self.one("Count", Value(record(count.ghost), Call("Count", (count.code,))))
             part.is_certain = False
         elif self.ctx.text == "ToMark":
-            if not ends:
-                self.reader.refuse(self.at, f"is a list up to a mark, and {element.text} has no `ends = ..` before it, which says the mark's bytes")
+            if not form.ends:
+                self.reader.refuse(self.at, f"is a list up to a mark, and {element.text} has no `ends = ..`, which says the mark's bytes")
             part = self.one("ToMark", Value("record {}", "ToMark"))
             part.is_certain = False
         else:
@@ -157,7 +156,7 @@ class FixedSize(Kind):
                 self.reader.refuse(self.at, f"is of {made.text}, which has a struct in it: as a part of a format it has numbers and arrays alone")
             self.reader.use(made)
         elif not is_of_numbers(made):
-            self.reader.refuse(self.at, f"is an array of structs: take `Table<'a, ..>`, or put the structs into a struct")
+            self.reader.refuse(self.at, "is an array of structs: take `Table<'a, ..>`, or put the structs into a struct")
         if array_depth(made) > 2:
             self.reader.refuse(self.at, "is an array of arrays of arrays: put the inner array into a struct")
         return made
@@ -165,14 +164,18 @@ class FixedSize(Kind):
     def make(self) -> Part:
         made = self.fixed()
         if "is" in self.at.notes:
-            self.reader.constant_rule(self.at, made)
+            self.reader.rules.append((constant_rule(self.reader, self.at, made), [self.at.name]))
         elif "else" in self.at.notes:
             self.reader.refuse_note(self.at, self.at.notes["else"], "has the note `else = ..` without `is = ..`")
-        return Numbers("", "()", NOTHING, fields=[(self.at.name, made)])
+        return numbers([(self.at.name, made)], "")
+
+
+def array_depth(of: Fixed) -> int:
+    return 1 + array_depth(of.element) if isinstance(of, Array) else 0
 
 
 def is_of_numbers(of: Fixed) -> bool:
-    return of in PLAIN.values() or (not isinstance(of, Record) and is_of_numbers(of.element))  # type: ignore[union-attr]
+    return is_of_numbers(of.element) if isinstance(of, Array) else not isinstance(of, Record)
 
 
 class Nested(Kind):
@@ -182,8 +185,10 @@ class Nested(Kind):
 
     def make(self) -> Part:
         form = self.reader.inner(self.at, self.of)
+        if isinstance(form, ListType):
+            self.reader.refuse(self.at, f"is of {form.item.name}, which names a list: take `Items<'a, {form.item.name}>`")
         self.reader.same_error(self.at, form)
-        if isinstance(form, Enum):
+        if isinstance(form, Enum) and not form.is_own:
             part = self.enum(form)
         elif form.given:
             self.example = f"the number `{form.given}` that {form.item.name} is given, as `ctx = len as usize`"
@@ -209,7 +214,7 @@ class Nested(Kind):
                 found[name] = Number(f"{self.at.name}.{name}", "u64", f"^.{name}.value", f"^.{name}.value")
         return list(found.values())
 
-    def enum(self, form: Enum) -> One:
+    def enum(self, form: Enum) -> Part:
         needs = f"({form.tag} as its tag, and a length)" if form.given else f"its tag, a `{form.tag}`"
         self.example = f"{form.item.name} is given {needs}: " + ("`ctx = (kind, len as usize)`" if form.given else "`ctx = kind`")
         note = self.ctx
@@ -226,7 +231,7 @@ class Nested(Kind):
             code = Call("Given", ((f"@{tag}@", count.code),))
         else:
             code = Call("Given", (said.code,))
-        self.reader.tag_rule(form, tag)
+        self.reader.rules.append((tag_rule(self.reader, self.at, form, tag), [tag]))
         return self.one(f"Given<{form.context_type}>", Value(record(said.ghost), code))
 
 
@@ -241,12 +246,8 @@ class Optional_(Kind):
         if len(self.of.arguments) != 1 or self.of.arguments[0].name == "Option":
             self.reader.refuse(self.at, f"is of {self.of.text}, and takes one type")
         inside = self.reader.part(self.at, self.of.arguments[0], {k: v for k, v in self.at.notes.items() if k != "if"})
-        if isinstance(inside, (There,)):
-            self.reader.refuse(self.at, f"is of {self.of.text}")
         said = self.reader.condition(self.at, self.at.notes["if"])
-        kind = f"Option<{f'Run<{inside.tree()}>' if isinstance(inside, Numbers) else inside.type}>"
-        context = Value(record(said.ghost, inside.context.ghost), Call("When", (said.code, inside.context.code)))
-        return There(kind, f"When<{inside.context_type}>", context, name=self.at.name, inside=inside)
+        return there(inside, self.at.name, *said)
 
 
 KINDS: Dict[str, TypeOf[Kind]] = {

@@ -3,19 +3,20 @@
 import re
 from dataclasses import dataclass, field
 from pathlib import Path
-from typing import Any, Dict, List, Optional, Tuple
+from typing import Any, Callable, Dict, List, Optional, Tuple
 
 from fixed_types import PLAIN, Array, Fixed, Record, width_of
 from forms import Part
 from items import Item, RawField, SourceFile, Type, read_file
-from sums import number_of
+from sums import bracketed, number_of
+from text import flat
 from tokens import MARK, Refused
 
 # What the library has under these names, which a struct's can't be, since the printed text imports them.
 LIBRARY = {
     *("BitFields Borrowed CStr Certain CertainHead Choice Choose Count Endian Ends Error Field FixedLayout Given Head Headed Items").split(),
-    *("Kept Listed Low Marked Packed Padded Part PhantomData ReadPart Record Result Run Shape Sleb Table ToMark TryFromCtx").split(),
-    *("TryIntoCtx Uleb When Within Written Word Zeros Option Vec String").split(),
+    *("Kept Listed Low Marked Packed Padded Part PhantomData ReadPart Result Run Shape Sleb Table ToMark TryFromCtx").split(),
+    *("TryIntoCtx Uleb When Within Word Zeros Option Vec String").split(),
 }
 
 
@@ -32,22 +33,23 @@ class OwnError:
     @property
     def gives(self) -> str:
         """Which of its errors one of the library's becomes."""
-        return f"(λ error e. e ≡ {self.variant} error)" if self.variant else "(λ error e. e ≡ small_error error)"
+        return f"(λ error e. e ≡ {self.variant} error)" if self.variant else "⟦<SmallError as From<Error>>⟧.from_gives"
 
 
 @dataclass
 class Struct:
     """A struct of any size: its parts, the size up to a multiple of which it is padded, the number that it is given, its error, the
-    bytes that end a list of it, and the types of the crate that its fields have."""
+    structs and enums in it, and the types of the crate that its fields have."""
 
     item: Item
     parts: List[Part]
     multiple: int
     given: str
     error: Optional[OwnError]
-    ends: List[int]
     inner: "List[Any]" = field(default_factory=list)
     used: List[str] = field(default_factory=list)
+    # The fields that are zeros up to a multiple.
+    gaps: Tuple[str, ...] = ()
 
     @property
     def type(self) -> str:
@@ -69,13 +71,20 @@ class Variant:
     fields: List[str]
     part: Part
 
+    @property
+    def code(self) -> str:
+        """The part in code, of the values that are borrowed."""
+        return flat(self.part.split).replace("self.v", "*v")
+
 
 @dataclass
 class Enum:
-    """An enum by a tag that it is given, and perhaps a number; the variant of its error for an unknown tag."""
+    """An enum by a tag of this type, which it is given, perhaps with a number, or which is its own first part; and the variant of its
+    error for an unknown tag."""
 
     item: Item
     tag: str
+    is_own: bool
     given: str
     variants: List[Variant]
     error: Optional[OwnError]
@@ -91,20 +100,53 @@ class Enum:
     def context_type(self) -> str:
         return f"({self.tag}, usize)" if self.given else self.tag
 
+    def ways(self, at: int) -> List[str]:
+        """Returns which of two choices a variant is, one in another."""
+        return ["Second"] * at + ["First"] * (at + 1 < len(self.variants))
+
+    def ghost(self, at: int) -> str:
+        """Returns a variant's choice in the logic."""
+        said = self.variants[at].part.ghost.replace("x.v", "v")
+        for way in reversed(self.ways(at)):
+            said = f"{way} {bracketed(said)}"
+        return said
+
+    def pattern(self, variant: Variant) -> str:
+        values = f"({', '.join(variant.fields)})" if variant.fields else ""
+        return f"{self.item.name}::{variant.name}{values}"
+
     @property
     def is_exact(self) -> bool:
         return all(it.part.is_exact for it in self.variants)
 
     @property
     def is_certain(self) -> bool:
-        return all(it.part.is_certain for it in self.variants)
+        return False
+
+
+@dataclass
+class ListType:
+    """A struct without fields that names the values of a list: their type, the bytes that end a list of them, and what they are if
+    they are structs of any size."""
+
+    item: Item
+    of: str
+    ends: List[int]
+    error: Optional[OwnError]
+    form: Optional[Struct]
+    used: List[str]
+    inner: "List[Any]" = field(default_factory=list)
+
+    @property
+    def type(self) -> str:
+        return self.item.name
 
 
 class Crate:
     """The files of a crate's src/. A path in a message is that of the crate and below it."""
 
-    def __init__(self, folder: Path) -> None:
-        self.folder, self.name = folder, folder.resolve().name
+    def __init__(self, folder: Path, read: "Callable[[Crate, Item, Tuple[Item, ...]], Any]") -> None:
+        self.folder, self.name, self.read = folder, folder.resolve().name, read
         source = folder / "src"
         if not source.is_dir():
             raise Refused(str(folder), 0, "there is no src/ in this folder, so it is no crate")
@@ -133,9 +175,12 @@ class Crate:
                 continue
             if item.has_parameters:
                 raise Refused(file.path, item.line, f"the {item.word} {item.name} has parameters, and takes one lifetime at most")
-            if item.name in LIBRARY:
+            has_records = item.name in ("Record", "Written") and any(it.is_marked and self.is_fixed(it) for it in file.items)
+            if item.name in LIBRARY or has_records:
                 raise Refused(file.path, item.line, f"the {item.word} {item.name} has a name that the printed text has: give it another")
-            if not item.fields:
+            if "items" in item.notes and (item.fields or item.is_enum or item.lifetime):
+                raise Refused(file.path, item.line, f"the {item.word} {item.name} names a list: write `struct {item.name};`")
+            if not item.fields and "items" not in item.notes:
                 raise Refused(file.path, item.line, f"the {item.word} {item.name} has no {'variants' if item.is_enum else 'fields'}")
 
     def is_walked(self, name: str) -> bool:
@@ -148,6 +193,12 @@ class Crate:
             if form and form.is_certain and it == name:
                 return True
         return False
+
+    def form(self, item: Item, outer: Tuple[Item, ...] = ()) -> Any:
+        """Returns a struct of any size, an enum or a list, which is read once."""
+        if id(item) not in self.forms:
+            self.forms[id(item)] = self.read(self, item, outer)
+        return self.forms[id(item)]
 
     def marked(self, file: SourceFile) -> List[Item]:
         return [it for it in file.items if it.is_marked]

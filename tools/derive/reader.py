@@ -1,46 +1,45 @@
-"""Reads structs of any size and enums by their notes."""
+"""What is read of the notes of a struct or an enum, field by field."""
 
-from typing import Any, Dict, List, NoReturn, Optional, Sequence, Tuple
+from typing import Any, List, NoReturn, Optional, Sequence, Tuple
 
-from fields import KINDS, FixedSize, Kind, Nested
-from fixed_types import PLAIN, Fixed, Plain, Record, is_counter
-from forms import NOTHING, Bits, Number, Numbers, One, Part, Rule, record
+from fields import KINDS, FixedSize, Nested
+from fixed_types import PLAIN, Fixed, Record
+from forms import Number, Part, Rule, numbers
 from items import Item, Note, Notes, RawField, Type
-from model import Crate, Enum, OwnError, Struct, Variant
-from shapes import Sequence_, Together, nothing
-from sums import Condition, Sum, SumReader, Value, as_usize, number_of, read_condition, read_path
-from text import Call
-from tokens import Tokens
-
-
-def split_call(note: Note) -> Tuple[str, Note]:
-    """Returns the name of the function that a note calls, and the arguments."""
-    tokens = Tokens(note.value.path, note.value.tokens)
-    name = ""
-    while tokens.next.kind == "name" or tokens.next.text == "::":
-        name += tokens.take().text
-    if tokens.next.text == "(":
-        inside = tokens.inside()
-        if tokens.is_done:
-            return name, Note(inside, inside.said, note.line)
-    return "", note
+from model import Crate, Enum, ListType
+from rules import below_rule
+from sums import Sum, SumReader, Value, read_condition, read_path
+from tokens import Refused, Tokens
 
 
 class Reader:
-    """Reads one struct, or one enum."""
+    """Reads one struct, one enum or one list."""
+
+    # The notes that may stand before it.
+    words: Tuple[str, ...] = ()
 
     def __init__(self, crate: Crate, item: Item, outer: Tuple[Item, ...]) -> None:
         self.crate, self.item, self.outer = crate, item, (*outer, item)
         self.error = crate.error(item)
         self.parts: List[Part] = []
         self.rules: List[Tuple[Rule, List[str]]] = []
-        self.bits: List[Tuple[RawField, int]] = []
+        # The types of the crate that are named, and the structs, enums and lists among them.
         self.used: List[str] = []
         self.forms: List[Any] = []
+        # The number that it is given.
         self.given: List[Number] = []
-        self.heads = 1
+        for word, note in item.notes.items():
+            if word not in self.words:
+                known = ", ".join(f"`{it}`" for it in self.words)
+                self.refuse_head(note, f"has the note `{word} = ..`, and takes {known}")
+
+    def read(self) -> Any:
+        raise NotImplementedError
 
     # What is refused
+
+    def refuse_head(self, note: Note, message: str) -> NoReturn:
+        raise Refused(self.item.path, note.line, f"the {self.item.word} {self.item.name} {message}")
 
     def refuse(self, at: RawField, message: str) -> NoReturn:
         raise self.crate.refuse_field(self.item, at, message)
@@ -61,13 +60,15 @@ class Reader:
             self.refuse(at, self.crate.why_not(self.item, of))
         if any(found is it for it in self.outer):
             self.refuse(at, f"is of {of.text}, which holds it")
-        form = form_of(self.crate, found, self.outer)
+        form = self.crate.form(found, self.outer)
         self.used.append(found.name)
         self.forms.append(form)
         return form
 
     def same_error(self, at: RawField, form: Any) -> None:
         own, other = (it.name if it else "scroll::Error" for it in (self.error, form.error))
+        if isinstance(form, ListType) and not form.form:
+            return
         if own != other:
             self.refuse(at, f"is of {form.item.name}, whose error is {other}, not {own}: write one `error = ..` before both")
 
@@ -113,7 +114,7 @@ class Reader:
         """Returns a sum, and adds the rule that it isn't below zero."""
         found = self.sum(at, note)
         if found.less:
-            self.below_rule(at, note, found, found.less)
+            self.rules.append((below_rule(self, at, found, found.less), found.names))
         elif "else" in at.notes:
             self.refuse_note(at, at.notes["else"], "has the note `else = ..`, which only a context that subtracts takes")
         return found.said()
@@ -128,90 +129,19 @@ class Reader:
         return found.said()
 
     def call(self, note: Note) -> Tuple[str, Note]:
-        return split_call(note)
+        """Returns the name of the function that a note calls, and the arguments."""
+        tokens = Tokens(note.value.path, note.value.tokens)
+        name = ""
+        while tokens.next.kind == "name" or tokens.next.text == "::":
+            name += tokens.take().text
+        if tokens.next.text == "(":
+            inside = tokens.inside()
+            if tokens.is_done:
+                return name, Note(inside, inside.said, note.line)
+        return "", note
 
     def constant(self, text: str) -> int:
         return self.crate.constant(self.item.path, text)
-
-    # Rules
-
-    def variant(self, at: RawField, note: Note) -> str:
-        """Returns the variant of the error type that a note `else = ..` says."""
-        name, _, variant = note.text.partition("::")
-        if not self.error or name != self.error.name or variant not in self.error.variants:
-            said = "no error of its own: write `error = ..` before it" if not self.error else f"the error {self.error.name}"
-            self.refuse_note(at, note, f"has the error {note.text}, and the {self.item.word} {self.item.name} has {said}")
-        return variant
-
-    def refusal(self, ghost: str, code: str, text: str) -> Tuple[str, List[str]]:
-        """Returns what says that a `BadInput` is the error, and the lines that return it."""
-        lines = [f"                size: {code},", f'                msg: "{text}",']
-        if not self.error:
-            return f'IsBadInput e {ghost} (codes "{text}")', ["            return Err(Error::BadInput {", *lines, "            });"]
-        head = f"            return Err({self.error.name}::from(Error::BadInput {{"
-        return f'GivesBadInput {self.error.gives} {ghost} (codes "{text}") e', [head, *lines, "            }));"]
-
-    def constant_rule(self, at: RawField, of: Fixed) -> None:
-        note = at.notes["is"]
-        value = self.constant(note.text)
-        if note.text.startswith(("b\"", '"', "[")):
-            self.refuse_note(at, note, f"is {note.text}: write the literal number that the bytes are in the format's byte order")
-        if value < 0:
-            self.refuse_note(at, note, f"is {note.text}, which is no literal, and no constant of this file that is one")
-        if not isinstance(of, Plain) or not is_counter(of):
-            self.refuse_note(at, note, "has a constant, and is no unsigned number of at most 64 bits")
-        if value >= 256**of.width:
-            self.refuse_note(at, note, f"is {note.text}, which doesn't fit {of.text}")
-        name, said = f"@{at.name}@", note.text if number_of(note.text) >= 0 else str(value)
-        text = f"{at.name} is not {note.text}"
-        if "else" in at.notes:
-            other = self.variant(at, at.notes["else"])
-            assert self.error
-            lines = [f"        if {name} != {said} {{", f"            return Err({self.error.name}::{other}({name}));", "        }"]
-            rule = Rule(f"({name} ≡ {value})", f"({name} ≢ {value}) × (e ≡ {other} {name})", lines)
-        elif self.error:
-            fails, lines = self.refusal(name, as_usize(at.name), text)
-            lines = [f"        if {name} != {said} {{", *lines, "        }"]
-            rule = Rule(f"({name} ≡ {value})", f"({name} ≢ {value}) × {fails}", lines)
-        else:
-            from text import call_lines
-
-            lines = call_lines("is", [as_usize(at.name), said, f'"{text}"'], "?;", 8)
-            rule = Rule(f"({name} ≡ {value})", f'IsNot {value} {name} (codes "{text}") e', lines)
-        self.rules.append((rule, [at.name]))
-
-    def below_rule(self, at: RawField, note: Note, found: Sum, less: Sum) -> None:
-        """The rule that a sum isn't less than what is subtracted from it."""
-        whole, below = found.whole.said(), less.said()
-        test = f"        if {below.code} > {whole.code} {{"
-        if "else" in at.notes:
-            if len(found.terms) != 1 or found.number or found.terms[0][1] != 1:
-                self.refuse_note(at, at.notes["else"], "has the note `else = ..`, and its context subtracts from more than one field")
-            other = self.variant(at, at.notes["else"])
-            assert self.error
-            name = f"@{found.terms[0][0]}@"
-            fails, lines = f"(e ≡ {other} {name})", [f"            return Err({self.error.name}::{other}({name}));"]
-        else:
-            from sums import side_text
-
-            text = f"{side_text(list(found.terms), found.number)} is less than {less.text}"
-            fails, lines = self.refusal(bracket(whole.ghost), whole.code, text)
-        rule = Rule(f"({below.ghost} ≤ {whole.ghost})", f"({whole.ghost} < {below.ghost}) × {fails}", [test, *lines, "        }"])
-        self.rules.append((rule, found.names))
-
-    def tag_rule(self, form: Enum, tag: str) -> None:
-        """The rule that a tag is that of a variant."""
-        name, tags = f"@{tag}@", [it.tag for it in form.variants]
-        tests = " && ".join(f"{name} != {it}" for it in tags)
-        text = f"{form.item.name} has no such tag"
-        if form.other:
-            assert self.error
-            fails, lines = f"(e ≡ {form.other} {name})", [f"            return Err({self.error.name}::{form.other}({name}));"]
-        else:
-            fails, lines = self.refusal(name, as_usize(tag), text)
-        holds = " ⊎ ".join(f"({name} ≡ {it})" for it in tags)
-        others = " × ".join(f"({name} ≢ {it})" for it in tags)
-        self.rules.append((Rule(f"({holds})", f"({others}) × {fails}", [f"        if {tests} {{", *lines, "        }"]), [tag]))
 
     def tag(self, at: RawField, note: Note, tokens: Tokens, form: Enum) -> str:
         """Takes the name of a tag."""
@@ -240,8 +170,6 @@ class Reader:
             found[-1].rules.append(rule)
         self.rules = []
 
-    # Fields
-
     def part(self, at: RawField, of: Type, notes: Notes) -> Part:
         """Returns the part of a field, with what is around it."""
         bare = RawField(at.name, [of], notes, at.line)
@@ -251,157 +179,29 @@ class Reader:
             found = self.crate.find(of.name, self.item.path)
             kind = FixedSize if is_fixed or not found or not found.is_marked else Nested
         made = kind(self, bare, of).make()
-        if isinstance(made, Numbers) and (notes.keys() & {"within", "padded"}) and made.fields:
-            self.place(made)
+        if of.name == "Option":
+            return made
         if "within" in notes:
             count = self.count(RawField(at.name, [of], {}, at.line), notes["within"])
-            context = Value(record(count.ghost, made.context.ghost), Call("Within", (count.code, made.context.code)))
-            made.context, made.context_type = context, f"Within<{made.context_type}>"
+            made = made.around("Within", made.type, *count)
         if "padded" in notes:
             multiple = self.constant(notes["padded"].text)
             if multiple < 1:
                 self.refuse_note(at, notes["padded"], f"is padded to a multiple of {notes['padded'].text}, which is no literal")
-            context = Value(record(str(multiple), made.context.ghost), Call("Padded", (str(multiple), made.context.code)))
-            made.context, made.context_type = context, f"Padded<{made.context_type}>"
+            made = made.around("Padded", made.type, str(multiple), str(multiple))
         return made
 
-    def place(self, part: Numbers) -> None:
-        """Names the type and the variable of fields of a fixed size."""
-        count = sum(isinstance(it, Numbers) for it in self.every())
-        part.variable = f"numbers_{count + 1}" if count else "numbers"
-        while part.variable in [it.name for it in self.item.fields]:
-            part.variable += "_"
-        tree = part.tree()
-        part.type = f"Run<{tree}>" if isinstance(tree, str) else Call("Run<>", (tree,))
-
-    def every(self) -> List[Part]:
-        found: List[Part] = []
-        for it in self.parts:
-            found += it.sequence.each_part() if isinstance(it, Together) and it.sequence else [it]
-        return found
-
-    def read_struct(self) -> Struct:
-        item = self.item
-        if item.is_tuple:
-            raise self.crate.refuse_field(item, item.fields[0], f"of the struct {item.name} has no name, which a struct of any size needs")
-        self.read_given()
-        for word, note in item.notes.items():
-            if word not in ("error", "ends", "given", "padded"):
-                self.refuse_head(note, f"has the note `{word} = ..`; a struct takes `error`, `ends`, `given` and `padded`")
-        multiple = self.read_multiple()
-        for at, field in enumerate(item.fields):
-            self.read_field(field, at + 1 == len(item.fields))
-            if self.padding:
-                if at + 1 < len(item.fields):
-                    self.close(self.padding)
-                else:
-                    multiple = self.padding
-        if self.bits:
-            self.refuse(self.bits[-1][0], "is the last of fields of bits that don't fill their number")
-        self.attach()
-        given = self.given[0].name if self.given else ""
-        made = Struct(item, self.parts, multiple, given, self.error, self.read_ends(), self.forms, self.used)
-        made.gaps = self.gaps  # type: ignore[attr-defined]
+    def together(self, fields: Sequence[Tuple[str, Fixed]]) -> Part:
+        """Returns fields of a fixed size as one part, with a name for its type and a variable where it is long."""
+        every = [it for part in self.parts for it in (part.inside.parts if part.inside else [part])]
+        count = sum(len(it.fields) > 1 for it in every)
+        variable = f"numbers_{count + 1}" if count else "numbers"
+        while variable in [it.name for it in self.item.fields]:
+            variable += "_"
+        made = numbers(fields, variable)
+        if len(made.type) > 64 and len(fields) > 1:
+            made.type = f"Run<{self.item.name}Numbers{count + 1 if count else ''}>"
         return made
-
-    padding = 0
-    gaps: Tuple[str, ...] = ()
-
-    def read_field(self, field: RawField, is_last: bool) -> None:
-        self.padding = 0
-        if field.is_ghost:
-            self.refuse(field, "is a ghost field, which no bytes have")
-        if field.name.startswith("r#"):
-            self.refuse(field, "has a raw name: give it another")
-        if self.bits and "bits" not in field.notes:
-            self.refuse(field, "stands behind fields of bits that don't fill their number")
-        if "bits" in field.notes:
-            self.read_bits(field)
-            return
-        if "if" in field.notes and field.type.name != "Option":
-            self.refuse_note(field, field.notes["if"], f"has the note `if = ..`, and is of {field.type.text}: write `Option<{field.type.text}>`")
-        if field.type.name == "Zeros" and "ctx" in field.notes:
-            call, inside = split_call(field.notes["ctx"])
-            if call == "padding":
-                arguments = Tokens(inside.value.path, inside.value.tokens)
-                is_offset = arguments.until_comma().said == "offset"
-                self.padding = self.constant(arguments.until_comma().said) if is_offset else -1
-                if self.padding < 1 or not self.parts:
-                    self.refuse_note(field, field.notes["ctx"], f"has the context {field.notes['ctx'].text}: write `padding(offset, 8)`, behind a field")
-                self.gaps = (*self.gaps, field.name)
-                return
-        made = self.part(field, field.type, field.notes)
-        last = self.parts[-1] if self.parts else None
-        if isinstance(made, Numbers) and not made.variable:
-            if isinstance(last, Numbers) and last.context == NOTHING:
-                made = Numbers("", "()", NOTHING, fields=[*last.fields, *made.fields], rules=last.rules)
-                self.parts.pop()
-            self.place(made)
-        self.parts.append(made)
-
-    def close(self, multiple: int) -> None:
-        """Puts the parts so far into one, with zeros behind it."""
-        self.attach()
-        sequence = Sequence_(self.item.name, self.parts, self.heads)
-        self.heads = sequence.next_index
-        context = sequence.context()
-        kind, context = f"Padded<{sequence_context(sequence)}>", Value(record(str(multiple), context.ghost), Call("Padded", (str(multiple), context.code)))
-        numbers = sequence.numbers()
-        made = Together(sequence.type(0), kind, context, numbers, is_exact=all(it.is_exact for it in self.parts), sequence=sequence)
-        made.is_certain = all(it.is_certain for it in self.parts)
-        self.parts = [made]
-
-    def read_bits(self, field: RawField) -> None:
-        note = field.notes["bits"]
-        count, of = self.constant(note.text), PLAIN.get(field.type.name)
-        if len(field.notes) > 1:
-            self.refuse_note(field, note, "has another note beside `bits = ..`, which takes none")
-        if not of or not is_counter(of) or not 0 < count <= 8 * of.width:
-            self.refuse_note(field, note, f"has `bits = {note.text}`, and is of {field.type.text}: take an unsigned number with room for them")
-        if self.bits and of.width > 4:
-            self.refuse_note(field, note, "is a lower field of bits of 64 bits: take one of at most 32")
-        self.bits.append((field, count))
-        word = PLAIN[self.bits[0][0].type.name]
-        filled = sum(it for _, it in self.bits)
-        if filled > 8 * word.width:
-            self.refuse_note(field, note, f"is the {filled}th bit of {word.text}, the type of the first field of bits, which says the number")
-        if filled < 8 * word.width:
-            return
-        if len(self.bits) == 1:
-            self.refuse_note(field, note, f"fills {word.text} alone, and needs no `bits = ..`")
-        fields = [(it.name, it.type.name) for it, _ in self.bits]
-        type_, context_type, ghost, code = fields[0][1], "()", "tt", "()"
-        for (_, kind), (_, bits) in zip(fields[1:], self.bits[1:]):
-            mask = 2**bits - 1
-            type_, context_type = f"({type_}, {kind})", f"Low<{kind}, {context_type}>"
-            ghost, code = record(str(mask), ghost), f"Low({mask}, {code})"
-        context = Value(record("record {}", ghost), f"Packed(PhantomData, {code})")
-        self.parts.append(Bits(type_, f"Packed<{word.text}, {context_type}>", context, fields=fields))
-        self.bits = []
-
-    # What stands before a struct or an enum
-
-    def refuse_head(self, note: Note, message: str) -> NoReturn:
-        from tokens import Refused
-
-        raise Refused(self.item.path, note.line, f"the {self.item.word} {self.item.name} {message}")
-
-    def read_multiple(self) -> int:
-        note = self.item.notes.get("padded")
-        found = self.constant(note.text) if note else 0
-        if note and found < 1:
-            self.refuse_head(note, f"is padded to a multiple of {note.text}, which is no literal")
-        return found
-
-    def read_ends(self) -> List[int]:
-        note = self.item.notes.get("ends")
-        if not note:
-            return []
-        text = note.text.strip("[]")
-        found = [number_of(it.strip()) for it in text.split(",")]
-        if any(not 0 <= it < 256 for it in found):
-            self.refuse_head(note, f"ends a list at {note.text}: write the mark's bytes, as `ends = 0` or `ends = [0, 0]`")
-        return found
 
     def read_given(self) -> List[Tuple[str, str]]:
         """Reads the numbers that a struct or an enum is given."""
@@ -419,65 +219,3 @@ class Reader:
             self.refuse_head(note, f"is given {note.text}, which is the name of a field too")
         self.given = [Number(name, "usize", "n", "(*ctx)") for name, kind in found if kind == "usize"]
         return found
-
-    def read_enum(self) -> Enum:
-        item = self.item
-        for word, note in item.notes.items():
-            if word not in ("error", "else", "given"):
-                hint = "; a tag stands in a field before the enum, whose note gives it: `given = kind: u8`" if word == "tag" else ""
-                self.refuse_head(note, f"has the note `{word} = ..`; an enum takes `given`, `error` and `else`{hint}")
-        found = self.read_given()
-        if not found:
-            from tokens import Refused
-
-            raise Refused(item.path, item.line, f"the enum {item.name} has no tag: write `given = kind: u8` before it, and `ctx = kind` before a field of it")
-        variants: List[Variant] = []
-        for raw in item.fields:
-            variants.append(self.read_variant(raw, found[0][1], [it.tag for it in variants]))
-        other = self.variant(RawField(item.name, [], {}, item.line), item.notes["else"]) if "else" in item.notes else ""
-        return Enum(item, found[0][1], found[1][0] if len(found) > 1 else "", variants, self.error, other, self.forms, self.used)
-
-    def read_variant(self, raw: RawField, tag: str, before: Sequence[int]) -> Variant:
-        if raw.has_names:
-            self.refuse(raw, "has fields with names: put them into a struct")
-        note = raw.notes.get("is")
-        if not note:
-            self.refuse(raw, "has no `is = ..`, its tag")
-        number = self.constant(note.text)
-        if number < 0 or number >= 256 ** PLAIN[tag].width:
-            self.refuse_note(raw, note, f"has the tag {note.text}, which is no literal that fits {tag}")
-        if number in before:
-            self.refuse_note(raw, note, f"has the tag {note.text}, which is that of another")
-        notes = {word: it for word, it in raw.notes.items() if word != "is"}
-        names = [f"v{at}" for at in range(len(raw.types))]
-        if not raw.types:
-            part: Part = nothing()
-        elif len(raw.types) == 1:
-            part = self.part(RawField(names[0], raw.types, notes, raw.line), raw.types[0], notes)
-            if isinstance(part, Numbers) and not part.variable:
-                self.place(part)
-        else:
-            made = [FixedSize(self, RawField(it, [of], notes, raw.line), of).fixed() for it, of in zip(names, raw.types)]
-            part = Numbers("", "()", NOTHING, fields=list(zip(names, made)))
-            self.place(part)
-        if self.rules:
-            self.refuse_note(raw, note, "has a note with a rule, which a variant doesn't take: put it into a struct")
-        return Variant(raw.name, number, names, part)
-
-
-def bracket(text: str) -> str:
-    return f"({text})" if " " in text else text
-
-
-def sequence_context(sequence: Sequence_) -> str:
-    from text import flat
-
-    return flat(sequence.context_type())
-
-
-def form_of(crate: Crate, item: Item, outer: Tuple[Item, ...] = ()) -> Any:
-    """Returns a struct of any size or an enum, which is read once."""
-    if id(item) not in crate.forms:
-        reader = Reader(crate, item, outer)
-        crate.forms[id(item)] = reader.read_enum() if item.is_enum else reader.read_struct()
-    return crate.forms[id(item)]

@@ -3,7 +3,7 @@
 from typing import List, Sequence
 
 from fixed_types import Array, Fixed, Plain, Record, width_of
-from text import clause_lines, in_pairs, label, nested, pair_paths, paths, record_lines, struct_lines, tuple_lines
+from text import flat, ghost_text, in_pairs, label, nested, pair_paths, paths, struct_lines, tuple_lines
 
 
 def drop(at: int, source: str) -> str:
@@ -51,8 +51,8 @@ def record_blocks(of: Record) -> List[List[str]]:
     gets a variable.)"""
     names = [name for name, _ in of.fields]
     count = len(names)
-    flat = ["h"] if count == 1 else [f"h.{index}" for index in range(count)]
-    parts = [(label(name), path) for name, path in zip(names, paths(count, "p"))]
+    facts = ["h"] if count == 1 else [f"h.{index}" for index in range(count)]
+    parts = "; ".join(f"{label(name)} = {path}" for name, path in zip(names, paths(count, "p")))
     arrays = {name: variable(name) for name, kind in of.fields if isinstance(kind, Array) and count > 1}
     taken = paths(count, "parts")
     values = [(name, arrays.get(name, path)) for name, path in zip(names, taken)]
@@ -61,9 +61,9 @@ def record_blocks(of: Record) -> List[List[str]]:
         f"impl Record for {of.text} {{",
         *tuple_lines("type Parts = ", nested([kind.text for _, kind in of.fields]), ";", 4),
         "",
-        *clause_lines("ghost parts_of = { λ x. ", nested([f"x.{label(name)}" for name in names]), " };", 4),
+        *ghost_text("ghost parts_of = { λ x. ", flat(nested([f"x.{label(name)}" for name in names])), " };", 4),
         "",
-        *record_lines("ghost of_parts = { λ p. ", parts, " };", 4),
+        *ghost_text("ghost of_parts = { λ p. ", f"record {{ {parts} }}", " };", 4),
         "",
         *fields_in(clauses_of(of, "s", "x")),
         "",
@@ -71,9 +71,9 @@ def record_blocks(of: Record) -> List[List[str]]:
         "",
         "    ghost there = { λ p. refl };",
         "",
-        *clause_lines("ghost fields_of_parts = { λ order s x h. ", tuple(to_fields) if count > 1 else "h", " };", 4),
+        *ghost_text("ghost fields_of_parts = { λ order s x h. ", flat(tuple(to_fields) if count > 1 else "h"), " };", 4),
         "",
-        *clause_lines("ghost parts_of_fields = { λ order s x h. ", in_pairs(nested(flat)), " };", 4),
+        *ghost_text("ghost parts_of_fields = { λ order s x h. ", flat(in_pairs(nested(facts))), " };", 4),
         "",
         "    ghost small = { Prim.search rules };",
         "",

@@ -1,21 +1,24 @@
-"""Prints `Shape` for a struct of any size, with the heads of its parts, and the traits that follow from it."""
+"""Parts one after another, in groups: a head, and the parts whose contexts it says."""
 
 import re
-from dataclasses import dataclass, field
+from dataclasses import dataclass, field, replace
 from typing import Dict, List, Optional, Sequence, Set, Tuple
 
-from forms import NOTHING, Number, Numbers, Part, record
-from model import OwnError
+from forms import Number, Part, nothing, record
 from sums import Value
-from text import Call, Tree, clause_lines, each, flat, ghost_text, impl_lines, lifetime, pattern_lines, right
-from text import signature_lines, struct_lines, tuple_lines
+from text import Call, Tree, each, flat, lifetime, right
 
 PLACE = re.compile(r"@([^@]+)@")
 
 
-def names_in(*trees: Tree) -> Set[str]:
-    """Returns the numbers that are named in some texts."""
-    return {name for it in trees for name in PLACE.findall(flat(it))}
+def names_in(parts: Sequence[Part]) -> Set[str]:
+    """Returns the numbers that the contexts and the rules of some parts name."""
+    texts = [it for part in parts for it in (part.context.ghost, flat(part.context.code), *rule_texts(part))]
+    return {name for it in texts for name in PLACE.findall(it)}
+
+
+def rule_texts(part: Part) -> List[str]:
+    return [it for rule in part.rules for it in (rule.holds, rule.fails, *rule.code)]
 
 
 def resolve(tree: Tree, said: Dict[str, str]) -> Tree:
@@ -24,205 +27,105 @@ def resolve(tree: Tree, said: Dict[str, str]) -> Tree:
 
 
 @dataclass
-class Rest(Part):
-    """Nothing, behind a head behind which there is nothing."""
-
-    def ghost(self) -> str:
-        return "record {}"
-
-    def split(self) -> Tree:
-        return "Zeros"
-
-    def join(self) -> Tree:
-        return "_"
-
-
-def nothing() -> Rest:
-    return Rest("Zeros", "usize", Value("0", "0"))
-
-
-@dataclass
 class Group:
-    """A head, or none, and the parts behind it whose contexts it says."""
+    """A head, or none, and what is behind it, the last of which are the parts of the next group; and the numbers that it is told."""
 
     head: Optional[Part]
     parts: List[Part] = field(default_factory=list)
     index: int = 0
+    told: List[str] = field(default_factory=list)
+
+    def said(self) -> Tuple[Dict[str, str], Dict[str, str]]:
+        """Returns how the head says each number, in the logic and in code."""
+        ghosts, codes = ({name: f"{word}.{at}" for at, name in enumerate(self.told)} for word in ("c", "self"))
+        for it in self.head.numbers if self.head else []:
+            ghosts[it.name], codes[it.name] = it.ghost.replace("^", "h"), it.code.replace("^", "head")
+        return ghosts, codes
+
+    def context(self) -> Value:
+        """The contexts of what is behind the head, by what that says."""
+        ghosts, codes = self.said()
+        ghost = resolve(right([it.context.ghost for it in self.parts]), ghosts)
+        return Value(flat(ghost), resolve(right([it.context.code for it in self.parts]), codes))
 
     @property
-    def needed(self) -> Set[str]:
-        """The numbers that are named behind the head."""
-        rules = [it for rule in (self.head.rules if self.head else []) for it in (rule.holds, rule.fails, *rule.code)]
-        contexts = [it for part in self.parts for it in (part.context.ghost, part.context.code)]
-        return names_in(*rules, *contexts)
+    def context_type(self) -> Tree:
+        return right([it.context_type for it in self.parts])
 
 
-class Sequence_:
-    """Parts one after another, in groups."""
+class Chain:
+    """The groups of a struct's parts, or of its first ones. `whole` is all of them as one part."""
 
     def __init__(self, name: str, parts: Sequence[Part], first: int) -> None:
-        self.name, self.groups = name, self.group(list(parts))
-        self.next_index = first
+        self.name, self.parts, self.groups, self.end = name, [*parts], grouped(parts), first
         for group in self.groups:
             if group.head:
-                group.index, self.next_index = self.next_index, self.next_index + 1
-        self.types = {number.name: number.type for part in parts for number in part.numbers}
-
-    @staticmethod
-    def group(parts: List[Part]) -> List[Group]:
-        groups: List[Group] = []
-        for at, part in enumerate(parts):
-            later = names_in(*(it for other in parts[at + 1 :] for it in (other.context.ghost, *(r.holds + r.fails for r in other.rules))))
-            if part.rules or any(it.name in later for it in part.numbers):
-                groups.append(Group(part))
-            else:
-                groups = groups or [Group(None)]
-                groups[-1].parts.append(part)
-        if not groups[-1].parts:
-            groups[-1].parts.append(nothing())
-        return groups
+                group.index, self.end = self.end, self.end + 1
+        self.types: List[Tree] = [""] * len(self.groups)
+        behind: List[Part] = []
+        for at in reversed(range(len(self.groups))):
+            self.groups[at].parts += behind
+            self.whole = self.join(at)
+            behind = [replace(self.whole, type=self.called("Rest", at) + lifetime(self.types[at]))]
 
     def called(self, word: str, at: int) -> str:
+        """Returns the name of a group's type."""
         index = self.groups[at].index
         return f"{self.name}{word}{index if index > 1 else ''}"
 
-    def told(self, at: int) -> List[str]:
-        """Returns the numbers that a group's head is told: those of earlier parts that are named behind it."""
-        if at == len(self.groups):
-            return []
+    def join(self, at: int) -> Part:
+        """Returns the parts from a group on as one."""
         group = self.groups[at]
-        needed = group.needed | {*self.told(at + 1)}
-        if at + 1 < len(self.groups):
-            head = self.groups[at + 1].head
-            needed |= names_in(head.context.ghost) if head else set()
-        own = {it.name for it in group.head.numbers} if group.head else set()
-        return sorted(needed - own)
-
-    def said(self, at: int) -> Tuple[Dict[str, str], Dict[str, str]]:
-        """Returns how a group's head says each number, in the logic and in code."""
-        head, told = self.groups[at].head, self.told(at)
+        head, parts = group.head, group.parts
+        ghost, split, pattern, types = (right([*it]) for it in zip(*((p.ghost, p.split, p.join, p.type) for p in parts)))
+        steps = [".1" * index + (".0" if index + 1 < len(parts) else "") for index in range(len(parts))]
+        numbers = [moved(it, step) for part, step in zip(parts, steps) for it in part.numbers]
         if not head:
-            return {}, {}
-        ghosts, codes = ({name: f"{word}.{index}" for index, name in enumerate(told)} for word in ("c", "self"))
-        ghosts.update({it.name: it.ghost.replace("^", "h") for it in head.numbers})
-        codes.update({it.name: it.code.replace("^", "head") for it in head.numbers})
-        return ghosts, codes
-
-    def head_type(self, at: int) -> str:
-        head = self.groups[at].head
-        assert head
-        return self.called("Head", at) + lifetime(head.type)
-
-    def rest(self, at: int) -> List[Part]:
-        """Returns the parts behind a group's head, the last of which are those of the next group."""
-        parts = list(self.groups[at].parts)
-        if at + 1 < len(self.groups):
-            head = self.groups[at + 1].head
-            assert head
-            type_ = self.called("Rest", at + 1) + lifetime(self.type(at + 1))
-            parts.append(Behind(type_, self.headed(at + 1), self.begin(at + 1), sequence=self, at=at + 1))
-        return parts
-
-    def type(self, at: int) -> Tree:
-        """The type of the parts from a group on."""
-        rest = right([it.type for it in self.rest(at)])
-        return (self.head_type(at), rest) if self.groups[at].head else rest
-
-    def headed(self, at: int) -> str:
-        """The type of the context of a group with a head."""
-        head = self.groups[at].head
-        assert head
-        return f"Headed<{flat(head.context_type)}, {self.called('Next', at)}, {self.called('Says', at)}>"
-
-    def begin(self, at: int) -> Value:
-        """The context of a group with a head."""
-        head, told = self.groups[at].head, [f"@{it}@" for it in self.told(at)]
-        assert head
+            self.types[at] = types
+            return Part("", flat(group.context_type), group.context(), flat(ghost), split, pattern, numbers=numbers)
+        group.told = sorted(names_in(parts) | names_in([replace(head, context=Value("", ""))]) - {it.name for it in head.numbers})
+        group.told = [it for it in group.told if it not in {number.name for number in head.numbers}]
+        told = [f"@{it}@" for it in group.told]
+        self.types[at] = (self.called("Head", at) + lifetime(head.type), types)
         says: Tree = Call(self.called("Says", at), tuple(told)) if told else self.called("Says", at)
-        ghost = record(flat(head.context.ghost), record(*told), "record {}")
-        return Value(ghost, Call("Headed", (head.context.code, says, "PhantomData")))
+        context = Value(
+            record(head.context.ghost, record(*told), "record {}"), Call("Headed", (head.context.code, says, "PhantomData"))
+        )
+        kind = f"Headed<{head.context_type}, {self.called('Next', at)}, {self.called('Says', at)}>"
+        numbers = [*(moved(it, ".0") for it in head.numbers), *(moved(it, ".1") for it in numbers)]
+        return Part("", kind, context, flat((head.ghost, ghost)), (head.split, split), (head.join, pattern), numbers=numbers)
 
-    def contexts(self, at: int) -> Tuple[Tree, Value]:
-        """The contexts of what is behind a group's head, by what that says, and their type."""
-        ghosts, codes = self.said(at)
-        parts = self.rest(at)
-        ghost = resolve(right([it.context.ghost for it in parts]), ghosts)
-        return right([it.context_type for it in parts]), Value(flat(ghost), resolve(right([it.context.code for it in parts]), codes))
+    def before(self) -> List[str]:
+        return [line for it in self.parts for line in it.before]
 
-    def context_type(self) -> Tree:
-        return self.headed(0) if self.groups[0].head else self.contexts(0)[0]
-
-    def context(self) -> Value:
-        return self.begin(0) if self.groups[0].head else self.contexts(0)[1]
-
-    def each_part(self) -> List[Part]:
-        return [part for group in self.groups for part in (*([group.head] if group.head else []), *group.parts)]
-
-    def ghost(self, at: int = 0) -> Tree:
-        head, rest = self.groups[at].head, right([it.ghost() for it in self.rest(at)])
-        return (head.ghost(), rest) if head else rest
-
-    def split(self, at: int = 0) -> Tree:
-        head, rest = self.groups[at].head, right([it.split() for it in self.rest(at)])
-        return (head.split(), rest) if head else rest
-
-    def join(self, at: int = 0) -> Tree:
-        head, rest = self.groups[at].head, right([it.join() for it in self.rest(at)])
-        return (head.join(), rest) if head else rest
-
-    def numbers(self, at: int = 0, way: str = "") -> List[Number]:
-        """Returns the numbers of all parts, of the parts from a group on."""
-        head, parts = self.groups[at].head, self.rest(at)
-        found = [(it, f"{way}.0") for it in (head.numbers if head else [])]
-        begin = f"{way}.1" if head else way
-        for index, part in enumerate(parts):
-            here = begin + ".1" * index + (".0" if index + 1 < len(parts) else "")
-            found += [(it, here) for it in (self.numbers(at + 1, "") if isinstance(part, Behind) else part.numbers)]
-        return [it._replace(ghost=it.ghost.replace("^", f"^{here}"), code=it.code.replace("^", f"^{here}")) for it, here in found]
+    def after(self) -> List[str]:
+        return [line for it in self.parts for line in it.after]
 
 
-@dataclass
-class Behind(Part):
-    """A group behind another."""
-
-    sequence: Optional[Sequence_] = None
-    at: int = 0
-
-    def ghost(self) -> str:
-        assert self.sequence
-        return flat(self.sequence.ghost(self.at))
-
-    def split(self) -> Tree:
-        assert self.sequence
-        return self.sequence.split(self.at)
-
-    def join(self) -> Tree:
-        assert self.sequence
-        return self.sequence.join(self.at)
+def moved(number: Number, way: str) -> Number:
+    """Returns a number of a part that stands at a place of another."""
+    return number._replace(ghost=number.ghost.replace("^", f"^{way}"), code=number.code.replace("^", f"^{way}"))
 
 
-@dataclass
-class Together(Part):
-    """Parts with zeros behind them up to a multiple of a size, counted from the first one."""
+def grouped(parts: Sequence[Part]) -> List[Group]:
+    """Returns groups of parts: what says a number that is named behind it, or has a rule, is a head."""
+    groups: List[Group] = []
+    for at, part in enumerate(parts):
+        later = names_in(parts[at + 1 :])
+        if part.rules or any(it.name in later for it in part.numbers):
+            groups.append(Group(part))
+        else:
+            groups = groups or [Group(None)]
+            groups[-1].parts.append(part)
+    if not groups[-1].parts:
+        groups[-1].parts.append(nothing())
+    return groups
 
-    sequence: Optional[Sequence_] = None
 
-    def ghost(self) -> str:
-        assert self.sequence
-        return flat(self.sequence.ghost())
-
-    def split(self) -> Tree:
-        assert self.sequence
-        return self.sequence.split()
-
-    def join(self) -> Tree:
-        assert self.sequence
-        return self.sequence.join()
-
-    def before_split(self) -> List[str]:
-        assert self.sequence
-        return [line for it in self.sequence.each_part() for line in it.before_split()]
-
-    def after_join(self) -> List[str]:
-        assert self.sequence
-        return [line for it in self.sequence.each_part() for line in it.after_join()]
+def together(chain: Chain, multiple: int, index: int) -> Part:
+    """Parts with zeros behind them up to a multiple of a size, counted from the first one; they are the padded ones of this index."""
+    name = f"{chain.name}Padded{index if index > 1 else ''}"
+    made = chain.whole.around("Padded", name + lifetime(chain.types[0]), str(multiple), str(multiple))
+    made = replace(made, context_type=f"{name}Ctx", before=chain.before(), after=chain.after(), inside=chain)
+    made.is_exact, made.is_certain = (all(it) for it in zip(*((part.is_exact, part.is_certain) for part in chain.parts)))
+    return made

@@ -106,7 +106,7 @@ def lifetime(tree: Tree) -> str:
     return "<'a>" if "'a" in flat(tree) else ""
 
 
-def broken(head: str, tree: Tree, tail: str, indent: int, inside: int, step: int) -> List[str]:
+def broken(head: str, tree: Tree, tail: str, indent: int, inside: int) -> List[str]:
     """Returns a tree after `head` and before `tail`: on one line, if its inside has at most so many letters, or part by part."""
     line = f"{' ' * indent}{head}{flat(tree)}{tail}"
     if isinstance(tree, str):
@@ -116,23 +116,18 @@ def broken(head: str, tree: Tree, tail: str, indent: int, inside: int, step: int
         return [line]
     lines = [f"{' ' * indent}{head}{name}("]
     for part in parts:
-        lines += broken("", part, ",", indent + step, inside, step)
+        lines += broken("", part, ",", indent + 4, inside)
     return [*lines, f"{' ' * indent}){tail}"]
 
 
 def tuple_lines(head: str, tree: Tree, tail: str, indent: int) -> List[str]:
     """Returns a tuple in code."""
-    return broken(head, tree, tail, indent, INSIDE, 4)
+    return broken(head, tree, tail, indent, INSIDE)
 
 
 def pattern_lines(head: str, tree: Tree, tail: str, indent: int) -> List[str]:
     """Returns a pattern, which is on one line where that has room."""
-    return broken(head, tree, tail, indent, WIDTH, 4)
-
-
-def clause_lines(head: str, tree: Tree, tail: str, indent: int) -> List[str]:
-    """Returns a tuple in a clause."""
-    return broken(head, tree, tail, indent, WIDTH, 2)
+    return broken(head, tree, tail, indent, WIDTH)
 
 
 def call_lines(head: str, arguments: Sequence[str], tail: str, indent: int) -> List[str]:
@@ -149,15 +144,6 @@ def struct_lines(name: str, fields: Sequence[Tuple[str, str]], is_tuple: bool, i
     if len(", ".join(named)) <= SHORT:
         return [f"{space}{name} {{ {', '.join(named)} }}{tail}"]
     return [f"{space}{name} {{", *(f"{space}    {it}," for it in named), f"{space}}}{tail}"]
-
-
-def record_lines(head: str, fields: Sequence[Tuple[str, str]], tail: str, indent: int) -> List[str]:
-    """Returns a record of antt, on one line if that is short."""
-    space = " " * indent
-    line = f"{space}{head}record {{ {'; '.join(f'{key} = {value}' for key, value in fields)} }}{tail}"
-    if len(line) <= WIDTH:
-        return [line]
-    return [f"{space}{head}record {{", *(f"{space}  {key} = {value};" for key, value in fields), f"{space}}}{tail}"]
 
 
 def signature_lines(name: str, arguments: Sequence[str], result: str, tail: str, indent: int) -> List[str]:

@@ -88,10 +88,11 @@ class Tokens:
     def said(self) -> str:
         """Returns the tokens as code."""
         text = " ".join(it.text for it in self.tokens)
-        for old, new in (("& ", "&"), (" < ", "<"), ("< ", "<"), (" >", ">"), ("[ ", "["), (" ]", "]"), ("( ", "(")):
+        for old, new in ((" < ", "<"), ("< ", "<"), (" >", ">"), ("[ ", "["), (" ]", "]"), ("( ", "(")):
             text = text.replace(old, new)
         for old, new in ((" )", ")"), (" ,", ","), (" ;", ";"), (" ::", "::"), (":: ", "::"), (" :", ":"), (" . ", ".")):
             text = text.replace(old, new)
+        text = re.sub(r"& (?=['\[]|str\b)", "&", text)
         return re.sub(r"(?<=[\w>]) \((?=\))|(?<=[a-z]) \(", "(", text)
 
 

@@ -6,7 +6,7 @@ use Rattle.scroll.specs.Reads.{ReadsAll}
 use Rattle.scroll.specs.declared.endian.Endian.{Endian}
 use Rattle.scroll.specs.declared.error.Error.{Error}
 use Rattle.scroll_layouts.specs.Formats.{Format, reads, len, bytes, agrees, differs}
-use Rattle.scroll_layouts.specs.Wholes.{ReadsExact}
+use Rattle.scroll_layouts.specs.Wholes.{ReadsBack}
 
 -- the bytes of a head and of the values behind it
 abbrev pub list_bytes : {E A X : Type 0} → Format E A → Format E X → Endian → A → List X → List ℕ
@@ -17,10 +17,10 @@ list_bytes h f order head xs = bytes h order head ++ flat_map (bytes f order) xs
 pub record ReadsList {E A X : Type 0} (h : Format E A) (f : Format E X) (order : Endian)
     (s : List ℕ) (head : A) (xs : List X) (n : ℕ) : Type 0 where
   pub first : reads h order s 0 head
-  pub each : ReadsAll (ReadsExact f order) s (len h head) xs n
+  pub each : ReadsAll (ReadsBack f order) s (len h head) xs n
 
--- a head and values that agree are written over the start of a target, in `n` bytes. They read back,
--- whatever is written after them
+-- a head and values that agree are written over the start of a target, in `n` bytes. They read
+-- back, whatever is written after them
 pub record WritesList {E A X : Type 0} (h : Format E A) (f : Format E X) (order : Endian) (head : A)
     (xs : List X) (old new : List ℕ) (n : ℕ) : Type 0 where
   pub agreed : agrees h order head

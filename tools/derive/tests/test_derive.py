@@ -1,0 +1,95 @@
+"""Tests of tools/derive: what is printed, what is refused, and what the command writes.
+
+    python3 -m unittest discover tools/derive/tests
+"""
+
+import importlib.util
+import re
+import sys
+import tempfile
+import unittest
+from contextlib import redirect_stderr, redirect_stdout
+from io import StringIO
+from pathlib import Path
+from typing import List, Tuple
+
+HERE = Path(__file__).resolve().parent
+sys.path.insert(0, str(HERE.parent))
+found = importlib.util.spec_from_file_location("derive_main", HERE.parent / "__main__.py")
+assert found and found.loader
+command = importlib.util.module_from_spec(found)
+found.loader.exec_module(command)
+
+
+def cases(name: str) -> List[str]:
+    """Returns the descriptions in a file."""
+    return (HERE / name).read_text(encoding="utf-8").split("\n===\n")[1:]
+
+
+class Derive(unittest.TestCase):
+    def setUp(self) -> None:
+        room = tempfile.TemporaryDirectory()
+        self.addCleanup(room.cleanup)
+        self.crate = Path(room.name) / "formats"
+        (self.crate / "src").mkdir(parents=True)
+        self.file = self.crate / "src" / "shapes.rt"
+        self.derived = self.crate / "src" / "shapes" / "derived.rt"
+
+    def call(self, *words: str) -> Tuple[int, str, str]:
+        with redirect_stdout(StringIO()) as out, redirect_stderr(StringIO()) as err:
+            status = command.main([*words])
+        return status, out.getvalue(), err.getvalue()
+
+    def test_what_is_printed(self) -> None:
+        for case in cases("right.txt"):
+            text, _, wanted = case.partition("\n=>\n")
+            with self.subTest(text):
+                self.file.write_text(text + "\n", encoding="utf-8")
+                self.assertEqual(self.call(str(self.crate)), (0, "", ""))
+                printed = self.derived.read_text(encoding="utf-8").split("\n")
+                place = 0
+                for line in wanted.rstrip("\n").split("\n"):
+                    self.assertIn(line, printed[place:])
+                    place = printed.index(line, place) + 1
+                self.assertTrue(all(len(line) <= 100 for line in printed if "use Rattle" not in line))
+
+    def test_what_is_refused(self) -> None:
+        for case in cases("wrong.txt"):
+            line, message = next((at, it) for at, it in enumerate(case.split("\n"), 1) if it.strip().startswith("//~"))
+            with self.subTest(message.strip()):
+                self.file.write_text(re.sub(r"//~.*", "//", case) + "\n", encoding="utf-8")
+                status, out, err = self.call(str(self.crate))
+                said = f"derive: {self.file}:{line + 1}: {message.strip()[4:]}\n"
+                self.assertEqual((status, out, err), (2, "", said))
+                self.assertFalse(self.derived.exists())
+
+    def test_what_is_stale(self) -> None:
+        text = cases("right.txt")[1].partition("\n=>\n")[0]
+        self.file.write_text(text, encoding="utf-8")
+        stale = f"{self.derived} is stale: run `python3 tools/derive {self.crate}`\n"
+        self.assertEqual(self.call("--check", str(self.crate)), (1, stale, ""))
+        self.assertFalse(self.derived.exists())
+        self.call(str(self.crate))
+        self.assertEqual(self.call("--check", str(self.crate)), (0, "", ""))
+        changed = text.replace("pub len: u32,\n    pub kind: u32,", "pub kind: u32,\n    pub len: u32,")
+        self.file.write_text(changed, encoding="utf-8")
+        self.assertEqual(self.call("--check", str(self.crate)), (1, stale, ""))
+        self.file.write_text("", encoding="utf-8")
+        self.assertEqual(self.call("--check", str(self.crate)), (1, stale.replace("stale", "left over"), ""))
+        self.call(str(self.crate))
+        self.assertFalse(self.derived.exists())
+
+    def test_the_root(self) -> None:
+        (self.crate / "src" / "lib.rt").write_text(cases("right.txt")[0], encoding="utf-8")
+        self.assertEqual(self.call(str(self.crate)), (0, "", ""))
+        self.assertIn("use super::Point;", (self.crate / "src" / "derived.rt").read_text(encoding="utf-8"))
+
+    def test_wrong_calls(self) -> None:
+        for words in ((), ("--chek", "a"), ("a", "b")):
+            self.assertEqual(self.call(*words), (2, "", f"{command.USAGE}\n"))
+        missing = self.crate / "none"
+        self.assertEqual(self.call(str(missing)), (2, "", f"derive: {missing}: there is no src/ in this folder, so it is no crate\n"))
+
+
+if __name__ == "__main__":
+    unittest.main()
