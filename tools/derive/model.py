@@ -79,18 +79,22 @@ class Variant:
 
 @dataclass
 class Enum:
-    """An enum by a tag of this type, which it is given, perhaps with a number, or which is its own first part; and the variant of its
+    """An enum by a tag of this type, which it is given, perhaps with a number, or which is its own `head`; and the variant of its
     error for an unknown tag."""
 
     item: Item
     tag: str
-    is_own: bool
     given: str
     variants: List[Variant]
     error: Optional[OwnError]
     other: str
     inner: "List[Any]" = field(default_factory=list)
     used: List[str] = field(default_factory=list)
+    head: Optional[Part] = None
+
+    @property
+    def is_own(self) -> bool:
+        return self.head is not None
 
     @property
     def type(self) -> str:
