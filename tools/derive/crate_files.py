@@ -26,13 +26,14 @@ GHOST: Dict[str, Sequence[str]] = {
     "Rattle.scroll_layouts.specs.Errors": ("GivesBadInput", "IsNot"),
     "Rattle.scroll_layouts.specs.Formats": ("last", "refuses"),
     "Rattle.scroll_layouts.specs.OneWay": ("one_way",),
-    "Rattle.scroll_layouts.specs.Wholes": ("KeepsWhole", "ReadsExact", "ReadsWhole", "WritesWhole"),
+    "Rattle.scroll_layouts.specs.Wholes": ("KeepsWhole", "ReadsBack", "ReadsExact", "ReadsWhole", "WritesWhole"),
+    "Rattle.scroll_layouts.specs.lemmas.WholeLemmas": ("whole-kept",),
     "Rattle.scroll_layouts.specs.declared.choice.Choice.TheVariants": ("First", "Second"),
 }
 CODE: Dict[str, Sequence[str]] = {
     "scroll::ctx": ("Record", "TryFromCtx", "TryIntoCtx", "Written"),
     "scroll": ("Endian", "Error"),
-    "scroll_formats": ("SmallError", "Table", "Zeros"),
+    "scroll_formats": ("Kept", "SmallError", "Table", "Zeros"),
     "scroll_layouts::Choice": ("First", "Second"),
     "scroll_layouts": tuple(
         "Certain CertainHead Choice Choose Count Ends Field Given Head Headed Items Listed Low Marked Packed Padded Part ReadPart Run "

@@ -233,6 +233,25 @@ class Printer:
             ]
         )
 
+        if self.form.item.is_kept:
+            self.print_kept()
+
+    def print_kept(self) -> None:
+        part = "ReadPart<'a, " if self.life else "Part<"
+        self.blocks.append(
+            [
+                *impl_lines(self.life, "Kept", ["Endian"], self.type),
+                *ghost_text("ghost reads = { ", f"ReadsBack (⟦<{self.type} as {part}(), {self.error}>>⟧.format tt)", " };", 4),
+                "",
+                "    ghost fits = { λ _. Unit {0} };",
+                "",
+                "    fn fit(self) {}",
+                "",
+                "    ghost back = { λ order x old new rest n fits h. whole-kept _ order x old new n h rest };",
+                "}",
+            ]
+        )
+
     def choices(self, at: int = 0) -> Tuple[str, str, Value]:
         """The types of the variants from one on and of their contexts, and the contexts."""
         form: Enum = self.form

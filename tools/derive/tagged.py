@@ -29,7 +29,7 @@ def tagged_blocks(printer: "Printer", parts: str, context: str, ghost: str, code
             for way in reversed(form.ways(at)):
                 value = f"{way}({value})"
             call = call_lines(f"Part::<{context}, {error}>::{name}", ["&parts", *arguments, "&ctx"], "", 16)
-            made = [f"                let value = {value};", f"                let parts = (Run({it.tag}{form.tag}), value);"]
+            made = [f"                let value = {value};", f"                let parts: {parts} = (Run({it.tag}), value);"]
             lines += [f"            {form.pattern(it)} => {{", *made, *call, "            }"]
         return [*lines, "        }", "    }"]
 
