@@ -6,7 +6,7 @@ from fixed_types import Fixed, Plain, is_counter
 from forms import Rule
 from items import Note, RawField
 from model import Enum
-from sums import Sum, as_usize, bracketed, number_of, side_text
+from sums import Condition, Sum, as_usize, bracketed, number_of, side_text
 from text import call_lines
 
 if TYPE_CHECKING:
@@ -89,3 +89,10 @@ def tag_rule(reader: "Reader", at: RawField, form: Enum, tag: str) -> Rule:
     others = " × ".join(f"({name} ≢ {it})" for it in tags)
     test = f"        if {' && '.join(f'{name} != {it}' for it in tags)} {{"
     return Rule(f"({' ⊎ '.join(f'({name} ≡ {it})' for it in tags)})", f"({others}) × {fails}", [test, *lines, "        }"])
+
+
+def guarded(rule: Rule, condition: Condition) -> Rule:
+    """A rule of a field that may be absent holds where that is there."""
+    there, absent = condition.sides()
+    first = rule.code[0].replace("if ", f"if {condition.said().code} && ", 1)
+    return Rule(f"({absent} ⊎ {rule.holds})", f"{there} × {rule.fails}", [first, *rule.code[1:]])

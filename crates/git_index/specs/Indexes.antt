@@ -10,7 +10,7 @@ use Rattle.scroll.specs.Reads.{ReadsAll}
 use Rattle.scroll.specs.declared.endian.Endian.TheVariants.{Big}
 use Rattle.scroll.specs.declared.error.Error.{Error}
 use Rattle.scroll_layouts.specs.Formats.{Format, bytes, refuses}
-use Rattle.scroll_layouts.specs.Wholes.{ReadsExact}
+use Rattle.scroll_layouts.specs.Wholes.{ReadsBack, ReadsExact}
 use Rattle.git_index.specs.declared.entry.Entry.{Entry}
 use Rattle.git_index.specs.declared.IndexError.{IndexError}
 use Rattle.git_index.specs.declared.IndexError.TheVariants.{Short, BadSignature, BadVersion, Refused}
@@ -32,7 +32,7 @@ pub record IsIndex (format : Format Error Entry) (file : List ℕ)
   pub header : HasHeader file
   pub count : length entries ≡ entry_count file
   pub to : ℕ
-  pub each : ReadsAll (ReadsExact format Big) file 12 entries to
+  pub each : ReadsAll (ReadsBack format Big) file 12 entries to
 
 -- the error of reading a header
 abbrev pub RefusesHeader : List ℕ → IndexError → Type 0

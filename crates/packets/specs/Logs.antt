@@ -1,4 +1,5 @@
--- A log of records, one after another from the first byte to the last.
+-- A log of records, one after another from the first byte to the last. The relations take the format
+-- of a record.
 use Rattle.std.specs.Prelude.{◌≡◌, ℕ, List, length}
 use Rattle.std.specs.List.{flat_map}
 use Rattle.scroll.specs.Arrays.{WritesAll}
@@ -7,27 +8,28 @@ use Rattle.scroll.specs.Reads.{ReadsAll}
 use Rattle.scroll.specs.declared.endian.Endian.{Endian}
 use Rattle.scroll.specs.declared.error.Error.{Error}
 use Rattle.scroll_formats.specs.declared.located.At.{At}
-use Rattle.packets.specs.RecordFormat.{ReadsRecord, RefusesRecord, WritesRecord, KeepsRecord, record_bytes}
+use Rattle.scroll_layouts.specs.Formats.{Format, bytes, refuses}
+use Rattle.scroll_layouts.specs.Wholes.{ReadsBack, ReadsExact, WritesWhole, KeepsWhole}
 use Rattle.packets.specs.declared.log.Record.{Record}
 
 -- the whole log is these records
-abbrev pub IsLog : Endian → List ℕ → List Record → Type 0
-IsLog order log records = ReadsAll (ReadsRecord order) log 0 records (length log)
+abbrev pub IsLog : Format Error Record → Endian → List ℕ → List Record → Type 0
+IsLog format order log records = ReadsAll (ReadsBack format order) log 0 records (length log)
 
 -- the error of reading a log: that of a record after those before it, or out of memory
-abbrev pub RefusesLog : Endian → List ℕ → At Error → Type 0
-RefusesLog order log e =
-    RefusesToEnd (ReadsRecord order) (RefusesRecord order) (λ error e. e ≡ error) log 0 e.offset e.error
+abbrev pub RefusesLog : Format Error Record → Endian → List ℕ → At Error → Type 0
+RefusesLog format order log e =
+    RefusesToEnd (ReadsExact format order) (λ s. refuses format order s 0) (λ error e. e ≡ error) log 0 e.offset e.error
 
 -- the bytes of a log
-abbrev pub log_bytes : Endian → List Record → List ℕ
-log_bytes order records = flat_map (record_bytes order) records
+abbrev pub log_bytes : Format Error Record → Endian → List Record → List ℕ
+log_bytes format order records = flat_map (bytes format order) records
 
 -- records are written one after another, in `n` bytes
-abbrev pub WritesLog : Endian → List Record → List ℕ → List ℕ → ℕ → Type 0
-WritesLog order records old new n = WritesAll (WritesRecord order) old 0 records new n
+abbrev pub WritesLog : Format Error Record → Endian → List Record → List ℕ → List ℕ → ℕ → Type 0
+WritesLog format order records old new n = WritesAll (WritesWhole format order) old 0 records new n
 
 -- one of the records isn't written, and those before it are
-abbrev pub FailsLog : Endian → List Record → List ℕ → List ℕ → At Error → Type 0
-FailsLog order records old new e = FailsMany (WritesRecord order) (KeepsRecord order)
+abbrev pub FailsLog : Format Error Record → Endian → List Record → List ℕ → List ℕ → At Error → Type 0
+FailsLog format order records old new e = FailsMany (WritesWhole format order) (KeepsWhole (λ error e. e ≡ error) format order)
     (λ error e. e ≡ error) old 0 records new e.offset e.error

@@ -22,14 +22,16 @@
 //! The module [`log`] reads and writes logs of such packets, or of anything else.
 #![tactic(auto)]
 
-ghost use Rattle.std.specs.Prelude.{◌≡◌, ◌≤◌, length, take, IfOk, IfErr, IsOk, OnOk, OnErr};
+ghost use Rattle.std.specs.Prelude.{◌≡◌, ◌≤◌, length, IfOk, IfErr, IsOk, OnOk, OnErr};
 ghost use Rattle.scroll.specs.declared.endian.Endian.TheVariants.{Big};
 ghost use Rattle.packets.specs.Headers.{field};
-ghost use Rattle.packets.specs.PacketFormat.{ReadsPacket, RefusesPacket, WritesPacket, KeepsPacket, packet_bytes};
+ghost use Rattle.packets.specs.declared.packet.PacketError.TheVariants.{Short};
+ghost use Rattle.scroll_layouts.specs.Formats.{refuses};
+ghost use Rattle.scroll_layouts.specs.Wholes.{WritesWhole, KeepsWhole};
 ghost use Rattle.packets.specs.Packets.{IsPacket, WritesHeaders, RefusesHeaders};
 
-use scroll::{Endian, NETWORK, Pread, slice};
-use scroll_formats::write_kept;
+use scroll::{NETWORK, Pread, slice};
+use scroll_layouts::ReadPart;
 
 pub mod log;
 mod packet;
@@ -39,35 +41,25 @@ mod tests;
 pub use crate::packet::{DnsHeader, Packet, PacketError, UdpHeader};
 
 /// Reads the packet at the start of some bytes. The bytes after its UDP length are ignored.
-pub fn read_packet(bytes: &[u8]) -> Result<Packet, PacketError>
-    ensures read { IfOk result (IsPacket bytes.now) }
-    ensures back { IfOk result (λ packet. packet_bytes Big packet ≡ take packet.udp.len bytes.now) }
-    ensures refused { IfErr result (RefusesPacket Big bytes.now) }
+pub fn read_packet<'a>(bytes: &'a [u8]) -> Result<Packet<'a>, PacketError>
+    ensures read { IfOk result (IsPacket (⟦<Packet<'a> as ReadPart<'a, (), PacketError>>⟧.format tt) bytes.now) }
+    ensures refused { IfErr result (refuses (⟦<Packet<'a> as ReadPart<'a, (), PacketError>>⟧.format tt) Big bytes.now 0) }
     ensures accepted { 20 ≤ field 4 bytes.now → field 4 bytes.now ≤ length bytes.now → IsOk result }
 {
-    read_in(bytes, NETWORK)
-}
-
-// Reads a packet in a byte order that is a parameter, since the prover doesn't find the lemma for
-// `back` at a constant one.
-#[tactic(auto, using(crate::specs::PacketBack::packet_written_back))]
-fn read_in(bytes: &[u8], order: Endian) -> Result<Packet, PacketError>
-    ensures read { IfOk result (λ packet. ReadsPacket order bytes.now packet packet.udp.len) }
-    ensures back { IfOk result (λ packet. packet_bytes order packet ≡ take packet.udp.len bytes.now) }
-    ensures refused { IfErr result (RefusesPacket order bytes.now) }
-{
-    bytes.pread_with(0, order)
+    let packet: Packet<'a> = bytes.pread_with(0, NETWORK)?;
+    Ok(packet)
 }
 
 /// Writes a packet to the start of `target`, and returns its size in bytes. On an error the target
 /// is unchanged.
-pub fn write_packet(target: &mut [u8], packet: Packet) -> Result<usize, PacketError>
-    ensures wrote { IfOk result (WritesPacket Big packet.entry target.old target.new) }
-    ensures again { OnOk result (IsPacket target.new packet.entry) }
-    ensures refused { IfErr result (KeepsPacket Big packet.entry target.old target.new) }
+pub fn write_packet<'a>(target: &mut [u8], packet: Packet<'a>) -> Result<usize, PacketError>
+    ensures wrote { IfOk result (WritesWhole (⟦<Packet<'a> as ReadPart<'a, (), PacketError>>⟧.format tt) Big packet.entry target.old target.new) }
+    ensures again { OnOk result (IsPacket (⟦<Packet<'a> as ReadPart<'a, (), PacketError>>⟧.format tt) target.new packet.entry) }
+    ensures refused { IfErr result (KeepsWhole (λ error e. e ≡ Short error) (⟦<Packet<'a> as ReadPart<'a, (), PacketError>>⟧.format tt) Big packet.entry target.old target.new) }
     ensures stays { OnErr result (target.new ≡ target.old) }
 {
-    write_kept(target, packet, &mut 0, NETWORK)
+    let size = slice::pwrite_with(target, packet, 0, NETWORK)?;
+    Ok(size)
 }
 
 /// Writes the two headers before a body that starts at offset 20: the message's first, since the

@@ -15,8 +15,8 @@ use Rattle.scroll_ffi.specs.declared.elf.ScrollElfSection.{ScrollElfSection}
 use Rattle.scroll_ffi.specs.declared.elf.ScrollElfSections.{ScrollElfSections}
 use Rattle.scroll_ffi.specs.declared.zip_files.ScrollZipEnd.{ScrollZipEnd}
 use Rattle.scroll_ffi.specs.declared.zip_files.ScrollZipFile.{ScrollZipFile}
-use Rattle.zip.specs.EndRecordFormat.{ReadsEndRecord, WritesEndRecord}
-use Rattle.zip.specs.StoredFileFormat.{ReadsStoredFile}
+use Rattle.scroll_layouts.specs.Wholes.{ReadsBack, ReadsExact, WritesWhole}
+use Rattle.zip.specs.Archives.{Formats}
 use Rattle.zip.specs.declared.end.EndRecord.{EndRecord}
 use Rattle.zip.specs.declared.file.StoredFile.{StoredFile}
 
@@ -138,10 +138,10 @@ pub record IsPlainEnd (record-there : EndRecord) (offset : ℕ) (x : ScrollZipEn
   pub directory_place : x.directory_place ≡ record-there.directory_place
 
 -- an end record of the archive, whose comment ends where the archive does
-pub record IsEnd (archive : List ℕ) (x : ScrollZipEnd) : Type 0 where
+pub record IsEnd (formats : Formats) (archive : List ℕ) (x : ScrollZipEnd) : Type 0 where
   pub there : EndRecord
   pub size : ℕ
-  pub read : ReadsAt (ReadsEndRecord Little) archive x.offset there size
+  pub read : ReadsAt (ReadsExact formats.end Little) archive x.offset there size
   pub numbers : IsPlainEnd there x.offset x
   pub whole : x.offset + 22 + x.comment_len ≡ length archive
 
@@ -161,27 +161,27 @@ pub record IsPlainFile (file : StoredFile) (start : ℕ) (x : ScrollZipFile) : T
   pub date : x.date ≡ file.date
 
 -- a stored file that is read between two offsets
-pub record IsStored (archive : List ℕ) (from to : ℕ) (x : ScrollZipFile) : Type 0 where
+pub record IsStored (formats : Formats) (archive : List ℕ) (from to : ℕ) (x : ScrollZipFile) : Type 0 where
   pub there : StoredFile
   pub size : ℕ
-  pub read : ReadsAt (ReadsStoredFile Little) archive from there size
+  pub read : ReadsAt (ReadsExact formats.file Little) archive from there size
   pub numbers : IsPlainFile there from x
   pub end : to ≡ from + size
 
 -- the archive reads as a stored file with this name, extra field and contents
-pub record IsPut (archive : List ℕ) (from to : ℕ) (name extra contents : List ℕ) : Type 0 where
+pub record IsPut (formats : Formats) (archive : List ℕ) (from to : ℕ) (name extra contents : List ℕ) : Type 0 where
   pub there : StoredFile
   pub size : ℕ
-  pub read : ReadsAt (ReadsStoredFile Little) archive from there size
+  pub read : ReadsAt (ReadsBack formats.file Little) archive from there size
   pub name-is : there.name.now ≡ name
   pub extra-is : there.extra.now ≡ extra
   pub contents-is : there.contents.now ≡ contents
   pub end : to ≡ from + size
 
 -- an end record with this comment is written between two offsets
-pub record IsPutEnd (old new : List ℕ) (from to : ℕ) (comment : List ℕ) : Type 0 where
+pub record IsPutEnd (formats : Formats) (old new : List ℕ) (from to : ℕ) (comment : List ℕ) : Type 0 where
   pub there : EndRecord
   pub size : ℕ
-  pub wrote : WritesAt (WritesEndRecord Little there) old from new size
+  pub wrote : WritesAt (WritesWhole formats.end Little there) old from new size
   pub comment-is : there.comment.now ≡ comment
   pub end : to ≡ from + size

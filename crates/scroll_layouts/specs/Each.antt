@@ -19,8 +19,8 @@ pub record ReadsList {E A X : Type 0} (h : Format E A) (f : Format E X) (order :
   pub first : reads h order s 0 head
   pub each : ReadsAll (ReadsBack f order) s (len h head) xs n
 
--- a head and values that agree are written over the start of a target, in `n` bytes. They read back,
--- whatever is written after them
+-- a head and values that agree are written over the start of a target, in `n` bytes. They read
+-- back, whatever is written after them
 pub record WritesList {E A X : Type 0} (h : Format E A) (f : Format E X) (order : Endian) (head : A)
     (xs : List X) (old new : List ℕ) (n : ℕ) : Type 0 where
   pub agreed : agrees h order head

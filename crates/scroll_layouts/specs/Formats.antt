@@ -45,8 +45,8 @@ pub record Leaf (E X : Type 0) : Type 1 where
 -- `zeros gives n`: `n` zero bytes, which are no part of the value
 -- `last f get`: the one part that `get` takes out of the value, in the format `f`
 -- `pair f g`: a value, and the one after it
--- `headed f holds fails next rest`: a head that `holds` of, or `fails` says the error; and the value
--- after it, in the format that `rest` says for what the head says by `next`
+-- `headed f holds fails next rest`: a head that `holds` is true of, or `fails` says the error; and
+-- the value after it, in the format that `rest` gives for what `next` says of the head
 -- `padded gives m f`: a value, and zeros up to a multiple of `m` bytes, counted from its first one
 -- `within gives n f`: a value in the format `f` that uses up `n` bytes
 -- `leaf l`: a value of the kind `l`
@@ -102,7 +102,7 @@ bytes (when gives b f) order (Some x) = bytes f order x
 bytes (when gives b f) order None = []
 
 -- `reads f order s at x`: the value `x` stands in `s` at the offset `at`. Each part stands
--- behind those before it; a value within `n` bytes is read from these alone, and uses them up
+-- behind those before it, and a value within `n` bytes has so many
 abbrev pub reads : {E X : Type 0} → Format E X → Endian → List ℕ → ℕ → X → Type 0
 reads (run gives p) order s at x = (at + width p ≤ length s) × makes p order s at x
 reads (counted gives n) order s at x = (at + n ≤ length s) × (x ≡ take n (drop at s))
@@ -119,7 +119,7 @@ reads (padded gives m f) order s at x =
     × (take (padding_len (len f x) m) (drop (at + len f x) s)
     ≡ replicate (padding_len (len f x) m) 0))
 reads (within gives n f) order s at x =
-    (at + n ≤ length s) × reads f order (take n (drop at s)) 0 x × (len f x ≡ n)
+    (at + n ≤ length s) × reads f order s at x × (len f x ≡ n)
 reads (leaf l) order s at x = l.leaf_reads order s at x
 reads (choice gives true f g) order s at (First x) = reads f order s at x
 reads (choice gives true f g) order s at (Second x) = ⊥

@@ -1,5 +1,5 @@
 -- Values that are read from the start of a source, written to the start of a target, and appended.
-use Rattle.std.specs.Prelude.{◌≡◌, ◌≤◌, ◌-◌, ◌^◌, ◌⊎◌, ◌++◌, ℕ, List, [], ◌∷◌, length, take, drop, min}
+use Rattle.std.specs.Prelude.{◌≡◌, ◌≤◌, ◌-◌, ◌^◌, ◌+◌, ◌⊎◌, ◌++◌, ℕ, List, [], ◌∷◌, length, take, drop, min}
 use Rattle.scroll.specs.Bytes.{WritesPrefix, FailsShort}
 use Rattle.scroll.specs.declared.endian.Endian.{Endian}
 use Rattle.scroll.specs.declared.error.Error.{Error}
@@ -7,8 +7,9 @@ use Rattle.scroll.specs.declared.error.Error.TheVariants.{NoMemory}
 use Rattle.scroll_layouts.specs.Formats.{Format, reads, len, bytes, agrees, differs}
 use Rattle.scroll_layouts.specs.OneWay.{same}
 
--- a value is read from the first `n` bytes of a source: it agrees, and has `n` bytes; and each value
--- that the source has there is the same
+-- a value is read from the first `n` bytes of a source: it agrees, and has `n` bytes. Each value
+-- that the source has there is the same. And where the source is the rest of another one from the
+-- offset `o` on, what stands in it at an offset stands `o` bytes further in that
 pub record ReadsWhole {E X : Type 0} (f : Format E X) (order : Endian) (s : List ℕ) (x : X)
     (n : ℕ) : Type 0 where
   pub value : reads f order s 0 x
@@ -17,6 +18,7 @@ pub record ReadsWhole {E X : Type 0} (f : Format E X) (order : Endian) (s : List
   pub inside : n ≤ length s
   pub count : length (bytes f order x) ≡ n
   pub only : (y : X) → reads f order s 0 y → same f x y
+  pub places : (o w : ℕ) (t : List ℕ) → s ≡ drop o t → drop (o + w) t ≡ drop w s
 
 -- the same, and the bytes of the value are those that were read
 pub record ReadsExact {E X : Type 0} (f : Format E X) (order : Endian) (s : List ℕ) (x : X)
@@ -28,6 +30,7 @@ pub record ReadsExact {E X : Type 0} (f : Format E X) (order : Endian) (s : List
   pub count : length (bytes f order x) ≡ n
   pub back : bytes f order x ≡ take n s
   pub only : (y : X) → reads f order s 0 y → same f x y
+  pub places : (o w : ℕ) (t : List ℕ) → s ≡ drop o t → drop (o + w) t ≡ drop w s
 
 -- a value that was written is read from the first `n` bytes of a source that begins with its bytes
 pub record ReadsBack {E X : Type 0} (f : Format E X) (order : Endian) (s : List ℕ) (x : X)

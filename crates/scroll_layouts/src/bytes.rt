@@ -1,7 +1,8 @@
 // Bytes of a counted length, and zeros.
-ghost use Rattle.std.specs.Prelude.{◌≡◌, ◌≢◌, ◌≤◌, ◌<◌, ◌+◌, ◌-◌, ◌^◌, ◌++◌, length, take, drop, min, codes};
+ghost use Rattle.std.specs.Prelude.{◌≡◌, ◌≢◌, ◌≤◌, ◌<◌, ◌+◌, ◌-◌, ◌^◌, ◌++◌, length, take, drop, min, codes, IfErr, OnOk};
 ghost use Rattle.scroll.specs.declared.error.Error.{Error};
 ghost use Rattle.scroll_formats.specs.Zeros.{RefusesZeros};
+ghost use Rattle.scroll_layouts.specs.Errors.{GivesBadInput};
 ghost use Rattle.scroll_layouts.specs.Formats.{counted, zeros, last};
 
 use crate::{Part, ReadPart};
@@ -17,13 +18,7 @@ impl<'a, E: From<Error>> Part<usize, E> for &'a [u8] {
     ghost format = { λ n. last (counted E.from_gives n) (λ x. x.now) };
 
     fn check(&self, _order: Endian, ctx: &usize) -> Result<(), E> {
-        if *ctx != self.len() {
-            return Err(E::from(Error::BadInput {
-                size: self.len(),
-                msg: "another length than its count",
-            }));
-        }
-        Ok(())
+        check_count(*ctx, self.len())
     }
 
     fn size(&self, _order: Endian, _ctx: &usize) -> usize {
@@ -50,6 +45,21 @@ impl<'a, E: From<Error>> ReadPart<'a, usize, E> for &'a [u8] {
         check_room(count, from.len() - offset)?;
         Ok((&from[offset..offset + count], offset + count))
     }
+}
+
+// Returns an error if a length isn't its count.
+pub(super) fn check_count<E: From<Error>>(count: usize, len: usize) -> Result<(), E>
+    ensures same { OnOk result (count ≡ len) }
+    ensures other { IfErr result (λ e. (count ≢ len)
+        × GivesBadInput E.from_gives len (codes "another length than its count") e) }
+{
+    if count != len {
+        return Err(E::from(Error::BadInput {
+            size: len,
+            msg: "another length than its count",
+        }));
+    }
+    Ok(())
 }
 
 /// As many zero bytes as the context says. The errors are those of a read of [`Zeros`].

@@ -18,7 +18,8 @@ use std::result::Result;
 /// ```rust
 /// let codes = [Uleb::shortest(300), Uleb::shortest(1)];
 /// let mut bytes = [0u8; 4];
-/// let size = write_list::<(), (), Error, Run<u8>, Uleb>(&Run(2), &codes, &mut bytes, LE, &(), &())?;
+/// let head = Run(2u8);
+/// let size = write_list::<(), (), Error, Run<u8>, Uleb>(&head, &codes, &mut bytes, LE, &(), &())?;
 /// assert_eq!(rt; size, 4);
 /// assert_eq!(rt; bytes, [2, 0xac, 2, 1]);
 /// ```
@@ -101,7 +102,8 @@ fn check_each<C, E, L: Part<C, E>>(values: &[L], order: Endian, ctx: &C) -> Resu
 // Returns how many bytes the values have, or the greatest `usize` if there are more.
 fn size_each<C, E, L: Part<C, E>>(values: &[L], order: Endian, ctx: &C) -> usize
     requires { All (agrees (L.format ctx.now) order) values.now }
-    ensures { result ≡ min (length (flat_map (bytes (L.format ctx.now) order) values.now)) (2 ^ 64 - 1) }
+    ensures { result ≡ min (length (flat_map (bytes (L.format ctx.now) order) values.now))
+        (2 ^ 64 - 1) }
 {
     let mut size: usize = 0;
     for i in 0..values.len() {

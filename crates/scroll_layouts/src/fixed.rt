@@ -8,6 +8,7 @@ mod records;
 mod tuples;
 
 pub use crate::fixed::arrays::SameLayout;
+pub use crate::fixed::numbers::Number;
 pub use crate::fixed::records::Field;
 use scroll::Endian;
 

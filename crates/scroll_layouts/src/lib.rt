@@ -43,7 +43,7 @@ pub use crate::bits::{BitFields, Low, Packed, Word};
 pub use crate::borrowed::Borrowed;
 pub use crate::choice::{Choice, Choose};
 pub use crate::each::write_list;
-pub use crate::fixed::{Field, FixedLayout, SameLayout};
+pub use crate::fixed::{Field, FixedLayout, Number, SameLayout};
 pub use crate::head::{Head, Headed, is};
 pub use crate::leb128::{Sleb, Uleb};
 pub use crate::lists::{Count, Items, Listed};

@@ -4,6 +4,7 @@ ghost use Rattle.scroll_layouts.specs.Formats.{leaf, last, len, reads, refuses};
 ghost use Rattle.scroll_layouts.specs.ListLeaves.{list_within, list_of};
 ghost use Rattle.scroll_layouts.specs.Lists.{SomeItems, CountedItems, RefusesItems, RefusesCounted};
 
+use crate::bytes::check_count;
 use crate::{Part, ReadPart};
 use scroll::{Endian, Error, check_room};
 use std::alloc::AllocError;
@@ -58,14 +59,8 @@ where
         last (leaf (list_within E.from_gives (K.Item.format tt) n)) (λ x. x.0.now) };
 
     fn check(&self, order: Endian, ctx: &usize) -> Result<(), E> {
-        let bytes = self.0;
-        if *ctx != bytes.len() {
-            return Err(E::from(Error::BadInput {
-                size: bytes.len(),
-                msg: "another length than its count",
-            }));
-        }
-        check_items::<E, K::Item>(bytes, order)
+        check_count(*ctx, self.0.len())?;
+        check_items::<E, K::Item>(self.0, order)
     }
 
     fn size(&self, _order: Endian, _ctx: &usize) -> usize {

@@ -4,8 +4,8 @@ ghost use Rattle.scroll.specs.declared.error.Error.{Error};
 ghost use Rattle.scroll_formats.specs.Zeros.{RefusesZeros, padding_len};
 ghost use Rattle.scroll_layouts.specs.Formats.{padded, len, bytes, reads, refuses, agrees, differs};
 
+use crate::pairs::put_behind;
 use crate::{Part, ReadPart};
-use scroll::ctx::TryFromCtx;
 use scroll::{Endian, Error};
 use scroll_formats::{Zeros, padding};
 use std::result::Result;
@@ -35,11 +35,11 @@ impl<E: From<Error>, C: Drop, A: Part<C, E>> Part<Padded<C>, E> for A {
         size.saturating_add(padding(size, ctx.0))
     }
 
+    #[inline(always)]
     fn put(&self, dst: &mut [u8], order: Endian, ctx: &Padded<C>) {
         let size = self.size(order, &ctx.1);
-        let gap = padding(size, ctx.0);
         self.put(dst, order, &ctx.1);
-        zeros_behind(dst, size, gap);
+        put_behind::<E, usize, Zeros>(&Zeros, dst, size, order, &padding(size, ctx.0))
     }
 }
 
@@ -55,51 +55,10 @@ impl<'a, E: From<Error>, C: Drop, A: ReadPart<'a, C, E>> ReadPart<'a, Padded<C>,
         ctx: &Padded<C>,
     ) -> Result<(A, usize), E> {
         let (value, end) = A::read_at(from, offset, order, &ctx.1)?;
-        match gap_after::<E>(from, offset, end, ctx.0) {
-            Ok(next) => Ok((value, next)),
+        let gap = padding(end - offset, ctx.0);
+        match <Zeros as ReadPart<usize, E>>::read_at(from, end, order, &gap) {
+            Ok((_zeros, next)) => Ok((value, next)),
             Err(error) => Err(error),
         }
     }
-}
-
-// Reads the zeros after a value that stands from `start` to `end`, and returns the offset after
-// them.
-#[tactic(auto, using(crate::specs::lemmas::Parts::all_zeros))]
-#[inline(always)]
-fn gap_after<E: From<Error>>(
-    from: &[u8],
-    start: usize,
-    end: usize,
-    multiple: usize,
-) -> Result<usize, E>
-    requires { (start ≤ end) × (end ≤ length from.now) }
-    ensures read { OnOk result ((end + padding_len (end - start) multiple ≤ length from.now)
-        × (take (padding_len (end - start) multiple) (drop end from.now)
-        ≡ replicate (padding_len (end - start) multiple) 0)) }
-    ensures moves { IfOk result (λ n. n ≡ end + padding_len (end - start) multiple) }
-    ensures refused { IfErr result (λ e. (inner : Error)
-        × RefusesZeros (padding_len (end - start) multiple) (drop end from.now) inner
-        × E.from_gives inner e) }
-{
-    let (_zeros, size) = Zeros::try_from_ctx(&from[end..], padding(end - start, multiple))?;
-    Ok(end + size)
-}
-
-// Writes zeros behind the `offset` bytes before them.
-#[inline(always)]
-fn zeros_behind(dst: &mut [u8], offset: usize, count: usize)
-    requires { offset + count ≤ length dst.old }
-    ensures before { take offset dst.new ≡ take offset dst.old }
-    ensures after { drop offset dst.new ≡ replicate count 0 ++ drop count (drop offset dst.old) }
-{
-    put_zeros(&mut dst[offset..], count)
-}
-
-// Writes zeros to the start of a target.
-#[inline(always)]
-fn put_zeros(dst: &mut [u8], count: usize)
-    requires { count ≤ length dst.old }
-    ensures { dst.new ≡ replicate count 0 ++ drop count dst.old }
-{
-    dst[..count].fill(0);
 }

@@ -2,6 +2,7 @@
 ghost use Rattle.std.specs.Prelude.{◌≡◌, ◌≢◌, ◌≤◌, ◌<◌, ◌+◌, ◌*◌, ◌-◌, ◌^◌, ◌++◌, length, take, drop, min, codes};
 ghost use Rattle.scroll_layouts.specs.Formats.{counted, last};
 
+use crate::bytes::check_count;
 use crate::{Part, ReadPart};
 use scroll::ctx::Plain;
 use scroll::{Endian, Error, check_room};
@@ -17,14 +18,7 @@ impl<'a, E: From<Error>, T: Plain> Part<usize, E> for Table<'a, T> {
         last (counted E.from_gives (min (n * T.width) (2 ^ 64 - 1))) (λ x. x.bytes.now) };
 
     fn check(&self, _order: Endian, ctx: &usize) -> Result<(), E> {
-        let bytes = self.bytes;
-        if ctx.saturating_mul(T::width()) != bytes.len() {
-            return Err(E::from(Error::BadInput {
-                size: bytes.len(),
-                msg: "another length than its count",
-            }));
-        }
-        Ok(())
+        check_count(ctx.saturating_mul(T::width()), self.bytes.len())
     }
 
     fn size(&self, _order: Endian, _ctx: &usize) -> usize {

@@ -14,6 +14,7 @@ mod many;
 mod mixed;
 mod nested;
 mod numbers;
+mod parts;
 mod places;
 mod refused;
 mod results;

@@ -5,6 +5,7 @@ ghost use Rattle.scroll_layouts.specs.Formats.{leaf, last};
 ghost use Rattle.scroll_layouts.specs.Leaves.{text_of, text_until};
 ghost use Rattle.scroll_layouts.specs.Starts.{start};
 
+use crate::bytes::check_count;
 use crate::{Part, ReadPart};
 use scroll::ctx::{StrCtx, TryFromCtx};
 use scroll::{Endian, Error};
@@ -27,14 +28,7 @@ impl<'a, E: From<Error>> Part<usize, E> for &'a str {
     ghost format = { λ n. last (leaf (start (text_of E.from_gives n))) (λ x. x.now) };
 
     fn check(&self, _order: Endian, ctx: &usize) -> Result<(), E> {
-        let text = self.as_bytes();
-        if *ctx != text.len() {
-            return Err(E::from(Error::BadInput {
-                size: text.len(),
-                msg: "another length than its count",
-            }));
-        }
-        Ok(())
+        check_count(*ctx, self.as_bytes().len())
     }
 
     fn size(&self, _order: Endian, _ctx: &usize) -> usize {

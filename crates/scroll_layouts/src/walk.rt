@@ -4,7 +4,7 @@ ghost use Rattle.std.specs.Iterator.{at_most};
 ghost use Rattle.std.specs.List.{All};
 ghost use Rattle.scroll_layouts.specs.OneWay.{same, one_way};
 ghost use Rattle.scroll_layouts.specs.Formats.{reads, refuses, len};
-ghost use Rattle.scroll_layouts.specs.Lists.{YieldsItem};
+ghost use Rattle.scroll_layouts.specs.Lists.{SomeItems, YieldsItem};
 
 mod parts;
 
@@ -12,8 +12,8 @@ use crate::{Head, Items, Listed, ReadPart};
 use scroll::Endian;
 use std::marker::PhantomData;
 
-/// A part that a source has in one way: all values that it has are the same, and it has no value and
-/// an error. A struct whose list is walked says so of its items, in one line.
+/// A part that a source has in one way: all values that it has are the same, and it has no value
+/// and an error. A struct whose list is walked says so of its items, in one line.
 pub trait Certain<'a, Ctx, E>: ReadPart<'a, Ctx, E> {
     /// Does nothing, and says so.
     fn certain()
@@ -48,8 +48,13 @@ impl<'a, K: Listed<'a>> Items<'a, K> {
     /// without memory.
     #[inline(always)]
     pub fn values<E>(&self, order: Endian) -> Values<'a, E, K::Item>
+    where
+        K::Item: ReadPart<'a, (), E>,
         ensures bytes { result.bytes.now ≡ self.now.0.now }
         ensures order { result.order ≡ order }
+        ensures list { SomeItems (K.Item.format tt) order self.now.0.now 0 (length self.now.0.now)
+            → SomeItems (K.Item.format tt) result.order result.bytes.now 0
+            (length result.bytes.now) }
     {
         Values {
             bytes: self.0,

@@ -73,7 +73,7 @@ const LONG_NAME: &str =
     "Err(At { offset: 9, error: BadInput { size: 1, msg: \"len is less than name.len() + 1\" } })";
 
 const ZERO_IN_NAME: &str =
-    "Err(At { offset: 4, error: BadInput { size: 3, msg: \"name contains its delimiter\" } })";
+    "Err(At { offset: 4, error: BadInput { size: 1, msg: \"a text has its delimiter\" } })";
 
 static WRONG: [Record; 2] = [
     Record {

@@ -4,13 +4,13 @@ use Rattle.std.proofs.lemmas.List.{take_at, take_more, take-append-drop}
 use Rattle.std.proofs.lemmas.List.Elements.{All-weaker}
 use Rattle.std.specs.List.{All, flat_map, slice_index_or}
 use Rattle.scroll.specs.Bytes.{WritesPrefix}
-use Rattle.scroll.specs.Reads.{ReadsAll}
+use Rattle.scroll.specs.Reads.{ReadsAt, ReadsAll}
 use Rattle.scroll.specs.declared.endian.Endian.{Endian}
 use Rattle.scroll.proofs.lemmas.callers.RoundTrips.{all-back}
 use Rattle.scroll_formats.proofs.lemmas.callers.Written.{ReadsAll-again}
 use Rattle.scroll_layouts.specs.Each.{list_bytes, ReadsList, WritesList, DiffersOne}
 use Rattle.scroll_layouts.specs.Formats.{Format, reads, bytes, agrees, differs}
-use Rattle.scroll_layouts.specs.Wholes.{ReadsBack}
+use Rattle.scroll_layouts.specs.Wholes.{ReadsExact, ReadsBack}
 use Rattle.scroll_layouts.specs.lemmas.FormatLaws.{bytes-len, back}
 
 -- a value that agrees is read from what begins with its bytes
@@ -36,7 +36,8 @@ list-back {E} {A} {X} h f order head xs agreed all rest =
     let again : All (λ x. (rest : List ℕ)
     → ReadsBack f order (bytes f order x ++ rest) x (length (bytes f order x))) xs =
     All-weaker (agrees f order)
-    (λ x. (rest : List ℕ) → ReadsBack f order (bytes f order x ++ rest) x (length (bytes f order x)))
+    (λ x. (rest : List ℕ)
+    → ReadsBack f order (bytes f order x ++ rest) x (length (bytes f order x)))
     (exact-back f order) xs all in
     record {
       first = subst (λ s. reads h order s 0 head) (sym (append_assoc first others rest))
@@ -86,8 +87,31 @@ one-differs f order xs i x e inside is before error = record {
   error = error;
 }
 
+-- values that were read one after another stand there as those that were written do
+pub list_read_back : {E X : Type 0} (f : Format E X) (order : Endian) (s : List ℕ) (at : ℕ)
+    (xs : List X) (to : ℕ) → ReadsAll (ReadsExact f order) s at xs to
+    → ReadsAll (ReadsBack f order) s at xs to
+list_read_back f order s at [] to h = h
+list_read_back f order s at (x ∷ xs) to h =
+    let one : ReadsAt (ReadsExact f order) s at x h.0 = h.1 in
+    let read : ReadsExact f order (drop at s) x h.0 = one.value in (
+      h.0,
+      record {
+        inside = one.inside;
+        value = record {
+          value = read.value;
+          agreed = read.agreed;
+          size = read.size;
+          inside = read.inside;
+          count = read.count;
+          back = read.back;
+        };
+      },
+      list_read_back f order s (at + h.0) xs to h.2,
+    )
+
 -- values that were read one after another up to the end of a source are its bytes
-pub all-kept : {E X : Type 0} (f : Format E X) (order : Endian) (s : List ℕ) (xs : List X)
-    → ReadsAll (ReadsBack f order) s 0 xs (length s) → flat_map (bytes f order) xs ≡ s
-all-kept f order s xs h =
-    all-back (ReadsBack f order) (bytes f order) s xs (λ at x n one. one.value.back) h refl
+pub list_written_back : {E X : Type 0} (f : Format E X) (order : Endian) (s : List ℕ) (xs : List X)
+    → ReadsAll (ReadsExact f order) s 0 xs (length s) → flat_map (bytes f order) xs ≡ s
+list_written_back f order s xs h =
+    all-back (ReadsExact f order) (bytes f order) s xs (λ at x n one. one.value.back) h refl

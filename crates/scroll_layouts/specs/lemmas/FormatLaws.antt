@@ -1,7 +1,7 @@
 -- The laws of formats, by recursion: a line or two for each form. They are proved, and promise
 -- nothing.
-use Rattle.std.proofs.Common.{◌≡◌, ℕ, ◌+◌, ◌<◌, ◌≤◌, ◌++◌, List, [], length, ◌∙◌, refl, take, drop, arith, subst, sym, ap}
-use Rattle.std.proofs.lemmas.List.{length-replicate, length-take-le, take-append-drop}
+use Rattle.std.proofs.Common.{◌≡◌, ℕ, ◌+◌, ◌<◌, ◌≤◌, ◌++◌, List, length, ◌∙◌, refl, take, drop, arith, subst, sym, ap, length-drop}
+use Rattle.std.proofs.lemmas.List.{length-replicate, length-take-le, take-append-drop, take-take}
 use Rattle.std.specs.List.{All}
 use Rattle.std.specs.Prelude.{true, false, Some, None, replicate}
 use Rattle.scroll.specs.Fixed.{SameAt}
@@ -11,7 +11,7 @@ use Rattle.scroll_layouts.specs.Formats.{Leaf, Format, run, counted, zeros, last
 use Rattle.scroll_formats.specs.Zeros.{padding_len}
 use Rattle.scroll_layouts.specs.Layouts.{width, laid_bytes}
 use Rattle.scroll_layouts.specs.lemmas.LayoutLaws.{layout-len, layout-back, layout-fits, layout-moved, layout-kept}
-use Rattle.scroll_layouts.specs.lemmas.Parts.{part-within, slice-agrees, slice-back, within-back, within-kept, bytes-taken, pair-within, first-within, second-within}
+use Rattle.scroll_layouts.specs.lemmas.Parts.{part-within, slice-agrees, slice-back, bytes-taken, pair-within, first-within, second-within}
 use Rattle.scroll_layouts.specs.declared.choice.Choice.TheVariants.{First, Second}
 
 -- a value that was read is within its source
@@ -58,7 +58,7 @@ made-agrees (headed f holds fails next rest) order s at x all h = (
 )
 made-agrees (padded gives m f) order s at x all h = made-agrees f order s at x all h.0
 made-agrees (within gives n f) order s at x all h =
-    (made-agrees f order (take n (drop at s)) 0 x (bytes-taken n at s all) h.1, h.2)
+    (made-agrees f order s at x all h.1, h.2)
 made-agrees (leaf l) order s at x all h = l.leaf_made order s at x all h
 made-agrees (choice gives true f g) order s at (First x) all h = made-agrees f order s at x all h
 made-agrees (choice gives true f g) order s at (Second x) all h = absurd h
@@ -137,8 +137,7 @@ back (padded gives m f) order x prefix rest h =
 back (within gives n f) order x prefix rest h =
     let size = bytes-len f order x h.0 ∙ h.1 in (
       part-within n (bytes f order x) prefix rest size,
-      subst (λ s. reads f order s 0 x) (within-back n (bytes f order x) prefix rest size)
-          (back f order x [] [] h.0),
+      back f order x prefix rest h.0,
       h.1,
     )
 back (leaf l) order x prefix rest h = l.leaf_back order x prefix rest h
@@ -169,8 +168,7 @@ kept (padded gives m f) order s at x e all h =
     both-kept (len f x) (padding_len (len f x) m) s at (kept f order s at x e all h.0)
     (sym h.1.1)
 kept (within gives n f) order s at x e all h =
-    kept f order (take n (drop at s)) 0 x e (bytes-taken n at s all) h.1
-    ∙ within-kept n (len f x) (drop at s) h.2
+    kept f order s at x e all h.1 ∙ ap (λ k. take k (drop at s)) h.2
 kept (leaf l) order s at x e all h = l.leaf_kept order s at x all h
 kept (choice gives true f g) order s at (First x) e all h = kept f order s at x e.0 all h
 kept (choice gives true f g) order s at (Second x) e all h = absurd h
@@ -231,8 +229,12 @@ moved (padded gives m f) order s at t to x all there same h =
           (same-first a b s at t to same) h.0,
       (second-within to a b t there, sym (same-second a b s at t to same) ∙ h.1.1),
     )
-moved (within gives n f) order s at t to x all there same h =
-    (there, subst (λ u. reads f order u 0 x) same h.1, h.2)
+moved (within gives n f) order s at t to x all there same h = (
+  there,
+  moved f order s at t to x all (omega (arith, there, h.2))
+      (subst (λ k. SameAt k s at t to) (sym h.2) same) h.1,
+  h.2,
+)
 moved (leaf l) order s at t to x all there same h =
     leaf-moved l order s at t to x all there same h
 moved (choice gives true f g) order s at t to (First x) all there same h =
@@ -246,3 +248,21 @@ moved (when gives true f) order s at t to (Some x) all there same h =
 moved (when gives true f) order s at t to None all there same h = absurd h
 moved (when gives false f) order s at t to (Some x) all there same h = absurd h
 moved (when gives false f) order s at t to None all there same h = h
+
+-- a value of `n` bytes is read from these alone
+pub alone : {E X : Type 0} (f : Format E X) (order : Endian) (s : List ℕ) (at n : ℕ) (x : X)
+    → All (λ b. b < 256) s → at + n ≤ length s → len f x ≡ n → reads f order s at x
+    → reads f order (take n (drop at s)) 0 x
+alone f order s at n x all room size h =
+    let long : length (take n (drop at s)) ≡ n = length-take-le n (drop at s)
+    (omega (arith, room, length-drop at s)) in
+    moved f order s at (take n (drop at s)) 0 x all (omega (arith, size, long))
+    (sym (take-take (len f x) n (drop at s) (omega (arith, size)))) h
+
+-- and one that was read from these alone stands there
+pub outer : {E X : Type 0} (f : Format E X) (order : Endian) (s : List ℕ) (at n : ℕ) (x : X)
+    → All (λ b. b < 256) s → at + n ≤ length s → len f x ≡ n
+    → reads f order (take n (drop at s)) 0 x → reads f order s at x
+outer f order s at n x all room size h =
+    moved f order (take n (drop at s)) 0 s at x (bytes-taken n at s all)
+    (omega (arith, room, size)) (take-take (len f x) n (drop at s) (omega (arith, size))) h

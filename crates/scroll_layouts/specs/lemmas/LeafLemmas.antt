@@ -1,6 +1,6 @@
 -- What the leaves cite for their laws. The lemmas are proved, and promise nothing.
 use Rattle.std.proofs.Common.{◌≡◌, ◌≢◌, ℕ, ◌+◌, ◌<◌, ◌≤◌, ◌++◌, ◌==◌, true, false, List, [], ◌∷◌, length, take, drop, get_or, sym, ap, subst, ◌∙◌, arith, length-append, append_assoc}
-use Rattle.std.proofs.lemmas.List.{length-take-le, get_or-take, take_at, take_more, drop-drop, take-append-drop, length-replicate}
+use Rattle.std.proofs.lemmas.List.{length-take-le, get_or-take, take_at, take_more, drop-drop, take-append-drop}
 use Rattle.std.proofs.lemmas.List.Elements.{All-from_get_or}
 use Rattle.std.proofs.lemmas.List.Sums.{fails_before_first, passes_at_first, position_or_len_is}
 use Rattle.std.proofs.Math.Seq.{drop-append_seam}
@@ -50,54 +50,52 @@ zero-there s text n r =
 
 pub ruleset leb_sizes = (length-encoding)
 
--- zeros after a value whose length is the difference of two offsets
-pub gap-refused : {E : Type 0} (gives : Error → E → Type 0) (m at l end : ℕ) (s : List ℕ) (e : E)
-    → end ≡ at + l
-    → ((inner : Error) × RefusesZeros (padding_len (end - at) m) (drop end s) inner × gives inner e)
-    → (inner : Error) × RefusesZeros (padding_len l m) (drop (at + l) s) inner × gives inner e
-gap-refused gives m at l end s e is h =
+-- what is said of the zeros that stand where a value ends is said of those behind its length
+gap-moved : (P : ℕ → ℕ → Type 0) (m at l end n : ℕ) → end ≡ at + l → n ≡ padding_len (end - at) m
+    → P n end → P (padding_len l m) (at + l)
+gap-moved P m at l end n is gap h =
     let size : end - at ≡ l = omega (arith, is) in
-    subst (λ k. (inner : Error) × RefusesZeros (padding_len l m) (drop k s) inner
-    × gives inner e) is
-    (subst (λ k. (inner : Error) × RefusesZeros (padding_len k m) (drop end s) inner
-    × gives inner e) size h)
+    subst (P (padding_len l m)) is (subst (λ k. P (padding_len k m) end) size
+    (subst (λ k. P k end) gap h))
 
-pub gap-read : (m at l end : ℕ) (s : List ℕ) → end ≡ at + l
-    → (end + padding_len (end - at) m ≤ length s)
-    × (take (padding_len (end - at) m) (drop end s) ≡ replicate (padding_len (end - at) m) 0)
+pub gap-refused : {E : Type 0} (gives : Error → E → Type 0) (m at l end n : ℕ) (s : List ℕ) (e : E)
+    → end ≡ at + l → n ≡ padding_len (end - at) m
+    → ((inner : Error) × RefusesZeros n (drop end s) inner × gives inner e)
+    → (inner : Error) × RefusesZeros (padding_len l m) (drop (at + l) s) inner × gives inner e
+gap-refused gives m at l end n s e is gap h =
+    gap-moved (λ k o. (inner : Error) × RefusesZeros k (drop o s) inner × gives inner e)
+    m at l end n is gap h
+
+pub gap-read : (m at l end n : ℕ) (s : List ℕ) → end ≡ at + l → n ≡ padding_len (end - at) m
+    → (end + n ≤ length s) × (take n (drop end s) ≡ replicate n 0)
     → (at + l + padding_len l m ≤ length s)
     × (take (padding_len l m) (drop (at + l) s) ≡ replicate (padding_len l m) 0)
-gap-read m at l end s is h =
-    let size : end - at ≡ l = omega (arith, is) in
-    subst (λ k. (k + padding_len l m ≤ length s)
-    × (take (padding_len l m) (drop k s) ≡ replicate (padding_len l m) 0)) is
-    (subst (λ k. (end + padding_len k m ≤ length s)
-    × (take (padding_len k m) (drop end s) ≡ replicate (padding_len k m) 0)) size h)
+gap-read m at l end n s is gap h =
+    gap-moved (λ k o. (o + k ≤ length s) × (take k (drop o s) ≡ replicate k 0))
+    m at l end n is gap h
 
-pub gap-moves : (m at l end n : ℕ) → end ≡ at + l → n ≡ end + padding_len (end - at) m
-    → n ≡ at + (l + padding_len l m)
-gap-moves m at l end n is h =
-    let size : end - at ≡ l = omega (arith, is) in
-    let moved : n ≡ end + padding_len l m = subst (λ k. n ≡ end + padding_len k m) size h in
-    omega (arith, moved, is)
+pub gap-moves : (m at l end n next : ℕ) → end ≡ at + l → n ≡ padding_len (end - at) m
+    → next ≡ end + n → next ≡ at + (l + padding_len l m)
+gap-moves m at l end n next is gap h =
+    let behind : next ≡ at + l + padding_len l m =
+    gap-moved (λ k o. next ≡ o + k) m at l end n is gap h in omega (arith, behind)
 
--- bytes are written, and zeros behind them
-pub gap-put : (b old mid new : List ℕ) (l size g : ℕ) → size ≡ l → length b ≡ l
+-- bytes are written, and others behind them
+pub gap-put : (b z old mid new : List ℕ) (size : ℕ) → size ≡ length b
     → mid ≡ b ++ drop (length b) old → take size new ≡ take size mid
-    → drop size new ≡ replicate g 0 ++ drop g (drop size mid)
-    → new ≡ (b ++ replicate g 0) ++ drop (length (b ++ replicate g 0)) old
-gap-put b old mid new l size g is long written before after =
+    → drop size new ≡ z ++ drop (length z) (drop size mid)
+    → new ≡ (b ++ z) ++ drop (length (b ++ z)) old
+gap-put b z old mid new size is written before after =
     let front : take size mid ≡ b =
-    ap (take size) written ∙ take_at b (drop (length b) old) size (long ∙ sym is) in
+    ap (take size) written ∙ take_at b (drop (length b) old) size (sym is) in
     let behind : drop size mid ≡ drop (length b) old =
-    ap (drop size) written ∙ ap (λ k. drop k (b ++ drop (length b) old)) (is ∙ sym long)
+    ap (drop size) written ∙ ap (λ k. drop k (b ++ drop (length b) old)) is
     ∙ drop-append_seam b (drop (length b) old) in
-    let rest : drop g (drop size mid) ≡ drop (length (b ++ replicate g 0)) old =
-    ap (drop g) behind ∙ drop-drop g (length b) old
-    ∙ ap (λ k. drop k old) (sym (length-append b (replicate g 0)
-    ∙ ap (λ k. length b + k) (length-replicate g 0))) in
+    let rest : drop (length z) (drop size mid) ≡ drop (length (b ++ z)) old =
+    ap (drop (length z)) behind ∙ drop-drop (length z) (length b) old
+    ∙ ap (λ k. drop k old) (sym (length-append b z)) in
     sym (take-append-drop size new) ∙ ap (λ k. k ++ drop size new) (before ∙ front)
-    ∙ ap (λ k. b ++ k) (after ∙ ap (λ k. replicate g 0 ++ k) rest)
-    ∙ sym (append_assoc b (replicate g 0) (drop (length (b ++ replicate g 0)) old))
+    ∙ ap (λ k. b ++ k) (after ∙ ap (λ k. z ++ k) rest)
+    ∙ sym (append_assoc b z (drop (length (b ++ z)) old))
 
 pub ruleset gaps = (gap-refused, gap-read, gap-moves)

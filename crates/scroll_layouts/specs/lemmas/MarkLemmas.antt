@@ -1,5 +1,5 @@
 -- Lists that end with a mark are read value by value. The lemmas are proved, and promise nothing.
-use Rattle.std.proofs.Common.{◌≡◌, ◌≢◌, ℕ, ◌+◌, ◌<◌, ◌≤◌, ◌++◌, List, [], ◌∷◌, length, take, drop, sym, ap, subst, ◌∙◌, arith}
+use Rattle.std.proofs.Common.{◌≡◌, ◌≢◌, ℕ, ◌+◌, ◌<◌, ◌≤◌, ◌++◌, List, [], ◌∷◌, length, take, sym, ap, subst, ◌∙◌, arith}
 use Rattle.std.proofs.lemmas.List.{length-take-le}
 use Rattle.std.proofs.lemmas.List.Elements.{All-take}
 use Rattle.std.specs.List.{All}
@@ -72,11 +72,12 @@ marked-cut mark f order s end all le h = record {
 }
 
 -- the values before a mark in the bytes up to an offset are those of the source
-before-grown : {E X : Type 0} (mark : List ℕ) (f : Format E X) (order : Endian) (s : List ℕ) (at : ℕ)
-    (xs : List X) (to end : ℕ) → All (λ b. b < 256) s → end ≤ length s → to + length mark ≤ end
-    → ItemsBefore mark f order (take end s) at xs to → ItemsBefore mark f order s at xs to
-before-grown mark f order s at [] to end all le room h = h
-before-grown mark f order s at (x ∷ xs) to end all le room h =
+grown : {E X : Type 0} (mark : List ℕ) (f : Format E X) (order : Endian) (s : List ℕ) (at : ℕ)
+    (xs : List X) (to end : ℕ) → All (λ b. b < 256) s → end ≤ length s
+    → to + length mark ≤ end → ItemsBefore mark f order (take end s) at xs to
+    → ItemsBefore mark f order s at xs to
+grown mark f order s at [] to end all le room h = h
+grown mark f order s at (x ∷ xs) to end all le room h =
     let n : ℕ = len f x in
     let later : at + n ≤ to = ends mark f order (take end s) (at + n) xs to h.3 in (
       λ m. h.0 (sym (same-part (length mark) at end s (omega (arith, later, room))) ∙ m),
@@ -84,7 +85,7 @@ before-grown mark f order s at (x ∷ xs) to end all le room h =
           (omega (arith, later, room, le))
           (sym (same-part n at end s (omega (arith, later, room)))) h.1,
       h.2,
-      before-grown mark f order s (at + n) xs to end all le room h.3,
+      grown mark f order s (at + n) xs to end all le room h.3,
     )
 
 -- a source has one mark after values
@@ -108,7 +109,7 @@ marked-there : {E X : Type 0} (mark : List ℕ) (f : Format E X) (order : Endian
     → (h : MarkedItems mark f order x 0 (length x))
     → ItemsBefore mark f order s 0 h.before.values h.stop × MarkAt mark s h.stop
 marked-there mark f order s x all inside begins h = (
-  before-grown mark f order s 0 h.before.values h.stop (length x) all inside
+  grown mark f order s 0 h.before.values h.stop (length x) all inside
       (omega (arith, h.size))
       (subst (λ l. ItemsBefore mark f order l 0 h.before.values h.stop) begins h.before.each),
   same-part (length mark) h.stop (length x) s (omega (arith, h.size))
@@ -123,5 +124,6 @@ marked-one mark f t order s x y all inside within begins starts h k =
     let a = marked-there mark f order s x all inside begins h in
     let b = marked-there mark f order s y all within starts k in
     let stops : h.stop ≡ k.stop =
-    before-one mark f t order s 0 h.before.values k.before.values h.stop k.stop all a.0 a.1 b.0 b.1 in
+    before-one mark f t order s 0 h.before.values k.before.values h.stop k.stop all a.0 a.1 b.0
+    b.1 in
     omega (arith, stops, h.size, k.size)

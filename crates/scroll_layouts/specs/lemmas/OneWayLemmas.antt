@@ -1,7 +1,6 @@
 -- What follows where a source is read in one way. The lemmas are proved, and promise nothing.
 use Rattle.std.proofs.Common.{IsUtf8, ◌≡◌, ℕ, ◌+◌, ◌<◌, ◌≤◌, ◌-◌, ◌⊎◌, ◌^◌, List, [], ◌∷◌, length, take, drop, sym, ap, subst, ◌∙◌, arith, length-drop, inl, inr}
 use Rattle.std.proofs.lemmas.List.{get_or-take, get_or-replicate, drop-drop}
-use Rattle.std.proofs.lemmas.List.Elements.{All-drop}
 use Rattle.std.specs.List.{All}
 use Rattle.std.specs.Int.{w64}
 use Rattle.std.specs.Prelude.{true, false, Some, None, slice_index, replicate, FitsSigned}
@@ -12,7 +11,7 @@ use Rattle.scroll.specs.declared.ctx.str_ctx.StrCtx.TheVariants.{Length, Require
 use Rattle.scroll.specs.declared.error.Error.{Error}
 use Rattle.scroll.specs.declared.endian.Endian.{Endian}
 use Rattle.scroll_formats.specs.Zeros.{RefusesZeros, padding_len}
-use Rattle.scroll_layouts.specs.OneWay.{same, one_way}
+use Rattle.scroll_layouts.specs.OneWay.{one_way}
 use Rattle.scroll_layouts.specs.Formats.{Format, run, counted, zeros, last, pair, headed, padded, within, leaf, choice, when, reads, refuses, len}
 use Rattle.scroll_layouts.specs.Bits.{packed_in}
 use Rattle.scroll_layouts.specs.Errors.{NoRoom}
@@ -22,7 +21,7 @@ use Rattle.scroll_layouts.specs.ListLeaves.{list_within}
 use Rattle.scroll_layouts.specs.Lists.{Items, SomeItems, StopsAtItem, RefusesItems}
 use Rattle.scroll_layouts.specs.Starts.{start}
 use Rattle.scroll_layouts.specs.declared.choice.Choice.TheVariants.{First, Second}
-use Rattle.scroll_layouts.specs.lemmas.FormatLaws.{inside, moved}
+use Rattle.scroll_layouts.specs.lemmas.FormatLaws.{inside, moved, alone}
 use Rattle.scroll_layouts.specs.lemmas.ListLemmas.{ends}
 use Rattle.scroll_layouts.specs.lemmas.Parts.{bytes-taken}
 use Rattle.scroll_layouts.specs.lemmas.SameLaws.{one-len, one-value, tells}
@@ -74,9 +73,11 @@ no-clash (padded gives m f) t order s at x e all h (inr (y, k, r)) =
 no-clash (within gives n f) t order s at x e all h (inl r) =
     omega (arith, h.0, r.short, length-drop at s)
 no-clash (within gives n f) t order s at x e all h (inr (inl r)) =
-    no-clash f t order (take n (drop at s)) 0 x e (bytes-taken n at s all) h.1 r.1
+    no-clash f t order (take n (drop at s)) 0 x e (bytes-taken n at s all)
+    (alone f order s at n x all h.0 h.2 h.1) r.1
 no-clash (within gives n f) t order s at x e all h (inr (inr (y, k, other, g))) =
-    other (one-len f (tells f t) order (take n (drop at s)) 0 y x (bytes-taken n at s all) k h.1
+    other (one-len f (tells f t) order (take n (drop at s)) 0 y x (bytes-taken n at s all) k
+    (alone f order s at n x all h.0 h.2 h.1)
     ∙ h.2)
 no-clash (leaf l) t order s at x e all h r = t.1 order s at x e all h r
 no-clash (choice gives true f g) t order s at (First x) e all h r =
@@ -199,12 +200,18 @@ within-clash gives f n t order s at x e all h (inr r) =
 
 -- leaves that read a source in one way
 pub uleb-one-way : {E : Type 0} (gives : Error → E → Type 0) → one_way (leaf (start (uleb gives)))
-uleb-one-way gives = (tt, λ order s at x e all h r.
-    leb-clash unsigned_of (λ v. v < 2 ^ 64) (drop at s) x.value x.count r.0 h.0 r.1)
+uleb-one-way gives = (
+  tt,
+  λ order s at x e all h r.
+      leb-clash unsigned_of (λ v. v < 2 ^ 64) (drop at s) x.value x.count r.0 h.0 r.1,
+)
 
 pub sleb-one-way : {E : Type 0} (gives : Error → E → Type 0) → one_way (leaf (start (sleb gives)))
-sleb-one-way gives = (tt, λ order s at x e all h r.
-    leb-clash signed_of (FitsSigned w64) (drop at s) x.value x.count r.0 h.0 r.1)
+sleb-one-way gives = (
+  tt,
+  λ order s at x e all h r.
+      leb-clash signed_of (FitsSigned w64) (drop at s) x.value x.count r.0 h.0 r.1,
+)
 
 pub c_string-one-way : {E : Type 0} (gives : Error → E → Type 0)
     → one_way (leaf (start (c_string gives)))
@@ -217,8 +224,11 @@ text_of-one-way gives n =
 
 pub text_until-one-way : {E : Type 0} (gives : Error → E → Type 0) (d : ℕ)
     → one_way (leaf (start (text_until gives d)))
-text_until-one-way gives d = (tt, λ order s at x e all h r.
-    text-clash (Required d) (drop at s) x (length x + 1) r.0 h r.1)
+text_until-one-way gives d = (
+  tt,
+  λ order s at x e all h r.
+      text-clash (Required d) (drop at s) x (length x + 1) r.0 h r.1,
+)
 
 pub packed_in-one-way : {E X : Type 0} (gives : Error → E → Type 0) (w : ℕ) (f : Fields X)
     → one_way (leaf (packed_in gives w f))

@@ -1,8 +1,8 @@
 -- Where parts stand, and which bytes they have. The lemmas are proved, and promise nothing.
-use Rattle.std.proofs.Common.{◌≡◌, ℕ, ◌+◌, ◌<◌, ◌≤◌, ◌++◌, List, [], length, take, drop, sym, ap, ◌∙◌, arith, length-append, length-drop, slice_index}
+use Rattle.std.proofs.Common.{◌≡◌, ℕ, ◌+◌, ◌<◌, ◌≤◌, ◌++◌, List, length, take, drop, sym, ap, ◌∙◌, arith, length-append, length-drop, slice_index}
 use Rattle.std.proofs.Math.Seq.{drop-append_seam}
 use Rattle.std.proofs.lemmas.Grind.{same_number_lists}
-use Rattle.std.proofs.lemmas.List.{append-nil, take_at, take-take, drop-take, length-take-le, get_or-take, get_or-replicate, length-replicate}
+use Rattle.std.proofs.lemmas.List.{take_at, take-take, drop-take, length-take-le, get_or-take, get_or-replicate, length-replicate}
 use Rattle.std.proofs.lemmas.List.Elements.{All-drop, All-take}
 use Rattle.std.specs.List.{All}
 use Rattle.scroll_formats.specs.Zeros.{zeros}
@@ -35,16 +35,7 @@ first-within at a b s h = omega (arith, h)
 pub second-within : (at a b : ℕ) (s : List ℕ) → at + (a + b) ≤ length s → at + a + b ≤ length s
 second-within at a b s h = omega (arith, h)
 
--- a part that was written is all of the bytes of its length
-pub within-back : (n : ℕ) (bytes prefix rest : List ℕ) → length bytes ≡ n
-    → bytes ++ [] ≡ take n (drop (length prefix) (prefix ++ (bytes ++ rest)))
-within-back n bytes prefix rest len =
-    append-nil bytes
-    ∙ sym (ap (take n) (drop-append_seam prefix (bytes ++ rest)) ∙ take_at bytes rest n len)
-
-pub within-kept : (n len : ℕ) (t : List ℕ) → len ≡ n → take len (take n t) ≡ take n t
-within-kept n len t is = ap (λ k. take k (take n t)) is ∙ take-take n n t (omega arith)
-
+-- bytes of a part are below 256 where all are
 pub bytes-taken : (n at : ℕ) (s : List ℕ) → All (λ b. b < 256) s
     → All (λ b. b < 256) (take n (drop at s))
 bytes-taken n at s all =

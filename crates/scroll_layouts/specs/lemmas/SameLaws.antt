@@ -1,6 +1,6 @@
 -- The values of a source are the same, by recursion: a line or two for each form. The lemmas are
 -- proved, and promise nothing.
-use Rattle.std.proofs.Common.{◌≡◌, ℕ, ◌+◌, ◌<◌, List, take, drop, refl, sym, ap, subst, ◌∙◌, arith}
+use Rattle.std.proofs.Common.{◌≡◌, ℕ, ◌+◌, ◌<◌, List, refl, sym, ap, subst, ◌∙◌, arith}
 use Rattle.std.specs.List.{All}
 use Rattle.std.specs.Prelude.{true, false, Some, None}
 use Rattle.scroll.specs.declared.endian.Endian.{Endian}
@@ -9,7 +9,6 @@ use Rattle.scroll_layouts.specs.Formats.{Format, run, counted, zeros, last, pair
 use Rattle.scroll_layouts.specs.OneWay.{same, told, one_way}
 use Rattle.scroll_layouts.specs.declared.choice.Choice.TheVariants.{First, Second}
 use Rattle.scroll_layouts.specs.lemmas.LayoutLaws.{layout-one}
-use Rattle.scroll_layouts.specs.lemmas.Parts.{bytes-taken}
 
 -- a source has one length at an offset, and its values are the same
 one : {E X : Type 0} (f : Format E X) → told f → (order : Endian) (s : List ℕ) (at : ℕ) (x y : X)
@@ -44,7 +43,7 @@ one (padded gives m f) t order s at x y all h k =
     let first : (len f x ≡ len f y) × same f x y = one f t order s at x y all h.0 k.0 in
     (ap (λ n. n + padding_len n m) first.0, first.1)
 one (within gives n f) t order s at x y all h k =
-    (refl, (one f t order (take n (drop at s)) 0 x y (bytes-taken n at s all) h.1 k.1).1)
+    (refl, (one f t order s at x y all h.1 k.1).1)
 one (leaf l) t order s at x y all h k = l.leaf_one t order s at x y all h k
 one (choice gives true f g) t order s at (First x) (First y) all h k =
     one f t.0 order s at x y all h k

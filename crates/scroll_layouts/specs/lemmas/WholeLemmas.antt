@@ -1,7 +1,7 @@
 -- What a read and a write of a whole value cite. The lemmas are proved, and promise nothing.
 use Rattle.std.proofs.Common.{◌≡◌, ℕ, ◌+◌, ◌<◌, ◌⊎◌, ◌++◌, List, [], ◌∷◌, length, take, drop, refl, sym, ap, subst, ◌∙◌, arith, Fits, w8, slice_index, append_assoc, length-append}
 use Rattle.std.proofs.Math.Seq.{drop-append_seam}
-use Rattle.std.proofs.lemmas.List.{append-nil, take_at, take_more, take-append-drop, get_or_default}
+use Rattle.std.proofs.lemmas.List.{drop-drop, append-nil, take_at, take_more, take-append-drop, get_or_default}
 use Rattle.std.specs.List.{All, slice_index_or}
 use Rattle.scroll.specs.Bytes.{WritesPrefix}
 use Rattle.scroll.specs.lemmas.Frames.{WritesPrefix-back}
@@ -19,6 +19,11 @@ use Rattle.scroll_layouts.specs.lemmas.SameLaws.{one-value}
 pub bytes-below : (s : List ℕ) → ((i : ℕ) → Fits w8 (slice_index s i)) → All (λ b. b < 256) s
 bytes-below s h = λ i d l. subst (λ n. n < 256) (get_or_default s i 0 d l) (h i).fits
 
+-- where the rest of a source stands in it
+places : (s : List ℕ) (o w : ℕ) (t : List ℕ) → s ≡ drop o t → drop (o + w) t ≡ drop w s
+places s o w t is =
+    ap (λ k. drop k t) (omega arith) ∙ sym (drop-drop w o t) ∙ ap (drop w) (sym is)
+
 -- a value that was read at the start
 pub whole-read : {E X : Type 0} (f : Format E X) (order : Endian) (s : List ℕ) (x : X) (n : ℕ)
     → told f → All (λ b. b < 256) s → reads f order s 0 x → n ≡ len f x
@@ -32,6 +37,7 @@ whole-read f order s x n t all h size =
       inside = omega (arith, size, inside f order s 0 x (omega arith) h);
       count = bytes-len f order x agreed ∙ sym size;
       only = λ y k. one-value f t order s 0 x y all h k;
+      places = places s;
     }
 
 pub exact-read : {E X : Type 0} (f : Format E X) (order : Endian) (s : List ℕ) (x : X) (n : ℕ)
@@ -44,6 +50,7 @@ exact-read f order s x n e all h = record {
   count = h.count;
   back = kept f order s 0 x e all h.value ∙ ap (λ k. take k s) (sym h.size);
   only = h.only;
+  places = h.places;
 }
 
 -- a value that was written at the start

@@ -1,330 +1,188 @@
 // Numbers.
-ghost use Rattle.std.specs.Prelude.{◌≡◌, ◌≤◌, ◌<◌, ◌+◌, ◌-◌, ◌^◌, ◌++◌, T, length, drop, min};
+ghost use Rattle.std.specs.Prelude.{◌≡◌, ◌≤◌, ◌<◌, ◌+◌, ◌-◌, ◌^◌, ◌++◌, ℕ, List, length, drop, min};
 ghost use Rattle.std.specs.Float.{binary32, binary64};
-ghost use Rattle.std.specs.Float.Ieee.{fits};
-ghost use Rattle.scroll_layouts.specs.Layouts.{unsigned, signed, floating};
+ghost use Rattle.scroll.specs.declared.endian.Endian.{Endian};
+ghost use Rattle.scroll_layouts.specs.Layouts.{Layout, unsigned, signed, floating, width, laid_bytes, makes, fits};
 
 use crate::{FixedLayout, SameLayout};
 use scroll::Endian;
 use scroll::ctx::Fixed;
 
-impl FixedLayout for u8 {
-    ghost layout = { unsigned 1 };
+/// A number: an unsigned one, a signed one or a float.
+pub trait Number: Fixed {
+    // What stands in its bytes.
+    ghost number: { Layout Self };
+
+    /// Does nothing, and says that this is what [`Fixed`] says of the type.
+    fn as_fixed()
+        ensures width { width number ≡ Self.Fixed.width }
+        ensures small { width number < 2 ^ 64 }
+        ensures makes { (order : Endian) (s : List ℕ) (at : ℕ) (x : Self)
+            → Self.Fixed.makes order s at x → makes number order s at x }
+        ensures bytes { (order : Endian) (x : Self)
+            → laid_bytes number order x ≡ Self.Fixed.bytes order x };
+
+    /// Does nothing, and says that the number has the range of its type.
+    fn in_range(&self)
+        ensures { fits number self.now };
+}
+
+impl<T: Number> FixedLayout for T {
+    ghost layout = { T.number };
 
     fn capped() -> usize {
-        1
+        T::as_fixed();
+        T::width()
     }
 
     fn fit(&self) {
-        let _value = *self;
+        self.in_range()
     }
 
     #[inline(always)]
-    fn load(from: &[u8], offset: usize, order: Endian) -> u8 {
-        <u8 as Fixed>::read_at(from, offset, order)
+    fn load(from: &[u8], offset: usize, order: Endian) -> T {
+        T::as_fixed();
+        <T as Fixed>::read_at(from, offset, order)
     }
 
     #[inline(always)]
     fn store(&self, dst: &mut [u8], order: Endian) {
+        T::as_fixed();
         (*self).write_prefix(dst, order)
     }
 }
 
-impl FixedLayout for u16 {
-    ghost layout = { unsigned 2 };
-
-    fn capped() -> usize {
-        2
+impl<T: Number> SameLayout for T {
+    fn same() {
+        T::as_fixed()
     }
+}
 
-    fn fit(&self) {
+impl Number for u8 {
+    ghost number = { unsigned 1 };
+
+    fn as_fixed() {}
+
+    fn in_range(&self) {
         let _value = *self;
     }
-
-    #[inline(always)]
-    fn load(from: &[u8], offset: usize, order: Endian) -> u16 {
-        <u16 as Fixed>::read_at(from, offset, order)
-    }
-
-    #[inline(always)]
-    fn store(&self, dst: &mut [u8], order: Endian) {
-        (*self).write_prefix(dst, order)
-    }
 }
 
-impl FixedLayout for u32 {
-    ghost layout = { unsigned 4 };
+impl Number for u16 {
+    ghost number = { unsigned 2 };
 
-    fn capped() -> usize {
-        4
-    }
+    fn as_fixed() {}
 
-    fn fit(&self) {
+    fn in_range(&self) {
         let _value = *self;
     }
-
-    #[inline(always)]
-    fn load(from: &[u8], offset: usize, order: Endian) -> u32 {
-        <u32 as Fixed>::read_at(from, offset, order)
-    }
-
-    #[inline(always)]
-    fn store(&self, dst: &mut [u8], order: Endian) {
-        (*self).write_prefix(dst, order)
-    }
 }
 
-impl FixedLayout for u64 {
-    ghost layout = { unsigned 8 };
+impl Number for u32 {
+    ghost number = { unsigned 4 };
 
-    fn capped() -> usize {
-        8
-    }
+    fn as_fixed() {}
 
-    fn fit(&self) {
+    fn in_range(&self) {
         let _value = *self;
     }
-
-    #[inline(always)]
-    fn load(from: &[u8], offset: usize, order: Endian) -> u64 {
-        <u64 as Fixed>::read_at(from, offset, order)
-    }
-
-    #[inline(always)]
-    fn store(&self, dst: &mut [u8], order: Endian) {
-        (*self).write_prefix(dst, order)
-    }
 }
 
-impl FixedLayout for u128 {
-    ghost layout = { unsigned 16 };
+impl Number for u64 {
+    ghost number = { unsigned 8 };
 
-    fn capped() -> usize {
-        16
-    }
+    fn as_fixed() {}
 
-    fn fit(&self) {
+    fn in_range(&self) {
         let _value = *self;
     }
-
-    #[inline(always)]
-    fn load(from: &[u8], offset: usize, order: Endian) -> u128 {
-        <u128 as Fixed>::read_at(from, offset, order)
-    }
-
-    #[inline(always)]
-    fn store(&self, dst: &mut [u8], order: Endian) {
-        (*self).write_prefix(dst, order)
-    }
 }
 
-impl FixedLayout for i8 {
-    ghost layout = { signed 1 };
+impl Number for u128 {
+    ghost number = { unsigned 16 };
 
-    fn capped() -> usize {
-        1
-    }
+    fn as_fixed() {}
 
-    fn fit(&self) {
+    fn in_range(&self) {
         let _value = *self;
     }
-
-    #[inline(always)]
-    fn load(from: &[u8], offset: usize, order: Endian) -> i8 {
-        <i8 as Fixed>::read_at(from, offset, order)
-    }
-
-    #[inline(always)]
-    fn store(&self, dst: &mut [u8], order: Endian) {
-        (*self).write_prefix(dst, order)
-    }
 }
 
-impl FixedLayout for i16 {
-    ghost layout = { signed 2 };
+impl Number for i8 {
+    ghost number = { signed 1 };
 
-    fn capped() -> usize {
-        2
-    }
+    fn as_fixed() {}
 
-    fn fit(&self) {
+    fn in_range(&self) {
         let _value = *self;
     }
-
-    #[inline(always)]
-    fn load(from: &[u8], offset: usize, order: Endian) -> i16 {
-        <i16 as Fixed>::read_at(from, offset, order)
-    }
-
-    #[inline(always)]
-    fn store(&self, dst: &mut [u8], order: Endian) {
-        (*self).write_prefix(dst, order)
-    }
 }
 
-impl FixedLayout for i32 {
-    ghost layout = { signed 4 };
+impl Number for i16 {
+    ghost number = { signed 2 };
 
-    fn capped() -> usize {
-        4
-    }
+    fn as_fixed() {}
 
-    fn fit(&self) {
+    fn in_range(&self) {
         let _value = *self;
     }
-
-    #[inline(always)]
-    fn load(from: &[u8], offset: usize, order: Endian) -> i32 {
-        <i32 as Fixed>::read_at(from, offset, order)
-    }
-
-    #[inline(always)]
-    fn store(&self, dst: &mut [u8], order: Endian) {
-        (*self).write_prefix(dst, order)
-    }
 }
 
-impl FixedLayout for i64 {
-    ghost layout = { signed 8 };
+impl Number for i32 {
+    ghost number = { signed 4 };
 
-    fn capped() -> usize {
-        8
-    }
+    fn as_fixed() {}
 
-    fn fit(&self) {
+    fn in_range(&self) {
         let _value = *self;
     }
-
-    #[inline(always)]
-    fn load(from: &[u8], offset: usize, order: Endian) -> i64 {
-        <i64 as Fixed>::read_at(from, offset, order)
-    }
-
-    #[inline(always)]
-    fn store(&self, dst: &mut [u8], order: Endian) {
-        (*self).write_prefix(dst, order)
-    }
 }
 
-impl FixedLayout for i128 {
-    ghost layout = { signed 16 };
+impl Number for i64 {
+    ghost number = { signed 8 };
 
-    fn capped() -> usize {
-        16
-    }
+    fn as_fixed() {}
 
-    fn fit(&self) {
+    fn in_range(&self) {
         let _value = *self;
     }
+}
 
-    #[inline(always)]
-    fn load(from: &[u8], offset: usize, order: Endian) -> i128 {
-        <i128 as Fixed>::read_at(from, offset, order)
-    }
+impl Number for i128 {
+    ghost number = { signed 16 };
 
-    #[inline(always)]
-    fn store(&self, dst: &mut [u8], order: Endian) {
-        (*self).write_prefix(dst, order)
+    fn as_fixed() {}
+
+    fn in_range(&self) {
+        let _value = *self;
     }
 }
 
-impl FixedLayout for f32 {
-    ghost layout = { floating binary32 };
+impl Number for f32 {
+    ghost number = { floating binary32 };
 
-    fn capped() -> usize {
-        4
-    }
+    fn as_fixed() {}
 
-    fn fit(&self) {
+    fn in_range(&self) {
         f32_fits(*self)
     }
-
-    #[inline(always)]
-    fn load(from: &[u8], offset: usize, order: Endian) -> f32 {
-        <f32 as Fixed>::read_at(from, offset, order)
-    }
-
-    #[inline(always)]
-    fn store(&self, dst: &mut [u8], order: Endian) {
-        (*self).write_prefix(dst, order)
-    }
 }
 
-impl FixedLayout for f64 {
-    ghost layout = { floating binary64 };
+impl Number for f64 {
+    ghost number = { floating binary64 };
 
-    fn capped() -> usize {
-        8
-    }
+    fn as_fixed() {}
 
-    fn fit(&self) {
+    fn in_range(&self) {
         f64_fits(*self)
     }
-
-    #[inline(always)]
-    fn load(from: &[u8], offset: usize, order: Endian) -> f64 {
-        <f64 as Fixed>::read_at(from, offset, order)
-    }
-
-    #[inline(always)]
-    fn store(&self, dst: &mut [u8], order: Endian) {
-        (*self).write_prefix(dst, order)
-    }
-}
-
-impl SameLayout for u8 {
-    fn same() {}
-}
-
-impl SameLayout for u16 {
-    fn same() {}
-}
-
-impl SameLayout for u32 {
-    fn same() {}
-}
-
-impl SameLayout for u64 {
-    fn same() {}
-}
-
-impl SameLayout for u128 {
-    fn same() {}
-}
-
-impl SameLayout for i8 {
-    fn same() {}
-}
-
-impl SameLayout for i16 {
-    fn same() {}
-}
-
-impl SameLayout for i32 {
-    fn same() {}
-}
-
-impl SameLayout for i64 {
-    fn same() {}
-}
-
-impl SameLayout for i128 {
-    fn same() {}
-}
-
-impl SameLayout for f32 {
-    fn same() {}
-}
-
-impl SameLayout for f64 {
-    fn same() {}
 }
 
 // Do nothing, and say that the float has its format.
 fn f32_fits(_value: f32)
-    ensures { T (fits binary32 _value) }
+    ensures { fits (floating binary32) _value }
 {}
 
 fn f64_fits(_value: f64)
-    ensures { T (fits binary64 _value) }
+    ensures { fits (floating binary64) _value }
 {}

@@ -9,6 +9,9 @@ use scroll::Endian;
 use scroll::ctx::Record;
 
 /// A [`Record`](scroll::ctx::Record) as a field: its parts, one after another.
+///
+/// In a struct, an array of arrays of arrays is an array of these, such as `[Field<Plane>; 3]` of a
+/// struct `Plane` with one array of arrays: the prover doesn't follow a deeper array there.
 #[derive(Clone, Copy)]
 pub struct Field<R>(pub R);
 

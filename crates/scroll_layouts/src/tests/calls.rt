@@ -11,9 +11,9 @@ use scroll::{Endian, LE, Pread, Result, slice};
 /// Reads the file at an offset: its name and contents stand where its lengths say.
 pub fn read_file_at(archive: &[u8], at: usize) -> Result<StoredFile>
     ensures name { IfOk result
-        (λ file. file.name.now ≡ take file.name_len (drop 30 (drop at archive.now))) }
+        (λ file. file.name.now ≡ take file.name_len (drop (at + 30) archive.now)) }
     ensures contents { IfOk result (λ file. file.contents.now
-        ≡ take file.packed (drop (30 + file.name_len + file.extra_len) (drop at archive.now))) }
+        ≡ take file.packed (drop (at + 30 + file.name_len + file.extra_len) archive.now)) }
     ensures signature { IfOk result
         (λ file. number Little 4 (drop at archive.now) ≡ 0x04034b50) }
     ensures past { length archive.now < at → IfErr result (λ e. e ≡ BadOffset at) }
@@ -26,9 +26,9 @@ pub fn read_file_at(archive: &[u8], at: usize) -> Result<StoredFile>
 /// Reads two files, one after the other from an offset.
 pub fn read_two_files(archive: &[u8], at: usize) -> Result<(StoredFile, StoredFile)>
     ensures first { IfOk result
-        (λ files. files.0.name.now ≡ take files.0.name_len (drop 30 (drop at archive.now))) }
-    ensures second { IfOk result (λ files. files.1.name.now ≡ take files.1.name_len (drop 30
-        (drop (at + (30 + files.0.name_len + files.0.extra_len + files.0.packed)) archive.now))) }
+        (λ files. files.0.name.now ≡ take files.0.name_len (drop (at + 30) archive.now)) }
+    ensures second { IfOk result (λ files. files.1.name.now ≡ take files.1.name_len
+        (drop (at + (30 + files.0.name_len + files.0.extra_len + files.0.packed) + 30) archive.now)) }
 {
     let mut offset = at;
     let first: StoredFile = archive.gread_with(&mut offset, LE)?;

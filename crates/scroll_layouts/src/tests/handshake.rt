@@ -298,7 +298,8 @@ impl<'a> TryIntoCtx<Endian> for Message<'a> {
 /// Reads a message.
 pub fn read_message(from: &[u8]) -> Result<Message>
     ensures used { IfOk result (λ x. x.len ≡ 7 + x.hello.session_len + x.hello.suites_len + x.hello.extensions_len) }
-    ensures session { IfOk result (λ x. x.hello.session_len ≡ length x.hello.session.now) }
+    ensures session { IfOk result
+        (λ x. x.hello.session.now ≡ take x.hello.session_len (drop 6 from.now)) }
 {
     from.pread_with(0, BE)
 }

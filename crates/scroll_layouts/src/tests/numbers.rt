@@ -167,6 +167,15 @@ pub fn again_numbers<'a>(target: &'a mut [u8], value: Numbers, order: Endian) ->
     Ok(again.body)
 }
 
+/// Writes numbers and reads them: the array is the same.
+pub fn xs_again(target: &mut [u8], value: Numbers, order: Endian) -> Result<[u16; 4]>
+    ensures { IfOk result (λ xs. xs ≡ value.entry.xs) }
+{
+    slice::gwrite_with(target, value, &mut 0, order)?;
+    let again: Numbers = (&*target).pread_with(0, order)?;
+    Ok(again.xs)
+}
+
 pub fn copy_numbers(from: &[u8], to: &mut [u8], order: Endian) -> Result<usize>
     ensures { IfOk result (λ n. take n to.new ≡ take n from.now) }
 {

@@ -1,6 +1,8 @@
 // Lists whose values are walked where they lie: fields behind a length in LEB128, and names.
-ghost use Rattle.std.specs.Prelude.{◌≡◌};
+ghost use Rattle.std.specs.Prelude.{◌≡◌, length, IfOk, IfNone};
 ghost use Rattle.std.proofs.Common.{rules};
+ghost use Rattle.scroll.specs.Numbers.{number};
+ghost use Rattle.scroll.specs.declared.endian.Endian.TheVariants.{Little};
 ghost use Rattle.scroll_layouts.specs.Formats.{refuses};
 ghost use Rattle.scroll_layouts.specs.OneWay.{one_way};
 ghost use Rattle.scroll_layouts.specs.Wholes.{ReadsExact};
@@ -174,6 +176,17 @@ impl<'a> TryFromCtx<'a, Endian> for Message<'a> {
     #[inline(always)]
     fn try_from_ctx(from: &'a [u8], ctx: Endian) -> Result<(Message<'a>, usize)> {
         read_exact::<(), Error, Message<'a>>(from, ctx, &())
+    }
+}
+
+/// Returns the number of a message's first field. There is none only where the fields have no byte.
+pub fn first_number(source: &[u8]) -> Result<Option<u8>>
+    ensures { IfOk result (λ found. IfNone found (number Little 2 source.now ≡ 0)) }
+{
+    let message: Message = source.pread_with(0, LE)?;
+    match message.fields.values::<Error>(LE).next() {
+        Some(field) => Ok(Some(field.number)),
+        None => Ok(None),
     }
 }
 

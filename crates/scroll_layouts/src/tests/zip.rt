@@ -1,4 +1,5 @@
 // A file that Python's `zipfile` stored, read and written as its parts.
+use crate::tests::results::{Parts, check_error};
 use crate::tests::stored::{contents_again, copy_file, read_file};
 use scroll::Error;
 use std::test::Fail;
@@ -37,4 +38,23 @@ fn files_that_are_refused(rt: HostRuntime) {
             })
         )
     );
+}
+
+// Returns the error of a file that ends after so many bytes: in its header, its name or its
+// contents.
+fn cut_error(len: usize) -> Parts<'static> {
+    if len < 30 {
+        ("TooBig", 30, len)
+    } else if len < 35 {
+        ("TooBig", 5, len - 30)
+    } else {
+        ("TooBig", 2, len.saturating_sub(35))
+    }
+}
+
+#[test]
+fn files_that_are_cut(rt: HostRuntime) {
+    for len in 0..37 {
+        check_error(&rt, read_file(&STORED[..len]), cut_error(len));
+    }
 }

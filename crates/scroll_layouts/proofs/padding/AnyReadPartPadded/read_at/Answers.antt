@@ -8,6 +8,7 @@ returns-in-Err-clause-refused g c = inr (
   c.in_ok-value.value,
   c.in_ok-value.ensures.read,
   gap-refused g.E.From.from_gives c.args.ctx.now.0 c.args.offset
-      (len (g.A.ReadPart.format c.args.ctx.now.1) c.in_ok-value.value) c.in_ok-value.end c.args.from.now c.in-Err.error
-      c.in_ok-value.ensures.moves c.in-Err.ensures.refused,
+      (len (g.A.ReadPart.format c.args.ctx.now.1) c.in_ok-value.value) c.in_ok-value.end
+      c.padding-gap.result c.args.from.now c.in-Err.error c.in_ok-value.ensures.moves
+      c.padding-gap.ensures.value c.in-Err.ensures.refused,
 )
