@@ -24,6 +24,8 @@ from step import FOLDERS, TOP, Ran, Step, Stop, below, copy_kept, read_crates, r
 COMMANDS = "Three commands"
 FIRST = "One file to paste"
 OWN = "A format of your own"
+# The functions of the format's file.
+USERS = ("read_sample", "name_again", "copy_sample")
 PROGRAM = TOP / "crates" / "scroll_run"
 
 
@@ -50,10 +52,9 @@ def run_program(step: Step) -> None:
     count(step, "run the first command", is_well, Ran(status, said.decode(errors="replace")))
 
 
-def copy_libraries(step: Step, own: Path) -> List[str]:
-    """Makes a new repository with a copy of the libraries, and returns their names."""
-    own.mkdir()
-    ran = step.run(own, "sh", "-euc", blocks_of("sh", FIRST)[0], env={**os.environ, "SCROLL": str(TOP)})
+def copy_libraries(step: Step, own: Path, section: str) -> List[str]:
+    """Copies the libraries to a new repository as a section says, and returns the names of the repository's."""
+    ran = step.run(own, "sh", "-euc", blocks_of("sh", section)[0], env={**os.environ, "SCROLL": str(TOP)})
     names = [it for it in read_crates(own) if it in read_crates()]
     copied = bool(names) and (own / "HANDLES").is_file()
     for crate in (own / "crates" / it for it in names):
@@ -78,23 +79,26 @@ def run_examples(step: Step) -> None:
 
 
 def prove_files(step: Step) -> None:
-    """The first file and the reader of its format are proved, and the file's tests pass."""
+    """The first file and the users of its format are proved, and the file's tests pass."""
     own = step.room / "own"
     first = own / "crates" / "first"
-    for name in copy_libraries(step, own):
+    own.mkdir()
+    copy_libraries(step, own, FIRST)
+    for name in copy_libraries(step, own, OWN):
         ran = step.run(TOP / "crates" / name, "rt", "lib")
         if not ran.status:
             copy_kept(TOP / "crates" / name / "out", own / "crates" / name / "out", ["incremental"])
         count(step, f"build {name}", not ran.status, ran)
-    struct, reader = blocks_of("rust", OWN)
-    (first / "src" / "wav.rt").write_text(struct)
-    ran = step.run(own, "sh", "-euc", blocks_of("sh", OWN)[0], env={**os.environ, "SCROLL": str(TOP)})
+    struct, users = blocks_of("rust", OWN)
+    (first / "src" / "sample.rt").write_text(struct)
+    ran = step.run(own, "sh", "-euc", blocks_of("sh", OWN)[1], env={**os.environ, "SCROLL": str(TOP)})
     count(step, "derive a format", not ran.status, ran)
-    head, _, rest = blocks_of("rust", FIRST)[0].partition("\n\n")
-    (first / "src" / "lib.rt").write_text(f"{head}\n\n{reader}\n{rest}")
+    head, _, rest = blocks_of("rust", FIRST)[0].partition("static BYTES")
+    (first / "src" / "lib.rt").write_text(f"{head}{users}\nstatic BYTES{rest}")
     ran = step.run(first, "rt", "test")
     count(step, "prove and run the first file", not ran.status and ran.said.endswith(blocks_of("text", FIRST)[0]), ran)
-    count(step, "prove its reader", not ran.status and "\nfn first::sample_rate: proved\n" in ran.said, ran)
+    for it in USERS:
+        count(step, f"prove {it}", not ran.status and f"\nfn first::{it}: proved\n" in ran.said, ran)
 
 
 def work(step: Step) -> None:

@@ -5,8 +5,8 @@
 
 Without names all are run, as many side by side as there are workers (gate/step.py), those that take longest first; with names, the
 tests of these crates, and the sessions if scroll_run is among them. gate/sessions.py runs the sessions' cuts too, by the proved
-program. A crate is printed as it ends. A test is a check, and so is a session. A crate whose tests don't compile is one failure;
-where no crate has tests, that is skipped.
+program. A crate is printed as it ends. A test is a check, and so is a session, and so are a crate's files that tools/derive writes,
+which must not be stale, and its own tests. A crate whose tests don't compile is one failure; where no crate has tests, that is skipped.
 """
 
 import re
@@ -18,7 +18,7 @@ from pathlib import Path
 from typing import Callable, Dict, List, NamedTuple
 
 from sessions import Session, read_sessions
-from step import Crate, Ran, Step, count_workers, read_crates, run_step
+from step import TOP, Crate, Ran, Step, count_workers, read_crates, run_step
 
 PROGRAM = "scroll_run"
 # So many builds of the program run the sessions, since each takes a quarter of a second for one.
@@ -69,9 +69,21 @@ def run_sessions(step: Step, crate: Crate, share: int) -> Counted:
     return Counted(len(passed), len(failures), told if failures else "")
 
 
+def check_derived(step: Step, crates: Dict[str, Crate]) -> Counted:
+    """The files that tools/derive writes into the crates are those that stand there, and its own tests pass."""
+    described = {name: crate.folder for name, crate in crates.items() if any(crate.folder.glob("src/**/derived.rt"))}
+    commands = {f"{name}: a derived file": ["tools/derive", "--check", folder] for name, folder in described.items()}
+    commands["tools/derive"] = ["-m", "unittest", "discover", "tools/derive/tests"]
+    told = []
+    for what, words in commands.items():
+        ran = step.run(TOP, "python3", "-B", *words)
+        told += [f"FAILED {what}\n{ran.end()}"] if ran.status else []
+    return Counted(len(commands) - len(told), len(told), "".join(told))
+
+
 def work(step: Step, crates: Dict[str, Crate]) -> None:
     sizes = {name: sum(it.stat().st_size for it in (crate.folder / "src").rglob("*.rt")) for name, crate in crates.items()}
-    jobs: Dict[str, Callable[[], Counted]] = {}
+    jobs: Dict[str, Callable[[], Counted]] = {"derived files": lambda: check_derived(step, crates)}
     for share in range(SHARES if PROGRAM in crates else 0):
         jobs[f"sessions, {share + 1} of {SHARES}"] = lambda share=share: run_sessions(step, crates[PROGRAM], share)  # type: ignore[misc]
     for name in sorted((it for it in crates if crates[it].has_tests), key=lambda it: -sizes[it]):

@@ -18,7 +18,7 @@ from typing import List
 
 sys.dont_write_bytecode = True
 
-from crate_files import derived_files, left_over
+from crate_files import derived_files, is_same, left_over
 from tokens import Refused
 
 USAGE = "usage: python3 tools/derive [--check] CRATE"
@@ -36,7 +36,7 @@ def main(words: List[str]) -> int:
     except Refused as refused:
         print(f"derive: {refused}", file=sys.stderr)
         return 2
-    stale = [path for path, text in files.items() if not path.is_file() or path.read_text(encoding="utf-8") != text]
+    stale = [path for path, text in files.items() if not path.is_file() or not is_same(path.read_text(encoding="utf-8"), text)]
     if is_check:
         for path in stale:
             print(f"{path} is stale: run `python3 tools/derive {names[0]}`")

@@ -24,15 +24,17 @@ GHOST: Dict[str, Sequence[str]] = {
     "Rattle.scroll.specs.lemmas.Frames": ("WritesPrefix-keeps",),
     "Rattle.scroll_formats.specs.SmallErrors": ("small_error",),
     "Rattle.scroll_layouts.specs.Errors": ("GivesBadInput", "IsNot"),
-    "Rattle.scroll_layouts.specs.Formats": ("choice", "headed", "last", "refuses"),
+    "Rattle.scroll_layouts.specs.Formats": ("last", "refuses"),
     "Rattle.scroll_layouts.specs.OneWay": ("one_way",),
-    "Rattle.scroll_layouts.specs.Wholes": ("KeepsWhole", "ReadsExact", "ReadsWhole", "WritesWhole"),
+    "Rattle.scroll_layouts.specs.Wholes": ("KeepsWhole", "ReadsBack", "ReadsExact", "ReadsWhole", "WritesWhole"),
+    "Rattle.scroll_layouts.specs.lemmas.WholeLemmas": ("whole-kept",),
     "Rattle.scroll_layouts.specs.declared.choice.Choice.TheVariants": ("First", "Second"),
 }
 CODE: Dict[str, Sequence[str]] = {
     "scroll::ctx": ("Record", "TryFromCtx", "TryIntoCtx", "Written"),
     "scroll": ("Endian", "Error"),
-    "scroll_formats": ("SmallError", "Table", "Zeros"),
+    "scroll_formats": ("Kept", "SmallError", "Table", "Zeros"),
+    "scroll_layouts::Choice": ("First", "Second"),
     "scroll_layouts": tuple(
         "Certain CertainHead Choice Choose Count Ends Field Given Head Headed Items Listed Low Marked Packed Padded Part ReadPart Run "
         "Shape Sleb ToMark Uleb When Within is read_exact read_whole write_whole".split()
@@ -59,6 +61,12 @@ def derived_files(folder: Path) -> Dict[Path, str]:
         if items:
             files[derived_path(file.path)] = print_file(crate, file, [(it, forms[id(it)]) for it in items])
     return files
+
+
+def is_same(text: str, other: str) -> bool:
+    """Returns whether two texts differ in their layout alone."""
+    first, second = (re.sub(r",(?=[)\]}>])", "", re.sub(r"\s+", "", it)) for it in (text, other))
+    return first == second
 
 
 def left_over(folder: Path, files: Dict[Path, str]) -> List[Path]:
@@ -88,14 +96,14 @@ def print_file(crate: Crate, file: SourceFile, items: List[Tuple[Item, Any]]) ->
             if crate.find(name, file.path):
                 raise Refused(file.path, item.line, f"the {item.word} {item.name} has a type {name} printed, whose name another has")
     body = "\n\n".join("\n".join(it) for it in blocks)
-    ghost = "\n".join(re.findall(r"ghost \w+ = \{.*?\};|ensures \{.*?\}$", body, re.S | re.M))
+    ghost = "\n".join(re.findall(r"ghost \w+ = \{.*?(?=\n\n)|ensures \{[^\n]*", body, re.S))
     words = {*re.findall(r"[\w-]+", body)}
     imports = {module: [it for it in names if is_said(it, ghost)] for module, names in GHOST.items()}
     imports.update({module: [it for it in names if re.search(rf"\b{it}\b", ghost)] for module, names in modules.items()})
     code = {"super": sorted(own & words)}
     for module, names in CODE.items():
         module = re.sub(rf"^{crate.name}\b", "crate", module)
-        code[module] = [it for it in names if it in words - own]
+        code[module] = [it for it in names if it in words - own and (module[-6:] != "Choice" or f"{it}(" in body)]
     head = f"{HEAD}{Path(file.path).name}."
     return "\n".join([head, *ghost_lines(imports), "", *use_lines(code), "", body, ""])
 

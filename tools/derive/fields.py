@@ -6,7 +6,7 @@ from fixed_types import PLAIN, Array, Fixed, Record
 from forms import NOTHING, Number, Part, numbers, one, record, there
 from items import Note, RawField, Type
 from model import Enum, ListType, Struct
-from rules import constant_rule, tag_rule
+from rules import constant_rule, guarded, tag_rule
 from sums import Value
 from text import Call
 
@@ -245,9 +245,12 @@ class Optional_(Kind):
             self.reader.refuse(self.at, "has no `if = ..`, which says when it is there, as `if = flags & 1 != 0`")
         if len(self.of.arguments) != 1 or self.of.arguments[0].name == "Option":
             self.reader.refuse(self.at, f"is of {self.of.text}, and takes one type")
+        count = len(self.reader.rules)
         inside = self.reader.part(self.at, self.of.arguments[0], {k: v for k, v in self.at.notes.items() if k != "if"})
-        said = self.reader.condition(self.at, self.at.notes["if"])
-        return there(inside, self.at.name, *said)
+        condition = self.reader.condition(self.at, self.at.notes["if"])
+        rules = self.reader.rules
+        rules[count:] = [(guarded(rule, condition), [*names, condition.name]) for rule, names in rules[count:]]
+        return there(inside, self.at.name, *condition.said())
 
 
 KINDS: Dict[str, TypeOf[Kind]] = {

@@ -4,7 +4,7 @@ import re
 from dataclasses import dataclass, field
 from typing import Dict, List, NamedTuple, Optional, Tuple
 
-from tokens import MARK, Tokens, read_tokens, scan
+from tokens import KEPT, MARK, Tokens, read_tokens, scan
 
 
 class Note(NamedTuple):
@@ -58,6 +58,7 @@ class Item:
     notes: Notes
     line: int
     is_marked: bool
+    is_kept: bool = False
     has_parameters: bool = False
 
     @property
@@ -78,7 +79,7 @@ def read_file(path: str, text: str) -> SourceFile:
     """Returns the structs, the enums and the constants of a file."""
     tokens, file = read_tokens(path, text), SourceFile(path)
     notes: Notes = {}
-    mark = 0
+    mark, is_kept = 0, False
     while not tokens.is_done:
         token = tokens.take()
         if token.kind == "note":
@@ -86,7 +87,7 @@ def read_file(path: str, text: str) -> SourceFile:
         elif token.kind == "mark":
             if mark:
                 tokens.refuse(token.line, f"this is a second line `// {MARK}` before one struct")
-            mark = token.line
+            mark, is_kept = token.line, token.text == KEPT
         elif token.text == "#":
             skip_attribute(tokens, token.line)
         elif token.text == "pub":
@@ -94,10 +95,11 @@ def read_file(path: str, text: str) -> SourceFile:
                 tokens.inside()
         elif token.kind == "name" and token.text in ("struct", "enum") and tokens.next.kind == "name":
             item = read_item(tokens, token.text == "enum", notes, mark)
+            item.is_kept = is_kept
             if notes and not mark:
                 tokens.refuse(token.line, f"the {item.word} {item.name} has a note, but no line `// {MARK}` before it")
             file.items.append(item)
-            notes, mark = {}, 0
+            notes, mark, is_kept = {}, 0, False
         else:
             if mark or notes:
                 line = mark or next(iter(notes.values())).line

@@ -79,18 +79,22 @@ class Variant:
 
 @dataclass
 class Enum:
-    """An enum by a tag of this type, which it is given, perhaps with a number, or which is its own first part; and the variant of its
+    """An enum by a tag of this type, which it is given, perhaps with a number, or which is its own `head`; and the variant of its
     error for an unknown tag."""
 
     item: Item
     tag: str
-    is_own: bool
     given: str
     variants: List[Variant]
     error: Optional[OwnError]
     other: str
     inner: "List[Any]" = field(default_factory=list)
     used: List[str] = field(default_factory=list)
+    head: Optional[Part] = None
+
+    @property
+    def is_own(self) -> bool:
+        return self.head is not None
 
     @property
     def type(self) -> str:
@@ -178,6 +182,9 @@ class Crate:
             has_records = item.name in ("Record", "Written") and any(it.is_marked and self.is_fixed(it) for it in file.items)
             if item.name in LIBRARY or has_records:
                 raise Refused(file.path, item.line, f"the {item.word} {item.name} has a name that the printed text has: give it another")
+            is_plain = "items" in item.notes or "given" in item.notes or self.is_fixed(item)
+            if item.is_kept and is_plain:
+                raise Refused(file.path, item.line, f"the {item.word} {item.name} takes no `Kept`: it is of a fixed size, or isn't written alone")
             if "items" in item.notes and (item.fields or item.is_enum or item.lifetime):
                 raise Refused(file.path, item.line, f"the {item.word} {item.name} names a list: write `struct {item.name};`")
             if not item.fields and "items" not in item.notes:

@@ -233,11 +233,30 @@ class Printer:
             ]
         )
 
+        if self.form.item.is_kept:
+            self.print_kept()
+
+    def print_kept(self) -> None:
+        part = "ReadPart<'a, " if self.life else "Part<"
+        self.blocks.append(
+            [
+                *impl_lines(self.life, "Kept", ["Endian"], self.type),
+                *ghost_text("ghost reads = { ", f"ReadsBack (⟦<{self.type} as {part}(), {self.error}>>⟧.format tt)", " };", 4),
+                "",
+                "    ghost fits = { λ _. Unit {0} };",
+                "",
+                "    fn fit(self) {}",
+                "",
+                "    ghost back = { λ order x old new rest n fits h. whole-kept _ order x old new n h rest };",
+                "}",
+            ]
+        )
+
     def choices(self, at: int = 0) -> Tuple[str, str, Value]:
         """The types of the variants from one on and of their contexts, and the contexts."""
         form: Enum = self.form
         it = form.variants[at]
-        tag = ("t.0", "ctx.0") if form.given else ("t", "*ctx")
+        tag = ("@tag@", "@tag@") if form.is_own else ("t.0", "ctx.0") if form.given else ("t", "*ctx")
         own = Value(flat(resolve(it.part.context.ghost, {form.given: "t.1"})), resolve(it.part.context.code, {form.given: "ctx.1"}))
         if at + 1 == len(form.variants):
             return it.part.type, it.part.context_type, own
@@ -248,17 +267,20 @@ class Printer:
 
     def print_enum(self) -> None:
         form: Enum = self.form
+        types, kinds, inner = self.choices()
         if form.is_own:
-            self.blocks = tagged_blocks(form)
+            chain = Chain(self.name, [form.head, Part(types, kinds, inner, "", "", "")], 1)
+            self.print_chain(chain)
+            parts, context = (self.alias(f"{self.name}{it}", tree) for it, tree in (("Parts", chain.types[0]), ("Ctx", chain.whole.context_type)))
+            self.blocks += tagged_blocks(self, parts, context, *chain.whole.context)
             self.print_reader()
             self.print_writer()
             return
-        types, kinds, inner = self.choices()
         ghosts, split, join = ["    ghost parts_of = { elim ["], ["        match self {"], ["        match parts {"]
         for at, it in enumerate(form.variants):
             code, made = it.code, flat(it.part.join)
             for way in reversed(form.ways(at)):
-                code, made = f"Choice::{way}({code})", f"Choice::{way}({made})"
+                code, made = f"{way}({code})", f"{way}({made})"
             ghosts.append(f"      | {' '.join([it.name, *it.fields])} ↦ {form.ghost(at)}")
             split.append(f"            {form.pattern(it)} => {code},")
             join.append(f"            {made} => {form.pattern(it)},")

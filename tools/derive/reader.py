@@ -8,7 +8,7 @@ from forms import Number, Part, Rule, numbers
 from items import Item, Note, Notes, RawField, Type
 from model import Crate, Enum, ListType
 from rules import below_rule
-from sums import Sum, SumReader, Value, read_condition, read_path
+from sums import Condition, Sum, SumReader, Value, read_condition, read_path
 from tokens import Refused, Tokens
 
 
@@ -119,14 +119,14 @@ class Reader:
             self.refuse_note(at, at.notes["else"], "has the note `else = ..`, which only a context that subtracts takes")
         return found.said()
 
-    def condition(self, at: RawField, note: Note) -> Value:
+    def condition(self, at: RawField, note: Note) -> Condition:
         found = read_condition(note)
         if not found:
             self.refuse_note(at, note, f"has the condition {note.text}: write `kind == 1`, `kind != 0`, `kind < 1`, or `flags & 4 != 0` of one bit")
         number = self.number(at, note, found.name)
         if max(found.number, found.bit) >= 256 ** (PLAIN[number.type].width if number.type in PLAIN else 8):
             self.refuse_note(at, note, f"has the condition {note.text} with a number that doesn't fit {found.name}")
-        return found.said()
+        return found
 
     def call(self, note: Note) -> Tuple[str, Note]:
         """Returns the name of the function that a note calls, and the arguments."""

@@ -8,7 +8,7 @@ from forms import NOTHING, Part, bits, nothing, numbers
 from items import Item, RawField, read_type
 from model import Crate, Enum, ListType, Struct, Variant
 from reader import Reader
-from rules import own_variant
+from rules import own_variant, tag_rule
 from shapes import Chain, together
 from sums import number_of
 from tokens import Refused, Tokens
@@ -128,7 +128,11 @@ class EnumReader(Reader):
             variants.append(self.read_variant(raw, tag, [it.tag for it in variants]))
         note = item.notes.get("else")
         other = own_variant(self, RawField(item.name, [], {}, item.line), note) if note else ""
-        return Enum(item, tag, own is not None, given, variants, self.error, other, self.forms, self.used)
+        made = Enum(item, tag, given, variants, self.error, other, self.forms, self.used)
+        if own:
+            made.head = numbers([("tag", PLAIN[tag])], "")
+            made.head.rules.append(tag_rule(self, RawField(item.name, [], {}, item.line), made, "tag"))
+        return made
 
     def read_variant(self, raw: RawField, tag: str, before: Sequence[int]) -> Variant:
         if raw.has_names:

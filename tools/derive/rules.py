@@ -1,12 +1,12 @@
 """The rules that notes say of numbers: constants, what is subtracted, and tags."""
 
-from typing import TYPE_CHECKING, List, Optional, Tuple
+from typing import TYPE_CHECKING, List, Tuple
 
 from fixed_types import Fixed, Plain, is_counter
 from forms import Rule
 from items import Note, RawField
-from model import Enum, OwnError
-from sums import Sum, as_usize, bracketed, number_of, side_text
+from model import Enum
+from sums import Condition, Sum, as_usize, bracketed, number_of, side_text
 from text import call_lines
 
 if TYPE_CHECKING:
@@ -23,20 +23,16 @@ def own_variant(reader: "Reader", at: RawField, note: Note) -> str:
     return variant
 
 
-def bad_input(error: Optional[OwnError], ghost: str, code: str, text: str) -> Tuple[str, List[str]]:
-    """Returns what says that a `BadInput` is the error, and the lines of code of it."""
-    made = f"Err({error.name}::from(Error::BadInput {{" if error else "Err(Error::BadInput {"
-    lines = [made, f"    size: {code},", f'    msg: "{text}",', "}))" if error else "})"]
+def refusal(reader: "Reader", at: RawField, ghost: str, code: str, text: str) -> Tuple[str, List[str]]:
+    """Returns what says that a `BadInput` is the error, and the lines that return it."""
+    error = reader.error
+    if error and not error.variant:
+        reader.refuse(at, "is tested, which isn't proved with the error SmallError: take an error of your own")
+    made = f"{error.name}::from(Error::BadInput {{" if error else "Error::BadInput {"
+    lines = [f"            return Err({made}", f"                size: {code},", f'                msg: "{text}",']
+    lines.append(f"            }}{')' if error else ''});")
     said = f"GivesBadInput {error.gives}" if error else "IsBadInput e"
     return f'{said} {ghost} (codes "{text}")' + (" e" if error else ""), lines
-
-
-def refusal(reader: "Reader", at: RawField, ghost: str, code: str, text: str) -> Tuple[str, List[str]]:
-    """The same, and the lines that return it."""
-    if reader.error and not reader.error.variant:
-        reader.refuse(at, "is tested, which isn't proved with the error SmallError: take an error of your own")
-    said, (first, *lines) = bad_input(reader.error, ghost, code, text)
-    return said, [f"            {it}" for it in (f"return {first}", *lines[:-1], f"{lines[-1]};")]
 
 
 def own_refusal(reader: "Reader", variant: str, number: str) -> Tuple[str, List[str]]:
@@ -93,3 +89,10 @@ def tag_rule(reader: "Reader", at: RawField, form: Enum, tag: str) -> Rule:
     others = " × ".join(f"({name} ≢ {it})" for it in tags)
     test = f"        if {' && '.join(f'{name} != {it}' for it in tags)} {{"
     return Rule(f"({' ⊎ '.join(f'({name} ≡ {it})' for it in tags)})", f"({others}) × {fails}", [test, *lines, "        }"])
+
+
+def guarded(rule: Rule, condition: Condition) -> Rule:
+    """A rule of a field that may be absent holds where that is there."""
+    there, absent = condition.sides()
+    first = rule.code[0].replace("if ", f"if {condition.said().code} && ", 1)
+    return Rule(f"({absent} ⊎ {rule.holds})", f"{there} × {rule.fails}", [first, *rule.code[1:]])

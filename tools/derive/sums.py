@@ -66,11 +66,15 @@ class Condition(NamedTuple):
     bit: int
     text: str
 
+    @property
+    def of_bit(self) -> str:
+        return f"@{self.name}@ % 2" if self.bit == 1 else f"@{self.name}@ / {self.bit} % 2"
+
     def said(self) -> Value:
         """The condition as a value of `bool`."""
         it, n = f"@{self.name}@", self.number
         if self.bit:
-            return Value(f"(nat_eq ({it} / {self.bit} % 2) {n})", f"{it} / {self.bit} % 2 == {n}")
+            return Value(f"(nat_eq ({self.of_bit}) {n})", f"{self.of_bit} == {n}")
         return {
             "==": Value(f"(nat_eq {it} {n})", f"{it} == {n}"),
             "!=": Value(f"(nat_lt 0 {it})", f"{it} > 0"),
@@ -78,6 +82,21 @@ class Condition(NamedTuple):
             "<=": Value(f"(nat_lt {it} {n + 1})", f"{it} < {n + 1}"),
             ">": Value(f"(nat_lt {n} {it})", f"{it} > {n}"),
             ">=": Value(f"(nat_lt {n - 1} {it})", f"{it} > {n - 1}"),
+        }[self.sign]
+
+
+    def sides(self) -> Tuple[str, str]:
+        """The condition, and that it isn't so, as propositions."""
+        it, n = f"@{self.name}@", self.number
+        if self.bit:
+            it = self.of_bit
+        return {
+            "==": (f"({it} ≡ {n})", f"({it} ≢ {n})"),
+            "!=": (f"(0 < {it})", f"({it} ≡ 0)"),
+            "<": (f"({it} < {n})", f"({n} ≤ {it})"),
+            "<=": (f"({it} ≤ {n})", f"({n} < {it})"),
+            ">": (f"({n} < {it})", f"({it} ≤ {n})"),
+            ">=": (f"({n} ≤ {it})", f"({it} < {n})"),
         }[self.sign]
 
 

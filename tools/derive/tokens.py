@@ -5,6 +5,8 @@ from typing import List, NamedTuple, NoReturn, Sequence
 
 # The line that asks for the implementations of a struct or an enum.
 MARK = "#[derive(Pread, Pwrite)]"
+# The same, for what is also written by the calls that say that it reads back, such as `write_kept`.
+KEPT = "#[derive(Pread, Pwrite, Kept)]"
 TOKEN = re.compile(
     r"""(?P<space>\s+)
     |(?P<doc>//[/!][^\n]*)
@@ -127,7 +129,7 @@ def read_comment(path: str, comment: str, line: int, is_behind: bool) -> List[To
     if comment[2 : found.start()].strip():
         raise Refused(path, line, "there is text before the note: write it on a line of its own")
     if text.startswith("#[derive"):
-        if text != MARK:
+        if text not in (MARK, KEPT):
             raise Refused(path, line, f"this is not the line `// {MARK}`")
         return [Token("mark", text, line)]
     if not text.startswith("#[scroll(") or not text.endswith(")]"):
