@@ -113,5 +113,9 @@ fn first_of(delimiter: u8, bytes: &[u8]) -> Option<usize>
     ensures none { IfNone result
         ((i : ℕ) → i < length bytes.now → slice_index bytes.now i ≢ delimiter) }
 {
+    // (most texts have none, which is told sooner)
+    if !bytes.contains(&delimiter) {
+        return None;
+    }
     bytes.iter().position(|byte| *byte == delimiter)
 }

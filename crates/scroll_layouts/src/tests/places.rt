@@ -4,7 +4,7 @@ use crate::tests::appends::{appended_contents, appended_name, appended_suites, f
 use crate::tests::calls::{contents_again_at, read_file_at, read_two_files, write_file_at};
 use crate::tests::fixed::{Foo, foo_again, foo_at, read_foo, read_line, write_foo};
 use crate::tests::handshake::read_message;
-use crate::tests::many::second_again;
+use crate::tests::many::{listed_contents, second_again};
 use crate::tests::nested::MESSAGE;
 use crate::tests::results::{check_eq, check_error, check_value};
 use crate::tests::stored::{StoredFile, read_file};
@@ -32,6 +32,20 @@ fn files_that_are_appended(rt: HostRuntime) -> Result<(), Fail> {
         ("BadOffset", 152, 0),
     );
     check_error(&rt, read_file_at(out.as_slice(), 140), ("TooBig", 30, 11));
+    Ok(())
+}
+
+#[test]
+fn files_behind_their_number(rt: HostRuntime) -> Result<(), Fail> {
+    let file = read_file(&STORED)?;
+    let mut target = [7u8; 76];
+    check_eq(&rt, listed_contents(&mut target, file, file)?, b"hi");
+    let mut short = [7u8; 75];
+    check_error(
+        &rt,
+        listed_contents(&mut short, file, file),
+        ("TooBig", 76, 75),
+    );
     Ok(())
 }
 
