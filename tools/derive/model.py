@@ -81,6 +81,18 @@ class Variant:
         """The part in code, of the values that are borrowed."""
         return flat(self.part.split).replace("self.v", "*v")
 
+    def arm(self, ways: List[str], form: str, made: str) -> List[str]:
+        """Returns the arm of a match that takes the part apart. (The borrow checker's part of a proof doesn't cover an array in its
+        pattern.)"""
+        has_array = any(isinstance(of, Array) for _, of in self.part.fields)
+        pattern = "it" if has_array else flat(self.part.join)
+        for way in reversed(ways):
+            pattern = f"{way}({pattern})"
+        if not has_array:
+            return [f"            {form.format(pattern)} => {made},"]
+        head = f"            {form.format(pattern)} => {{"
+        return [head, f"                let {flat(self.part.join)} = it;", f"                {made}", "            }"]
+
 
 @dataclass
 class Enum:

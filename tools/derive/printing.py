@@ -280,9 +280,9 @@ class Printer:
         ghosts = ["    ghost parts_of = { elim [", *cases, "    ] };"]
         split, join = ["        match self {"], ["        match parts {"]
         for at, it in enumerate(form.variants):
-            code, made = it.code, flat(it.part.join)
+            code = it.code
             for way in reversed(form.ways(at)):
-                code, made = f"{way}({code})", f"{way}({made})"
+                code = f"{way}({code})"
             split.append(f"            {form.pattern(it)} => {code},")
-            join.append(f"            {made} => {form.pattern(it)},")
+            join += it.arm(form.ways(at), "{}", form.pattern(it))
         self.print_shape(form.context_type, "t", types, kinds, inner, ghosts, [*split, "        }"], [*join, "        }"])

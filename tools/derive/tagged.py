@@ -50,12 +50,7 @@ def tagged_blocks(printer: "Printer", parts: str, context: str, ghost: str, code
     arguments = ["from: &'a [u8]", "offset: usize", "order: Endian", ctx]
     whole = f"let (read, end) = <{parts} as ReadPart<'a, {context}, {error}>>::read_at"
     read = [f"        {whole}(from, offset, order, &ctx)?;"]
-    lines: List[str] = []
-    for at, it in enumerate(form.variants):
-        value = flat(it.part.join)
-        for way in reversed(form.ways(at)):
-            value = f"{way}({value})"
-        lines += [f"            ({it.tag}, {value}) => Ok(({form.pattern(it)}, end)),"]
+    arms = [it.arm(form.ways(at), f"({it.tag}, {{}})", f"Ok(({form.pattern(it)}, end))") for at, it in enumerate(form.variants)]
     reader = [
         *impl_lines("<'a>", "ReadPart", ["'a", "()", error], form.type),
         *[it.replace(" as Part<", " as ReadPart<'a, ") for it in format_],
@@ -66,7 +61,7 @@ def tagged_blocks(printer: "Printer", parts: str, context: str, ghost: str, code
         *(read if len(read[0]) <= WIDTH else [f"        {whole}(", "            from, offset, order, &ctx,", "        )?;"]),
         "        let (Run(tag), value) = read;",
         "        match (tag, value) {",
-        *lines,
+        *(line for it in arms for line in it),
         "            _ => unreachable!(),",
         "        }",
         "    }",
