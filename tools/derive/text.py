@@ -234,7 +234,7 @@ def ghost_text(head: str, text: str, tail: str, indent: int) -> List[str]:
         inside = [row for name, _, value in fields for row in ghost_text(f"{name} = ", value, ";", indent + 2)]
         return [f"{space}{head}record {{", *inside, f"{space}}}{tail}"]
     lines, row = [], f"{space}{head}".rstrip()
-    for word in re.split(r" (?=[×⊎] )", text + tail):
+    for word in re.split(r" (?=[×⊎] |\(codes )", text + tail):
         if len(row) + 1 + len(word) > WIDTH and row.strip():
             lines.append(row)
             row = f"{' ' * (indent + 4)}{word}"
