@@ -96,7 +96,7 @@ def print_file(crate: Crate, file: SourceFile, items: List[Tuple[Item, Any]]) ->
             if crate.find(name, file.path):
                 raise Refused(file.path, item.line, f"the {item.word} {item.name} has a type {name} printed, whose name another has")
     body = "\n\n".join("\n".join(it) for it in blocks)
-    ghost = "\n".join(re.findall(r"ghost \w+ = \{.*?(?=\n\n)|ensures \{.*?(?=\n    \{)", body, re.S))
+    ghost = "\n".join(re.findall(r"ghost \w+ = \{.*?(?=\n\n|\Z)|ensures \{.*?(?=\n    \{)", body, re.S))
     words = {*re.findall(r"[\w-]+", body)}
     imports = {module: [it for it in names if is_said(it, ghost)] for module, names in GHOST.items()}
     named = [f"ghost use {module} as {name};" for module, name in modules.items() if f"{name}." in ghost]

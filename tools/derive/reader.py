@@ -97,9 +97,7 @@ class Reader:
             self.refuse_note(at, note, f"has the context {note.text}, which is no sum of fields `as usize`, perhaps times numbers, and numbers")
 
         found = SumReader(note, fail).read()
-        for side in (found.whole, found.less):
-            if not side:
-                continue
+        for side in (found.whole, *(found.less.parts if found.less else [])):
             most, wide = side.number, 0
             for name, times in side.terms:
                 kind = self.number(at, note, name).type

@@ -131,7 +131,11 @@ def tuple_lines(head: str, tree: Tree, tail: str, indent: int) -> List[str]:
 
 
 def pattern_lines(head: str, tree: Tree, tail: str, indent: int) -> List[str]:
-    """Returns a pattern, which is on one line where that has room."""
+    """Returns a pattern, which is on one line where that has room, and then perhaps what is taken apart on the next one."""
+    first, _, rest = tail.partition("= ")
+    line = f"{' ' * indent}{head}{flat(tree)}{first}="
+    if len(line) <= WIDTH < len(line) + 1 + len(rest):
+        return [line, f"{' ' * (indent + 4)}{rest}"]
     return broken(head, tree, tail, indent, WIDTH)
 
 
