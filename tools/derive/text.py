@@ -161,7 +161,8 @@ def signature_lines(name: str, arguments: Sequence[str], result: str, tail: str,
     line = f"{space}fn {name}({', '.join(arguments)}){f' -> {result}' if result else ''}{tail}"
     if len(line) <= WIDTH:
         return [line]
-    return [f"{space}fn {name}(", *(f"{space}    {it}," for it in arguments), f"{space}){f' -> {result}' if result else ''}{tail}"]
+    end = f"{space}){f' -> {result}' if result else ''}{tail}"
+    return [f"{space}fn {name}(", *(f"{space}    {it}," for it in arguments), end]
 
 
 def impl_lines(life: str, trait: str, arguments: Sequence[str], of: str) -> List[str]:
