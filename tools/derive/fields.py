@@ -146,6 +146,7 @@ class ListOf(Kind):
             part.is_certain = False
         else:
             part = self.one("usize", self.reader.count(self.at, self.ctx))
+            part.is_certain = not form.form or form.form.is_certain
         return part
 
 
