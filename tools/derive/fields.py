@@ -207,7 +207,7 @@ class Nested(Kind):
             part = self.one("()", NOTHING)
         if isinstance(form, Struct):
             part.numbers = self.numbers(form)
-        part.is_exact, part.is_certain = form.is_exact, form.is_certain
+        part.is_exact, part.is_certain = form.is_exact, form.is_certain and not form.given
         return part
 
     def numbers(self, form: Struct) -> List[Number]:
