@@ -84,7 +84,10 @@ class Text(Kind):
 
 class CString(Kind):
     def make(self) -> Part:
-        return self.one("()", NOTHING)
+        part = self.one("()", NOTHING)
+        # (the library doesn't say of those of std that a source has them in one way)
+        part.is_certain = not self.reader.crate.files[self.reader.item.path].has_std_c_str
+        return part
 
 
 class Leb(Kind):
