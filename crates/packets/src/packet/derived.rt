@@ -5,7 +5,7 @@ ghost use Rattle.scroll.specs.Numbers.{number};
 ghost use Rattle.scroll.specs.lemmas.Frames.{WritesPrefix-keeps};
 ghost use Rattle.scroll_layouts.specs.Formats.{refuses};
 ghost use Rattle.scroll_layouts.specs.Wholes.{KeepsWhole, ReadsExact, WritesWhole};
-ghost use Rattle.packets.specs.declared.packet.PacketError.TheVariants.{Short, NoMessage};
+ghost use Rattle.packets.specs.declared.packet.PacketError.TheVariants as packet_error_is;
 
 use super::{DnsHeader, Packet, PacketError, UdpHeader};
 use scroll::ctx::{Record, TryFromCtx, TryIntoCtx, Written};
@@ -139,7 +139,7 @@ impl Head<PacketHead, PacketError> for PacketSays {
 
     ghost holds = { λ _ h. (20 ≤ h.0.0.0.len) };
 
-    ghost fails = { λ _ h e. (h.0.0.0.len < 20) × (e ≡ NoMessage h.0.0.0.len) };
+    ghost fails = { λ _ h e. (h.0.0.0.len < 20) × (e ≡ packet_error_is.NoMessage h.0.0.0.len) };
 
     ghost next = { λ _ h. h.0.0.0.len - 20 };
 
@@ -207,7 +207,7 @@ impl<'a> TryIntoCtx<Endian> for Packet<'a> {
 
     ghost writes = { WritesWhole (⟦<Packet<'a> as Part<(), PacketError>>⟧.format tt) };
 
-    ghost refuses = { KeepsWhole (λ error e. e ≡ Short error)
+    ghost refuses = { KeepsWhole (λ error e. e ≡ packet_error_is.Short error)
         (⟦<Packet<'a> as Part<(), PacketError>>⟧.format tt) };
 
     ghost writes_bounded = { λ order x old new n h. Prim.search rules };
