@@ -238,6 +238,15 @@ pub fn others_again<'a>(target: &'a mut [u8], value: Lists, order: Endian) -> Re
     Ok(again.others.0)
 }
 
+/// Reads lists twice: both are the same.
+pub fn lists_twice(from: &[u8], order: Endian) -> Result<(Lists, Lists)>
+    ensures { IfOk result (λ read. read.0.others.0.now ≡ read.1.others.0.now) }
+{
+    let first: Lists = from.pread_with(0, order)?;
+    let second: Lists = from.pread_with(0, order)?;
+    Ok((first, second))
+}
+
 pub fn copy_lists(from: &[u8], to: &mut [u8], order: Endian) -> Result<usize>
     ensures { IfOk result (λ n. take n to.new ≡ take n from.now) }
 {
