@@ -17,7 +17,7 @@ What is left out, since it isn't proved:
   lists of one length. (A list within a length has that one, and so has such a list within a length.)
 - A writer doesn't read back an array: two readings of one source aren't known to make one array.
 - A struct with floats has no copier, since a NaN isn't written back as it was read.
-- No field is an array of arrays of arrays, which the borrow checker doesn't cover in a struct.
+- An array of arrays of arrays is one of structs of arrays of arrays, since the borrow checker covers no deeper one in a struct.
 """
 
 import argparse
