@@ -125,7 +125,8 @@ def work(step: Step, given: argparse.Namespace) -> None:
             if it.crate == name:
                 step.count(f"{name}::{it.name}: {', '.join(dict.fromkeys(it.kinds))}", fault_of(it, said[name]))
     refused = fault_of(lie, said[lie.crate])
-    is_refused = refused and f"fn {lie.crate}::a_lie::{lie.users[0]}: no proof" in refused and "-short`" in refused
+    # (the goal has the clause's name, or says it where there is no other clause)
+    is_refused = refused and f"fn {lie.crate}::a_lie::{lie.users[0]}: no proof" in refused and re.search(r"-short`|\{short : ", refused)
     step.count("a false claim is proved", None if is_refused else refused or "")
     used = {kind: sum(kind in it.kinds for it in modules) for kind in (*drawn.KINDS, *drawn.OTHERS)}
     if given.count >= COUNT:
