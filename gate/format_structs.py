@@ -1,9 +1,9 @@
-"""Prints structs of `scroll_layouts` by their parts (gate/format_parts.py), and what else their types need."""
+"""Prints structs and enums of `scroll_layouts` by their parts (gate/format_parts.py)."""
 
 from dataclasses import dataclass, field
-from typing import Callable, Dict, List, NamedTuple, Sequence, Set, Tuple
+from typing import Callable, Dict, List, NamedTuple, Set, Tuple
 
-from format_parts import SAID, WIDTHS, Number, Part, Value, lifetime, names_in, record, resolve, right
+from format_parts import Number, Part, Value, lifetime, names_in, record, resolve, right
 
 # The error of the library.
 ERROR = "Error"
@@ -209,88 +209,6 @@ impl{lifetime(head)} Head<{head}, {error}> for {name}C{at} {{
         fields = "".join(f"    pub {name}: {kind},\n" for name, kind in self.struct.fields)
         own = f"#[derive(Clone, Copy)]\npub struct {self.struct.type} {{\n{fields}}}\n"
         return "\n".join([own, *(self.print_group(at) for at in reversed(range(len(self.groups)))), self.print_shape()])
-
-
-def print_record(name: str, kinds: Sequence[str]) -> str:
-    """A struct of a fixed size, with fields of these types."""
-    fields = [f"r{at}" for at in range(len(kinds))]
-    ways = [f"h{'.1' * at}" + (".0" if at + 1 < len(kinds) else "") for at in range(len(kinds))]
-    places = [f"h.{at}" for at in range(len(kinds))]
-    starts = [sum(WIDTHS[it] for it in kinds[:at]) for at in range(len(kinds))]
-    said = [f"(x.{it} ≡ {SAID[kind]} {f'(drop {start} s)' if start else 's'})" for it, kind, start in zip(fields, kinds, starts)]
-    lines = "".join(f"    pub {it}: {kind},\n" for it, kind in zip(fields, kinds))
-    return f"""#[derive(Clone, Copy)]
-pub struct {name} {{
-{lines}}}
-
-impl Record for {name} {{
-    type Parts = ({", ".join(kinds)});
-
-    ghost parts_of = {{ λ x. ({", ".join(f"x.{it}" for it in fields)}) }};
-
-    ghost of_parts = {{ λ p. record {{ {"; ".join(f"{it} = p.{at}" for at, it in enumerate(fields))} }} }};
-
-    ghost fields_in = {{ λ order s x. {" × ".join(said)} }};
-
-    ghost again = {{ λ x. refl }};
-
-    ghost there = {{ λ p. refl }};
-
-    ghost fields_of_parts = {{ λ order s x h. ({", ".join(ways)}) }};
-
-    ghost parts_of_fields = {{ λ order s x h. {right(places)} }};
-
-    ghost small = {{ Prim.search rules }};
-
-    fn parts(self) -> Self::Parts {{
-        ({", ".join(f"self.{it}" for it in fields)})
-    }}
-
-    fn of_parts(parts: Self::Parts) -> {name} {{
-        {name} {{ {", ".join(f"{it}: parts.{at}" for at, it in enumerate(fields))} }}
-    }}
-}}
-"""
-
-
-def print_list(name: str, item: str, mark: Sequence[int]) -> str:
-    """The marker of a list of values, and the bytes that end it."""
-    bytes_of = " ∷ ".join([*map(str, mark), "[]"])
-    return f"""#[derive(Drop)]
-pub struct {name};
-
-impl<'a> Listed<'a> for {name} {{
-    type Item = {item};
-}}
-
-impl<'a> Marked<'a> for {name} {{
-    ghost mark_of = {{ {bytes_of} }};
-
-    fn mark() -> &'static [u8]
-        ensures {{ result.now ≡ {bytes_of} }}
-    {{
-        &[{", ".join(map(str, mark))}]
-    }}
-}}
-"""
-
-
-def print_error(name: str, variants: Sequence[Tuple[str, str]]) -> str:
-    """An error that holds the library's, and what else is wrong with a value."""
-    lines = "".join(f"    {it}({kind}),\n" for it, kind in variants)
-    return f"""#[derive(Drop)]
-pub enum {name} {{
-    Refused(Error),
-{lines}}}
-
-impl From<Error> for {name} {{
-    ghost from_gives = {{ λ error e. e ≡ Refused error }};
-
-    fn from(error: Error) -> {name} {{
-        {name}::Refused(error)
-    }}
-}}
-"""
 
 
 @dataclass

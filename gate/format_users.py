@@ -12,6 +12,7 @@ ghost use Rattle.std.specs.Prelude.{◌≡◌, ◌≢◌, ◌<◌, ◌≤◌, �
 ghost use Rattle.std.specs.Prelude.{codes, min, Some, None, IfOk, IfErr, nat_eq, nat_lt, option_map};
 ghost use Rattle.std.specs.Float.{binary32, binary64};
 ghost use Rattle.std.proofs.Common.{refl, rules};
+ghost use Rattle.scroll.specs.Arrays.{MakesArray};
 ghost use Rattle.scroll.specs.CStringTexts.{c_str_text};
 ghost use Rattle.scroll.specs.Errors.{IsBadInput};
 ghost use Rattle.scroll.specs.Numbers.{number, signed_number, float};

@@ -7,7 +7,8 @@ from typing import Callable, Dict, List, NamedTuple, Sequence, Tuple
 import format_parts as parts
 from format_parts import ARRAYS, ARRAYS_OF_ARRAYS, ARRAYS_OF_FLOATS, COUNTED, FLOATS, SIGNED, SMALL, UNSIGNED, WIDTHS
 from format_parts import Fixed, Number, Part, Value
-from format_structs import ERROR, Enum, Group, Printer, Rule, Struct, print_error, print_list, print_record
+from format_structs import ERROR, Enum, Group, Printer, Rule, Struct
+from format_types import print_error, print_list, print_record, print_row
 
 # The kinds of parts, of heads, of counts and of conditions.
 TOLD_NOTHING = ("text to a byte", "C string", "ULEB128", "SLEB128", "bits")
@@ -20,7 +21,7 @@ HEADS = ("numbers", "ULEB128 head", "bits head", "slice head", "text head", "num
 COUNTS = ("as it is", "a product", "a sum", "a difference", "a length", "in LEB128", "in bits")
 CONDITIONS = ("a bit", "equal", "less", "not zero")
 RULES = ("constant", "at most")
-FIXED = ("unsigned", "signed", "array", "array of arrays", "record")
+FIXED = ("unsigned", "signed", "array", "array of arrays", "record", "array of records", "array of arrays of arrays")
 FLOATING = ("float", "array of floats")
 # All that is drawn from the bag.
 KINDS = (
@@ -153,13 +154,23 @@ class Draw(random.Random):
         self.types.append(print_record(name, kinds))
         return name, sum(WIDTHS[it] for it in kinds), kinds
 
+    def row(self) -> Tuple[str, int]:
+        """A struct that is an array of arrays, and its width."""
+        name, type_ = self.new_type(), self.choice([*ARRAYS_OF_ARRAYS])
+        self.types.append(print_row(name, type_))
+        return name, WIDTHS[type_]
+
     def fixed(self, name: str, can_be_record: bool = True) -> Fixed:
         """A field of a fixed size."""
-        sets = dict(zip((*FIXED[:-1], *FLOATING), (UNSIGNED, SIGNED, ARRAYS, ARRAYS_OF_ARRAYS, FLOATS, ARRAYS_OF_FLOATS)))
-        kinds = [*FIXED[: 5 if can_be_record else 4], *(FLOATING if self.has_floats else ())]
+        sets = dict(zip((*FIXED[:4], *FLOATING), (UNSIGNED, SIGNED, ARRAYS, ARRAYS_OF_ARRAYS, FLOATS, ARRAYS_OF_FLOATS)))
+        kinds = [*FIXED[: None if can_be_record else 4], *(FLOATING if self.has_floats else ())]
         kind = self.take("field: ", [*kinds, "unsigned", "unsigned"])
         if kind == "record":
             return Fixed(name, *self.record())
+        if kind in FIXED[5:]:
+            element, width = self.record()[:2] if kind == "array of records" else self.row()
+            count = self.randint(1, 3)
+            return Fixed(name, f"[Field<{element}>; {count}]", width * count)
         type_ = self.choice([*sets[kind]])
         return Fixed(name, type_, WIDTHS[type_])
 
