@@ -68,9 +68,10 @@ class Item:
 
 @dataclass
 class SourceFile:
-    """A file: its items, its constants, and whether a C string in it is that of std."""
+    """A file: its items, its constants, and whether it has the module that is printed and a C string in it is that of std."""
 
     path: str
+    has_module: bool
     has_std_c_str: bool
     items: List[Item] = field(default_factory=list)
     constants: Dict[str, str] = field(default_factory=dict)
@@ -78,7 +79,7 @@ class SourceFile:
 
 def read_file(path: str, text: str) -> SourceFile:
     """Returns the structs, the enums and the constants of a file."""
-    tokens, file = read_tokens(path, text), SourceFile(path, re.search(r"\bffi::[^;]*\bCStr\b", text) is not None)
+    tokens, file = read_tokens(path, text), SourceFile(path, re.search(r"(?m)^\s*mod\s+derived;", text) is not None, re.search(r"\bffi::[^;]*\bCStr\b", text) is not None)
     notes: Notes = {}
     mark, is_kept = 0, False
     while not tokens.is_done:

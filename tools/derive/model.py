@@ -199,6 +199,8 @@ class Crate:
             names[item.name] = item
             if not item.is_marked:
                 continue
+            if not file.has_module:
+                raise Refused(file.path, item.line, f"the {item.word} {item.name} needs `mod derived;` in this file")
             if item.has_parameters:
                 raise Refused(file.path, item.line, f"the {item.word} {item.name} has parameters, and takes one lifetime at most")
             has_records = item.name in ("Record", "Written") and any(it.is_marked and self.is_fixed(it) for it in file.items)

@@ -44,7 +44,7 @@ class Derive(unittest.TestCase):
         for case in cases("right.txt"):
             text, _, wanted = case.partition("\n=>\n")
             with self.subTest(text):
-                self.file.write_text(text + "\n", encoding="utf-8")
+                self.file.write_text(f"{text}\nmod derived;\n", encoding="utf-8")
                 self.assertEqual(self.call(str(self.crate)), (0, "", ""))
                 printed = self.derived.read_text(encoding="utf-8").split("\n")
                 place = 0
@@ -57,14 +57,15 @@ class Derive(unittest.TestCase):
         for case in cases("wrong.txt"):
             line, message = next((at, it) for at, it in enumerate(case.split("\n"), 1) if it.strip().startswith("//~"))
             with self.subTest(message.strip()):
-                self.file.write_text(re.sub(r"//~.*", "//", case) + "\n", encoding="utf-8")
+                module = "" if "needs `mod" in message else "mod derived;\n"
+                self.file.write_text(re.sub(r"//~.*", "//", case) + f"\n{module}", encoding="utf-8")
                 status, out, err = self.call(str(self.crate))
                 said = f"derive: {self.file}:{line + 1}: {message.strip()[4:]}\n"
                 self.assertEqual((status, out, err), (2, "", said))
                 self.assertFalse(self.derived.exists())
 
     def test_what_is_stale(self) -> None:
-        text = cases("right.txt")[1].partition("\n=>\n")[0]
+        text = cases("right.txt")[1].partition("\n=>\n")[0] + "\nmod derived;\n"
         self.file.write_text(text, encoding="utf-8")
         stale = f"{self.derived} is stale: run `python3 tools/derive {self.crate}`\n"
         self.assertEqual(self.call("--check", str(self.crate)), (1, stale, ""))
@@ -80,7 +81,8 @@ class Derive(unittest.TestCase):
         self.assertFalse(self.derived.exists())
 
     def test_the_root(self) -> None:
-        (self.crate / "src" / "lib.rt").write_text(cases("right.txt")[0], encoding="utf-8")
+        text = cases("right.txt")[0] + "\nmod derived;\n"
+        (self.crate / "src" / "lib.rt").write_text(text, encoding="utf-8")
         self.assertEqual(self.call(str(self.crate)), (0, "", ""))
         self.assertIn("use super::Point;", (self.crate / "src" / "derived.rt").read_text(encoding="utf-8"))
 
