@@ -47,7 +47,8 @@ RefusesHeader file (Refused at) = ⊥
 -- the error of reading a file: that of its header, or of an entry
 abbrev pub RefusesIndex : Format Error Entry → List ℕ → IndexError → Type 0
 RefusesIndex format file (Refused at) =
-    HasHeader file × RefusesMany (ReadsExact format Big) (λ s. refuses format Big s 0) (λ e d. d ≡ e)
+    HasHeader file × RefusesMany (ReadsExact format Big) (λ s. refuses format Big s 0)
+    (λ e d. d ≡ e)
     file 12 (entry_count file) at.offset at.error
 RefusesIndex format file e = RefusesHeader file e
 

@@ -83,8 +83,10 @@ fn read_header(file: &[u8]) -> Result<u32, IndexError>
 
 /// Reads the entries of an index, in order.
 pub fn read_index<'a>(alloc: Global, file: &'a [u8]) -> Result<Vec<Entry<'a>>, IndexError>
-    ensures read { IfOk result (λ entries. IsIndex (⟦<Entry<'a> as ReadPart<'a, (), Error>>⟧.format tt) file.now entries.items) }
-    ensures refused { IfErr result (RefusesIndex (⟦<Entry<'a> as ReadPart<'a, (), Error>>⟧.format tt) file.now) }
+    ensures read { IfOk result (λ entries. IsIndex
+        (⟦<Entry<'a> as ReadPart<'a, (), Error>>⟧.format tt) file.now entries.items) }
+    ensures refused { IfErr result (RefusesIndex
+        (⟦<Entry<'a> as ReadPart<'a, (), Error>>⟧.format tt) file.now) }
 {
     let count = read_header(file)?;
     let mut offset = HEADER;

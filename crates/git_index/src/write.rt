@@ -23,9 +23,14 @@ pub enum WriteError {
 ///
 /// In a file the SHA-1 of these bytes follows.
 pub fn write_index<'a>(target: &mut [u8], entries: &[Entry<'a>]) -> Result<usize, WriteError>
-    ensures wrote { IfOk result (WritesPrefix (length (index_bytes (⟦<Entry<'a> as Part<(), Error>>⟧.format tt) entries.now)) (index_bytes (⟦<Entry<'a> as Part<(), Error>>⟧.format tt) entries.now) target.old target.new) }
-    ensures again { OnOk result (IsIndex (⟦<Entry<'a> as Part<(), Error>>⟧.format tt) target.new entries.now) }
-    ensures refused { IfErr result (RefusesWrite (⟦<Entry<'a> as Part<(), Error>>⟧.format tt) entries.now target.old target.new) }
+    ensures wrote { IfOk result (WritesPrefix (length
+        (index_bytes (⟦<Entry<'a> as Part<(), Error>>⟧.format tt) entries.now))
+        (index_bytes (⟦<Entry<'a> as Part<(), Error>>⟧.format tt) entries.now) target.old
+        target.new) }
+    ensures again { OnOk result (IsIndex (⟦<Entry<'a> as Part<(), Error>>⟧.format tt) target.new
+        entries.now) }
+    ensures refused { IfErr result (RefusesWrite (⟦<Entry<'a> as Part<(), Error>>⟧.format tt)
+        entries.now target.old target.new) }
 {
     let Ok(count) = u32::try_from(entries.len()) else {
         return Err(WriteError::TooMany(entries.len()));

@@ -19,7 +19,8 @@ IsLog format order log records = ReadsAll (ReadsBack format order) log 0 records
 -- the error of reading a log: that of a record after those before it, or out of memory
 abbrev pub RefusesLog : Format Error Record → Endian → List ℕ → At Error → Type 0
 RefusesLog format order log e =
-    RefusesToEnd (ReadsExact format order) (λ s. refuses format order s 0) (λ error e. e ≡ error) log 0 e.offset e.error
+    RefusesToEnd (ReadsExact format order) (λ s. refuses format order s 0) (λ error e. e ≡ error)
+    log 0 e.offset e.error
 
 -- the bytes of a log
 abbrev pub log_bytes : Format Error Record → Endian → List Record → List ℕ
@@ -30,6 +31,8 @@ abbrev pub WritesLog : Format Error Record → Endian → List Record → List �
 WritesLog format order records old new n = WritesAll (WritesWhole format order) old 0 records new n
 
 -- one of the records isn't written, and those before it are
-abbrev pub FailsLog : Format Error Record → Endian → List Record → List ℕ → List ℕ → At Error → Type 0
-FailsLog format order records old new e = FailsMany (WritesWhole format order) (KeepsWhole (λ error e. e ≡ error) format order)
+abbrev pub FailsLog : Format Error Record → Endian → List Record → List ℕ → List ℕ → At Error →
+    Type 0
+FailsLog format order records old new e = FailsMany (WritesWhole format order)
+    (KeepsWhole (λ error e. e ≡ error) format order)
     (λ error e. e ≡ error) old 0 records new e.offset e.error

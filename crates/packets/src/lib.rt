@@ -42,7 +42,8 @@ pub use crate::packet::{DnsHeader, Packet, PacketError, UdpHeader};
 
 /// Reads the packet at the start of some bytes. The bytes after its UDP length are ignored.
 pub fn read_packet<'a>(bytes: &'a [u8]) -> Result<Packet<'a>, PacketError>
-    ensures read { IfOk result (IsPacket (⟦<Packet<'a> as ReadPart<'a, (), PacketError>>⟧.format tt) bytes.now) }
+    ensures read { IfOk result (IsPacket (⟦<Packet<'a> as ReadPart<'a, (), PacketError>>⟧.format tt)
+        bytes.now) }
     ensures refused { IfErr result (refuses (⟦<Packet<'a> as ReadPart<'a, (), PacketError>>⟧.format tt) Big bytes.now 0) }
     ensures accepted { 20 ≤ field 4 bytes.now → field 4 bytes.now ≤ length bytes.now → IsOk result }
 {
@@ -55,7 +56,9 @@ pub fn read_packet<'a>(bytes: &'a [u8]) -> Result<Packet<'a>, PacketError>
 pub fn write_packet<'a>(target: &mut [u8], packet: Packet<'a>) -> Result<usize, PacketError>
     ensures wrote { IfOk result (WritesWhole (⟦<Packet<'a> as ReadPart<'a, (), PacketError>>⟧.format tt) Big packet.entry target.old target.new) }
     ensures again { OnOk result (IsPacket (⟦<Packet<'a> as ReadPart<'a, (), PacketError>>⟧.format tt) target.new packet.entry) }
-    ensures refused { IfErr result (KeepsWhole (λ error e. e ≡ Short error) (⟦<Packet<'a> as ReadPart<'a, (), PacketError>>⟧.format tt) Big packet.entry target.old target.new) }
+    ensures refused { IfErr result (KeepsWhole (λ error e. e ≡ Short error)
+        (⟦<Packet<'a> as ReadPart<'a, (), PacketError>>⟧.format tt) Big packet.entry target.old
+        target.new) }
     ensures stays { OnErr result (target.new ≡ target.old) }
 {
     let size = slice::pwrite_with(target, packet, 0, NETWORK)?;

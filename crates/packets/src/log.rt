@@ -42,9 +42,12 @@ pub fn read_records<'a>(
     log: &'a [u8],
     order: Endian,
 ) -> Result<Vec<Record<'a>>, At<Error>>
-    ensures read { IfOk result (λ records. IsLog (⟦<Record<'a> as ReadPart<'a, (), Error>>⟧.format tt) order log.now records.items) }
-    ensures back { IfOk result (λ records. log_bytes (⟦<Record<'a> as ReadPart<'a, (), Error>>⟧.format tt) order records.items ≡ log.now) }
-    ensures refused { IfErr result (RefusesLog (⟦<Record<'a> as ReadPart<'a, (), Error>>⟧.format tt) order log.now) }
+    ensures read { IfOk result (λ records. IsLog
+        (⟦<Record<'a> as ReadPart<'a, (), Error>>⟧.format tt) order log.now records.items) }
+    ensures back { IfOk result (λ records. log_bytes
+        (⟦<Record<'a> as ReadPart<'a, (), Error>>⟧.format tt) order records.items ≡ log.now) }
+    ensures refused { IfErr result (RefusesLog (⟦<Record<'a> as ReadPart<'a, (), Error>>⟧.format tt)
+        order log.now) }
 {
     read_to_end(alloc, log, &mut 0, order)
 }
@@ -57,9 +60,12 @@ pub fn write_records<'a>(
     records: &[Record<'a>],
     order: Endian,
 ) -> Result<usize, At<Error>>
-    ensures wrote { IfOk result (WritesLog (⟦<Record<'a> as ReadPart<'a, (), Error>>⟧.format tt) order records.now target.old target.new) }
-    ensures again { IfOk result (λ n. IsLog (⟦<Record<'a> as ReadPart<'a, (), Error>>⟧.format tt) order (take n target.new) records.now) }
-    ensures refused { IfErr result (FailsLog (⟦<Record<'a> as ReadPart<'a, (), Error>>⟧.format tt) order records.now target.old target.new) }
+    ensures wrote { IfOk result (WritesLog (⟦<Record<'a> as ReadPart<'a, (), Error>>⟧.format tt)
+        order records.now target.old target.new) }
+    ensures again { IfOk result (λ n. IsLog (⟦<Record<'a> as ReadPart<'a, (), Error>>⟧.format tt)
+        order (take n target.new) records.now) }
+    ensures refused { IfErr result (FailsLog (⟦<Record<'a> as ReadPart<'a, (), Error>>⟧.format tt)
+        order records.now target.old target.new) }
 {
     let mut offset = 0;
     write_many_kept(target, records, &mut offset, order)?;
