@@ -1,0 +1,221 @@
+"""What is refused, counts, and types of a fixed size, in descriptions of formats."""
+
+import random
+from dataclasses import dataclass, field
+from typing import Any, Dict, List, Tuple, Union
+
+# The numbers that are known, by the names that notes have for them.
+Known = Dict[str, int]
+UNSIGNED = {f"u{8 * width}": width for width in (1, 2, 4, 8, 16)}
+SIGNED = {f"i{8 * width}": width for width in (1, 2, 4, 8, 16)}
+FLOATS = {"f32": 4, "f64": 8}
+WIDTHS = {**UNSIGNED, **SIGNED, **FLOATS}
+GREATEST = 2**64 - 1
+# A value that is drawn has at most so many bytes in a field.
+MOST_BYTES = 3000
+
+
+class Refused(Exception):
+    """A read or a write is refused; its text is what the error prints."""
+
+
+class Misfit(Exception):
+    """A sum isn't the wanted one, as the value that is drawn stands so far."""
+
+    def __init__(self, sum_: "Sum", wanted: int, known: Known) -> None:
+        super().__init__()
+        self.sum, self.wanted, self.known = sum_, wanted, known
+
+    def named(self, name: str) -> int:
+        """Returns what a number would have to be, or -1."""
+        times = next((times for it, times in self.sum.terms if it == name), 0)
+        more = self.wanted - self.sum.of(self.known)
+        return self.known[name] + more // times if times and more % times == 0 else -1
+
+
+class Hopeless(Exception):
+    """No value is drawn so."""
+
+
+def too_big(size: int, left: int) -> Refused:
+    return Refused(f"type is too big ({min(size, GREATEST)}) for {left}")
+
+
+def bad(size: int, text: str) -> Refused:
+    return Refused(f"bad input {text} ({size})")
+
+
+def take_bytes(source: bytes, at: int, size: int) -> bytes:
+    if size > len(source) - at:
+        raise too_big(size, len(source) - at)
+    return source[at : at + size]
+
+
+def take_zeros(source: bytes, at: int, size: int) -> int:
+    """Takes zeros, and returns the offset after them."""
+    found = next((index for index, it in enumerate(take_bytes(source, at, size)) if it), None)
+    if found is not None:
+        raise bad(found, "padding is not zero")
+    return at + size
+
+
+def padding(size: int, multiple: int) -> int:
+    return -size % multiple
+
+
+@dataclass
+class Sum:
+    """A count: names, each times a number, and a number, without others. `own` is the error's variant for a count below zero."""
+
+    terms: List[Tuple[str, int]]
+    number: int = 0
+    less: List[str] = field(default_factory=list)
+    less_number: int = 0
+    own: str = ""
+
+    @property
+    def names(self) -> List[str]:
+        return [*(name for name, _ in self.terms), *self.less]
+
+    def text(self) -> str:
+        said = [as_usize(name) + (f" * {times}" if times > 1 else "") for name, times in self.terms]
+        more = [str(self.number)] if self.number or not said else []
+        less = [*map(as_usize, self.less), *([str(self.less_number)] if self.less_number else [])]
+        return " - ".join([" + ".join([*said, *more]), *less])
+
+    def whole(self, known: Known) -> int:
+        return sum(known[name] * times for name, times in self.terms) + self.number
+
+    def of(self, known: Known) -> int:
+        return self.whole(known) - sum(known[it] for it in self.less) - self.less_number
+
+    def check(self, known: Known) -> None:
+        """Refuses a count below zero."""
+        if self.of(known) >= 0:
+            return
+        if self.own:
+            raise Refused(f"{self.own.partition('::')[2]} {known[self.terms[0][0]]}")
+        whole = [name + (f" * {times}" if times > 1 else "") for name, times in self.terms]
+        less = [*self.less, *([str(self.less_number)] if self.less_number else [])]
+        raise bad(self.whole(known), f"{' + '.join([*whole, *([str(self.number)] if self.number else [])])} is less than {' + '.join(less)}")
+
+    def draw(self, known: Known) -> int:
+        """Returns a count that a drawn value has."""
+        found = self.of(known)
+        if found < 0:
+            raise Misfit(self, 0, known)
+        if found > MOST_BYTES:
+            raise Hopeless
+        return found
+
+    def want(self, known: Known, wanted: int) -> None:
+        if self.of(known) != wanted:
+            raise Misfit(self, wanted, known)
+
+
+def as_usize(name: str) -> str:
+    return name if name.endswith("()") else f"{name} as usize"
+
+
+# Types of a fixed size
+
+
+@dataclass(frozen=True)
+class Plain:
+    type: str
+
+    @property
+    def width(self) -> int:
+        return WIDTHS[self.type]
+
+    def draw(self, rng: random.Random) -> int:
+        if self.type in FLOATS:
+            return int.from_bytes(bytes(rng.choices(range(256), k=self.width - 1)) + bytes([rng.choice([0, 0x3F, 0x40, 0xC1])]), "little")
+        size = rng.choice([1, 3, 3, 6, 8 * self.width])
+        least = -(1 << (8 * self.width - 1)) if self.type in SIGNED else 0
+        return rng.choice([least, least + 256**self.width - 1]) if size == 1 else max(least, rng.getrandbits(size) + least * (size > 6))
+
+    def put(self, value: int, order: str) -> bytes:
+        return value.to_bytes(self.width, order, signed=self.type in SIGNED)  # type: ignore[arg-type]
+
+    def take(self, source: bytes, at: int, order: str) -> int:
+        return int.from_bytes(source[at : at + self.width], order, signed=self.type in SIGNED)  # type: ignore[arg-type]
+
+    def is_nan(self, value: int) -> bool:
+        bits = {"f32": (0x7F800000, 0x7FFFFF), "f64": (0x7FF << 52, (1 << 52) - 1)}.get(self.type)
+        return bool(bits and value & bits[0] == bits[0] and value & bits[1])
+
+    def leaves(self, path: str) -> List[Tuple[str, "Plain"]]:
+        return [(path, self)]
+
+
+@dataclass(frozen=True)
+class Array:
+    element: "Union[Plain, Array]"
+    length: int
+
+    @property
+    def type(self) -> str:
+        return f"[{self.element.type}; {self.length}]"
+
+    @property
+    def width(self) -> int:
+        return self.length * self.element.width
+
+    def draw(self, rng: random.Random) -> List[Any]:
+        return [self.element.draw(rng) for _ in range(self.length)]
+
+    def put(self, value: List[Any], order: str) -> bytes:
+        return b"".join(self.element.put(it, order) for it in value)
+
+    def take(self, source: bytes, at: int, order: str) -> List[Any]:
+        return [self.element.take(source, at + index * self.element.width, order) for index in range(self.length)]
+
+    def is_nan(self, value: List[Any]) -> bool:
+        return any(map(self.element.is_nan, value))
+
+    def leaves(self, path: str) -> List[Tuple[str, Plain]]:
+        return [it for index in range(self.length) for it in self.element.leaves(f"{path}[{index}]")]
+
+
+@dataclass(frozen=True)
+class Record:
+    """A struct of a fixed size."""
+
+    type: str
+    fields: Tuple[Tuple[str, Union[Plain, Array]], ...]
+
+    @property
+    def width(self) -> int:
+        return sum(it.width for _, it in self.fields)
+
+    def draw(self, rng: random.Random) -> Dict[str, Any]:
+        return {name: it.draw(rng) for name, it in self.fields}
+
+    def put(self, value: Dict[str, Any], order: str) -> bytes:
+        return b"".join(it.put(value[name], order) for name, it in self.fields)
+
+    def take(self, source: bytes, at: int, order: str) -> Dict[str, Any]:
+        value = {}
+        for name, it in self.fields:
+            value[name], at = it.take(source, at, order), at + it.width
+        return value
+
+    def is_nan(self, value: Dict[str, Any]) -> bool:
+        return any(it.is_nan(value[name]) for name, it in self.fields)
+
+    def leaves(self, path: str) -> List[Tuple[str, Plain]]:
+        return [leaf for name, it in self.fields for leaf in it.leaves(f"{path}.{name}")]
+
+    def print(self) -> str:
+        lines = "".join(f"    pub {name}: {it.type},\n" for name, it in self.fields)
+        return f"// #[derive(Pread, Pwrite)]\n#[derive(Clone, Copy)]\npub struct {self.type} {{\n{lines}}}\n"
+
+
+Fixed = Union[Plain, Array, Record]
+
+
+def lines_of(of: Fixed, path: str) -> List[str]:
+    """Returns the lines that add the numbers at a path to a digest."""
+    bits = {name: ".to_bits()" for name in FLOATS}
+    return [f"let made = mix(made, &{where}{bits.get(it.type, '')}.to_le_bytes());" for where, it in of.leaves(path)]

@@ -1,0 +1,531 @@
+"""Structs and enums of the fields that tools/derive takes: how they are written, and which bytes a value of them is."""
+
+import random
+from dataclasses import dataclass, field
+from functools import cached_property
+from typing import Any, Callable, Dict, List, NamedTuple, Optional, Sequence, Tuple
+
+from description_counts import Hopeless, Known, Misfit, Plain, Record, Refused, Sum, UNSIGNED, bad, padding, take_bytes, take_zeros
+from description_kinds import Gap, Kind, Leb, Number
+
+Rule = Callable[[Known], None]
+# How often a number is changed so that a value agrees.
+TRIES = 30
+
+
+class Condition(NamedTuple):
+    """When a field is there: a number compared with another one, or a bit of it."""
+
+    name: str
+    sign: str
+    number: int
+    bit: int = 0
+
+    def text(self) -> str:
+        return f"{self.name}{f' & {self.bit}' if self.bit else ''} {self.sign} {self.number}"
+
+    def holds(self, known: Known) -> bool:
+        found = known[self.name] & self.bit if self.bit else known[self.name]
+        of = {"==": found == self.number, "!=": found != self.number, "<": found < self.number, "<=": found <= self.number}
+        return {**of, ">": found > self.number, ">=": found >= self.number}[self.sign]
+
+
+class OwnError(NamedTuple):
+    """An error that holds the library's, and variants with the types of the numbers in them."""
+
+    name: str
+    variants: List[Tuple[str, str]]
+
+    def print(self) -> str:
+        lines = "".join(f"    {name}({kind}),\n" for name, kind in self.variants)
+        gives = f"    ghost from_gives = {{ λ error e. e ≡ Refused error }};\n\n    fn from(error: Error) -> {self.name} {{\n"
+        return f"""#[derive(Drop)]
+pub enum {self.name} {{
+    Refused(Error),
+{lines}}}
+
+impl From<Error> for {self.name} {{
+{gives}        {self.name}::Refused(error)
+    }}
+}}
+"""
+
+
+@dataclass
+class Field:
+    """A field: its kind, the length that it uses up, the multiple to which it is padded, and when it is there."""
+
+    name: str
+    kind: Kind
+    within: Optional[Sum] = None
+    padded: int = 0
+    condition: Optional[Condition] = None
+
+    @property
+    def type(self) -> str:
+        return f"Option<{self.kind.type}>" if self.condition else self.kind.type
+
+    @property
+    def is_plain(self) -> bool:
+        return not (self.within or self.padded or self.condition)
+
+    @property
+    def counts(self) -> List[Sum]:
+        return [*self.kind.counts, *([self.within] if self.within else [])]
+
+    def print(self) -> str:
+        notes = [f"if = {self.condition.text()}"] if self.condition else []
+        notes += [f"within = {self.within.text()}"] if self.within else []
+        notes += [*([f"padded = {self.padded}"] if self.padded else []), *self.kind.notes()]
+        notes += [f"else = {it.own}" for it in self.kind.counts if it.own]
+        return (f"    // #[scroll({', '.join(notes)})]\n" if notes else "") + f"    pub {self.name}: {self.type},\n"
+
+    def draw(self, rng: random.Random, order: str, known: Known) -> Any:
+        if self.condition and not self.condition.holds(known):
+            return None
+        value = self.kind.draw(rng, order, known)
+        if self.within:
+            self.within.want(known, len(self.kind.put(value, order)))
+        return value
+
+    def put(self, value: Any, order: str) -> bytes:
+        made = self.kind.put(value, order) if value is not None else b""
+        return made + bytes(padding(len(made), self.padded) if self.padded else 0)
+
+    def take(self, source: bytes, at: int, order: str, known: Known) -> Tuple[Any, int]:
+        if self.condition and not self.condition.holds(known):
+            return None, at
+        if self.within:
+            left = take_bytes(source, at, self.within.of(known))
+            value, end = self.kind.take(left, 0, order, known)
+            if end < len(left):
+                raise bad(end, "fewer bytes than its part")
+            end += at
+        else:
+            value, end = self.kind.take(source, at, order, known)
+        return value, take_zeros(source, end, padding(end - at, self.padded)) if self.padded else end
+
+    def check(self, value: Any, order: str, known: Known) -> None:
+        if self.condition:
+            if self.condition.holds(known) != (value is not None):
+                raise bad(1, "an optional part is missing") if value is None else bad(0, "an optional part is too many")
+            if value is None:
+                return
+        self.kind.check(value, order, known)
+        if self.within and len(self.kind.put(value, order)) != self.within.of(known):
+            raise bad(self.within.of(known), "another length than its part")
+
+    def numbers(self, value: Any) -> Known:
+        return {} if self.condition else self.kind.numbers(self.name, value)
+
+    def rules(self) -> List[Tuple[List[str], Rule]]:
+        """Returns what is tested of numbers where the field is there, with the names of these."""
+        found: List[Tuple[List[str], Rule]] = []
+        if isinstance(self.kind, Number) and self.kind.constant is not None:
+            found.append(([self.name], self.check_constant))
+        found += [(it.names, it.check) for it in self.kind.counts if it.less or it.less_number]
+        if isinstance(self.kind, Tagged) and not self.kind.enum.is_own:
+            found.append(([self.kind.tag], self.kind.check_tag))
+        found += [(self.within.names, self.within.check)] if self.within and (self.within.less or self.within.less_number) else []
+        names = [self.condition.name] if self.condition else []
+        return [([*others, *names], self.where_there(rule)) for others, rule in found]
+
+    def where_there(self, rule: Rule) -> Rule:
+        return lambda known: rule(known) if not self.condition or self.condition.holds(known) else None
+
+    def check_constant(self, known: Known) -> None:
+        assert isinstance(self.kind, Number)
+        if known[self.name] != self.kind.constant:
+            own = self.kind.own.partition("::")[2]
+            raise Refused(f"{own} {known[self.name]}") if own else bad(known[self.name], f"{self.name} is not {self.kind.constant}")
+
+    def lines(self) -> List[str]:
+        if not self.condition:
+            return self.kind.lines(f"value.{self.name}")
+        some = ["    Some(it) => {", "        let made = mix(made, &[1]);", *(f"        {it}" for it in self.kind.lines("it")), "        made", "    }"]
+        return [f"let made = match value.{self.name} {{", *some, "    None => mix(made, &[0]),", "};"]
+
+    def mixed(self, value: Any, order: str) -> bytes:
+        head = b"" if not self.condition else bytes([value is not None])
+        return head + (self.kind.mixed(value, order) if value is not None else b"")
+
+
+@dataclass
+class Part:
+    """Fields that stand in a source together or not at all, and the rules that are tested behind them."""
+
+    fields: List[Field]
+    rules: List[Rule] = field(default_factory=list)
+
+    @property
+    def kinds(self) -> List[Number]:
+        return [it.kind for it in self.fields if isinstance(it.kind, Number) and it.is_plain]
+
+    @property
+    def is_bits(self) -> bool:
+        return any(it.bits for it in self.kinds)
+
+    @property
+    def word(self) -> Plain:
+        """The number that holds fields of bits."""
+        return Plain(self.kinds[0].of.type)
+
+    @property
+    def width(self) -> int:
+        return self.word.width if self.is_bits else sum(it.of.width for it in self.kinds)
+
+    def put(self, value: Dict[str, Any], order: str) -> bytes:
+        if not self.is_bits:
+            return b"".join(it.put(value[it.name], order) for it in self.fields)
+        number = 0
+        for it, kind in zip(self.fields, self.kinds):
+            number = number << kind.bits | value[it.name]
+        return self.word.put(number, order)
+
+    def take(self, source: bytes, at: int, order: str, known: Known) -> Tuple[Dict[str, Any], int]:
+        take_bytes(source, at, self.width)
+        value: Dict[str, Any] = {}
+        left = 8 * self.width
+        for it in self.fields:
+            if self.is_bits:
+                assert isinstance(it.kind, Number)
+                left -= it.kind.bits
+                value[it.name] = self.word.take(source, at, order) >> left & ((1 << it.kind.bits) - 1)
+            else:
+                value[it.name], at = it.take(source, at, order, known)
+        return value, at + self.width * self.is_bits
+
+    def check(self, value: Dict[str, Any], order: str, known: Known) -> None:
+        if not self.is_bits:
+            for it in self.fields:
+                it.check(value[it.name], order, known)
+            return
+        for it, kind in [*list(zip(self.fields, self.kinds))[1:], (self.fields[0], self.kinds[0])]:
+            if value[it.name] >> kind.bits:
+                raise bad(value[it.name], "a field has more bits")
+
+
+@dataclass
+class Struct:
+    """A struct: its fields, the multiple to which it is padded, whether it is given a number, and its error."""
+
+    name: str
+    fields: List[Field] = field(default_factory=list)
+    multiple: int = 0
+    is_given: bool = False
+    error: Optional[OwnError] = None
+
+    @property
+    def type(self) -> str:
+        return self.name + ("<'a>" if any("'a" in it.type for it in self.fields) else "")
+
+    @property
+    def is_exact(self) -> bool:
+        return all(it.kind.is_exact for it in self.fields)
+
+    @cached_property
+    def parts(self) -> List[Part]:
+        # (once the struct is drawn)
+        parts: List[Part] = []
+        gap = -1
+        for it in self.fields:
+            last = parts[-1] if parts else Part([])
+            is_number = isinstance(it.kind, Number) and it.is_plain
+            bits = sum(kind.bits for kind in last.kinds)
+            is_open = bits < 8 * last.width if last.is_bits else not (isinstance(it.kind, Number) and it.kind.bits)
+            if is_number and last.kinds and is_open:
+                last.fields.append(it)
+            else:
+                parts.append(Part([it]))
+            for names, rule in it.rules():
+                found = [at for at, part in enumerate(parts) for one in part.fields if one.name in [name.split(".")[0] for name in names]]
+                parts[max([gap, *found])].rules.append(rule)
+            if isinstance(it.kind, Gap) and it.kind.multiple:
+                gap = len(parts) - 1
+        return parts
+
+    def print(self) -> str:
+        notes = [f"error = {self.error.name}::Refused"] if self.error else []
+        notes += ["given = given: usize"] if self.is_given else []
+        notes += [f"padded = {self.multiple}"] if self.multiple else []
+        head = f"// #[scroll({', '.join(notes)})]\n" if notes else ""
+        fields = "".join(it.print() for it in self.fields)
+        return f"// #[derive(Pread, Pwrite)]\n{head}#[derive(Clone, Copy)]\npub struct {self.type} {{\n{fields}}}\n"
+
+    def put(self, value: Dict[str, Any], order: str) -> bytes:
+        made = b"".join(it.put(value, order) for it in self.parts)
+        return made + bytes(padding(len(made), self.multiple) if self.multiple else 0)
+
+    def take(self, source: bytes, at: int, order: str, given: int = 0) -> Tuple[Dict[str, Any], int]:
+        start, known, value = at, {"given": given}, {}
+        for part in self.parts:
+            known["offset"] = at - start
+            found, at = part.take(source, at, order, known)
+            value.update(found)
+            known.update(self.numbers(part, found))
+            for rule in part.rules:
+                rule(known)
+        return value, take_zeros(source, at, padding(at - start, self.multiple)) if self.multiple else at
+
+    def check(self, value: Dict[str, Any], order: str, given: int = 0) -> None:
+        known = {"given": given}
+        for part in self.parts:
+            part.check(value, order, known)
+            known.update(self.numbers(part, value))
+            for rule in part.rules:
+                rule(known)
+
+    @staticmethod
+    def numbers(part: Part, value: Dict[str, Any]) -> Known:
+        return {name: number for it in part.fields for name, number in it.numbers(value[it.name]).items()}
+
+    def mixed(self, value: Dict[str, Any], order: str) -> bytes:
+        return b"".join(it.mixed(value[it.name], order) for it in self.fields)
+
+    def is_nan(self, value: Dict[str, Any]) -> bool:
+        return any(value[it.name] is not None and it.kind.is_nan(value[it.name]) for it in self.fields)
+
+    # A value that is drawn
+
+    def draw(self, seed: str, order: str, given: int = 0) -> Dict[str, Any]:
+        """Draws a value that agrees. A number that doesn't fit what it counts is changed, and the rest drawn again."""
+        pins: Known = {}
+        for at in range(TRIES):
+            if at % 10 == 0:
+                seed, pins = f"{seed} {at}", {}
+            try:
+                return self.draw_once(seed, order, given, pins)
+            except Misfit as misfit:
+                self.pin(misfit, pins, random.Random(f"{seed} {len(pins)}"))
+        raise Hopeless
+
+    def draw_once(self, seed: str, order: str, given: int, pins: Known) -> Dict[str, Any]:
+        known, value = {"given": given}, {}
+        at = 0
+        for part in self.parts:
+            known["offset"] = at
+            for it in part.fields:
+                rng = random.Random(f"{seed} {it.name}")
+                value[it.name] = it.draw(rng, order, known)
+                if it.name in self.free() and (it.name in pins or self.hints(it.name)):
+                    number = pins.get(it.name, rng.choice(self.hints(it.name) or [0]))
+                    value[it.name] = (number, it.kind.least(number)) if isinstance(it.kind, Leb) else number
+                known.update(it.numbers(value[it.name]))
+            at += len(part.put(value, order))
+        return value
+
+    def free(self) -> Known:
+        """Returns the numbers that can be drawn, and how great they can be."""
+        found = {it.name: 1 << 63 for it in self.fields if isinstance(it.kind, Leb) and not it.kind.is_signed and it.is_plain}
+        for it in self.fields:
+            if isinstance(it.kind, Number) and it.is_plain and it.kind.constant is None and it.kind.of.type in UNSIGNED:
+                found[it.name] = 1 << (it.kind.bits or 8 * it.kind.of.width)
+        return found
+
+    def hints(self, name: str) -> List[int]:
+        """Returns numbers that suit what a number says, or none if it says nothing."""
+        conditions = [it.condition for it in self.fields if it.condition and it.condition.name == name]
+        named = [it for it in self.fields for count in it.counts if name in count.names]
+        found = [number for it in conditions for number in (it.number, it.number + 1, it.bit, it.bit + 1, 0)]
+        greatest = self.free()[name]
+        bits = next(it.kind.bits for it in self.fields if it.name == name and isinstance(it.kind, Number)) if greatest < 1 << 63 else 0
+        found += [0, 1, 2, 3, 5, 9] if named or bits else []
+        return [it for it in found if it < greatest]
+
+    def pin(self, misfit: Misfit, pins: Known, rng: random.Random) -> None:
+        """Sets a number of a sum so that this is the wanted one."""
+        names = [name for name, _ in misfit.sum.terms]
+        greatest = self.free()
+        for name in rng.sample(names, len(names)):
+            number = misfit.named(name)
+            if name == "given":
+                raise misfit
+            if name in greatest and 0 <= number < greatest[name]:
+                pins[name] = number
+                return
+        raise Hopeless
+
+
+class Variant(NamedTuple):
+    name: str
+    tag: int
+    kinds: List[Kind]
+
+
+@dataclass
+class Enum:
+    """An enum by a tag of its own, or by one that it is given, perhaps with a length; and its error's variant for an unknown tag."""
+
+    name: str
+    tag: Plain
+    is_own: bool
+    variants: List[Variant]
+    error: Optional[OwnError] = None
+    own: str = ""
+
+    @property
+    def type(self) -> str:
+        return self.name + ("<'a>" if any("'a" in kind.type for it in self.variants for kind in it.kinds) else "")
+
+    @property
+    def has_length(self) -> bool:
+        return any("given" in count.names for it in self.variants for kind in it.kinds for count in kind.counts)
+
+    def print(self) -> str:
+        notes = [f"given = (kind: {self.tag.type}, given: usize)" if self.has_length else f"given = kind: {self.tag.type}"]
+        notes = [f"tag = {self.tag.type}"] if self.is_own else notes
+        notes += [f"error = {self.error.name}::Refused"] if self.error else []
+        notes += [f"else = {self.error.name}::{self.own}"] if self.error and self.own else []
+        lines = []
+        for it in self.variants:
+            said = ", ".join([f"is = {it.tag}", *(note for kind in it.kinds for note in kind.notes())])
+            lines.append(f"    // #[scroll({said})]\n    {it.name}{f'({self.types(it)})' if it.kinds else ''},\n")
+        head = f"// #[derive(Pread, Pwrite)]\n// #[scroll({', '.join(notes)})]\n#[derive(Clone, Copy)]\n"
+        return f"{head}pub enum {self.type} {{\n{''.join(lines)}}}\n"
+
+    @staticmethod
+    def types(variant: Variant) -> str:
+        return ", ".join(it.type for it in variant.kinds)
+
+
+@dataclass
+class Inner(Kind):
+    """A struct, which may be given a number."""
+
+    struct: Struct
+    count: Optional[Sum] = None
+
+    @property
+    def type(self) -> str:  # type: ignore[override]
+        return self.struct.type
+
+    @property
+    def is_exact(self) -> bool:  # type: ignore[override]
+        return self.struct.is_exact
+
+    @property
+    def counts(self) -> List[Sum]:
+        return [self.count] if self.count else []
+
+    def notes(self) -> List[str]:
+        return [f"ctx = {self.count.text()}"] if self.count else []
+
+    def given(self, known: Known) -> int:
+        return self.count.of(known) if self.count else 0
+
+    def draw(self, rng: random.Random, order: str, known: Known) -> Any:
+        given = self.count.draw(known) if self.count else 0
+        try:
+            return self.struct.draw(str(rng.random()), order, given)
+        except Misfit as misfit:
+            assert self.count
+            raise Misfit(self.count, misfit.named("given"), known) from None
+
+    def put(self, value: Any, order: str) -> bytes:
+        return self.struct.put(value, order)
+
+    def take(self, source: bytes, at: int, order: str, known: Known) -> Tuple[Any, int]:
+        return self.struct.take(source, at, order, self.given(known))
+
+    def check(self, value: Any, order: str, known: Known) -> None:
+        self.struct.check(value, order, self.given(known))
+
+    def numbers(self, name: str, value: Any) -> Known:
+        plain = [it for it in self.struct.fields if it.is_plain and isinstance(it.kind, (Number, Leb))]
+        found = {it.name: it.kind.numbers(it.name, value[it.name]).get(it.name) for it in plain}
+        return {f"{name}.{inner}": it for inner, it in found.items() if it is not None}
+
+    def lines(self, path: str) -> List[str]:
+        return [f"let made = digest_{self.struct.name.lower()}(&{path}, made);"]
+
+    def mixed(self, value: Any, order: str) -> bytes:
+        return self.struct.mixed(value, order)
+
+    def is_nan(self, value: Any) -> bool:
+        return self.struct.is_nan(value)
+
+
+@dataclass
+class Tagged(Kind):
+    """An enum by its own tag, or by that of an earlier field, where it may be given a length."""
+
+    enum: Enum
+    tag: str
+    count: Optional[Sum] = None
+
+    @property
+    def type(self) -> str:  # type: ignore[override]
+        return self.enum.type
+
+    @property
+    def is_exact(self) -> bool:  # type: ignore[override]
+        return all(kind.is_exact for it in self.enum.variants for kind in it.kinds)
+
+    @property
+    def counts(self) -> List[Sum]:
+        return [self.count] if self.count else []
+
+    def notes(self) -> List[str]:
+        return [f"ctx = ({self.tag}, {self.count.text()})" if self.count else f"ctx = {self.tag}"] if not self.enum.is_own else []
+
+    def inside(self, known: Known) -> Known:
+        return {"given": self.count.of(known)} if self.count else {}
+
+    def index(self, tag: int) -> int:
+        return [it.tag for it in self.enum.variants].index(tag)
+
+    def check_tag(self, known: Known) -> None:
+        tag = known[self.tag]
+        if tag not in [it.tag for it in self.enum.variants]:
+            raise Refused(f"{self.enum.own} {tag}") if self.enum.own else bad(tag, f"{self.enum.name} has no such tag")
+
+    def draw(self, rng: random.Random, order: str, known: Known) -> Any:
+        tags = [it.tag for it in self.enum.variants]
+        tag = rng.choice(tags) if self.enum.is_own else known[self.tag]
+        if tag not in tags:
+            raise Misfit(Sum([(self.tag, 1)]), rng.choice(tags), known)
+        if self.count:
+            self.count.draw(known)
+        try:
+            return self.index(tag), [it.draw(rng, order, self.inside(known)) for it in self.enum.variants[self.index(tag)].kinds]
+        except Misfit as misfit:
+            assert self.count
+            raise Misfit(self.count, misfit.named("given"), known) from None
+
+    def put(self, value: Any, order: str) -> bytes:
+        of = self.enum.variants[value[0]]
+        tag = self.enum.tag.put(of.tag, order) if self.enum.is_own else b""
+        return tag + b"".join(kind.put(it, order) for kind, it in zip(of.kinds, value[1]))
+
+    def take(self, source: bytes, at: int, order: str, known: Known) -> Tuple[Any, int]:
+        if self.enum.is_own:
+            take_bytes(source, at, self.enum.tag.width)
+            known = {**known, self.tag: self.enum.tag.take(source, at, order)}
+            self.check_tag(known)
+            at += self.enum.tag.width
+        made, index = [], self.index(known[self.tag])
+        kinds = self.enum.variants[index].kinds
+        if len(kinds) > 1:
+            take_bytes(source, at, sum(it.of.width for it in kinds if isinstance(it, Number)))
+        for it in kinds:
+            value, at = it.take(source, at, order, self.inside(known))
+            made.append(value)
+        return (index, made), at
+
+    def check(self, value: Any, order: str, known: Known) -> None:
+        index = value[0]
+        wanted = index if self.enum.is_own else self.index(known[self.tag])
+        if index != wanted:
+            raise bad(int(wanted < index), "another variant than its tag")
+        for kind, it in zip(self.enum.variants[index].kinds, value[1]):
+            kind.check(it, order, self.inside(known))
+
+    def lines(self, path: str) -> List[str]:
+        return [f"let made = digest_{self.enum.name.lower()}(&{path}, made);"]
+
+    def mixed(self, value: Any, order: str) -> bytes:
+        kinds = self.enum.variants[value[0]].kinds
+        return bytes([value[0]]) + b"".join(kind.mixed(it, order) for kind, it in zip(kinds, value[1]))
+
+    def is_nan(self, value: Any) -> bool:
+        return any(kind.is_nan(it) for kind, it in zip(self.enum.variants[value[0]].kinds, value[1]))
