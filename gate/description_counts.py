@@ -217,5 +217,5 @@ Fixed = Union[Plain, Array, Record]
 
 def lines_of(of: Fixed, path: str) -> List[str]:
     """Returns the lines that add the numbers at a path to a digest."""
-    bits = {name: ".to_bits()" for name in FLOATS}
-    return [f"let made = mix(made, &{where}{bits.get(it.type, '')}.to_le_bytes());" for where, it in of.leaves(path)]
+    said = [f"{it.type}_to_bits_with_nan({where})" if it.type in FLOATS else where for where, it in of.leaves(path)]
+    return [f"let made = mix(made, &{it}.to_le_bytes());" for it in said]

@@ -21,6 +21,7 @@ use scroll::cstr::CStr;
 use scroll::{Endian, Error, Pread, Pwrite, slice};
 use scroll_formats::{Table, Zeros};
 use scroll_layouts::{Items, Sleb, Uleb};
+use std::num::{f32_to_bits_with_nan, f64_to_bits_with_nan};
 use std::result::Result;
 
 mod derived;
