@@ -49,7 +49,7 @@ def tagged_blocks(printer: "Printer", parts: str, context: str, ghost: str, code
         "}",
     ]
     arguments = ["from: &'a [u8]", "offset: usize", "order: Endian", ctx]
-    whole = f"let ((Run(tag), value), end) = {printer.name}Parts::read_at"
+    whole = f"let (read, end) = <{parts} as ReadPart<'a, {context}, {error}>>::read_at"
     lines: List[str] = []
     for at, it in enumerate(form.variants):
         value = flat(it.part.join)
@@ -64,6 +64,7 @@ def tagged_blocks(printer: "Printer", parts: str, context: str, ghost: str, code
         *signature_lines("read_at", arguments, f"Result<({form.type}, usize), {error}>", " {", 4),
         f"        let ctx = {flat(code)};",
         *call_lines(whole, ["from", "offset", "order", "&ctx"], "?;", 8),
+        "        let (Run(tag), value) = read;",
         "        match (tag, value) {",
         *lines,
         "            _ => unreachable!(),",
