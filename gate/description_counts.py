@@ -1,5 +1,6 @@
 """What is refused, counts, and types of a fixed size, in descriptions of formats."""
 
+import itertools
 import random
 from dataclasses import dataclass, field
 from typing import Any, Dict, List, Tuple, Union
@@ -11,6 +12,7 @@ SIGNED = {f"i{8 * width}": width for width in (1, 2, 4, 8, 16)}
 FLOATS = {"f32": 4, "f64": 8}
 WIDTHS = {**UNSIGNED, **SIGNED, **FLOATS}
 GREATEST = 2**64 - 1
+MARK = "// #[derive(Pread, Pwrite)]\n"
 # A value that is drawn has at most so many bytes in a field.
 MOST_BYTES = 3000
 
@@ -117,11 +119,10 @@ def as_usize(name: str) -> str:
     return name if name.endswith("()") else f"{name} as usize"
 
 
-# Types of a fixed size
-
-
 @dataclass(frozen=True)
 class Plain:
+    """A type of numbers."""
+
     type: str
 
     @property
@@ -145,74 +146,56 @@ class Plain:
         bits = {"f32": (0x7F800000, 0x7FFFFF), "f64": (0x7FF << 52, (1 << 52) - 1)}.get(self.type)
         return bool(bits and value & bits[0] == bits[0] and value & bits[1])
 
-    def leaves(self, path: str) -> List[Tuple[str, "Plain"]]:
+    def leaves(self, path: str) -> "List[Tuple[str, Plain]]":
         return [(path, self)]
 
 
 @dataclass(frozen=True)
-class Array:
-    element: "Union[Plain, Array]"
-    length: int
-
-    @property
-    def type(self) -> str:
-        return f"[{self.element.type}; {self.length}]"
-
-    @property
-    def width(self) -> int:
-        return self.length * self.element.width
-
-    def draw(self, rng: random.Random) -> List[Any]:
-        return [self.element.draw(rng) for _ in range(self.length)]
-
-    def put(self, value: List[Any], order: str) -> bytes:
-        return b"".join(self.element.put(it, order) for it in value)
-
-    def take(self, source: bytes, at: int, order: str) -> List[Any]:
-        return [self.element.take(source, at + index * self.element.width, order) for index in range(self.length)]
-
-    def is_nan(self, value: List[Any]) -> bool:
-        return any(map(self.element.is_nan, value))
-
-    def leaves(self, path: str) -> List[Tuple[str, Plain]]:
-        return [it for index in range(self.length) for it in self.element.leaves(f"{path}[{index}]")]
-
-
-@dataclass(frozen=True)
-class Record:
-    """A struct of a fixed size."""
+class Group:
+    """An array, whose parts stand at `[0]` and on, or a struct of a fixed size, whose parts stand at `.r0` and on."""
 
     type: str
-    fields: Tuple[Tuple[str, Union[Plain, Array]], ...]
+    parts: "Tuple[Tuple[str, Fixed], ...]"
+
+    @property
+    def is_struct(self) -> bool:
+        return self.parts[0][0].startswith(".")
 
     @property
     def width(self) -> int:
-        return sum(it.width for _, it in self.fields)
+        return sum(it.width for _, it in self.parts)
 
-    def draw(self, rng: random.Random) -> Dict[str, Any]:
-        return {name: it.draw(rng) for name, it in self.fields}
+    def draw(self, rng: random.Random) -> List[Any]:
+        return [it.draw(rng) for _, it in self.parts]
 
-    def put(self, value: Dict[str, Any], order: str) -> bytes:
-        return b"".join(it.put(value[name], order) for name, it in self.fields)
+    def put(self, value: List[Any], order: str) -> bytes:
+        return b"".join(it.put(one, order) for (_, it), one in zip(self.parts, value))
 
-    def take(self, source: bytes, at: int, order: str) -> Dict[str, Any]:
-        value = {}
-        for name, it in self.fields:
-            value[name], at = it.take(source, at, order), at + it.width
-        return value
+    def take(self, source: bytes, at: int, order: str) -> List[Any]:
+        starts = itertools.accumulate((it.width for _, it in self.parts), initial=at)
+        return [it.take(source, start, order) for (_, it), start in zip(self.parts, starts)]
 
-    def is_nan(self, value: Dict[str, Any]) -> bool:
-        return any(it.is_nan(value[name]) for name, it in self.fields)
+    def is_nan(self, value: List[Any]) -> bool:
+        return any(it.is_nan(one) for (_, it), one in zip(self.parts, value))
 
     def leaves(self, path: str) -> List[Tuple[str, Plain]]:
-        return [leaf for name, it in self.fields for leaf in it.leaves(f"{path}.{name}")]
+        return [leaf for where, it in self.parts for leaf in it.leaves(path + where)]
 
     def print(self) -> str:
-        lines = "".join(f"    pub {name}: {it.type},\n" for name, it in self.fields)
-        return f"// #[derive(Pread, Pwrite)]\n#[derive(Clone, Copy)]\npub struct {self.type} {{\n{lines}}}\n"
+        lines = "".join(f"    pub {where[1:]}: {it.type},\n" for where, it in self.parts)
+        return f"{MARK}#[derive(Clone, Copy)]\npub struct {self.type} {{\n{lines}}}\n"
 
 
-Fixed = Union[Plain, Array, Record]
+Fixed = Union[Plain, Group]
+
+
+def array(of: Fixed, length: int) -> Group:
+    return Group(f"[{of.type}; {length}]", tuple((f"[{at}]", of) for at in range(length)))
+
+
+def is_count(of: Fixed) -> bool:
+    """Returns whether notes can name a number."""
+    return of.type in UNSIGNED and of.width <= 8
 
 
 def lines_of(of: Fixed, path: str) -> List[str]:

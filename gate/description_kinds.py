@@ -1,31 +1,25 @@
 """The kinds of fields that tools/derive takes: how each is written, and which bytes a value of it is.
 
 This says by itself what a read and a write give, by the library's documents, and asks tools/derive nothing. A value is a number, of a
-float its bits; `bytes`; a list of an array's elements; a dictionary of a struct's fields; the number and the size of a number in LEB128;
-`None`, or an optional value; or the index of a variant and its values.
+float its bits; `bytes`; a list of the parts of an array or of a struct of a fixed size; a dictionary of a struct's fields; the number and
+the size of a number in LEB128; `None`, or an optional value; or the index of a variant and its values.
 """
 
 import random
-from dataclasses import dataclass
 from typing import Any, List, Optional, Tuple
 
-from description_counts import FLOATS, GREATEST, UNSIGNED, Fixed, Hopeless, Known, Plain, Record, Sum, bad, lines_of, padding
+from description_counts import FLOATS, GREATEST, MARK, Fixed, Group, Hopeless, Known, Sum, bad, is_count, lines_of, padding
 from description_counts import take_bytes, take_zeros, too_big
 
 
 class Kind:
-    """A kind of field. `counts` are the sums in its notes; it is `exact` where it has no floats."""
+    """A kind of field: its type, its notes, and the counts in these. It is exact where it has no floats."""
 
-    type = ""
-    is_exact = True
-
-    @property
-    def counts(self) -> List[Sum]:
-        return []
+    def __init__(self, type_: str, notes: List[str], *counts: Sum) -> None:
+        self.type, self.own_notes, self.counts, self.is_exact = type_, notes, counts, True
 
     def notes(self) -> List[str]:
-        """Returns the notes before the field."""
-        return []
+        return [*self.own_notes, *(f"else = {it.own}" for it in self.counts if it.own)]
 
     def draw(self, rng: random.Random, order: str, known: Known) -> Any:
         raise NotImplementedError
@@ -55,27 +49,14 @@ class Kind:
         return False
 
 
-@dataclass
 class Number(Kind):
-    """A field of a fixed size, perhaps with a constant, whose other values may have an error of one's own."""
+    """A field of a fixed size, perhaps of some bits, or with a constant, whose other values may have an error of one's own."""
 
-    of: Fixed
-    constant: Optional[int] = None
-    own: str = ""
-    bits: int = 0
-
-    @property
-    def type(self) -> str:  # type: ignore[override]
-        return self.of.type
-
-    @property
-    def is_exact(self) -> bool:  # type: ignore[override]
-        return not any(it.type in FLOATS for _, it in self.of.leaves(""))
-
-    def notes(self) -> List[str]:
-        found = [f"bits = {self.bits}"] if self.bits else []
-        found += [f"is = {self.constant}"] if self.constant is not None else []
-        return [*found, *([f"else = {self.own}"] if self.own else [])]
+    def __init__(self, of: Fixed, constant: Optional[int] = None, own: str = "", bits: int = 0) -> None:
+        notes = [f"bits = {bits}"] if bits else [f"is = {constant}"] if constant is not None else []
+        super().__init__(of.type, [*notes, *([f"else = {own}"] if own else [])])
+        self.of, self.constant, self.own, self.bits = of, constant, own, bits
+        self.is_exact = not any(it.type in FLOATS for _, it in of.leaves(""))
 
     def draw(self, rng: random.Random, order: str, known: Known) -> Any:
         return self.of.draw(rng) if self.constant is None else self.constant
@@ -88,8 +69,8 @@ class Number(Kind):
         return self.of.take(source, at, order), at + self.of.width
 
     def numbers(self, name: str, value: Any) -> Known:
-        if isinstance(self.of, Record):
-            return {f"{name}.{it}": value[it] for it, kind in self.of.fields if is_count(kind)}
+        if isinstance(self.of, Group):
+            return {name + where: one for (where, it), one in zip(self.of.parts, value) if is_count(it)}
         return {name: value} if is_count(self.of) else {}
 
     def lines(self, path: str) -> List[str]:
@@ -102,28 +83,12 @@ class Number(Kind):
         return self.of.is_nan(value)
 
 
-def is_count(of: Fixed) -> bool:
-    """Returns whether notes can name a number."""
-    return isinstance(of, Plain) and of.type in UNSIGNED and of.width <= 8
-
-
-@dataclass
 class Slice(Kind):
     """Bytes or a text of a count."""
 
-    count: Sum
-    is_text: bool = False
-
-    @property
-    def type(self) -> str:  # type: ignore[override]
-        return "&'a str" if self.is_text else "&'a [u8]"
-
-    @property
-    def counts(self) -> List[Sum]:
-        return [self.count]
-
-    def notes(self) -> List[str]:
-        return [f"ctx = StrCtx::Length({self.count.text()})" if self.is_text else f"ctx = {self.count.text()}"]
+    def __init__(self, count: Sum, is_text: bool = False) -> None:
+        super().__init__("&'a str" if is_text else "&'a [u8]", [f"ctx = StrCtx::Length({count.text()})" if is_text else f"ctx = {count.text()}"], count)
+        self.count, self.is_text = count, is_text
 
     def draw(self, rng: random.Random, order: str, known: Known) -> bytes:
         count = self.count.draw(known)
@@ -147,10 +112,9 @@ class Slice(Kind):
 
 
 def draw_text(rng: random.Random, count: int, without: int = -1) -> bytes:
-    letters = ["a", "b", "z", " ", "é", "€", "😀"]
     made = b""
     while len(made) < count:
-        letter = rng.choice(letters).encode()
+        letter = rng.choice(["a", "b", "z", " ", "é", "€", "😀"]).encode()
         made += letter if len(made) + len(letter) <= count and without not in [*letter] else b"x"
     return made
 
@@ -162,18 +126,12 @@ def check_text(text: bytes, left: int) -> None:
         raise bad(left, "invalid utf8") from None
 
 
-@dataclass
 class Ended(Kind):
     """A text up to a byte, or a C string, where the byte is below zero."""
 
-    byte: int
-
-    @property
-    def type(self) -> str:  # type: ignore[override]
-        return "CStr<'a>" if self.byte < 0 else "&'a str"
-
-    def notes(self) -> List[str]:
-        return [] if self.byte < 0 else [f"ctx = StrCtx::Required({self.byte})"]
+    def __init__(self, byte: int) -> None:
+        super().__init__("CStr<'a>" if byte < 0 else "&'a str", [] if byte < 0 else [f"ctx = StrCtx::Required({byte})"])
+        self.byte = byte
 
     def draw(self, rng: random.Random, order: str, known: Known) -> bytes:
         return draw_text(rng, rng.randint(0, 9), self.byte)
@@ -200,15 +158,12 @@ class Ended(Kind):
         return [f"let made = mix_bytes(made, {path}{'.to_bytes()' if self.byte < 0 else '.as_bytes()'});"]
 
 
-@dataclass
 class Leb(Kind):
     """A number in LEB128, with the length of its encoding."""
 
-    is_signed: bool
-
-    @property
-    def type(self) -> str:  # type: ignore[override]
-        return "Sleb" if self.is_signed else "Uleb"
+    def __init__(self, is_signed: bool) -> None:
+        super().__init__("Sleb" if is_signed else "Uleb", [])
+        self.is_signed = is_signed
 
     def draw(self, rng: random.Random, order: str, known: Known) -> Tuple[int, int]:
         value = rng.getrandbits(rng.choice([2, 2, 3, 3, 7, 8, 14, 63]))
@@ -216,8 +171,7 @@ class Leb(Kind):
         return value, self.least(value) + (rng.randint(0, 2) if abs(value) < 1 << 40 else 0)
 
     def least(self, value: int) -> int:
-        bits = (value if value >= 0 else ~value).bit_length() + self.is_signed
-        return max(1, -(-bits // 7))
+        return max(1, -(-((value if value >= 0 else ~value).bit_length() + self.is_signed) // 7))
 
     def put(self, value: Tuple[int, int], order: str) -> bytes:
         groups = [value[0] >> 7 * at & 127 for at in range(value[1])]
@@ -246,20 +200,12 @@ class Leb(Kind):
         return value[0].to_bytes(8, "little", signed=self.is_signed) + value[1].to_bytes(8, "little")
 
 
-@dataclass
 class Gap(Kind):
     """Zeros: a count of them, or up to a multiple of a size, counted from the first byte of the struct."""
 
-    count: Sum
-    multiple: int = 0
-    type = "Zeros"
-
-    @property
-    def counts(self) -> List[Sum]:
-        return [] if self.multiple else [self.count]
-
-    def notes(self) -> List[str]:
-        return [f"ctx = padding(offset, {self.multiple})" if self.multiple else f"ctx = {self.count.text()}"]
+    def __init__(self, count: Sum, multiple: int = 0) -> None:
+        super().__init__("Zeros", [f"ctx = padding(offset, {multiple})" if multiple else f"ctx = {count.text()}"], *([] if multiple else [count]))
+        self.count, self.multiple = count, multiple
 
     def draw(self, rng: random.Random, order: str, known: Known) -> bytes:
         return bytes(padding(known["offset"], self.multiple) if self.multiple else self.count.draw(known))
@@ -275,26 +221,15 @@ class Gap(Kind):
         return b""
 
 
-@dataclass
 class Table(Kind):
     """A count of elements of a fixed size."""
 
-    element: Fixed
-    count: Sum
-
-    @property
-    def type(self) -> str:  # type: ignore[override]
-        return f"Table<'a, {self.element.type}>"
-
-    @property
-    def counts(self) -> List[Sum]:
-        return [self.count]
+    def __init__(self, element: Fixed, count: Sum) -> None:
+        super().__init__(f"Table<'a, {element.type}>", [f"ctx = {count.text()}"], count)
+        self.element, self.count = element, count
 
     def size(self, known: Known) -> int:
         return min(self.count.of(known) * self.element.width, GREATEST)
-
-    def notes(self) -> List[str]:
-        return [f"ctx = {self.count.text()}"]
 
     def draw(self, rng: random.Random, order: str, known: Known) -> bytes:
         return b"".join(self.element.put(self.element.draw(rng), order) for _ in range(self.count.draw(known)))
@@ -311,31 +246,18 @@ class Table(Kind):
         return [f"let made = mix_bytes(made, {path}.bytes);"]
 
 
-@dataclass
 class Listing(Kind):
     """Values in so many bytes, so many of them, or up to a mark. A struct without fields has the name of the list."""
 
-    name: str
-    item: Kind
-    how: str
-    count: Sum
-    mark: bytes = b""
-
-    @property
-    def type(self) -> str:  # type: ignore[override]
-        return f"Items<'a, {self.name}>"
+    def __init__(self, name: str, item: Kind, how: str, count: Sum, mark: bytes = b"") -> None:
+        note = {"bytes": "ctx = {}", "values": "ctx = Count({})", "mark": "ctx = ToMark"}[how].format(count.text())
+        super().__init__(f"Items<'a, {name}>", [note], *([] if how == "mark" else [count]))
+        self.name, self.item, self.how, self.count, self.mark = name, item, how, count, mark
 
     def print(self) -> str:
         """Prints the struct that has the list's name."""
         ends = f", ends = {[*self.mark]}" if self.mark else ""
-        return f"// #[derive(Pread, Pwrite)]\n// #[scroll(items = {self.item.type.replace(chr(60) + chr(39) + 'a>', '')}{ends})]\npub struct {self.name};\n"
-
-    @property
-    def counts(self) -> List[Sum]:
-        return [] if self.how == "mark" else [self.count]
-
-    def notes(self) -> List[str]:
-        return ["ctx = " + {"bytes": "{}", "values": "Count({})", "mark": "ToMark"}[self.how].format(self.count.text())]
+        return f"{MARK}// #[scroll(items = {self.item.type.partition('<')[0]}{ends})]\npub struct {self.name};\n"
 
     def draw(self, rng: random.Random, order: str, known: Known) -> bytes:
         count = self.count.draw(known) if self.how == "values" else rng.randint(0, 3)
@@ -346,8 +268,8 @@ class Listing(Kind):
                 raise Hopeless
         if self.how == "bytes":
             self.count.want(known, sum(map(len, items)))
-        whole = b"".join(items) + self.mark * (self.how == "mark")
-        if self.how == "mark" and whole.find(self.mark) < len(whole) - len(self.mark) and self.end(whole, order, known) != len(whole):
+        whole = b"".join(items) + self.mark
+        if self.mark and whole.find(self.mark) < len(whole) - len(self.mark) and self.end(whole, order, known) != len(whole):
             raise Hopeless
         return whole
 
@@ -360,7 +282,7 @@ class Listing(Kind):
     def end(self, source: bytes, order: str, known: Known) -> int:
         """Returns where the values in a source end, with their mark."""
         at = done = 0
-        if self.how == "mark":
+        if self.mark:
             while not source.startswith(self.mark, at):
                 at = self.take_item(source, at, order)
             return at + len(self.mark)

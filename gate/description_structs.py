@@ -3,9 +3,9 @@
 import random
 from dataclasses import dataclass, field
 from functools import cached_property
-from typing import Any, Callable, Dict, List, NamedTuple, Optional, Sequence, Tuple
+from typing import Any, Callable, Dict, List, NamedTuple, Optional, Tuple
 
-from description_counts import Hopeless, Known, Misfit, Plain, Record, Refused, Sum, UNSIGNED, bad, padding, take_bytes, take_zeros
+from description_counts import MARK, UNSIGNED, Hopeless, Known, Misfit, Plain, Refused, Sum, bad, padding, take_bytes, take_zeros
 from description_kinds import Gap, Kind, Leb, Number
 
 Rule = Callable[[Known], None]
@@ -77,7 +77,6 @@ class Field:
         notes = [f"if = {self.condition.text()}"] if self.condition else []
         notes += [f"within = {self.within.text()}"] if self.within else []
         notes += [*([f"padded = {self.padded}"] if self.padded else []), *self.kind.notes()]
-        notes += [f"else = {it.own}" for it in self.kind.counts if it.own]
         return (f"    // #[scroll({', '.join(notes)})]\n" if notes else "") + f"    pub {self.name}: {self.type},\n"
 
     def draw(self, rng: random.Random, order: str, known: Known) -> Any:
@@ -250,7 +249,7 @@ class Struct:
         notes += [f"padded = {self.multiple}"] if self.multiple else []
         head = f"// #[scroll({', '.join(notes)})]\n" if notes else ""
         fields = "".join(it.print() for it in self.fields)
-        return f"// #[derive(Pread, Pwrite)]\n{head}#[derive(Clone, Copy)]\npub struct {self.type} {{\n{fields}}}\n"
+        return f"{MARK}{head}#[derive(Clone, Copy)]\npub struct {self.type} {{\n{fields}}}\n"
 
     def put(self, value: Dict[str, Any], order: str) -> bytes:
         made = b"".join(it.put(value, order) for it in self.parts)
@@ -380,7 +379,7 @@ class Enum:
         for it in self.variants:
             said = ", ".join([f"is = {it.tag}", *(note for kind in it.kinds for note in kind.notes())])
             lines.append(f"    // #[scroll({said})]\n    {it.name}{f'({self.types(it)})' if it.kinds else ''},\n")
-        head = f"// #[derive(Pread, Pwrite)]\n// #[scroll({', '.join(notes)})]\n#[derive(Clone, Copy)]\n"
+        head = f"{MARK}// #[scroll({', '.join(notes)})]\n#[derive(Clone, Copy)]\n"
         return f"{head}pub enum {self.type} {{\n{''.join(lines)}}}\n"
 
     @staticmethod
@@ -388,27 +387,12 @@ class Enum:
         return ", ".join(it.type for it in variant.kinds)
 
 
-@dataclass
 class Inner(Kind):
     """A struct, which may be given a number."""
 
-    struct: Struct
-    count: Optional[Sum] = None
-
-    @property
-    def type(self) -> str:  # type: ignore[override]
-        return self.struct.type
-
-    @property
-    def is_exact(self) -> bool:  # type: ignore[override]
-        return self.struct.is_exact
-
-    @property
-    def counts(self) -> List[Sum]:
-        return [self.count] if self.count else []
-
-    def notes(self) -> List[str]:
-        return [f"ctx = {self.count.text()}"] if self.count else []
+    def __init__(self, struct: Struct, count: Optional[Sum] = None) -> None:
+        super().__init__(struct.type, [f"ctx = {count.text()}"] if count else [], *([count] if count else []))
+        self.struct, self.count, self.is_exact = struct, count, struct.is_exact
 
     def given(self, known: Known) -> int:
         return self.count.of(known) if self.count else 0
@@ -445,28 +429,14 @@ class Inner(Kind):
         return self.struct.is_nan(value)
 
 
-@dataclass
 class Tagged(Kind):
     """An enum by its own tag, or by that of an earlier field, where it may be given a length."""
 
-    enum: Enum
-    tag: str
-    count: Optional[Sum] = None
-
-    @property
-    def type(self) -> str:  # type: ignore[override]
-        return self.enum.type
-
-    @property
-    def is_exact(self) -> bool:  # type: ignore[override]
-        return all(kind.is_exact for it in self.enum.variants for kind in it.kinds)
-
-    @property
-    def counts(self) -> List[Sum]:
-        return [self.count] if self.count else []
-
-    def notes(self) -> List[str]:
-        return [f"ctx = ({self.tag}, {self.count.text()})" if self.count else f"ctx = {self.tag}"] if not self.enum.is_own else []
+    def __init__(self, enum: Enum, tag: str, count: Optional[Sum] = None) -> None:
+        notes = [] if enum.is_own else [f"ctx = ({tag}, {count.text()})" if count else f"ctx = {tag}"]
+        super().__init__(enum.type, notes, *([count] if count else []))
+        self.enum, self.tag, self.count = enum, tag, count
+        self.is_exact = all(kind.is_exact for it in enum.variants for kind in it.kinds)
 
     def inside(self, known: Known) -> Known:
         return {"given": self.count.of(known)} if self.count else {}

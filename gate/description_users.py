@@ -1,32 +1,13 @@
 """Prints what uses a described struct: three functions whose clauses say what stands in bytes, and what a program reads and writes."""
 
+from pathlib import Path
 from typing import List, NamedTuple, Optional, Sequence, Tuple
 
-from description_counts import FLOATS, SIGNED, UNSIGNED, Plain, Record, Sum
-from description_kinds import Ended, Gap, Kind, Leb, Listing, Number, Slice, Table
-from description_structs import Enum, Field, Inner, OwnError, Part, Struct
+from description_counts import SIGNED, UNSIGNED, Group, Sum
+from description_kinds import Ended, Gap, Leb, Listing, Number, Slice, Table
+from description_structs import Enum, Field, Inner, OwnError, Struct
 from descriptions_drawn import Drawn
 
-IMPORTS = """// A struct with those in it, and what uses it.
-ghost use Rattle.std.specs.Prelude.{◌≡◌, ◌<◌, ◌+◌, ◌-◌, ◌*◌, ◌^◌, ℕ, length, take, drop, min, IfOk, IfErr};
-ghost use Rattle.std.specs.Float.{binary32, binary64};
-ghost use Rattle.scroll.specs.CStringTexts.{c_str_text};
-ghost use Rattle.scroll.specs.Numbers.{number, signed_number, float};
-ghost use Rattle.scroll.specs.declared.error.Error.TheVariants.{TooBig};
-ghost use Rattle.scroll_formats.specs.Zeros.{padding_len};
-"""
-USES = """
-use crate::told::{Refusal, Told, mix, mix_bytes};
-use scroll::cstr::CStr;
-use scroll::{Endian, Error, Pread, Pwrite, slice};
-use scroll_formats::{Table, Zeros};
-use scroll_layouts::{Items, Sleb, Uleb};
-use std::num::{f32_to_bits_with_nan, f64_to_bits_with_nan};
-use std::result::Result;
-
-mod derived;
-
-"""
 # How a field is said.
 SAID = {
     **{kind: f"number order {size}" for kind, size in UNSIGNED.items()},
@@ -34,6 +15,11 @@ SAID = {
     "f32": "float binary32 order",
     "f64": "float binary64 order",
 }
+
+
+def read(name: str) -> str:
+    """Returns code that is the same for each struct, or each crate."""
+    return (Path(__file__).with_name("descriptions") / f"{name}.txt").read_text(encoding="utf-8")
 
 
 class Back(NamedTuple):
@@ -146,8 +132,8 @@ def back_of(of: Field) -> Optional[Back]:
     if of.condition:
         return None
     if isinstance(kind, Number):
-        path, leaf = next(iter(reversed([(f".{it}", of) for it, of in kind.of.fields]))) if isinstance(kind.of, Record) else ("", kind.of)
-        return Back(leaf.type, f"{name}{path}")
+        path, leaf = kind.of.parts[-1] if isinstance(kind.of, Group) and kind.of.is_struct else ("", kind.of)
+        return Back(leaf.type, name + path)
     if isinstance(kind, Slice) or (isinstance(kind, Ended) and kind.byte >= 0):
         return Back(kind.type, name, "{}.now")
     if isinstance(kind, Ended):
@@ -279,96 +265,12 @@ def print_module(made: Drawn, crate: str) -> str:
     variants = f"ghost use Rattle.{crate}.specs.declared.{made.struct.name.lower()}.{error.name}.TheVariants.{{Refused}};\n" if error else ""
     users = print_users(made.struct, error.name if error else "Error")
     texts = [*(it.print() for it in made.items), users, *map(print_digest, items), print_try(made.struct, error)]
-    return IMPORTS + variants + USES + "\n".join(texts)
+    return read("module").replace("@variants@", variants) + "\n".join(texts)
 
 
-TOLD = """//! What a read and a write of a value give.
-use scroll::Error;
-
-/// Why a value isn't read or written: the library's error, or a variant and its number.
-#[derive(Drop)]
-pub enum Refusal {
-    Library(Error),
-    Own(&'static str, u64),
-}
-
-/// What was given: the digest of what was read and its size, and the size that was written.
-#[derive(Drop)]
-pub enum Told {
-    Unread(Refusal),
-    Unwritten(u64, usize, Refusal),
-    Written(u64, usize, usize),
-}
-
-pub fn mix(made: u64, bytes: &[u8]) -> u64 {
-    let mut made = made;
-    for byte in bytes {
-        made = (made ^ u64::from(*byte)).wrapping_mul(1_099_511_628_211);
-    }
-    made
-}
-
-pub fn mix_bytes(made: u64, bytes: &[u8]) -> u64 {
-    mix(mix(made, &bytes.len().to_le_bytes()), bytes)
-}
-"""
-MAIN = """//! Reads lines with a struct's name, a byte order, the number of a change, the size of a target and
-//! bytes, and prints what a read of the bytes, and a write of the changed value into the target give.
-#![tactic(auto)]
-
-{mods}mod told;
-
-use crate::told::{{Refusal, Told}};
-use scroll::{{BE, LE}};
-use std::alloc::Global;
-use std::io;
-
-fn tell(alloc: Global, refusal: &Refusal) -> Option<String> {{
-    match refusal {{
-        Refusal::Library(error) => format!(in alloc; "{{error}}").ok(),
-        Refusal::Own(name, number) => format!(in alloc; "{{name}} {{number}}").ok(),
-    }}
-}}
-
-fn answer(alloc: Global, line: &str) -> Option<String> {{
-    let mut words = line.split(' ');
-    let name = words.next()?;
-    let order = if words.next()? == "big" {{ BE }} else {{ LE }};
-    let change = words.next()?.parse::<usize>().ok()?;
-    let room = words.next()?.parse::<usize>().ok()?;
-    let from = hex::decode(alloc, words.next()?).ok()?;
-    let mut to = vec![in alloc; 0u8; room].ok()?;
-    let (from, target) = (from.as_slice(), to.as_mut_slice());
-    let told = match name {{
-{arms}        _ => return None,
-    }};
-    match told {{
-        Told::Unread(refusal) => tell(alloc, &refusal),
-        Told::Unwritten(digest, end, refusal) => {{
-            let refusal = tell(alloc, &refusal)?;
-            format!(in alloc; "{{digest}} {{end}} {{refusal}}").ok()
-        }}
-        Told::Written(digest, end, size) => {{
-            let written = hex::encode(alloc, to.get(..size)?).ok()?;
-            format!(in alloc; "{{digest}} {{end}} {{written}}").ok()
-        }}
-    }}
-}}
-
-fn main(rt: HostRuntime) -> io::Result<()> {{
-    for line in rt.lines(rt.alloc()) {{
-        let line = line?;
-        match answer(rt.alloc(), line.as_str()) {{
-            Some(text) => println!(rt; "{{text}}")?,
-            None => println!(rt; "no answer")?,
-        }}
-    }}
-    Ok(())
-}}
-"""
 
 
 def print_main(names: Sequence[str]) -> str:
     """Prints the program over modules that have the names of their structs."""
     arms = "".join(f'        "{it}" => {it}::try_{it}(from, order, change, target),\n' for it in names)
-    return MAIN.format(mods="".join(f"mod {it};\n" for it in names), arms=arms)
+    return read("main").replace("@arms@", arms).replace("@mods@", "".join(f"mod {it};\n" for it in names))

@@ -4,7 +4,7 @@ import random
 from collections import Counter
 from typing import Callable, Dict, List, NamedTuple, Optional, Sequence, Tuple, Union
 
-from description_counts import FLOATS, SIGNED, UNSIGNED, Array, Fixed, Plain, Record, Sum
+from description_counts import FLOATS, SIGNED, UNSIGNED, Fixed, Group, Plain, Sum, array, is_count
 from description_kinds import Ended, Gap, Kind, Leb, Listing, Number, Slice, Table
 from description_structs import Condition, Enum, Field, Inner, OwnError, Struct, Tagged, Variant
 
@@ -50,7 +50,7 @@ class Known(NamedTuple):
         return self.type in ("u8", "u16", "u32")
 
 
-Item = Union[Struct, Enum, Record, Listing, OwnError]
+Item = Union[Struct, Enum, Group, Listing, OwnError]
 
 
 class Drawn(NamedTuple):
@@ -146,14 +146,15 @@ class Draw(random.Random):
     def fixed(self, kind: str) -> Fixed:
         if kind == "record":
             plain = [Plain(it) for it in (*UNSIGNED, *SIGNED)]
-            kinds = [self.choice([*plain, Array(Plain("u8"), 3)]) for _ in range(self.randint(2, 4))]
-            made = Record(self.new_type(), tuple((f"r{at}", it) for at, it in enumerate(kinds)))
+            kinds: List[Fixed] = [self.choice([*plain, array(Plain("u8"), 3)]) for _ in range(self.randint(2, 4))]
+            made = Group(self.new_type(), tuple((f".r{at}", it) for at, it in enumerate(kinds)))
             self.items.append(made)
             return made
-        of = Plain(self.choice([*(FLOATS if "float" in kind else SIGNED if kind == "signed" else {**UNSIGNED, **SIGNED} if "array" in kind else UNSIGNED)]))
-        if kind.startswith("array"):
-            return Array(Array(of, self.randint(1, 4)) if kind == "array of arrays" or self.chance(30 * ("floats" in kind)) else of, self.randint(1, 4))
-        return of
+        types = FLOATS if "float" in kind else SIGNED if kind == "signed" else {**UNSIGNED, **SIGNED} if "array" in kind else UNSIGNED
+        of = Plain(self.choice([*types]))
+        if kind == "array of arrays" or (kind == "array of floats" and self.chance(30)):
+            return array(array(of, self.randint(1, 4)), self.randint(1, 4))
+        return array(of, self.randint(1, 4)) if kind.startswith("array") else of
 
     def number(self) -> Number:
         kind = self.take("field: ", [*FIXED, *["unsigned"] * 4, *(FLOATING if self.has_floats else ())])
@@ -279,12 +280,10 @@ class Draw(random.Random):
         kind, name = of.kind, of.name
         if of.condition:
             return []
+        if isinstance(kind, Number) and isinstance(kind.of, Group):
+            return [Known(name + where, it.type, "struct", False) for where, it in kind.of.parts if kind.of.is_struct and is_count(it)]
         if isinstance(kind, Number):
-            how = "bits" if kind.bits else "number"
-            plain = [(name, kind.of)] if isinstance(kind.of, Plain) else [(f"{name}.{it}", of) for it, of in kind.of.fields] if isinstance(kind.of, Record) else []
-            how = "struct" if isinstance(kind.of, Record) else how
-            is_free = kind.constant is None and how != "struct"
-            return [Known(it, of.type, how, is_free) for it, of in plain if isinstance(of, Plain) and UNSIGNED.get(of.type, 9) <= 8]
+            return [Known(name, kind.type, "bits" if kind.bits else "number", kind.constant is None)] if is_count(kind.of) else []
         if isinstance(kind, Leb) and not kind.is_signed:
             return [Known(name, "u64", "leb")]
         if isinstance(kind, Slice) or (isinstance(kind, Ended) and kind.byte >= 0):

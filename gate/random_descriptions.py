@@ -34,7 +34,7 @@ import descriptions_drawn as drawn
 from description_counts import UNSIGNED, Hopeless, Refused
 from description_kinds import Leb, Number
 from description_structs import Field, Struct
-from description_users import TOLD, changes_of, print_main, print_module
+from description_users import changes_of, print_main, print_module, read
 from edit_judge import WAITS
 from step import FOLDERS, TOP, Step, Stop, below, copy_kept, count_workers, read_crates, run_step
 
@@ -226,7 +226,7 @@ def write_crates(step: Step, modules: List[Module], top: Path) -> List[str]:
         folder.mkdir(parents=True)
         for it in own:
             (folder / f"{it.file}.rt").write_text(it.text, encoding="utf-8")
-        (folder / "told.rt").write_text(TOLD, encoding="utf-8")
+        (folder / "told.rt").write_text(read("told"), encoding="utf-8")
         (folder / "main.rt").write_text(print_main([it.file for it in own]), encoding="utf-8")
         ran = step.run(top, sys.executable, TOP / "tools" / "derive", folder.parent)
         if ran.status:
