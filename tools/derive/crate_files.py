@@ -9,7 +9,7 @@ from model import Crate, Enum, ListType
 from printing import Printer
 from readers import read_form
 from records import record_blocks
-from text import ghost_lines, use_lines
+from text import alias_of, ghost_lines, use_lines
 from tokens import Refused
 
 HEAD = "// Printed by tools/derive from "
@@ -79,7 +79,7 @@ def print_file(crate: Crate, file: SourceFile, items: List[Tuple[Item, Any]]) ->
     blocks: List[List[str]] = []
     # (a C string is that of the crate or of std, as the file imports it)
     own: Set[str] = {"CStr", *(item.name for item, _ in items)}
-    modules: Dict[str, List[str]] = {}
+    modules: Dict[str, str] = {}
     for item, form in items:
         if form is None:
             blocks += record_blocks(crate.record(item))
@@ -89,23 +89,23 @@ def print_file(crate: Crate, file: SourceFile, items: List[Tuple[Item, Any]]) ->
         own |= {*form.used}
         if form.error and form.error.name != "SmallError" and not isinstance(form, ListType):
             own.add(form.error.name)
-            modules.setdefault(form.error.module, []).extend(form.error.variants)
+            modules[form.error.module] = alias_of(form.error.name)
         if isinstance(form, Enum):
-            modules.setdefault(f"{crate.declared(item)}.TheVariants", []).extend(it.name for it in form.variants)
+            modules[f"{crate.declared(item)}.TheVariants"] = alias_of(item.name)
         for name in printer.names:
             if crate.find(name, file.path):
                 raise Refused(file.path, item.line, f"the {item.word} {item.name} has a type {name} printed, whose name another has")
     body = "\n\n".join("\n".join(it) for it in blocks)
-    ghost = "\n".join(re.findall(r"ghost \w+ = \{.*?(?=\n\n)|ensures \{[^\n]*", body, re.S))
+    ghost = "\n".join(re.findall(r"ghost \w+ = \{.*?(?=\n\n)|ensures \{.*?(?=\n    \{)", body, re.S))
     words = {*re.findall(r"[\w-]+", body)}
     imports = {module: [it for it in names if is_said(it, ghost)] for module, names in GHOST.items()}
-    imports.update({module: [it for it in names if re.search(rf"\b{it}\b", ghost)] for module, names in modules.items()})
+    named = [f"ghost use {module} as {name};" for module, name in modules.items() if f"{name}." in ghost]
     code = {"super": sorted(own & words)}
     for module, names in CODE.items():
         module = re.sub(rf"^{crate.name}\b", "crate", module)
         code[module] = [it for it in names if it in words - own and (module[-6:] != "Choice" or f"{it}(" in body)]
     head = f"{HEAD}{Path(file.path).name}."
-    return "\n".join([head, *ghost_lines(imports), "", *use_lines(code), "", body, ""])
+    return "\n".join([head, *ghost_lines(imports), *named, "", *use_lines(code), "", body, ""])
 
 
 def is_said(name: str, ghost: str) -> bool:

@@ -9,7 +9,7 @@ from fixed_types import PLAIN, Array, Fixed, Record, width_of
 from forms import Part
 from items import Item, RawField, SourceFile, Type, read_file
 from sums import bracketed, number_of
-from text import flat
+from text import alias_of, flat
 from tokens import MARK, Refused
 
 # What the library has under these names, which a struct's can't be, since the printed text imports them.
@@ -22,8 +22,8 @@ LIBRARY = {
 
 @dataclass(frozen=True)
 class OwnError:
-    """An error type that isn't the library's: its name, the variant that holds an error of the library (none of `SmallError`), what
-    its variants are named by in clauses, and these."""
+    """An error type that isn't the library's: its name, the variant that holds an error of the library (none of `SmallError`), where
+    its variants are in the logic, and these."""
 
     name: str
     variant: str
@@ -33,7 +33,12 @@ class OwnError:
     @property
     def gives(self) -> str:
         """Which of its errors one of the library's becomes."""
-        return f"(λ error e. e ≡ {self.variant} error)" if self.variant else "⟦<SmallError as From<Error>>⟧.from_gives"
+        return f"(λ error e. e ≡ {self.said(self.variant)} error)" if self.variant else "⟦<SmallError as From<Error>>⟧.from_gives"
+
+
+    def said(self, variant: str) -> str:
+        """Returns a variant in the logic."""
+        return f"{alias_of(self.name)}.{variant}"
 
 
 @dataclass
@@ -76,6 +81,18 @@ class Variant:
         """The part in code, of the values that are borrowed."""
         return flat(self.part.split).replace("self.v", "*v")
 
+    def arm(self, ways: List[str], form: str, made: str) -> List[str]:
+        """Returns the arm of a match that takes the part apart. (The borrow checker's part of a proof doesn't cover an array in its
+        pattern.)"""
+        has_array = any(isinstance(of, Array) for _, of in self.part.fields)
+        pattern = "it" if has_array else flat(self.part.join)
+        for way in reversed(ways):
+            pattern = f"{way}({pattern})"
+        if not has_array:
+            return [f"            {form.format(pattern)} => {made},"]
+        head = f"            {form.format(pattern)} => {{"
+        return [head, f"                let {flat(self.part.join)} = it;", f"                {made}", "            }"]
+
 
 @dataclass
 class Enum:
@@ -114,6 +131,11 @@ class Enum:
         for way in reversed(self.ways(at)):
             said = f"{way} {bracketed(said)}"
         return said
+
+    def cases(self, values: List[str], indent: int) -> List[str]:
+        """Returns the lines of what is said of each variant in the logic."""
+        heads = [" ".join([f"{alias_of(self.item.name)}.{it.name}", *it.fields]) for it in self.variants]
+        return [f"{' ' * indent}| {head} ↦ {value}" for head, value in zip(heads, values)]
 
     def pattern(self, variant: Variant) -> str:
         values = f"({', '.join(variant.fields)})" if variant.fields else ""

@@ -276,12 +276,13 @@ class Printer:
             self.print_reader()
             self.print_writer()
             return
-        ghosts, split, join = ["    ghost parts_of = { elim ["], ["        match self {"], ["        match parts {"]
+        cases = form.cases([form.ghost(at) for at in range(len(form.variants))], 6)
+        ghosts = ["    ghost parts_of = { elim [", *cases, "    ] };"]
+        split, join = ["        match self {"], ["        match parts {"]
         for at, it in enumerate(form.variants):
-            code, made = it.code, flat(it.part.join)
+            code = it.code
             for way in reversed(form.ways(at)):
-                code, made = f"{way}({code})", f"{way}({made})"
-            ghosts.append(f"      | {' '.join([it.name, *it.fields])} ↦ {form.ghost(at)}")
+                code = f"{way}({code})"
             split.append(f"            {form.pattern(it)} => {code},")
-            join.append(f"            {made} => {form.pattern(it)},")
-        self.print_shape(form.context_type, "t", types, kinds, inner, [*ghosts, "    ] };"], [*split, "        }"], [*join, "        }"])
+            join += it.arm(form.ways(at), "{}", form.pattern(it))
+        self.print_shape(form.context_type, "t", types, kinds, inner, ghosts, [*split, "        }"], [*join, "        }"])

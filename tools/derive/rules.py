@@ -38,7 +38,7 @@ def refusal(reader: "Reader", at: RawField, ghost: str, code: str, text: str) ->
 def own_refusal(reader: "Reader", variant: str, number: str) -> Tuple[str, List[str]]:
     """The same of an error of one's own, which holds a number."""
     assert reader.error
-    return f"(e ≡ {variant} {number})", [f"            return Err({reader.error.name}::{variant}({number}));"]
+    return f"(e ≡ {reader.error.said(variant)} {number})", [f"            return Err({reader.error.name}::{variant}({number}));"]
 
 
 def constant_rule(reader: "Reader", at: RawField, of: Fixed) -> Rule:

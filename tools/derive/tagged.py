@@ -2,7 +2,7 @@
 
 from typing import TYPE_CHECKING, List
 
-from text import Tree, call_lines, flat, impl_lines, lifetime, signature_lines
+from text import WIDTH, Tree, call_lines, flat, impl_lines, lifetime, signature_lines
 
 if TYPE_CHECKING:
     from printing import Printer
@@ -12,12 +12,11 @@ def tagged_blocks(printer: "Printer", parts: str, context: str, ghost: str, code
     """Returns the implementations of `Part` and `ReadPart`. The parts are a pair, in a context that is said in the logic and in code."""
     form, error = printer.form, printer.error
     said = [f"(record {{ 0 = {it.tag} }}, {form.ghost(at)})" for at, it in enumerate(form.variants)]
-    cases = [f"          | {' '.join([it.name, *it.fields])} ↦ {value}" for it, value in zip(form.variants, said)]
     format_ = [
         f"    ghost format = {{ λ _. last (⟦<{parts} as Part<{context}, {error}>>⟧.format",
         f"        ({ghost}))",
         "        (elim [",
-        *cases,
+        *form.cases(said, 10),
         "        ]) };",
     ]
     ctx = "_ctx: &()"
@@ -50,26 +49,22 @@ def tagged_blocks(printer: "Printer", parts: str, context: str, ghost: str, code
     ]
     arguments = ["from: &'a [u8]", "offset: usize", "order: Endian", ctx]
     whole = f"let (read, end) = <{parts} as ReadPart<'a, {context}, {error}>>::read_at"
-    lines: List[str] = []
-    for at, it in enumerate(form.variants):
-        value = flat(it.part.join)
-        for way in reversed(form.ways(at)):
-            value = f"{way}({value})"
-        lines += [f"            ({it.tag}, {value}) => Ok(({form.pattern(it)}, end)),"]
-    read = [
+    read = [f"        {whole}(from, offset, order, &ctx)?;"]
+    arms = [it.arm(form.ways(at), f"({it.tag}, {{}})", f"Ok(({form.pattern(it)}, end))") for at, it in enumerate(form.variants)]
+    reader = [
         *impl_lines("<'a>", "ReadPart", ["'a", "()", error], form.type),
         *[it.replace(" as Part<", " as ReadPart<'a, ") for it in format_],
         "",
         "    #[inline(always)]",
         *signature_lines("read_at", arguments, f"Result<({form.type}, usize), {error}>", " {", 4),
         f"        let ctx = {flat(code)};",
-        *call_lines(whole, ["from", "offset", "order", "&ctx"], "?;", 8),
+        *(read if len(read[0]) <= WIDTH else [f"        {whole}(", "            from, offset, order, &ctx,", "        )?;"]),
         "        let (Run(tag), value) = read;",
         "        match (tag, value) {",
-        *lines,
+        *(line for it in arms for line in it),
         "            _ => unreachable!(),",
         "        }",
         "    }",
         "}",
     ]
-    return [written, read]
+    return [written, reader]

@@ -32,6 +32,11 @@ def label(name: str) -> str:
     return f"«{name}»" if name in RESERVED else name
 
 
+def alias_of(name: str) -> str:
+    """Returns what an enum's variants stand behind in the logic, where two enums may have variants of one name."""
+    return re.sub(r"(?<=[a-z0-9])(?=[A-Z])", "_", name).lower() + "_is"
+
+
 def lengths(count: int) -> List[int]:
     """Returns how many parts each part of the outer tuple has."""
     most = 1

@@ -1,35 +1,36 @@
-// What `Record` is as bytes.
-ghost use Rattle.std.specs.Prelude.{◌≡◌, ◌≤◌, ◌<◌, ◌+◌, ◌-◌, length, codes};
+// Printed by tools/derive from log.rt.
+ghost use Rattle.std.specs.Prelude.{◌≡◌, ◌<◌, ◌≤◌, ◌+◌, ◌-◌, ◌^◌, length, codes};
 ghost use Rattle.std.proofs.Common.{rules};
 ghost use Rattle.scroll.specs.Errors.{IsBadInput};
 ghost use Rattle.scroll.specs.lemmas.Frames.{WritesPrefix-keeps};
 ghost use Rattle.scroll_layouts.specs.Formats.{refuses};
-ghost use Rattle.scroll_layouts.specs.Wholes.{ReadsExact, WritesWhole, KeepsWhole};
+ghost use Rattle.scroll_layouts.specs.Wholes.{KeepsWhole, ReadsExact, WritesWhole};
 
-use crate::log::Record;
+use super::Record;
 use scroll::ctx::{TryFromCtx, TryIntoCtx};
 use scroll::{Endian, Error};
-use scroll_layouts::{Ends, Head, Headed, Part, ReadPart, Run, Shape, read_exact, write_whole};
+use scroll_layouts::{Ends, Head, Headed, Part, ReadPart, Run, Shape, is, read_exact, write_whole};
 use std::marker::PhantomData;
 use std::result::Result;
 
-type RecordP1<'a> = (&'a str, &'a [u8]);
+type RecordHead2<'a> = &'a str;
 
-type RecordD1 = usize;
+type RecordNext2 = usize;
 
 #[derive(Drop)]
-pub struct RecordC1(pub u16);
+pub struct RecordSays2(pub u16);
 
-impl<'a> Head<&'a str, Error> for RecordC1 {
-    type Next = RecordD1;
+impl<'a> Head<RecordHead2<'a>, Error> for RecordSays2 {
+    type Next = RecordNext2;
 
-    ghost holds = { λ c h. length h.now + 1 ≤ c.0 };
+    ghost holds = { λ c h. ((length h.now) + 1 ≤ c.0) };
 
-    ghost fails = { λ c h e. (c.0 < length h.now + 1) × IsBadInput e c.0 (codes "len is less than name.len() + 1") };
+    ghost fails = { λ c h e. (c.0 < (length h.now) + 1)
+        × IsBadInput e c.0 (codes "len is less than name.len() + 1") };
 
-    ghost next = { λ c h. c.0 - (length h.now + 1) };
+    ghost next = { λ c h. c.0 - ((length h.now) + 1) };
 
-    fn obey(&self, head: &&'a str) -> Result<(), Error> {
+    fn obey(&self, head: &RecordHead2<'a>) -> Result<(), Error> {
         if head.len() + 1 > self.0 as usize {
             return Err(Error::BadInput {
                 size: self.0 as usize,
@@ -39,60 +40,66 @@ impl<'a> Head<&'a str, Error> for RecordC1 {
         Ok(())
     }
 
-    fn next(&self, head: &&'a str) -> RecordD1 {
+    fn next(&self, head: &RecordHead2<'a>) -> RecordNext2 {
         (self.0 as usize).saturating_sub(head.len() + 1)
     }
 }
 
-type RecordP0<'a> = (Run<u16>, RecordP1<'a>);
+type RecordRest2<'a> = (RecordHead2<'a>, &'a [u8]);
 
-type RecordD0 = Headed<Ends, RecordD1, RecordC1>;
+type RecordHead = Run<u16>;
+
+type RecordNext = Headed<Ends, RecordNext2, RecordSays2>;
 
 #[derive(Drop)]
-pub struct RecordC0;
+pub struct RecordSays;
 
-impl Head<Run<u16>, Error> for RecordC0 {
-    type Next = RecordD0;
+impl Head<RecordHead, Error> for RecordSays {
+    type Next = RecordNext;
 
-    ghost holds = { λ c h. Unit {0} };
+    ghost holds = { λ _ h. Unit {0} };
 
-    ghost fails = { λ c h e. ⊥ };
+    ghost fails = { λ _ h e. ⊥ };
 
-    ghost next = { λ c h. record { 0 = record { 0 = 0 }; 1 = record { 0 = h.0 }; 2 = record {} } };
+    ghost next = { λ _ h. record { 0 = record { 0 = 0 }; 1 = record { 0 = h.0 }; 2 = record {} } };
 
-    fn obey(&self, _head: &Run<u16>) -> Result<(), Error> {
+    fn obey(&self, _head: &RecordHead) -> Result<(), Error> {
         Ok(())
     }
 
-    fn next(&self, head: &Run<u16>) -> RecordD0 {
-        Headed(Ends(0), RecordC1(head.0), PhantomData)
+    fn next(&self, head: &RecordHead) -> RecordNext {
+        Headed(Ends(0), RecordSays2(head.0), PhantomData)
     }
 }
+
+type RecordParts<'a> = (RecordHead, RecordRest2<'a>);
+
+type RecordCtx = Headed<(), RecordNext, RecordSays>;
 
 impl<'a> Shape for Record<'a> {
     type Ctx = ();
 
-    type Inner = Headed<(), RecordD0, RecordC0>;
+    type Inner = RecordCtx;
 
-    type Parts = RecordP0<'a>;
+    type Parts = RecordParts<'a>;
 
     ghost parts_of = { λ x. (record { 0 = x.len }, (x.name, x.body)) };
 
-    ghost inner_of = { λ n. record { 0 = tt; 1 = record {}; 2 = record {} } };
+    ghost inner_of = { λ _. record { 0 = tt; 1 = record {}; 2 = record {} } };
 
-    fn split(&self) -> RecordP0<'a> {
+    fn split(&self) -> RecordParts<'a> {
         (Run(self.len), (self.name, self.body))
     }
 
-    fn join(parts: RecordP0<'a>) -> Record<'a> {
+    fn join(parts: RecordParts<'a>) -> Record<'a> {
         let (Run(len), (name, body)) = parts;
         Record { len, name, body }
     }
 
-    fn inner(_ctx: &()) -> Headed<(), RecordD0, RecordC0>
+    fn inner(_ctx: &()) -> RecordCtx
         ensures { result ≡ ⟦<Record<'a> as Shape>⟧.inner_of _ctx.now }
     {
-        Headed((), RecordC0, PhantomData)
+        Headed((), RecordSays, PhantomData)
     }
 }
 
@@ -101,7 +108,8 @@ impl<'a> TryFromCtx<'a, Endian> for Record<'a> {
 
     ghost reads = { ReadsExact (⟦<Record<'a> as ReadPart<'a, (), Error>>⟧.format tt) };
 
-    ghost refuses = { λ order s. refuses (⟦<Record<'a> as ReadPart<'a, (), Error>>⟧.format tt) order s 0 };
+    ghost refuses = { λ order s.
+        refuses (⟦<Record<'a> as ReadPart<'a, (), Error>>⟧.format tt) order s 0 };
 
     ghost reads_bounded = { λ order s x n h. Prim.search rules };
 
@@ -116,7 +124,8 @@ impl<'a> TryIntoCtx<Endian> for Record<'a> {
 
     ghost writes = { WritesWhole (⟦<Record<'a> as Part<(), Error>>⟧.format tt) };
 
-    ghost refuses = { KeepsWhole (λ e d. d ≡ e) (⟦<Record<'a> as Part<(), Error>>⟧.format tt) };
+    ghost refuses = { KeepsWhole (λ e d. d ≡ e)
+        (⟦<Record<'a> as Part<(), Error>>⟧.format tt) };
 
     ghost writes_bounded = { λ order x old new n h. Prim.search rules };
 

@@ -1,15 +1,15 @@
-// What `UdpHeader`, `DnsHeader` and `Packet` are as bytes.
-ghost use Rattle.std.specs.Prelude.{◌≡◌, ◌≤◌, ◌<◌, ◌-◌, ◌^◌, drop};
+// Printed by tools/derive from packet.rt.
+ghost use Rattle.std.specs.Prelude.{◌≡◌, ◌<◌, ◌≤◌, ◌-◌, ◌^◌, drop};
 ghost use Rattle.std.proofs.Common.{refl, rules};
 ghost use Rattle.scroll.specs.Numbers.{number};
 ghost use Rattle.scroll.specs.lemmas.Frames.{WritesPrefix-keeps};
 ghost use Rattle.scroll_layouts.specs.Formats.{refuses};
-ghost use Rattle.scroll_layouts.specs.Wholes.{ReadsExact, WritesWhole, KeepsWhole};
-ghost use Rattle.packets.specs.declared.packet.PacketError.TheVariants.{Short, NoMessage};
+ghost use Rattle.scroll_layouts.specs.Wholes.{KeepsWhole, ReadsExact, WritesWhole};
+ghost use Rattle.packets.specs.declared.packet.PacketError.TheVariants as packet_error_is;
 
-use crate::packet::{DnsHeader, Packet, PacketError, UdpHeader};
-use scroll::Endian;
-use scroll::ctx::{Record, TryFromCtx, TryIntoCtx};
+use super::{DnsHeader, Packet, PacketError, UdpHeader};
+use scroll::ctx::{Record, TryFromCtx, TryIntoCtx, Written};
+use scroll::{Endian, Error};
 use scroll_layouts::{Field, Head, Headed, Part, ReadPart, Run, Shape, read_exact, write_whole};
 use std::marker::PhantomData;
 use std::result::Result;
@@ -48,6 +48,17 @@ impl Record for UdpHeader {
             len: parts.2,
             checksum: parts.3,
         }
+    }
+}
+
+impl<'a> Written for &'a UdpHeader {
+    type Value = UdpHeader;
+
+    ghost value_of = { λ x. x.now };
+
+    #[inline(always)]
+    fn value(self) -> UdpHeader {
+        *self
     }
 }
 
@@ -105,60 +116,73 @@ impl Record for DnsHeader {
     }
 }
 
-type PacketH0 = Run<(Field<UdpHeader>, Field<DnsHeader>)>;
+impl<'a> Written for &'a DnsHeader {
+    type Value = DnsHeader;
 
-type PacketP0<'a> = (PacketH0, &'a [u8]);
+    ghost value_of = { λ x. x.now };
 
-type PacketD0 = usize;
+    #[inline(always)]
+    fn value(self) -> DnsHeader {
+        *self
+    }
+}
+
+type PacketHead = Run<(Field<UdpHeader>, Field<DnsHeader>)>;
+
+type PacketNext = usize;
 
 #[derive(Drop)]
-pub struct PacketC0;
+pub struct PacketSays;
 
-impl Head<PacketH0, PacketError> for PacketC0 {
-    type Next = PacketD0;
+impl Head<PacketHead, PacketError> for PacketSays {
+    type Next = PacketNext;
 
-    ghost holds = { λ c h. 20 ≤ h.0.0.0.len };
+    ghost holds = { λ _ h. (20 ≤ h.0.0.0.len) };
 
-    ghost fails = { λ c h e. (h.0.0.0.len < 20) × (e ≡ NoMessage h.0.0.0.len) };
+    ghost fails = { λ _ h e. (h.0.0.0.len < 20) × (e ≡ packet_error_is.NoMessage h.0.0.0.len) };
 
-    ghost next = { λ c h. h.0.0.0.len - 20 };
+    ghost next = { λ _ h. h.0.0.0.len - 20 };
 
-    fn obey(&self, head: &PacketH0) -> Result<(), PacketError> {
+    fn obey(&self, head: &PacketHead) -> Result<(), PacketError> {
         if 20 > head.0.0.0.len as usize {
             return Err(PacketError::NoMessage(head.0.0.0.len));
         }
         Ok(())
     }
 
-    fn next(&self, head: &PacketH0) -> PacketD0 {
+    fn next(&self, head: &PacketHead) -> PacketNext {
         (head.0.0.0.len as usize).saturating_sub(20)
     }
 }
 
+type PacketParts<'a> = (PacketHead, &'a [u8]);
+
+type PacketCtx = Headed<(), PacketNext, PacketSays>;
+
 impl<'a> Shape for Packet<'a> {
     type Ctx = ();
 
-    type Inner = Headed<(), PacketD0, PacketC0>;
+    type Inner = PacketCtx;
 
-    type Parts = PacketP0<'a>;
+    type Parts = PacketParts<'a>;
 
     ghost parts_of = { λ x. (record { 0 = (record { 0 = x.udp }, record { 0 = x.dns }) }, x.body) };
 
-    ghost inner_of = { λ n. record { 0 = tt; 1 = record {}; 2 = record {} } };
+    ghost inner_of = { λ _. record { 0 = tt; 1 = record {}; 2 = record {} } };
 
-    fn split(&self) -> PacketP0<'a> {
+    fn split(&self) -> PacketParts<'a> {
         (Run((Field(self.udp), Field(self.dns))), self.body)
     }
 
-    fn join(parts: PacketP0<'a>) -> Packet<'a> {
+    fn join(parts: PacketParts<'a>) -> Packet<'a> {
         let (Run((Field(udp), Field(dns))), body) = parts;
         Packet { udp, dns, body }
     }
 
-    fn inner(_ctx: &()) -> Headed<(), PacketD0, PacketC0>
+    fn inner(_ctx: &()) -> PacketCtx
         ensures { result ≡ ⟦<Packet<'a> as Shape>⟧.inner_of _ctx.now }
     {
-        Headed((), PacketC0, PhantomData)
+        Headed((), PacketSays, PhantomData)
     }
 }
 
@@ -167,7 +191,8 @@ impl<'a> TryFromCtx<'a, Endian> for Packet<'a> {
 
     ghost reads = { ReadsExact (⟦<Packet<'a> as ReadPart<'a, (), PacketError>>⟧.format tt) };
 
-    ghost refuses = { λ order s. refuses (⟦<Packet<'a> as ReadPart<'a, (), PacketError>>⟧.format tt) order s 0 };
+    ghost refuses = { λ order s.
+        refuses (⟦<Packet<'a> as ReadPart<'a, (), PacketError>>⟧.format tt) order s 0 };
 
     ghost reads_bounded = { λ order s x n h. Prim.search rules };
 
@@ -182,7 +207,8 @@ impl<'a> TryIntoCtx<Endian> for Packet<'a> {
 
     ghost writes = { WritesWhole (⟦<Packet<'a> as Part<(), PacketError>>⟧.format tt) };
 
-    ghost refuses = { KeepsWhole (λ error e. e ≡ Short error) (⟦<Packet<'a> as Part<(), PacketError>>⟧.format tt) };
+    ghost refuses = { KeepsWhole (λ error e. e ≡ packet_error_is.Short error)
+        (⟦<Packet<'a> as Part<(), PacketError>>⟧.format tt) };
 
     ghost writes_bounded = { λ order x old new n h. Prim.search rules };
 
