@@ -3,10 +3,12 @@
 import itertools
 import random
 from dataclasses import dataclass, field
-from typing import Any, Dict, List, Tuple, Union
+from typing import Any, Callable, Dict, List, Tuple, Union
 
 # The numbers that are known, by the names that notes have for them.
 Known = Dict[str, int]
+# A test of these.
+Rule = Callable[[Known], None]
 UNSIGNED = {f"u{8 * width}": width for width in (1, 2, 4, 8, 16)}
 SIGNED = {f"i{8 * width}": width for width in (1, 2, 4, 8, 16)}
 FLOATS = {"f32": 4, "f64": 8}
@@ -78,6 +80,10 @@ class Sum:
     @property
     def names(self) -> List[str]:
         return [*(name for name, _ in self.terms), *self.less]
+
+    @property
+    def is_less(self) -> bool:
+        return bool(self.less or self.less_number)
 
     def text(self) -> str:
         said = [as_usize(name) + (f" * {times}" if times > 1 else "") for name, times in self.terms]

@@ -8,8 +8,8 @@ the size of a number in LEB128; `None`, or an optional value; or the index of a 
 import random
 from typing import Any, List, Optional, Tuple
 
-from description_counts import FLOATS, GREATEST, MARK, Fixed, Group, Hopeless, Known, Sum, bad, is_count, lines_of, padding
-from description_counts import take_bytes, take_zeros, too_big
+from description_counts import FLOATS, GREATEST, MARK, Fixed, Group, Hopeless, Known, Refused, Rule, Sum, bad, is_count, lines_of
+from description_counts import padding, take_bytes, take_zeros, too_big
 
 
 class Kind:
@@ -20,6 +20,10 @@ class Kind:
 
     def notes(self) -> List[str]:
         return [*self.own_notes, *(f"else = {it.own}" for it in self.counts if it.own)]
+
+    def rules(self, name: str) -> List[Tuple[List[str], Rule]]:
+        """Returns what is tested of numbers, with their names."""
+        return [(it.names, it.check) for it in self.counts if it.is_less]
 
     def draw(self, rng: random.Random, order: str, known: Known) -> Any:
         raise NotImplementedError
@@ -58,8 +62,17 @@ class Number(Kind):
         self.of, self.constant, self.own, self.bits = of, constant, own, bits
         self.is_exact = not any(it.type in FLOATS for _, it in of.leaves(""))
 
+    def rules(self, name: str) -> List[Tuple[List[str], Rule]]:
+        def check(known: Known) -> None:
+            number, own = known[name], self.own.partition("::")[2]
+            if number != self.constant:
+                raise Refused(f"{own} {number}") if own else bad(number, f"{name} is not {self.constant}")
+
+        return [([name], check)] if self.constant is not None else []
+
     def draw(self, rng: random.Random, order: str, known: Known) -> Any:
-        return self.of.draw(rng) if self.constant is None else self.constant
+        value = self.of.draw(rng) if self.constant is None else self.constant
+        return value % (1 << self.bits) if self.bits else value
 
     def put(self, value: Any, order: str) -> bytes:
         return self.of.put(value, order)

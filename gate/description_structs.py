@@ -1,14 +1,13 @@
-"""Structs and enums of the fields that tools/derive takes: how they are written, and which bytes a value of them is."""
+"""Fields and structs: how they are written, which bytes a value of them is, and values that are drawn."""
 
 import random
 from dataclasses import dataclass, field
 from functools import cached_property
-from typing import Any, Callable, Dict, List, NamedTuple, Optional, Tuple
+from typing import Any, Dict, List, NamedTuple, Optional, Tuple
 
-from description_counts import MARK, UNSIGNED, Hopeless, Known, Misfit, Plain, Refused, Sum, bad, padding, take_bytes, take_zeros
+from description_counts import MARK, UNSIGNED, Hopeless, Known, Misfit, Plain, Rule, Sum, bad, padding, take_bytes, take_zeros
 from description_kinds import Gap, Kind, Leb, Number
 
-Rule = Callable[[Known], None]
 # How often a number is changed so that a value agrees.
 TRIES = 30
 
@@ -119,24 +118,12 @@ class Field:
 
     def rules(self) -> List[Tuple[List[str], Rule]]:
         """Returns what is tested of numbers where the field is there, with the names of these."""
-        found: List[Tuple[List[str], Rule]] = []
-        if isinstance(self.kind, Number) and self.kind.constant is not None:
-            found.append(([self.name], self.check_constant))
-        found += [(it.names, it.check) for it in self.kind.counts if it.less or it.less_number]
-        if isinstance(self.kind, Tagged) and not self.kind.enum.is_own:
-            found.append(([self.kind.tag], self.kind.check_tag))
-        found += [(self.within.names, self.within.check)] if self.within and (self.within.less or self.within.less_number) else []
+        within = [(self.within.names, self.within.check)] if self.within and self.within.is_less else []
         names = [self.condition.name] if self.condition else []
-        return [([*others, *names], self.where_there(rule)) for others, rule in found]
+        return [([*others, *names], self.where_there(rule)) for others, rule in [*self.kind.rules(self.name), *within]]
 
     def where_there(self, rule: Rule) -> Rule:
         return lambda known: rule(known) if not self.condition or self.condition.holds(known) else None
-
-    def check_constant(self, known: Known) -> None:
-        assert isinstance(self.kind, Number)
-        if known[self.name] != self.kind.constant:
-            own = self.kind.own.partition("::")[2]
-            raise Refused(f"{own} {known[self.name]}") if own else bad(known[self.name], f"{self.name} is not {self.kind.constant}")
 
     def lines(self) -> List[str]:
         if not self.condition:
@@ -343,159 +330,3 @@ class Struct:
                 pins[name] = number
                 return
         raise Hopeless
-
-
-class Variant(NamedTuple):
-    name: str
-    tag: int
-    kinds: List[Kind]
-
-
-@dataclass
-class Enum:
-    """An enum by a tag of its own, or by one that it is given, perhaps with a length; and its error's variant for an unknown tag."""
-
-    name: str
-    tag: Plain
-    is_own: bool
-    variants: List[Variant]
-    error: Optional[OwnError] = None
-    own: str = ""
-
-    @property
-    def type(self) -> str:
-        return self.name + ("<'a>" if any("'a" in kind.type for it in self.variants for kind in it.kinds) else "")
-
-    @property
-    def has_length(self) -> bool:
-        return any("given" in count.names for it in self.variants for kind in it.kinds for count in kind.counts)
-
-    def print(self) -> str:
-        notes = [f"given = (kind: {self.tag.type}, given: usize)" if self.has_length else f"given = kind: {self.tag.type}"]
-        notes = [f"tag = {self.tag.type}"] if self.is_own else notes
-        notes += [f"error = {self.error.name}::Refused"] if self.error else []
-        notes += [f"else = {self.error.name}::{self.own}"] if self.error and self.own else []
-        lines = []
-        for it in self.variants:
-            said = ", ".join([f"is = {it.tag}", *(note for kind in it.kinds for note in kind.notes())])
-            lines.append(f"    // #[scroll({said})]\n    {it.name}{f'({self.types(it)})' if it.kinds else ''},\n")
-        head = f"{MARK}// #[scroll({', '.join(notes)})]\n#[derive(Clone, Copy)]\n"
-        return f"{head}pub enum {self.type} {{\n{''.join(lines)}}}\n"
-
-    @staticmethod
-    def types(variant: Variant) -> str:
-        return ", ".join(it.type for it in variant.kinds)
-
-
-class Inner(Kind):
-    """A struct, which may be given a number."""
-
-    def __init__(self, struct: Struct, count: Optional[Sum] = None) -> None:
-        super().__init__(struct.type, [f"ctx = {count.text()}"] if count else [], *([count] if count else []))
-        self.struct, self.count, self.is_exact = struct, count, struct.is_exact
-
-    def given(self, known: Known) -> int:
-        return self.count.of(known) if self.count else 0
-
-    def draw(self, rng: random.Random, order: str, known: Known) -> Any:
-        given = self.count.draw(known) if self.count else 0
-        try:
-            return self.struct.draw(str(rng.random()), order, given)
-        except Misfit as misfit:
-            assert self.count
-            raise Misfit(self.count, misfit.named("given"), known) from None
-
-    def put(self, value: Any, order: str) -> bytes:
-        return self.struct.put(value, order)
-
-    def take(self, source: bytes, at: int, order: str, known: Known) -> Tuple[Any, int]:
-        return self.struct.take(source, at, order, self.given(known))
-
-    def check(self, value: Any, order: str, known: Known) -> None:
-        self.struct.check(value, order, self.given(known))
-
-    def numbers(self, name: str, value: Any) -> Known:
-        plain = [it for it in self.struct.fields if it.is_plain and isinstance(it.kind, (Number, Leb))]
-        found = {it.name: it.kind.numbers(it.name, value[it.name]).get(it.name) for it in plain}
-        return {f"{name}.{inner}": it for inner, it in found.items() if it is not None}
-
-    def lines(self, path: str) -> List[str]:
-        return [f"let made = digest_{self.struct.name.lower()}(&{path}, made);"]
-
-    def mixed(self, value: Any, order: str) -> bytes:
-        return self.struct.mixed(value, order)
-
-    def is_nan(self, value: Any) -> bool:
-        return self.struct.is_nan(value)
-
-
-class Tagged(Kind):
-    """An enum by its own tag, or by that of an earlier field, where it may be given a length."""
-
-    def __init__(self, enum: Enum, tag: str, count: Optional[Sum] = None) -> None:
-        notes = [] if enum.is_own else [f"ctx = ({tag}, {count.text()})" if count else f"ctx = {tag}"]
-        super().__init__(enum.type, notes, *([count] if count else []))
-        self.enum, self.tag, self.count = enum, tag, count
-        self.is_exact = all(kind.is_exact for it in enum.variants for kind in it.kinds)
-
-    def inside(self, known: Known) -> Known:
-        return {"given": self.count.of(known)} if self.count else {}
-
-    def index(self, tag: int) -> int:
-        return [it.tag for it in self.enum.variants].index(tag)
-
-    def check_tag(self, known: Known) -> None:
-        tag = known[self.tag]
-        if tag not in [it.tag for it in self.enum.variants]:
-            raise Refused(f"{self.enum.own} {tag}") if self.enum.own else bad(tag, f"{self.enum.name} has no such tag")
-
-    def draw(self, rng: random.Random, order: str, known: Known) -> Any:
-        tags = [it.tag for it in self.enum.variants]
-        tag = rng.choice(tags) if self.enum.is_own else known[self.tag]
-        if tag not in tags:
-            raise Misfit(Sum([(self.tag, 1)]), rng.choice(tags), known)
-        if self.count:
-            self.count.draw(known)
-        try:
-            return self.index(tag), [it.draw(rng, order, self.inside(known)) for it in self.enum.variants[self.index(tag)].kinds]
-        except Misfit as misfit:
-            assert self.count
-            raise Misfit(self.count, misfit.named("given"), known) from None
-
-    def put(self, value: Any, order: str) -> bytes:
-        of = self.enum.variants[value[0]]
-        tag = self.enum.tag.put(of.tag, order) if self.enum.is_own else b""
-        return tag + b"".join(kind.put(it, order) for kind, it in zip(of.kinds, value[1]))
-
-    def take(self, source: bytes, at: int, order: str, known: Known) -> Tuple[Any, int]:
-        if self.enum.is_own:
-            take_bytes(source, at, self.enum.tag.width)
-            known = {**known, self.tag: self.enum.tag.take(source, at, order)}
-            self.check_tag(known)
-            at += self.enum.tag.width
-        made, index = [], self.index(known[self.tag])
-        kinds = self.enum.variants[index].kinds
-        if len(kinds) > 1:
-            take_bytes(source, at, sum(it.of.width for it in kinds if isinstance(it, Number)))
-        for it in kinds:
-            value, at = it.take(source, at, order, self.inside(known))
-            made.append(value)
-        return (index, made), at
-
-    def check(self, value: Any, order: str, known: Known) -> None:
-        index = value[0]
-        wanted = index if self.enum.is_own else self.index(known[self.tag])
-        if index != wanted:
-            raise bad(int(wanted < index), "another variant than its tag")
-        for kind, it in zip(self.enum.variants[index].kinds, value[1]):
-            kind.check(it, order, self.inside(known))
-
-    def lines(self, path: str) -> List[str]:
-        return [f"let made = digest_{self.enum.name.lower()}(&{path}, made);"]
-
-    def mixed(self, value: Any, order: str) -> bytes:
-        kinds = self.enum.variants[value[0]].kinds
-        return bytes([value[0]]) + b"".join(kind.mixed(it, order) for kind, it in zip(kinds, value[1]))
-
-    def is_nan(self, value: Any) -> bool:
-        return any(kind.is_nan(it) for kind, it in zip(self.enum.variants[value[0]].kinds, value[1]))

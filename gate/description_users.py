@@ -5,7 +5,8 @@ from typing import List, NamedTuple, Optional, Sequence, Tuple
 
 from description_counts import SIGNED, UNSIGNED, Group, Sum
 from description_kinds import Ended, Gap, Leb, Listing, Number, Slice, Table
-from description_structs import Enum, Field, Inner, OwnError, Struct
+from description_nested import Enum, Inner
+from description_structs import Field, OwnError, Struct
 from descriptions_drawn import Drawn
 
 # How a field is said.

@@ -6,7 +6,8 @@ from typing import Callable, Dict, List, NamedTuple, Optional, Sequence, Tuple, 
 
 from description_counts import FLOATS, SIGNED, UNSIGNED, Fixed, Group, Plain, Sum, array, is_count
 from description_kinds import Ended, Gap, Kind, Leb, Listing, Number, Slice, Table
-from description_structs import Condition, Enum, Field, Inner, OwnError, Struct, Tagged, Variant
+from description_nested import Enum, Inner, Tagged, Variant
+from description_structs import Condition, Field, OwnError, Struct
 
 # The kinds of fields, of counts, of conditions and of types of a fixed size.
 LEAVES = ("text to a byte", "C string", "ULEB128", "SLEB128", "slice", "text", "zeros", "table", "table of records", "numbers")
@@ -70,6 +71,8 @@ class Draw(random.Random):
         self.items: List[Item] = [self.error] if self.error else []
         self.kinds: List[str] = []
         self.inner_count, self.structs_left = 0, STRUCTS
+        if has_error:
+            bag[:0] = ["enum", "field: constant", "slice", "count: a difference"]
         # How often the fields of a struct are named.
         self.uses: Dict[str, int] = Counter()
 
@@ -129,7 +132,7 @@ class Draw(random.Random):
             made.less = [self.choice(others)] if others and self.chance(60) else []
             made.less_number = self.randint(0, 3) if made.less else self.randint(1, 9)
             of = next(it for it in known if it.name == name)
-            if self.error and can_own and of.how == "number" and self.chance(70):
+            if self.error and can_own and of.how == "number" and self.chance(85):
                 made.own = f"{self.error.name}::{self.own(of.type, OWN_COUNT)}"
         return made
 
@@ -161,7 +164,7 @@ class Draw(random.Random):
         if kind != "constant":
             return Number(self.fixed(kind))
         of = self.choice(["u8", "u16", "u32", "u64"])
-        own = f"{self.error.name}::{self.own(of, OWN_CONSTANT)}" if self.error and self.chance(70) else ""
+        own = f"{self.error.name}::{self.own(of, OWN_CONSTANT)}" if self.error and self.chance(85) else ""
         return Number(Plain(of), self.choice([self.randint(0, 255), 256 ** UNSIGNED[of] - 1]), own)
 
     def bits(self) -> List[Number]:
@@ -219,7 +222,7 @@ class Draw(random.Random):
             if not made and self.chance(80):
                 made = [Number(self.fixed(self.choice(FIXED[:-1]))) for _ in range(self.randint(1, 3))]
             variants.append(Variant(f"{'ABCD'[at]}{name.rpartition('x')[2]}", number, made))
-        other = self.own(tag.type, OWN_TAG) if self.error and self.chance(70) else ""
+        other = self.own(tag.type, OWN_TAG) if self.error and self.chance(85) else ""
         enum = Enum(name, Plain(tag.type), is_own, variants, self.error, other)
         self.items.append(enum)
         self.kinds.append(f"enum: {'its own tag' if is_own else 'an earlier tag'}")
@@ -232,8 +235,7 @@ class Draw(random.Random):
         if kind == "optional":
             tags = ["enum"] if depth < DEEPEST and any(it.how == "number" and it.is_free for it in known) else []
             inner = self.kind(self.take("", [*LEAVES, *LISTS, *nested, *tags]), known, depth)
-            if isinstance(inner, Number):
-                inner.constant, inner.own = None, ""
+            inner = Number(inner.of) if isinstance(inner, Number) else inner
             return Field(name, inner, condition=self.condition(known))
         if kind in WRAPPED:
             within = self.count(known, True) if kind == "within" else None
@@ -253,9 +255,11 @@ class Draw(random.Random):
         while len(made.fields) < fewest:
             unused = [it for it in known if it.how == "number" and it.is_small and it.is_free and not self.uses[it.name]]
             nested = [it for it in NESTED if depth < DEEPEST and self.structs_left]
-            kinds = [*PARTS[: len(LEAVES) + 3], *nested, *WRAPPED, "bits", *(["padding"] if made.fields else [])]
-            kind = self.take("", kinds) if self.chance(75) or not self.bag_has(kinds) else "numbers"
-            if kind not in ("numbers", "bits", "padding", *LEAVES[:4]) and not unused and (self.chance(70) or kind in FRESH or not known):
+            kinds = [*PARTS[: len(LEAVES) + 3], *nested, *WRAPPED, *(["bits"] if fewest - len(made.fields) > 3 else []), *(["padding"] if made.fields else [])]
+            kind = self.take("", kinds) if self.chance(75) else "numbers"
+            if made.fields and self.chance(20) and any(it.startswith("condition: ") for it in self.bag):
+                kind = "optional"
+            if kind not in ("numbers", "bits", "padding", *LEAVES[:4]) and not unused and (self.chance(70) or kind in FRESH or all(it.how == "length" for it in known)):
                 made.fields.append(Field(f"f{len(made.fields)}", Number(Plain(self.choice(["u8", "u16", "u32"])))))
                 known += self.says(made.fields[-1])
             if kind == "bits":
@@ -270,9 +274,6 @@ class Draw(random.Random):
             self.kinds.append(PADDED)
         self.items.append(made)
         return made
-
-    def bag_has(self, kinds: Sequence[str]) -> bool:
-        return any(it in self.bag for it in kinds)
 
     @staticmethod
     def says(of: Field) -> List[Known]:
@@ -309,9 +310,9 @@ class Draw(random.Random):
         return made
 
 
-def draw(name: str, seed: int, at: int, bag: List[str]) -> Drawn:
-    """Draws a struct, with those in it. The first of a seed is deep; some have an error of their own, and some have floats."""
-    drawing = Draw(f"{seed} {at}")
+def draw(name: str, seed: str, at: int, bag: List[str]) -> Drawn:
+    """Draws a struct, with those in it. The first one is deep; some have an error of their own, and some have floats."""
+    drawing = Draw(seed)
     drawing.begin(name, bag, at % 5 == 1, at % 5 == 3)
     struct = drawing.struct(1) if at else drawing.chain(DEPTH)
     return Drawn(struct, drawing.items, drawing.kinds)

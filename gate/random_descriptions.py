@@ -22,6 +22,7 @@ with the prover's reasons; with `--keep FOLDER` the crates stay there. That each
 """
 
 import argparse
+import contextlib
 import random
 import re
 import sys
@@ -40,6 +41,8 @@ from step import FOLDERS, TOP, Step, Stop, below, copy_kept, count_workers, read
 
 LIBRARY = "scroll_layouts"
 SEED, COUNT = 1, 12
+# So many structs have all kinds, for which they are drawn again.
+ALL, AGAIN = 16, 50
 # How many structs are in a crate at most: the more, the more memory a check takes.
 MOST = 3
 # How many values of a struct are tried, and how many cuts and damages of each.
@@ -64,19 +67,43 @@ class Module(NamedTuple):
         return self.made.struct.name.lower()
 
 
-def draw_modules(seed: int, count: int) -> List[Module]:
+def draw_all(seed: int, count: int) -> List[Module]:
+    """Draws structs of all kinds, if they are that many."""
+    for again in range(AGAIN):
+        modules = draw_modules(f"{seed} {again}", count)
+        if count < ALL or not missing_of(modules):
+            break
+    return modules
+
+
+def missing_of(modules: List[Module]) -> List[str]:
+    return [kind for kind in (*drawn.KINDS, *drawn.OTHERS) if not any(kind in it.made.kinds for it in modules)]
+
+
+def draw_modules(seed: str, count: int) -> List[Module]:
     """Draws structs, and prints each as a module."""
-    modules, bag = [], []
+    modules, bag, again = [], [], 0
     for at in range(count):
         if len(bag) < len(drawn.KINDS):
             more = [*drawn.KINDS]
             random.Random(f"{seed} {at}").shuffle(more)
             bag += more
         crate = f"formats{at // MOST}"
-        made = drawn.draw(f"F{at}", seed, at, bag)
+        made = drawn.draw(f"F{at}", f"{seed} {at}", at, bag)
+        while not has_values(made.struct):
+            again += 1
+            made = drawn.draw(f"F{at}", f"{seed} {at} {again}", at, bag)
         text = print_module(made, crate)
         modules.append(Module(crate, made.struct.name.lower(), made, text, re.findall(r"(?m)^pub fn (\w+)", text)))
     return modules
+
+
+def has_values(struct: Struct) -> bool:
+    """Returns whether values that agree are found. (Some counts exclude each other.)"""
+    for at in range(20):
+        with contextlib.suppress(Hopeless):
+            return bool(struct.draw(str(at), "big"))
+    return False
 
 
 # What is compared
@@ -132,7 +159,6 @@ def changed(of: Field, value: object) -> object:
 def cases_of(struct: Struct, seed: str) -> Iterator[Case]:
     """Returns what the program is asked."""
     rng, name = random.Random(seed), struct.name.lower()
-    # (the deepest structs have few values that agree)
     found = 0
     for at in range(20 * VALUES):
         order = rng.choice(["little", "big"])
@@ -152,9 +178,7 @@ def cases_of(struct: Struct, seed: str) -> Iterator[Case]:
             yield ask(struct, name, made, order, 0, room)
         found += 1
         if found == VALUES:
-            break
-    if not found:
-        raise Hopeless
+            return
 
 
 def ask(struct: Struct, name: str, source: bytes, order: str, change: int, room: int) -> Case:
@@ -263,7 +287,7 @@ def compare(step: Step, given: argparse.Namespace, top: Path, modules: List[Modu
 
 
 def work(step: Step, given: argparse.Namespace) -> None:
-    modules = draw_modules(given.seed, given.count)
+    modules = draw_all(given.seed, given.count)
     lie = claim_falsely(modules)._replace(crate="a_lie")
     top = Path(given.keep) if given.keep else step.room
     names, asked = write_crates(step, [*modules, lie], top), 0
@@ -280,11 +304,9 @@ def work(step: Step, given: argparse.Namespace) -> None:
         for it in own:
             step.count(f"{name}::{it.file}: {', '.join(dict.fromkeys(it.made.kinds))}", fault_of(it, ran.said))
         asked += compare(step, given, top, own) if not ran.status else 0
-    used = {kind: sum(kind in it.made.kinds for it in modules) for kind in (*drawn.KINDS, *drawn.OTHERS)}
-    if given.count >= 16:
-        missing = [kind for kind, number in used.items() if not number]
-        step.count("kinds that no struct has", f"    {', '.join(missing)}\n" if missing else None)
-    kinds = ", ".join(f"{number} with {kind}" for kind, number in used.items())
+    if given.count >= ALL:
+        step.count("kinds that no struct has", f"    {', '.join(missing_of(modules))}\n" if missing_of(modules) else None)
+    kinds = ", ".join(f"{sum(kind in it.made.kinds for it in modules)} with {kind}" for kind in (*drawn.KINDS, *drawn.OTHERS))
     step.tell(f"seed {given.seed}, {len(modules)} structs, {asked} lines compared: {kinds}")
 
 
