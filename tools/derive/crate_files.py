@@ -36,8 +36,8 @@ CODE: Dict[str, Sequence[str]] = {
     "scroll_formats": ("Kept", "SmallError", "Table", "Zeros"),
     "scroll_layouts::Choice": ("First", "Second"),
     "scroll_layouts": tuple(
-        "Certain CertainHead Choice Choose Count Ends Field Given Head Headed Items Listed Low Marked Packed Padded Part ReadPart Run "
-        "Shape Sleb ToMark Uleb When Within is read_exact read_whole write_whole".split()
+        "Certain CertainHead Choice Choose Count Ends Field Given Head Headed Items Listed Low Marked Packed Padded Part "
+        "ReadPart Run Shape Sleb ToMark Uleb When Within is read_exact read_whole write_whole".split()
     ),
     "std::marker": ("PhantomData",),
     "std::result": ("Result",),
@@ -94,9 +94,10 @@ def print_file(crate: Crate, file: SourceFile, items: List[Tuple[Item, Any]]) ->
             modules[f"{crate.declared(item)}.TheVariants"] = alias_of(item.name)
         for name in printer.names:
             if crate.find(name, file.path):
-                raise Refused(file.path, item.line, f"the {item.word} {item.name} has a type {name} printed, whose name another has")
+                said = f"the {item.word} {item.name} has a type {name} printed, whose name another has"
+                raise Refused(file.path, item.line, said)
     body = "\n\n".join("\n".join(it) for it in blocks)
-    ghost = "\n".join(re.findall(r"ghost \w+ = \{.*?(?=\n\n)|ensures \{.*?(?=\n    \{)", body, re.S))
+    ghost = "\n".join(re.findall(r"ghost \w+ = \{.*?(?=\n\n|\Z)|ensures \{.*?(?=\n    \{)", body, re.S))
     words = {*re.findall(r"[\w-]+", body)}
     imports = {module: [it for it in names if is_said(it, ghost)] for module, names in GHOST.items()}
     named = [f"ghost use {module} as {name};" for module, name in modules.items() if f"{name}." in ghost]

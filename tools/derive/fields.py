@@ -28,7 +28,7 @@ class Kind:
         self.reader, self.at, self.of = reader, at, of
         for word, note in at.notes.items():
             if word not in (*self.words, *WRAPPERS):
-                words = " or ".join(f"`{it} = ..`" for it in self.words) or "no note but " + ", ".join(f"`{it}`" for it in WRAPPERS)
+                words = " or ".join(f"`{it} = ..`" for it in self.words) or f"no note but {', '.join(WRAPPERS)}"
                 reader.refuse_note(at, note, f"has the note `{word} = ..`; {of.text} takes {words}")
         if of.has_lifetime and not reader.item.lifetime:
             reader.refuse(at, f"borrows, and the {reader.item.word} has no lifetime: `{reader.item.name}<'a>`")
@@ -74,9 +74,11 @@ class Text(Kind):
                 self.reader.refuse_note(self.at, note, "has the note `else = ..`, which only a context that subtracts takes")
             return self.one("Ends", Value(record(str(byte)), Call("Ends", (str(byte),))), self.length())
         if call in ("StrCtx::Delimiter", "StrCtx::DelimiterUntil"):
-            self.reader.refuse_note(self.at, note, f"may end without its delimiter, which has no layout: write `StrCtx::Required({inside.text})`")
+            said = f"may end without its delimiter, which has no layout: write `StrCtx::Required({inside.text})`"
+            self.reader.refuse_note(self.at, note, said)
         if call != "StrCtx::Length":
-            self.reader.refuse_note(self.at, note, f"has the context {note.text}: write `StrCtx::Length({note.text})`, or `StrCtx::Required(0)`")
+            said = f"has the context {note.text}: write `StrCtx::Length({note.text})`, or `StrCtx::Required(0)`"
+            self.reader.refuse_note(self.at, note, said)
         return self.one("usize", self.reader.count(self.at, inside), self.length())
 
 
@@ -108,10 +110,12 @@ class TableOf(Kind):
     def make(self) -> Part:
         element = self.of.arguments[0] if len(self.of.arguments) == 1 else self.of
         if element.name == "[;]":
-            self.reader.refuse(self.at, f"is a table of arrays: put {element.text} into a struct of one field, and take a table of it")
+            said = f"is a table of arrays: put {element.text} into a struct of one field, and take a table of it"
+            self.reader.refuse(self.at, said)
         found = self.reader.crate.find(element.name, self.reader.item.path)
         if found and not self.reader.crate.is_fixed_type(self.reader.item, element) and found.is_marked:
-            self.reader.refuse(self.at, f"is a table of {element.text}, which has no fixed size: take `Items<'a, {element.text}>`")
+            said = f"is a table of {element.text}, which has no fixed size: take `Items<'a, {element.text}>`"
+            self.reader.refuse(self.at, said)
         self.reader.use(self.reader.crate.fixed(self.reader.item, self.at, element))
         return self.one("usize", self.reader.count(self.at, self.ctx))
 
@@ -136,7 +140,8 @@ class ListOf(Kind):
             part.is_certain = False
         elif self.ctx.text == "ToMark":
             if not form.ends:
-                self.reader.refuse(self.at, f"is a list up to a mark, and {element.text} has no `ends = ..`, which says the mark's bytes")
+                said = f"is a list up to a mark, and {element.text} has no `ends = ..`, which says the mark's bytes"
+                self.reader.refuse(self.at, said)
             part = self.one("ToMark", Value("record {}", "ToMark"))
             part.is_certain = False
         else:
@@ -153,7 +158,8 @@ class FixedSize(Kind):
         made = self.reader.crate.fixed(self.reader.item, self.at, self.of)
         if isinstance(made, Record):
             if any(isinstance(it, Record) or not is_of_numbers(it) for _, it in made.fields):
-                self.reader.refuse(self.at, f"is of {made.text}, which has a struct in it: as a part of a format it has numbers and arrays alone")
+                said = f"is of {made.text}, which has a struct in it: as a part of a format it has numbers and arrays alone"
+                self.reader.refuse(self.at, said)
             self.reader.use(made)
         elif not is_of_numbers(made):
             self.reader.refuse(self.at, "is an array of structs: take `Table<'a, ..>`, or put the structs into a struct")

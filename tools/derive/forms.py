@@ -34,8 +34,8 @@ class Rule(NamedTuple):
 
 @dataclass
 class Part:
-    """A part: its type and that of its context; its context; what it is in the logic, of a value `x`, and in code, of `self`, behind
-    some lines; the pattern that binds the fields' variables, with the lines behind it; the numbers that it says, and their rules."""
+    """A part: its type and that of its context; its context; what it is in the logic, of a value `x`, and in code, of `self`,
+    behind some lines; the pattern that binds the fields' variables, with the lines behind it; its numbers, and their rules."""
 
     type: str
     context_type: str

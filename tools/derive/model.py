@@ -14,16 +14,16 @@ from tokens import MARK, Refused
 
 # What the library has under these names, which a struct's can't be, since the printed text imports them.
 LIBRARY = {
-    *("BitFields Borrowed CStr Certain CertainHead Choice Choose Count Endian Ends Error Field FixedLayout Given Head Headed Items").split(),
-    *("Kept Listed Low Marked Packed Padded Part PhantomData ReadPart Result Run Shape Sleb Table ToMark TryFromCtx").split(),
-    *("TryIntoCtx Uleb When Within Word Zeros Option Vec String").split(),
+    *("BitFields Borrowed CStr Certain CertainHead Choice Choose Count Endian Ends Error Field FixedLayout Given Head").split(),
+    *("Headed Items Kept Listed Low Marked Packed Padded Part PhantomData ReadPart Result Run Shape Sleb Table").split(),
+    *("ToMark TryFromCtx TryIntoCtx Uleb When Within Word Zeros Option Vec String").split(),
 }
 
 
 @dataclass(frozen=True)
 class OwnError:
-    """An error type that isn't the library's: its name, the variant that holds an error of the library (none of `SmallError`), where
-    its variants are in the logic, and these."""
+    """An error type that isn't the library's: its name, the variant that holds an error of the library (none of `SmallError`),
+    where its variants are in the logic, and these."""
 
     name: str
     variant: str
@@ -43,8 +43,8 @@ class OwnError:
 
 @dataclass
 class Struct:
-    """A struct of any size: its parts, the size up to a multiple of which it is padded, the number that it is given, its error, the
-    structs and enums in it, and the types of the crate that its fields have."""
+    """A struct of any size: its parts, the size up to a multiple of which it is padded, the number that it is given, its error,
+    the structs and enums in it, and the types of the crate that its fields have."""
 
     item: Item
     parts: List[Part]
@@ -82,8 +82,8 @@ class Variant:
         return flat(self.part.split).replace("self.v", "*v")
 
     def arm(self, ways: List[str], form: str, made: str) -> List[str]:
-        """Returns the arm of a match that takes the part apart. (The borrow checker's part of a proof doesn't cover an array in its
-        pattern.)"""
+        """Returns the arm of a match that takes the part apart. (The borrow checker's part of a proof doesn't cover an array in
+        its pattern.)"""
         has_array = any(isinstance(of, Array) for _, of in self.part.fields)
         pattern = "it" if has_array else flat(self.part.join)
         for way in reversed(ways):
@@ -152,8 +152,8 @@ class Enum:
 
 @dataclass
 class ListType:
-    """A struct without fields that names the values of a list: their type, the bytes that end a list of them, and what they are if
-    they are structs of any size."""
+    """A struct without fields that names the values of a list: their type, the bytes that end a list of them, and what they are
+    if they are structs of any size."""
 
     item: Item
     of: str
@@ -203,14 +203,17 @@ class Crate:
                 raise Refused(file.path, item.line, f"the {item.word} {item.name} has parameters, and takes one lifetime at most")
             has_records = item.name in ("Record", "Written") and any(it.is_marked and self.is_fixed(it) for it in file.items)
             if item.name in LIBRARY or has_records:
-                raise Refused(file.path, item.line, f"the {item.word} {item.name} has a name that the printed text has: give it another")
+                said = f"the {item.word} {item.name} has a name that the printed text has: give it another"
+                raise Refused(file.path, item.line, said)
             is_plain = "items" in item.notes or "given" in item.notes or self.is_fixed(item)
             if item.is_kept and is_plain:
-                raise Refused(file.path, item.line, f"the {item.word} {item.name} takes no `Kept`: it is of a fixed size, or isn't written alone")
+                said = f"the {item.word} {item.name} takes no `Kept`: it is of a fixed size, or isn't written alone"
+                raise Refused(file.path, item.line, said)
             if "items" in item.notes and (item.fields or item.is_enum or item.lifetime):
                 raise Refused(file.path, item.line, f"the {item.word} {item.name} names a list: write `struct {item.name};`")
             if not item.fields and "items" not in item.notes:
-                raise Refused(file.path, item.line, f"the {item.word} {item.name} has no {'variants' if item.is_enum else 'fields'}")
+                said = f"the {item.word} {item.name} has no {'variants' if item.is_enum else 'fields'}"
+                raise Refused(file.path, item.line, said)
 
     def is_walked(self, name: str) -> bool:
         """Returns whether a struct is in a list whose values are walked where they lie, by itself or in another."""
@@ -263,7 +266,8 @@ class Crate:
         """Returns whether a struct is of a fixed size: no field has a note or borrows, and each has a fixed size."""
         if item.is_enum or item.lifetime or item.notes or item.name in outer or not item.fields:
             return False
-        return all(not it.notes and not it.is_ghost and self.is_fixed_type(item, it.type, (*outer, item.name)) for it in item.fields)
+        within = (*outer, item.name)
+        return all(not it.notes and not it.is_ghost and self.is_fixed_type(item, it.type, within) for it in item.fields)
 
     def is_fixed_type(self, item: Item, of: Type, outer: Tuple[str, ...] = ()) -> bool:
         if of.name in PLAIN:
@@ -280,7 +284,8 @@ class Crate:
         if of.name == "[;]":
             element, length = self.fixed(item, at, of.arguments[0]), self.constant(item.path, of.length)
             if length < 0:
-                raise self.refuse_field(item, at, f"has the length {of.length}, which is no literal and no constant of this file that is one")
+                said = f"has the length {of.length}, which is no literal and no constant of this file that is one"
+                raise self.refuse_field(item, at, said)
             return Array(element, length, of.text)
         found = self.find(of.name, item.path)
         if not found or not self.is_fixed_type(item, of):
@@ -322,8 +327,10 @@ class Crate:
         name, _, variant = note.text.partition("::")
         found = self.find(name, item.path)
         if not found or not found.is_enum:
-            raise Refused(item.path, note.line, f"the error {note.text} is no `SmallError`, and no variant of an enum of this crate")
+            said = f"the error {note.text} is no `SmallError`, and no variant of an enum of this crate"
+            raise Refused(item.path, note.line, said)
         if variant not in [it.name for it in found.fields]:
             said = f"{name}::{found.fields[0].name}" if found.fields else name
-            raise Refused(item.path, note.line, f"the error {note.text} is no variant of {name}: write one that holds an `Error`, as `{said}`")
+            said = f"the error {note.text} is no variant of {name}: write one that holds an `Error`, as `{said}`"
+            raise Refused(item.path, note.line, said)
         return OwnError(name, variant, f"{self.declared(found)}.TheVariants", tuple(it.name for it in found.fields))

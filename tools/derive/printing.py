@@ -98,14 +98,17 @@ class Printer:
             ],
         ]
 
-    def print_shape(self, given: str, name: str, types: Tree, kind: Tree, inner: Value, ghosts: List[str], split: List[str], join: List[str]) -> Tuple[str, str]:
+    def print_shape(
+        self, given: Tuple[str, str], types: Tree, kind: Tree, inner: Value, ghosts: List[str], split: List[str], join: List[str]
+    ) -> Tuple[str, str]:
         """Prints `Shape`, and returns its parts and their context."""
         parts, context = self.alias(f"{self.name}Parts", types), self.alias(f"{self.name}Ctx", kind)
         ctx = "ctx" if "ctx" in flat(inner.code) else "_ctx"
+        ctx_type, name = given
         self.blocks.append(
             [
                 f"impl{self.life} Shape for {self.type} {{",
-                f"    type Ctx = {given};",
+                f"    type Ctx = {ctx_type};",
                 "",
                 f"    type Inner = {context};",
                 "",
@@ -123,7 +126,7 @@ class Printer:
                 *join,
                 "    }",
                 "",
-                *signature_lines("inner", [f"{ctx}: &{given}"], context, "", 4),
+                *signature_lines("inner", [f"{ctx}: &{ctx_type}"], context, "", 4),
                 f"        ensures {{ result ≡ ⟦<{self.type} as Shape>⟧.inner_of {ctx}.now }}",
                 "    {",
                 *tuple_lines("", inner.code, "", 8),
@@ -147,8 +150,8 @@ class Printer:
         split = [*chain.before(), *tuple_lines("", whole.split, "", 8)]
         join = [*pattern_lines("let ", whole.join, " = parts;", 8), *chain.after(), *struct_lines(self.name, values, False, 8)]
         ghosts = ghost_text("ghost parts_of = { λ x. ", whole.ghost, " };", 4)
-        given, name = ("usize", "n") if form.given else ("()", "_")
-        parts, context = self.print_shape(given, name, chain.types[0], whole.context_type, inner, ghosts, split, join)
+        given = ("usize", "n") if form.given else ("()", "_")
+        parts, context = self.print_shape(given, chain.types[0], whole.context_type, inner, ghosts, split, join)
         if form.given:
             return
         if self.is_walked:
@@ -169,7 +172,8 @@ class Printer:
     def print_certain(self, parts: str, context: str) -> None:
         """Prints that a source has a value in one way, so that a list of such values can be walked."""
         for says, head, ctx in self.heads:
-            self.blocks.append([*impl_lines("<'a>", "CertainHead", ["'a", ctx, head, self.error], says), "    fn certain_next() {}", "}"])
+            lines = impl_lines("<'a>", "CertainHead", ["'a", ctx, head, self.error], says)
+            self.blocks.append([*lines, "    fn certain_next() {}", "}"])
         self.blocks.append(
             [
                 *impl_lines("<'a>", "Certain", ["'a", "()", self.error], self.type),
@@ -257,7 +261,8 @@ class Printer:
         form: Enum = self.form
         it = form.variants[at]
         tag = ("@tag@", "@tag@") if form.is_own else ("t.0", "ctx.0") if form.given else ("t", "*ctx")
-        own = Value(flat(resolve(it.part.context.ghost, {form.given: "t.1"})), resolve(it.part.context.code, {form.given: "ctx.1"}))
+        ghost, code = it.part.context
+        own = Value(flat(resolve(ghost, {form.given: "t.1"})), resolve(code, {form.given: "ctx.1"}))
         if at + 1 == len(form.variants):
             return it.part.type, it.part.context_type, own
         types, kinds, rest = self.choices(at + 1)
@@ -271,7 +276,8 @@ class Printer:
         if form.is_own:
             chain = Chain(self.name, [form.head, Part(types, kinds, inner, "", "", "")], 1)
             self.print_chain(chain)
-            parts, context = (self.alias(f"{self.name}{it}", tree) for it, tree in (("Parts", chain.types[0]), ("Ctx", chain.whole.context_type)))
+            parts = self.alias(f"{self.name}Parts", chain.types[0])
+            context = self.alias(f"{self.name}Ctx", chain.whole.context_type)
             self.blocks += tagged_blocks(self, parts, context, *chain.whole.context)
             self.print_reader()
             self.print_writer()
@@ -285,4 +291,4 @@ class Printer:
                 code = f"{way}({code})"
             split.append(f"            {form.pattern(it)} => {code},")
             join += it.arm(form.ways(at), "{}", form.pattern(it))
-        self.print_shape(form.context_type, "t", types, kinds, inner, ghosts, [*split, "        }"], [*join, "        }"])
+        self.print_shape((form.context_type, "t"), types, kinds, inner, ghosts, [*split, "        }"], [*join, "        }"])

@@ -94,12 +94,11 @@ class Reader:
 
     def sum(self, at: RawField, note: Note) -> Sum:
         def fail() -> NoReturn:
-            self.refuse_note(at, note, f"has the context {note.text}, which is no sum of fields `as usize`, perhaps times numbers, and numbers")
+            said = f"has the context {note.text}, which is no sum of fields `as usize`, perhaps times numbers, and numbers"
+            self.refuse_note(at, note, said)
 
         found = SumReader(note, fail).read()
-        for side in (found.whole, found.less):
-            if not side:
-                continue
+        for side in (found.whole, *(found.less.parts if found.less else [])):
             most, wide = side.number, 0
             for name, times in side.terms:
                 kind = self.number(at, note, name).type
@@ -107,7 +106,8 @@ class Reader:
                 most += 2**63 * times if name.endswith("()") else 256 ** PLAIN[kind].width * times if kind in PLAIN else 0
             alone = len(side.terms) == 1 and side.terms[0][1] == 1 and not side.number
             if (wide and not alone) or (not wide and most >= 2**64):
-                self.refuse_note(at, note, f"has the context {note.text}, which adds to a number of more than 32 bits: it may not fit usize")
+                said = f"has the context {note.text}, which adds to a number of more than 32 bits: it may not fit usize"
+                self.refuse_note(at, note, said)
         return found
 
     def count(self, at: RawField, note: Note) -> Value:
@@ -122,7 +122,8 @@ class Reader:
     def condition(self, at: RawField, note: Note) -> Condition:
         found = read_condition(note)
         if not found:
-            self.refuse_note(at, note, f"has the condition {note.text}: write `kind == 1`, `kind != 0`, `kind < 1`, or `flags & 4 != 0` of one bit")
+            said = f"has the condition {note.text}: write `kind == 1`, `kind != 0`, `kind < 1`, or `flags & 4 != 0` of one bit"
+            self.refuse_note(at, note, said)
         number = self.number(at, note, found.name)
         if max(found.number, found.bit) >= 256 ** (PLAIN[number.type].width if number.type in PLAIN else 8):
             self.refuse_note(at, note, f"has the condition {note.text} with a number that doesn't fit {found.name}")
@@ -166,7 +167,8 @@ class Reader:
             found = [part for part in self.parts if any(it.name in names for it in part.numbers)]
             if not found:
                 note = next(iter(self.item.notes.values()))
-                self.refuse_note(self.item.fields[0], note, "is counted by the given number less another, which no part can refuse")
+                said = "is counted by the given number less another, which no part can refuse"
+                self.refuse_note(self.item.fields[0], note, said)
             found[-1].rules.append(rule)
         self.rules = []
 
@@ -212,7 +214,8 @@ class Reader:
         found = [(name.strip(), kind.strip()) for name, _, kind in (it.partition(":") for it in text.split(","))]
         kinds = [kind for _, kind in found]
         if self.item.is_enum and (kinds[0] not in ("u8", "u16", "u32", "u64") or kinds[1:] not in ([], ["usize"])):
-            self.refuse_head(note, f"is given {note.text}: write `given = kind: u8`, its tag, or `given = (kind: u8, len: usize)`")
+            said = f"is given {note.text}: write `given = kind: u8`, its tag, or `given = (kind: u8, len: usize)`"
+            self.refuse_head(note, said)
         if not self.item.is_enum and kinds != ["usize"]:
             self.refuse_head(note, f"is given {note.text}: write `given = len: usize`")
         if any(name in [it.name for it in self.item.fields] for name, _ in found):

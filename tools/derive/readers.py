@@ -28,7 +28,8 @@ class StructReader(Reader):
     def read(self) -> Struct:
         item = self.item
         if item.is_tuple:
-            raise self.crate.refuse_field(item, item.fields[0], f"of the struct {item.name} has no name, which a struct of any size needs")
+            said = f"of the struct {item.name} has no name, which a struct of any size needs"
+            raise self.crate.refuse_field(item, item.fields[0], said)
         self.read_given()
         multiple = self.read_multiple()
         for at, field in enumerate(item.fields):
@@ -63,7 +64,8 @@ class StructReader(Reader):
             self.read_bits(field)
             return
         if "if" in field.notes and field.type.name != "Option":
-            self.refuse_note(field, field.notes["if"], f"has the note `if = ..`, and is of {field.type.text}: write `Option<{field.type.text}>`")
+            said = f"has the note `if = ..`, and is of {field.type.text}: write `Option<{field.type.text}>`"
+            self.refuse_note(field, field.notes["if"], said)
         if field.type.name == "Zeros" and "ctx" in field.notes:
             call, inside = self.call(field.notes["ctx"])
             if call == "padding":
@@ -71,7 +73,8 @@ class StructReader(Reader):
                 is_offset = arguments.until_comma().said == "offset"
                 self.padding = self.constant(arguments.until_comma().said) if is_offset else -1
                 if self.padding < 1 or not self.parts:
-                    self.refuse_note(field, field.notes["ctx"], f"has the context {field.notes['ctx'].text}: write `padding(offset, 8)`, behind a field")
+                    said = f"has the context {field.notes['ctx'].text}: write `padding(offset, 8)`, behind a field"
+                    self.refuse_note(field, field.notes["ctx"], said)
                 self.gaps = (*self.gaps, field.name)
                 return
         made = self.part(field, field.type, field.notes)
@@ -94,14 +97,16 @@ class StructReader(Reader):
         if len(field.notes) > 1:
             self.refuse_note(field, note, "has another note beside `bits = ..`, which takes none")
         if not of or not is_counter(of) or not 0 < count <= 8 * of.width:
-            self.refuse_note(field, note, f"has `bits = {note.text}`, and is of {field.type.text}: take an unsigned number with room for them")
+            said = f"has `bits = {note.text}`, and is of {field.type.text}: take an unsigned number with room for them"
+            self.refuse_note(field, note, said)
         if self.bits and of.width > 4:
             self.refuse_note(field, note, "is a lower field of bits of 64 bits: take one of at most 32")
         self.bits.append((field, count))
         word = PLAIN[self.bits[0][0].type.name]
         filled = sum(it for _, it in self.bits)
         if filled > 8 * word.width:
-            self.refuse_note(field, note, f"is the {filled}th bit of {word.text}, the type of the first field of bits, which says the number")
+            said = f"is the {filled}th bit of {word.text}, the type of the first field of bits, which says the number"
+            self.refuse_note(field, note, said)
         if filled < 8 * word.width:
             return
         if len(self.bits) == 1:

@@ -75,7 +75,11 @@ def below_rule(reader: "Reader", at: RawField, found: Sum, less: Sum) -> Rule:
     else:
         text = f"{side_text(list(found.terms), found.number)} is less than {less.text}"
         fails, lines = refusal(reader, at, bracketed(whole.ghost), whole.code, text)
-    lines = [f"        if {below.code} > {whole.code} {{", *lines, "        }"]
+    tests, left = [], whole.code
+    for it in less.steps:
+        tests.append(f"{it.code} > {left}")
+        left += f" - {it.code}"
+    lines = [f"        if {' || '.join(tests)} {{", *lines, "        }"]
     return Rule(f"({below.ghost} ≤ {whole.ghost})", f"({whole.ghost} < {below.ghost}) × {fails}", lines)
 
 
@@ -94,5 +98,7 @@ def tag_rule(reader: "Reader", at: RawField, form: Enum, tag: str) -> Rule:
 def guarded(rule: Rule, condition: Condition) -> Rule:
     """A rule of a field that may be absent holds where that is there."""
     there, absent = condition.sides()
-    first = rule.code[0].replace("if ", f"if {condition.said().code} && ", 1)
+    test = rule.code[0].strip()[len("if ") : -len(" {")]
+    test = f"({test})" if " || " in test else test
+    first = f"        if {condition.said().code} && {test} {{"
     return Rule(f"({absent} ⊎ {rule.holds})", f"{there} × {rule.fails}", [first, *rule.code[1:]])

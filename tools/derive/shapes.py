@@ -28,7 +28,7 @@ def resolve(tree: Tree, said: Dict[str, str]) -> Tree:
 
 @dataclass
 class Group:
-    """A head, or none, and what is behind it, the last of which are the parts of the next group; and the numbers that it is told."""
+    """A head, or none; what is behind it, the last of which are the parts of the next group; the numbers that it is told."""
 
     head: Optional[Part]
     parts: List[Part] = field(default_factory=list)
@@ -123,7 +123,7 @@ def grouped(parts: Sequence[Part]) -> List[Group]:
 
 
 def together(chain: Chain, multiple: int, index: int) -> Part:
-    """Parts with zeros behind them up to a multiple of a size, counted from the first one; they are the padded ones of this index."""
+    """Parts with zeros behind them up to a multiple of a size, counted from the first one. They are the padded ones so far."""
     name = f"{chain.name}Padded{index if index > 1 else ''}"
     made = chain.whole.around("Padded", name + lifetime(chain.types[0]), str(multiple), str(multiple))
     made = replace(made, context_type=f"{name}Ctx", before=chain.before(), after=chain.after(), inside=chain)

@@ -32,6 +32,18 @@ class Sum:
         return [name for name, _ in self.terms] + (self.less.names if self.less else [])
 
     @property
+    def parts(self) -> "List[Sum]":
+        """Its terms, of which each is subtracted by itself if one is a length, since their sum may not fit `usize`."""
+        if not any(name.endswith("()") for name, _ in self.terms):
+            return [self]
+        terms = [Sum((it,), 0, None, "") for it in self.terms]
+        return [*terms, *([Sum((), self.number, None, "")] if self.number else [])]
+
+    @property
+    def steps(self) -> List[Value]:
+        return [it.said() for it in self.parts]
+
+    @property
     def whole(self) -> "Sum":
         """It without what is subtracted."""
         return Sum(self.terms, self.number, None, self.text)
@@ -42,9 +54,9 @@ class Sum:
         number = [str(self.number)] if self.number or not self.terms else []
         ghost, code = " + ".join([*ghosts, *number]), " + ".join([*codes, *number])
         if self.less:
-            less = self.less.said()
-            ghost = f"{bracketed(ghost)} - {bracketed(less.ghost)}"
-            code = f"{bracketed(code)}.saturating_sub({less.code})"
+            ghost, code = bracketed(ghost), bracketed(code)
+            for it in self.less.steps:
+                ghost, code = f"{ghost} - {bracketed(it.ghost)}", f"{code}.saturating_sub({it.code})"
         return Value(ghost, code)
 
 

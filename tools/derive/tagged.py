@@ -9,7 +9,7 @@ if TYPE_CHECKING:
 
 
 def tagged_blocks(printer: "Printer", parts: str, context: str, ghost: str, code: Tree) -> List[List[str]]:
-    """Returns the implementations of `Part` and `ReadPart`. The parts are a pair, in a context that is said in the logic and in code."""
+    """Returns the implementations of `Part` and `ReadPart`. The parts are a pair in a context, which is said twice."""
     form, error = printer.form, printer.error
     said = [f"(record {{ 0 = {it.tag} }}, {form.ghost(at)})" for at, it in enumerate(form.variants)]
     format_ = [

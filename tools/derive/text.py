@@ -131,7 +131,11 @@ def tuple_lines(head: str, tree: Tree, tail: str, indent: int) -> List[str]:
 
 
 def pattern_lines(head: str, tree: Tree, tail: str, indent: int) -> List[str]:
-    """Returns a pattern, which is on one line where that has room."""
+    """Returns a pattern, which is on one line where that has room, and then perhaps what is taken apart on the next one."""
+    first, _, rest = tail.partition("= ")
+    line = f"{' ' * indent}{head}{flat(tree)}{first}="
+    if len(line) <= WIDTH < len(line) + 1 + len(rest):
+        return [line, f"{' ' * (indent + 4)}{rest}"]
     return broken(head, tree, tail, indent, WIDTH)
 
 
@@ -157,7 +161,8 @@ def signature_lines(name: str, arguments: Sequence[str], result: str, tail: str,
     line = f"{space}fn {name}({', '.join(arguments)}){f' -> {result}' if result else ''}{tail}"
     if len(line) <= WIDTH:
         return [line]
-    return [f"{space}fn {name}(", *(f"{space}    {it}," for it in arguments), f"{space}){f' -> {result}' if result else ''}{tail}"]
+    end = f"{space}){f' -> {result}' if result else ''}{tail}"
+    return [f"{space}fn {name}(", *(f"{space}    {it}," for it in arguments), end]
 
 
 def impl_lines(life: str, trait: str, arguments: Sequence[str], of: str) -> List[str]:
@@ -234,7 +239,7 @@ def ghost_text(head: str, text: str, tail: str, indent: int) -> List[str]:
         inside = [row for name, _, value in fields for row in ghost_text(f"{name} = ", value, ";", indent + 2)]
         return [f"{space}{head}record {{", *inside, f"{space}}}{tail}"]
     lines, row = [], f"{space}{head}".rstrip()
-    for word in re.split(r" (?=[×⊎] )", text + tail):
+    for word in re.split(r" (?=[×⊎] |\(codes )", text + tail):
         if len(row) + 1 + len(word) > WIDTH and row.strip():
             lines.append(row)
             row = f"{' ' * (indent + 4)}{word}"

@@ -30,7 +30,7 @@ class Refused(Exception):
 
 
 class Token(NamedTuple):
-    """A token. Its kind is `name`, `number`, `lifetime`, `string`, `sign`, or of a comment `note`, whose text is what is in it, or `mark`."""
+    """A token. Its kind is `name`, `number`, `lifetime`, `string`, `sign`, or `note`, with what is in it, or `mark`."""
 
     kind: str
     text: str

@@ -14,16 +14,16 @@ use Rattle.scroll_layouts.specs.lemmas.ListLemmas.{counted-one}
 use Rattle.scroll_layouts.specs.lemmas.MarkLemmas.{marked-one}
 use Rattle.scroll_layouts.specs.lemmas.Parts.{part-within, slice-back}
 
--- `Ends T P`: where `T` holds, a source begins with one list of bytes that `P` holds of
-abbrev pub Ends : Type 0 → (Endian → List ℕ → Type 0) → Type 0
-Ends T P = T → (order : Endian) (s x y : List ℕ) → All (λ b. b < 256) s → length x ≤ length s
+-- `OneEnd T P`: where `T` holds, a source begins with one list of bytes that `P` holds of
+abbrev pub OneEnd : Type 0 → (Endian → List ℕ → Type 0) → Type 0
+OneEnd T P = T → (order : Endian) (s x y : List ℕ) → All (λ b. b < 256) s → length x ≤ length s
     → length y ≤ length s → x ≡ take (length x) s → y ≡ take (length y) s → P order x → P order y
     → length x ≡ length y
 
 -- `held T P ends refused other`: bytes that are borrowed, of which `P` holds, and which `ends` says
 -- that a source has in one way where `T` holds; `refused` says the errors of a read, and `other`
 -- those of a write of bytes of which `P` doesn't hold
-abbrev pub held : {E : Type 0} → (T : Type 0) → (P : Endian → List ℕ → Type 0) → Ends T P
+abbrev pub held : {E : Type 0} → (T : Type 0) → (P : Endian → List ℕ → Type 0) → OneEnd T P
     → (Endian → List ℕ → ℕ → E → Type 0) → (Endian → List ℕ → E → Type 0) → Leaf E (List ℕ)
 held T P ends refused other = record {
   leaf_len = λ x. length x;

@@ -1,4 +1,4 @@
--- Formats that read a source in one way: all values that it has are the same, and it has no value
+-- Formats that read a source in one way. All values that it has are the same, and it has no value
 -- and an error. So what was written and is read again is the same, and lists of such values are
 -- walked where they lie.
 use Rattle.std.specs.List.{All}
@@ -43,8 +43,8 @@ told (leaf l) = l.leaf_told
 told (choice gives b f g) = told f × told g
 told (when gives b f) = told f
 
--- `one_way f`: the same; and of heads whose parts are the same none obeys the rule where another
--- one breaks it, and a source has no value of a leaf and an error
+-- `one_way f`: `told f`; and of heads whose parts are the same none obeys the rule where another one
+-- breaks it, and a source has no value of a leaf and an error
 abbrev pub one_way : {E X : Type 0} → Format E X → Type 0
 one_way (run gives p) = ⊤
 one_way (counted gives n) = ⊤

@@ -88,7 +88,8 @@ class Derive(unittest.TestCase):
         for words in ((), ("--chek", "a"), ("a", "b")):
             self.assertEqual(self.call(*words), (2, "", f"{command.USAGE}\n"))
         missing = self.crate / "none"
-        self.assertEqual(self.call(str(missing)), (2, "", f"derive: {missing}: there is no src/ in this folder, so it is no crate\n"))
+        said = f"derive: {missing}: there is no src/ in this folder, so it is no crate\n"
+        self.assertEqual(self.call(str(missing)), (2, "", said))
 
 
 if __name__ == "__main__":

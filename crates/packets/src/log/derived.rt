@@ -25,13 +25,13 @@ impl<'a> Head<RecordHead2<'a>, Error> for RecordSays2 {
 
     ghost holds = { λ c h. ((length h.now) + 1 ≤ c.0) };
 
-    ghost fails = { λ c h e. (c.0 < (length h.now) + 1)
-        × IsBadInput e c.0 (codes "len is less than name.len() + 1") };
+    ghost fails = { λ c h e. (c.0 < (length h.now) + 1) × IsBadInput e c.0
+        (codes "len is less than name.len() + 1") };
 
-    ghost next = { λ c h. c.0 - ((length h.now) + 1) };
+    ghost next = { λ c h. c.0 - (length h.now) - 1 };
 
     fn obey(&self, head: &RecordHead2<'a>) -> Result<(), Error> {
-        if head.len() + 1 > self.0 as usize {
+        if head.len() > self.0 as usize || 1 > self.0 as usize - head.len() {
             return Err(Error::BadInput {
                 size: self.0 as usize,
                 msg: "len is less than name.len() + 1",
@@ -41,7 +41,7 @@ impl<'a> Head<RecordHead2<'a>, Error> for RecordSays2 {
     }
 
     fn next(&self, head: &RecordHead2<'a>) -> RecordNext2 {
-        (self.0 as usize).saturating_sub(head.len() + 1)
+        (self.0 as usize).saturating_sub(head.len()).saturating_sub(1)
     }
 }
 

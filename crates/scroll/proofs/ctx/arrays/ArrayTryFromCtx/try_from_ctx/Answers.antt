@@ -7,11 +7,11 @@ use Rattle.scroll.proofs.ctx.arrays.ArrayTryFromCtx.try_from_ctx.Goals as goal
 
 pub returns-then-not-fits-clause-refused : goal.returns-then-not-fits-clause-refused
 returns-then-not-fits-clause-refused g c = (
-      λ h.
-        let is_true : c.fits.result ≡ true = c.fits.ensures.small h in
-        absurd (cc),
-      λ _. c.from.ensures,
-    )
+  λ h.
+      let is_true : c.fits.result ≡ true = c.fits.ensures.small h in
+      absurd (cc),
+  λ _. c.from.ensures,
+)
 
 pub loop-i-init : goal.loop-i-init
 loop-i-init g c = IsFilled-none (g.T.TryFromCtx.reads c.args.ctx) c.args.from.now c.new-slots.result.items (search rules)

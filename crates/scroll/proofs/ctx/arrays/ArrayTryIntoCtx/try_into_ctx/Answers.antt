@@ -16,11 +16,11 @@ loop-i-preserved g c =
 
 pub returns-then-not-fits-clause-refused : goal.returns-then-not-fits-clause-refused
 returns-then-not-fits-clause-refused g c = (
-      λ h.
-        let is_true : c.fits.result ≡ true = c.fits.ensures.small h in
-        absurd (cc),
-      λ _. (refl, refl),
-    )
+  λ h.
+      let is_true : c.fits.result ≡ true = c.fits.ensures.small h in
+      absurd (cc),
+  λ _. (refl, refl),
+)
 
 pub into_iter-values-requires : goal.into_iter-values-requires
 into_iter-values-requires g c = (search rules, c.if-not-fits.ensures.fits refl)
