@@ -84,7 +84,10 @@ class Text(Kind):
 
 class CString(Kind):
     def make(self) -> Part:
-        return self.one("()", NOTHING)
+        part = self.one("()", NOTHING)
+        # (the library doesn't say of those of std that a source has them in one way)
+        part.is_certain = not self.reader.crate.files[self.reader.item.path].has_std_c_str
+        return part
 
 
 class Leb(Kind):
@@ -146,6 +149,7 @@ class ListOf(Kind):
             part.is_certain = False
         else:
             part = self.one("usize", self.reader.count(self.at, self.ctx))
+            part.is_certain = not form.form or form.form.is_certain
         return part
 
 
@@ -206,7 +210,7 @@ class Nested(Kind):
             part = self.one("()", NOTHING)
         if isinstance(form, Struct):
             part.numbers = self.numbers(form)
-        part.is_exact, part.is_certain = form.is_exact, form.is_certain
+        part.is_exact, part.is_certain = form.is_exact, form.is_certain and not form.given
         return part
 
     def numbers(self, form: Struct) -> List[Number]:

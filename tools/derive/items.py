@@ -68,16 +68,17 @@ class Item:
 
 @dataclass
 class SourceFile:
-    """A file: its items, its constants, and the names that it imports."""
+    """A file: its items, its constants, and whether a C string in it is that of std."""
 
     path: str
+    has_std_c_str: bool
     items: List[Item] = field(default_factory=list)
     constants: Dict[str, str] = field(default_factory=dict)
 
 
 def read_file(path: str, text: str) -> SourceFile:
     """Returns the structs, the enums and the constants of a file."""
-    tokens, file = read_tokens(path, text), SourceFile(path)
+    tokens, file = read_tokens(path, text), SourceFile(path, re.search(r"\bffi::[^;]*\bCStr\b", text) is not None)
     notes: Notes = {}
     mark, is_kept = 0, False
     while not tokens.is_done:

@@ -221,7 +221,9 @@ class Crate:
         for it in walked:
             form = next((form for form in self.forms.values() if form.item.name == it), None)
             if form and form.is_certain:
-                walked += [inner.item.name for inner in form.inner if inner.item.name not in walked]
+                # (what is in a list of its own is in `listed`)
+                inner = [it.item.name for it in form.inner if not isinstance(it, ListType)]
+                walked += [it for it in inner if it not in walked]
             if form and form.is_certain and it == name:
                 return True
         return False
