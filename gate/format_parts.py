@@ -68,7 +68,7 @@ class Fixed(NamedTuple):
 @dataclass
 class Part:
     """A part: its fields; its type and its context's; its context and its value in the logic and in code; how many bytes it has, if
-    that can be said; and what a reader says of it."""
+    that can be said; what a reader says of it, and what is read back of it."""
 
     kind: str
     fields: List[Tuple[str, str]]
@@ -78,10 +78,8 @@ class Part:
     value: Value
     size: Optional[str] = None
     fact: Optional[str] = None
-    back: Optional[Back] = None
+    backs: List[Back] = field(default_factory=list)
     numbers: List[Number] = field(default_factory=list)
-    # Whether two readings may differ in its length, as far as the prover finds.
-    is_open: bool = False
     # The struct or the enum that the part is, and the number that it is given; or the part that is there or not, or padded.
     struct: "Optional[Struct]" = None
     enum: "Optional[Enum]" = None
@@ -139,11 +137,11 @@ def numbers(fields: Sequence[Fixed]) -> Part:
     tree, records = nest([it.name for it in fields]), {it.name for it in fields if it.record}
     ways, types, end, facts = paths(tree), {it.name: it.type for it in fields}, 0, []
     # (the numbers, with those of records)
-    single: List[Back] = []
+    every: List[Back] = []
     for it in fields:
         start, own = end, [Back(kind, f"{it.name}.r{at}") for at, kind in enumerate(it.record)] or [Back(it.type, it.name)]
         facts += [f"${own[0].path} ≡ {SAID[own[0].type]} %" + (f"+{start}" if start else "")] if own[0].type in SAID else []
-        single += [back for back in own if back.type in SAID]
+        every += own
         end += it.width
     return Part(
         "numbers",
@@ -157,7 +155,7 @@ def numbers(fields: Sequence[Fixed]) -> Part:
         ),
         str(end),
         facts[0] if facts else None,
-        single[-1] if single else None,
+        every,
         [Number(it.name, it.type, f"^.0{ways[it.name]}", f"^.0{ways[it.name]}", f"${it.name}") for it in fields if it.type in COUNTED],
     )
 
@@ -170,31 +168,31 @@ def one(kind: str, name: str, type_: str, context_type: str, context: Value, **m
 def borrowed(kind: str, name: str, type_: str, count: Value) -> Part:
     """A slice or a text of a counted length."""
     length = Number(name, "usize", "(length ^.now)", "^.len()", f"(length ${name}.now)")
-    fact, back = f"${name}.now ≡ take {count.ghost} %", Back(type_, name, "{}.now")
-    return one(kind, name, type_, "usize", count, size=count.ghost, fact=fact, back=back, numbers=[length])
+    fact, backs = f"${name}.now ≡ take {count.ghost} %", [Back(type_, name, "{}.now")]
+    return one(kind, name, type_, "usize", count, size=count.ghost, fact=fact, backs=backs, numbers=[length])
 
 
 def ends(name: str, end: int) -> Part:
     """A text up to a byte."""
-    size, back = f"(length ${name}.now + 1)", Back("&'a str", name, "{}.now")
-    return one("text to a byte", name, "&'a str", "Ends", Value(record(str(end)), f"Ends({end})"), size=size, back=back)
+    size, backs = f"(length ${name}.now + 1)", [Back("&'a str", name, "{}.now")]
+    return one("text to a byte", name, "&'a str", "Ends", Value(record(str(end)), f"Ends({end})"), size=size, backs=backs)
 
 
 def c_string(name: str) -> Part:
-    size, back = f"(length (c_str_text ${name}) + 1)", Back("CStr<'a>", name, "c_str_text {}")
-    return one("C string", name, "CStr<'a>", "()", Value("tt", "()"), size=size, back=back)
+    size, backs = f"(length (c_str_text ${name}) + 1)", [Back("CStr<'a>", name, "c_str_text {}")]
+    return one("C string", name, "CStr<'a>", "()", Value("tt", "()"), size=size, backs=backs)
 
 
 def leb128(name: str, is_signed: bool) -> Part:
     type_, number, size = "Sleb" if is_signed else "Uleb", "i64" if is_signed else "u64", f"${name}.count"
     said = [] if is_signed else [Number(name, number, "^.value", "^.value", f"${name}.value")]
-    back = Back(number, f"{name}.value")
-    return one(f"{type_[0]}LEB128", name, type_, "()", Value("tt", "()"), size=size, back=back, numbers=said)
+    backs = [Back(number, f"{name}.value")]
+    return one(f"{type_[0]}LEB128", name, type_, "()", Value("tt", "()"), size=size, backs=backs, numbers=said)
 
 
 def table(kind: str, name: str, element: str, width: int, count: Value) -> Part:
-    size, back = f"(min ({count.ghost} * {width}) (2 ^ 64 - 1))", Back("&'a [u8]", f"{name}.bytes", "{}.now")
-    return one(kind, name, f"Table<'a, {element}>", "usize", count, size=size, fact=f"${name}.bytes.now ≡ take {size} %", back=back)
+    size, backs = f"(min ({count.ghost} * {width}) (2 ^ 64 - 1))", [Back("&'a [u8]", f"{name}.bytes", "{}.now")]
+    return one(kind, name, f"Table<'a, {element}>", "usize", count, size=size, fact=f"${name}.bytes.now ≡ take {size} %", backs=backs)
 
 
 def bits(name: str, word: str, lower: Sequence[Tuple[str, int]]) -> Part:
@@ -214,41 +212,37 @@ def bits(name: str, word: str, lower: Sequence[Tuple[str, int]]) -> Part:
         Value(value, value),
         str(WIDTHS[word]),
         None,
-        Back(fields[-1][1], fields[-1][0]),
+        [Back(kind, it) for it, kind in fields],
         [Number(it, kind, way, way, f"${it}") for (it, kind), way in zip(fields, ways)],
     )
 
 
 def items(kind: str, name: str, listed: str, context_type: str, context: Value) -> Part:
     """Values of any size, one after another."""
-    size, back = f"(length ${name}.0.now)", Back("&'a [u8]", f"{name}.0", "{}.now")
-    is_open = context_type != "usize"
-    return one(kind, name, f"Items<'a, {listed}>", context_type, context, size=size, back=None if is_open else back, is_open=is_open)
+    size, backs = f"(length ${name}.0.now)", [Back("&'a [u8]", f"{name}.0", "{}.now")]
+    return one(kind, name, f"Items<'a, {listed}>", context_type, context, size=size, backs=backs)
 
 
-def back_of(part: Part) -> Optional[Back]:
-    """Returns what a user reads back of a part."""
-    back = last_back(part.struct.parts) if part.struct else part.back
-    return back and (back._replace(path=f"{part.fields[0][0]}.{back.path}") if part.struct else back)
+def backs_of(parts: Sequence[Part]) -> List[Back]:
+    """Returns what a user reads back of some parts, in their order."""
+    return [back for part in parts for back in (inner_backs(part) if part.struct else part.backs)]
 
 
-def last_back(parts: Sequence[Part]) -> Optional[Back]:
-    """Returns what a user reads back of some parts: of the last one that isn't behind an open one."""
-    first = next((at for at, it in enumerate(parts) if it.is_open), len(parts))
-    return next((back for back in map(back_of, reversed(parts[: first + 1])) if back), None)
+def inner_backs(part: Part) -> List[Back]:
+    return [back._replace(path=f"{part.fields[0][0]}.{back.path}") for back in backs_of(part.struct.parts if part.struct else [])]
 
 
 def padded(part: Part, multiple: int) -> Part:
     """A part, and zeros up to a multiple of a size."""
     context = Value(record(str(multiple), part.context.ghost), f"Padded({multiple}, {part.context.code})")
-    more = {"back": back_of(part), "numbers": [], "inside": part, "multiple": multiple}
+    more = {"backs": backs_of([part]), "numbers": [], "inside": part, "multiple": multiple}
     return replace(part, kind="padded", context_type=f"Padded<{part.context_type}>", context=context, **more)
 
 
 def within(part: Part, count: Value) -> Part:
     """A part that uses up a counted length."""
     context = Value(record(count.ghost, part.context.ghost), f"Within({count.code}, {part.context.code})")
-    more = {"size": count.ghost, "fact": None, "back": back_of(part), "numbers": [], "is_open": False, "struct": None}
+    more = {"size": count.ghost, "numbers": []}
     return replace(part, kind="within", context_type=f"Within<{part.context_type}>", context=context, **more)
 
 
@@ -257,7 +251,7 @@ def optional(part: Part, condition: Value) -> Part:
     name, types = part.fields[0][0].partition("_")[0], [kind for _, kind in part.fields]
     of, type_ = types[0] if len(types) == 1 else part.type, part.type
     context = Value(record(condition.ghost, part.context.ghost), f"When({condition.code}, {part.context.code})")
-    made = one("optional", name, f"Option<{of}>", f"When<{part.context_type}>", context, is_open=part.is_open, inside=part)
+    made = one("optional", name, f"Option<{of}>", f"When<{part.context_type}>", context, inside=part)
     if not type_.startswith("Run<"):
         return made
     bare = replace(numbers([Fixed("v", of, 0, ["u8"] if "Field<" in type_ else ())]), fields=[])

@@ -55,10 +55,6 @@ class Struct:
     def type(self) -> str:
         return self.name + ("<'a>" if any("'a" in kind for _, kind in self.fields) else "")
 
-    @property
-    def is_open(self) -> bool:
-        return any(it.is_open for it in self.parts)
-
 
 class Printer:
     """Prints a struct. A head is told the numbers of earlier heads that are needed behind it."""

@@ -1,10 +1,10 @@
-"""Prints modules of structs of `scroll_layouts`, each with three functions that use it: one reads it and says what stands where, one
-writes it and reads a field of it back, and one copies it."""
+"""Prints modules of structs of `scroll_layouts`, each with functions that use it: one reads it and says what stands where, one or two
+write it and read a field of it back, and one copies it."""
 
 import re
 from typing import List, Optional, Sequence, Tuple
 
-from format_parts import Part, last_back, lifetime, resolve
+from format_parts import Back, Part, backs_of, lifetime, resolve
 from format_structs import ERROR, Say, Struct
 
 IMPORTS = """// A struct with those in it, and what uses it.
@@ -167,15 +167,15 @@ def print_reader(struct: Struct) -> str:
 """
 
 
-def print_writer(struct: Struct) -> str:
-    """A function that writes a struct, and reads back the field that stands behind the most."""
-    back = last_back(struct.parts)
-    if not back:
+def print_writer(struct: Struct, name: str, backs: Sequence[Back]) -> str:
+    """A function that writes a struct, and reads back the last of some values in it."""
+    if not backs:
         return ""
+    back = backs[-1]
     life, entry = lifetime(back.type), ".entry" if lifetime(struct.type) else ""
     target = "&'a mut [u8]" if life else "&mut [u8]"
     arguments = f"target: {target}, value: {struct.name}, order: Endian"
-    return f"""pub fn again_{struct.name.lower()}{life}({arguments}) -> Result<{back.type}, {struct.error}>
+    return f"""pub fn {name}_{struct.name.lower()}{life}({arguments}) -> Result<{back.type}, {struct.error}>
     ensures {{ IfOk result (λ x. {back.form.format("x")} ≡ {back.form.format(f"value{entry}.{back.path}")}) }}
 {{
     slice::gwrite_with(target, value, &mut 0, order)?;
@@ -183,6 +183,13 @@ def print_writer(struct: Struct) -> str:
     Ok(again.{back.path})
 }}
 """
+
+
+def print_writers(struct: Struct, has_arrays: bool) -> List[str]:
+    """Functions that read back the field that stands behind the most, and the last array, if that is another one."""
+    backs = backs_of(struct.parts)
+    arrays = [it for it in backs if it.type.startswith("[") and has_arrays]
+    return [print_writer(struct, "again", backs), print_writer(struct, "array", arrays if backs[-1:] != arrays[-1:] else [])]
 
 
 def print_copier(struct: Struct) -> str:
@@ -196,7 +203,9 @@ def print_copier(struct: Struct) -> str:
 """
 
 
-def print_module(struct: Struct, types: Sequence[str], variants: Sequence[str], is_exact: bool) -> str:
-    """A module of a struct and the types in it; `variants` are the names in the logic of the variants of its enums."""
-    users = [print_traits(struct, is_exact), print_reader(struct), print_writer(struct), print_copier(struct) if is_exact else ""]
+def print_module(struct: Struct, types: Sequence[str], variants: Sequence[str], is_exact: bool, has_arrays: bool) -> str:
+    """A module of a struct and the types in it; `variants` are the names in the logic of the variants of its enums, and
+    `has_arrays` says whether an array is read back."""
+    users = [print_traits(struct, is_exact), print_reader(struct), *print_writers(struct, has_arrays)]
+    users += [print_copier(struct)] if is_exact else []
     return IMPORTS + "".join(f"ghost use {it};\n" for it in variants) + USES + "\n".join([*types, *(it for it in users if it)])

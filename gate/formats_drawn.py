@@ -189,10 +189,10 @@ class Draw(random.Random):
         """A struct, which may be given a number."""
         if kind == "struct":
             made = self.struct(depth + 1)
-            return parts.one(kind, name, made.type, "()", Value("tt", "()"), is_open=made.is_open, struct=made)
+            return parts.one(kind, name, made.type, "()", Value("tt", "()"), struct=made)
         made, count = self.struct(depth + 1, is_given=True), self.count(known)
         context = Value(parts.record(count.ghost), f"Given({count.code})")
-        return parts.one(kind, name, made.type, "Given<usize>", context, is_open=made.is_open, struct=made, given=count.ghost)
+        return parts.one(kind, name, made.type, "Given<usize>", context, struct=made, given=count.ghost)
 
     def enum(self, name: str, known: Sequence[Number], depth: int) -> Part:
         tag, own, variants = self.choice([it for it in known if it.type in COUNTED]), self.new_type(), []
@@ -210,9 +210,9 @@ class Draw(random.Random):
         said, count = Value(f"@{tag.name}@", f"@{tag.name}@"), self.count(known) if made.has_length else Value("", "")
         if made.has_length:
             said = Value(f"({said.ghost}, {count.ghost})", f"({said.code}, {count.code})")
-        context, is_open = Value(parts.record(said.ghost), f"Given({said.code})"), any(it.is_open for it in variants)
+        context = Value(parts.record(said.ghost), f"Given({said.code})")
         type_ = f"Given<{made.context_type}>"
-        return parts.one("enum", name, made.type, type_, context, is_open=is_open, enum=made, given=count.ghost)
+        return parts.one("enum", name, made.type, type_, context, enum=made, given=count.ghost)
 
     def wrap(self, kind: str, name: str, known: Sequence[Number], depth: int) -> Part:
         inner = self.part(self.take("", [*LEAVES, *LISTS, *self.nested(depth, known)]), name, known, depth)

@@ -4,18 +4,17 @@
     python3 gate/random_formats.py [SEED [COUNT]]
 
 COUNT structs (16) are drawn from SEED (1) by gate/formats_drawn.py, of all kinds of parts that the library has, and printed by
-gate/format_users.py, each with the structs and enums in it. The first one is nested to depth 10. Each has three functions that use it: a
-reader that says where fields stand and which error a short source is, a writer that reads a field back, and a copier. `rt check` proves
-them in crates of some structs, over the libraries as `rt lib` proves them in this repository.
+gate/format_users.py, each with the structs and enums in it. The first one is nested to depth 10. Each has functions that use it: a reader
+that says where fields stand and which error a short source is, a writer that reads the last field back, another one that reads an array
+back if there is one, and a copier. `rt check` proves them in crates of some structs, over the libraries as `rt lib` proves them in this
+repository.
 
 Each struct is a check. One that isn't proved is named with its functions that aren't, and with the prover's reasons; with `--keep FOLDER`
 the crates stay there. That each kind is in a struct is a check where COUNT is at least 16, and so is that a false claim is refused.
 
 What is left out, since it isn't proved:
 
-- A writer doesn't read back a list of a count or to a mark, or what stands behind one: two readings of one source aren't known to have
-  lists of one length. (A list within a length has that one, and so has such a list within a length.)
-- A writer doesn't read back an array: two readings of one source aren't known to make one array.
+- No array of the struct that is nested to depth 10 is read back, which isn't found within the prover's steps.
 - A struct with floats has no copier, since a NaN isn't written back as it was read.
 - No field is an array of arrays of arrays, which the borrow checker doesn't cover in a struct.
 """
@@ -61,7 +60,7 @@ def draw_modules(seed: int, count: int) -> List[Module]:
         crate, name = f"formats{at // MOST}", f"F{at}"
         made = drawn.draw(name, seed, at, bag)
         variants = [f"Rattle.{crate}.specs.declared.{name.lower()}.{it}" for it in made.variants]
-        text = print_module(made.struct, made.types, variants, not made.has_floats)
+        text = print_module(made.struct, made.types, variants, not made.has_floats, at > 0)
         modules.append(Module(crate, name.lower(), made.kinds, text, re.findall(r"(?m)^pub fn (\w+)", text)))
     return modules
 

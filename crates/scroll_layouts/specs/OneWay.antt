@@ -43,8 +43,8 @@ told (leaf l) = l.leaf_told
 told (choice gives b f g) = told f × told g
 told (when gives b f) = told f
 
--- `one_way f`: `told f`; and of heads whose parts are the same none obeys the rule where another one
--- breaks it, and a source has no value of a leaf and an error
+-- `one_way f`: `told f`; and of heads whose parts are the same none obeys the rule where another
+-- one breaks it, and a source has no value of a leaf and an error
 abbrev pub one_way : {E X : Type 0} → Format E X → Type 0
 one_way (run gives p) = ⊤
 one_way (counted gives n) = ⊤
