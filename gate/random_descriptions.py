@@ -32,8 +32,8 @@ from pathlib import Path
 from typing import Dict, Iterator, List, NamedTuple, Optional
 
 import descriptions_drawn as drawn
-from description_counts import UNSIGNED, Hopeless, Refused
-from description_kinds import Leb, Number
+from description_counts import UNSIGNED, Hopeless, Plain, Refused, Sum
+from description_kinds import Leb, Number, Slice
 from description_structs import Field, Struct
 from description_users import changes_of, print_main, print_module, read
 from edit_judge import WAITS
@@ -49,15 +49,16 @@ MOST = 3
 VALUES, CUTS, DAMAGES = 24, 40, 30
 VERDICT = re.compile(r"(?m)^(?:so far: )?((?:fn|impl|struct|enum) (\w+)::(\w+)::\S+): (.*)")
 PRIME = 1_099_511_628_211
+# A struct about which a false claim is made.
+LIE = "Lie"
 # What is printed where a float is no number, whose bits aren't said.
 NAN = "anything"
 
 
 class Module(NamedTuple):
-    """A module of a crate: its file, what is drawn, its text, and the functions that use the struct."""
+    """A module of a crate: what is drawn, its text, and the functions that use the struct."""
 
     crate: str
-    file: str
     made: drawn.Drawn
     text: str
     users: List[str]
@@ -94,7 +95,7 @@ def draw_modules(seed: str, count: int) -> List[Module]:
             again += 1
             made = drawn.draw(f"F{at}", f"{seed} {at} {again}", at, bag)
         text = print_module(made, crate)
-        modules.append(Module(crate, made.struct.name.lower(), made, text, re.findall(r"(?m)^pub fn (\w+)", text)))
+        modules.append(Module(crate, made, text, re.findall(r"(?m)^pub fn (\w+)", text)))
     return modules
 
 
@@ -225,12 +226,11 @@ def differences(step: Step, program: Path, cases: List[Case]) -> List[str]:
 # What is proved
 
 
-def claim_falsely(modules: List[Module]) -> Module:
-    """Returns a small one of the modules under another name, with an error that a reader doesn't return."""
-    claim = re.compile(r"(length from\.now < (\d+) → .*TooBig )\2\b")
-    module = min((it for it in modules if claim.search(it.text)), key=lambda it: len(it.text))
-    text = claim.sub(lambda it: f"{it[1]}{int(it[2]) + 1}", module.text).replace(f".{module.name}.", ".a_lie.")
-    return module._replace(text=text, users=[f"read_{module.name}"], file="a_lie")
+def claim_falsely() -> Module:
+    """Returns a module of a small struct, with an error that its reader doesn't return."""
+    struct = Struct(LIE, [Field("f0", Number(Plain("u16"))), Field("f1", Slice(Sum([("f0", 1)])))])
+    made = drawn.Drawn(struct, [struct], [])
+    return Module("lies", made, print_module(made, "lies").replace("TooBig 2 ", "TooBig 3 "), [f"read_{LIE.lower()}"])
 
 
 def write_crates(step: Step, modules: List[Module], top: Path) -> List[str]:
@@ -249,9 +249,9 @@ def write_crates(step: Step, modules: List[Module], top: Path) -> List[str]:
         folder, own = top / "crates" / name / "src", [it for it in modules if it.crate == name]
         folder.mkdir(parents=True)
         for it in own:
-            (folder / f"{it.file}.rt").write_text(it.text, encoding="utf-8")
+            (folder / f"{it.name}.rt").write_text(it.text, encoding="utf-8")
         (folder / "told.rt").write_text(read("told"), encoding="utf-8")
-        (folder / "main.rt").write_text(print_main([it.file for it in own]), encoding="utf-8")
+        (folder / "main.rt").write_text(print_main([it.name for it in own]), encoding="utf-8")
         ran = step.run(top, sys.executable, TOP / "tools" / "derive", folder.parent)
         if ran.status:
             raise Stop(f"tools/derive refuses {name}\n{ran.end()}")
@@ -260,14 +260,14 @@ def write_crates(step: Step, modules: List[Module], top: Path) -> List[str]:
 
 def fault_of(module: Module, said: str) -> Optional[str]:
     """Returns what of a module isn't proved."""
-    verdicts = {what: verdict for what, crate, name, verdict in VERDICT.findall(said) if (crate, name) == (module.crate, module.file)}
+    verdicts = {what: verdict for what, crate, name, verdict in VERDICT.findall(said) if (crate, name) == (module.crate, module.name)}
     open_ones = {what: verdict for what, verdict in verdicts.items() if verdict != "proved"}
-    missing = [it for it in module.users if f"fn {module.crate}::{module.file}::{it}" not in verdicts]
+    missing = [it for it in module.users if f"fn {module.crate}::{module.name}::{it}" not in verdicts]
     if not open_ones and not missing:
         return None
     own = {what: verdict for what, verdict in open_ones.items() if not WAITS.search(verdict)} or open_ones
-    errors = re.findall(rf"(?m)^src/{module.file}(?:/derived)?\.rt:\d+:\d+: error.*", said)
-    goals = re.findall(rf"(?m)^note: (`.*` of proofs/{module.file}/.* must prove: .*)", said)
+    errors = re.findall(rf"(?m)^src/{module.name}(?:/derived)?\.rt:\d+:\d+: error.*", said)
+    goals = re.findall(rf"(?m)^note: (`.*` of proofs/{module.name}/.* must prove: .*)", said)
     lines = [*(f"{what}: {verdict}" for what, verdict in own.items()), *(f"{it} has no verdict" for it in missing), *errors, *goals]
     return "".join(f"    {it}"[:400] + "\n" for it in lines)
 
@@ -279,16 +279,16 @@ def compare(step: Step, given: argparse.Namespace, top: Path, modules: List[Modu
         program = top / "crates" / it.crate / "out" / it.crate
         cases = list(cases_of(it.made.struct, f"{given.seed} {it.name}"))
         found = differences(step, program, cases)
-        step.count(f"{it.crate}::{it.file} agrees", "".join(f"    {line}\n" for line in found[:3]) + f"    {len(found)} differ\n" if found else None)
+        step.count(f"{it.crate}::{it.name} agrees", "".join(f"    {line}\n" for line in found[:3]) + f"    {len(found)} differ\n" if found else None)
         lies = [case._replace(wanted=case.wanted.replace("1", "2", 1)) for case in cases if "1" in case.wanted]
-        step.count(f"a lie about {it.file} is found", None if len(differences(step, program, lies)) == len(lies) else "")
+        step.count(f"a lie about {it.name} is found", None if len(differences(step, program, lies)) == len(lies) else "")
         asked += len(cases)
     return asked
 
 
 def work(step: Step, given: argparse.Namespace) -> None:
     modules = draw_all(given.seed, given.count)
-    lie = claim_falsely(modules)._replace(crate="a_lie")
+    lie = claim_falsely()
     top = Path(given.keep) if given.keep else step.room
     names, asked = write_crates(step, [*modules, lie], top), 0
     for name in names:
@@ -297,12 +297,12 @@ def work(step: Step, given: argparse.Namespace) -> None:
         step.tell(f"{name}, {time.time() - begun:.0f} s")
         if name == lie.crate:
             refused = fault_of(lie, ran.said)
-            is_refused = refused and f"fn {name}::{name}::{lie.users[0]}: no proof" in refused and "-short`" in refused
+            is_refused = refused and f"fn {name}::{lie.name}::{lie.users[0]}: no proof" in refused and "-short`" in refused
             step.count("a false claim is proved", None if is_refused else refused or "")
             continue
         own = [it for it in modules if it.crate == name]
         for it in own:
-            step.count(f"{name}::{it.file}: {', '.join(dict.fromkeys(it.made.kinds))}", fault_of(it, ran.said))
+            step.count(f"{name}::{it.name}: {', '.join(dict.fromkeys(it.made.kinds))}", fault_of(it, ran.said))
         asked += compare(step, given, top, own) if not ran.status else 0
     if given.count >= ALL:
         step.count("kinds that no struct has", f"    {', '.join(missing_of(modules))}\n" if missing_of(modules) else None)
