@@ -104,8 +104,9 @@ class Sum:
         if self.own:
             raise Refused(f"{self.own.partition('::')[2]} {known[self.terms[0][0]]}")
         whole = [name + (f" * {times}" if times > 1 else "") for name, times in self.terms]
+        whole += [str(self.number)] if self.number else []
         less = [*self.less, *([str(self.less_number)] if self.less_number else [])]
-        raise bad(self.whole(known), f"{' + '.join([*whole, *([str(self.number)] if self.number else [])])} is less than {' + '.join(less)}")
+        raise bad(self.whole(known), f"{' + '.join(whole)} is less than {' + '.join(less)}")
 
     def draw(self, known: Known) -> int:
         """Returns a count that a drawn value has."""
@@ -137,10 +138,13 @@ class Plain:
 
     def draw(self, rng: random.Random) -> int:
         if self.type in FLOATS:
-            return int.from_bytes(bytes(rng.choices(range(256), k=self.width - 1)) + bytes([rng.choice([0, 0x3F, 0x40, 0xC1])]), "little")
+            low, high = rng.choices(range(256), k=self.width - 1), rng.choice([0, 0x3F, 0x40, 0xC1])
+            return int.from_bytes([*low, high], "little")
         size = rng.choice([1, 3, 3, 6, 8 * self.width])
         least = -(1 << (8 * self.width - 1)) if self.type in SIGNED else 0
-        return rng.choice([least, least + 256**self.width - 1]) if size == 1 else max(least, rng.getrandbits(size) + least * (size > 6))
+        if size == 1:
+            return rng.choice([least, least + 256**self.width - 1])
+        return rng.getrandbits(size) + least * (size > 6)
 
     def put(self, value: int, order: str) -> bytes:
         return value.to_bytes(self.width, order, signed=self.type in SIGNED)  # type: ignore[arg-type]

@@ -1,8 +1,8 @@
 """The kinds of fields that tools/derive takes: how each is written, and which bytes a value of it is.
 
-This says by itself what a read and a write give, by the library's documents, and asks tools/derive nothing. A value is a number, of a
-float its bits; `bytes`; a list of the parts of an array or of a struct of a fixed size; a dictionary of a struct's fields; the number and
-the size of a number in LEB128; `None`, or an optional value; or the index of a variant and its values.
+This says by itself what a read and a write give, by the library's documents, and asks tools/derive nothing. A value is a
+number, of a float its bits; `bytes`; a list of the parts of an array or of a struct of a fixed size; a dictionary of a struct's
+fields; the number and the size of a number in LEB128; `None`, or an optional value; or the index of a variant and its values.
 """
 
 import random
@@ -100,7 +100,8 @@ class Slice(Kind):
     """Bytes or a text of a count."""
 
     def __init__(self, count: Sum, is_text: bool = False) -> None:
-        super().__init__("&'a str" if is_text else "&'a [u8]", [f"ctx = StrCtx::Length({count.text()})" if is_text else f"ctx = {count.text()}"], count)
+        note = f"ctx = StrCtx::Length({count.text()})" if is_text else f"ctx = {count.text()}"
+        super().__init__("&'a str" if is_text else "&'a [u8]", [note], count)
         self.count, self.is_text = count, is_text
 
     def draw(self, rng: random.Random, order: str, known: Known) -> bytes:
@@ -217,7 +218,8 @@ class Gap(Kind):
     """Zeros: a count of them, or up to a multiple of a size, counted from the first byte of the struct."""
 
     def __init__(self, count: Sum, multiple: int = 0) -> None:
-        super().__init__("Zeros", [f"ctx = padding(offset, {multiple})" if multiple else f"ctx = {count.text()}"], *([] if multiple else [count]))
+        note = f"ctx = padding(offset, {multiple})" if multiple else f"ctx = {count.text()}"
+        super().__init__("Zeros", [note], *([] if multiple else [count]))
         self.count, self.multiple = count, multiple
 
     def draw(self, rng: random.Random, order: str, known: Known) -> bytes:

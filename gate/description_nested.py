@@ -17,7 +17,7 @@ class Variant(NamedTuple):
 
 @dataclass
 class Enum:
-    """An enum by a tag of its own, or by one that it is given, perhaps with a length; and its error's variant for an unknown tag."""
+    """An enum by a tag of its own, or by one that it is given, perhaps with a length; `own` is the variant for an unknown tag."""
 
     name: str
     tag: Plain

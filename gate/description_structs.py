@@ -128,8 +128,9 @@ class Field:
     def lines(self) -> List[str]:
         if not self.condition:
             return self.kind.lines(f"value.{self.name}")
-        some = ["    Some(it) => {", "        let made = mix(made, &[1]);", *(f"        {it}" for it in self.kind.lines("it")), "        made", "    }"]
-        return [f"let made = match value.{self.name} {{", *some, "    None => mix(made, &[0]),", "};"]
+        some = ["let made = mix(made, &[1]);", *self.kind.lines("it"), "made"]
+        arms = ["    Some(it) => {", *(f"        {it}" for it in some), "    }", "    None => mix(made, &[0]),"]
+        return [f"let made = match value.{self.name} {{", *arms, "};"]
 
     def mixed(self, value: Any, order: str) -> bytes:
         head = b"" if not self.condition else bytes([value is not None])
@@ -224,7 +225,8 @@ class Struct:
             else:
                 parts.append(Part([it]))
             for names, rule in it.rules():
-                found = [at for at, part in enumerate(parts) for one in part.fields if one.name in [name.split(".")[0] for name in names]]
+                named = [name.split(".")[0] for name in names]
+                found = [at for at, part in enumerate(parts) if any(one.name in named for one in part.fields)]
                 parts[max([gap, *found])].rules.append(rule)
             if isinstance(it.kind, Gap) and it.kind.multiple:
                 gap = len(parts) - 1
@@ -314,8 +316,8 @@ class Struct:
         named = [it for it in self.fields for count in it.counts if name in count.names]
         found = [number for it in conditions for number in (it.number, it.number + 1, it.bit, it.bit + 1, 0)]
         greatest = self.free()[name]
-        bits = next(it.kind.bits for it in self.fields if it.name == name and isinstance(it.kind, Number)) if greatest < 1 << 63 else 0
-        found += [0, 1, 2, 3, 5, 9] if named or bits else []
+        has_bits = any(it.name == name and isinstance(it.kind, Number) and it.kind.bits for it in self.fields)
+        found += [0, 1, 2, 3, 5, 9] if named or has_bits else []
         return [it for it in found if it < greatest]
 
     def pin(self, misfit: Misfit, pins: Known, rng: random.Random) -> None:

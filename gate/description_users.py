@@ -1,4 +1,4 @@
-"""Prints what uses a described struct: three functions whose clauses say what stands in bytes, and what a program reads and writes."""
+"""Prints what uses a described struct: three functions whose clauses say what stands in bytes, and what a program runs."""
 
 from pathlib import Path
 from typing import List, NamedTuple, Optional, Sequence, Tuple
@@ -155,7 +155,8 @@ def last_back(struct: Struct) -> Optional[Back]:
 def print_users(struct: Struct, error: str) -> str:
     """Prints a reader, a writer, and without floats a copier."""
     name, facts, least, back = struct.name.lower(), facts_of(struct), least_of(struct), last_back(struct)
-    clauses = [f"{word} {{ IfOk result (λ x. {fact}) }}" for word, fact in zip(("first", "behind"), [*facts[:1], *facts[1:][-1:]])]
+    named = zip(("first", "behind"), [*facts[:1], *facts[1:][-1:]])
+    clauses = [f"{word} {{ IfOk result (λ x. {fact}) }}" for word, fact in named]
     if least:
         refused = f"TooBig {least} (length from.now)"
         refused = refused if error == "Error" else f"Refused ({refused})"
@@ -216,8 +217,10 @@ def print_digest(of: "Struct | Enum") -> str:
         value, lines = "value", ["match value {"]
         for at, it in enumerate(of.variants):
             names = [f"v{index}" for index in range(len(it.kinds))]
-            inside = [f"let made = mix(made, &[{at}]);", *(line for kind, one in zip(it.kinds, names) for line in kind.lines(f"(*{one})")), "made"]
-            lines += [f"    {of.name}::{it.name}{f'({chr(44).join(names)})' if names else ''} => {{", *(f"        {line}" for line in inside), "    }"]
+            inside = [line for kind, one in zip(it.kinds, names) for line in kind.lines(f"(*{one})")]
+            pattern = f"{of.name}::{it.name}" + (f"({', '.join(names)})" if names else "")
+            inside = [f"let made = mix(made, &[{at}]);", *inside, "made"]
+            lines += [f"    {pattern} => {{", *(f"        {line}" for line in inside), "    }"]
         lines.append("}")
     body = "".join(f"    {line}\n" for line in lines)
     return f"fn digest_{name}({value}: &{of.type.replace(chr(39) + 'a', chr(39) + '_')}, made: u64) -> u64 {{\n{body}}}\n"
@@ -233,7 +236,8 @@ def print_try(struct: Struct, error: Optional[OwnError]) -> str:
     if error:
         own = "".join(f'        {error.name}::{it}(number) => Refusal::Own("{it}", number as u64),\n' for it, _ in error.variants)
         refusal = "refusal(error)"
-        more = f"fn refusal(error: {error.name}) -> Refusal {{\n    match error {{\n        {error.name}::Refused(error) => Refusal::Library(error),\n{own}    }}\n}}\n\n"
+        arms_of = f"        {error.name}::Refused(error) => Refusal::Library(error),\n{own}"
+        more = f"fn refusal(error: {error.name}) -> Refusal {{\n    match error {{\n{arms_of}    }}\n}}\n\n"
     return f"""{more}fn change_{name}(value: {type_}, change: usize) -> {type_} {{
     let mut made = value;
     match change {{
@@ -263,7 +267,8 @@ def print_module(made: Drawn, crate: str) -> str:
     """Prints the module of a struct and what is in it."""
     error = made.struct.error
     items = [it for it in made.items if isinstance(it, (Struct, Enum))]
-    variants = f"ghost use Rattle.{crate}.specs.declared.{made.struct.name.lower()}.{error.name}.TheVariants.{{Refused}};\n" if error else ""
+    declared = f"Rattle.{crate}.specs.declared.{made.struct.name.lower()}"
+    variants = f"ghost use {declared}.{error.name}.TheVariants.{{Refused}};\n" if error else ""
     users = print_users(made.struct, error.name if error else "Error")
     texts = [*(it.print() for it in made.items), users, *map(print_digest, items), print_try(made.struct, error)]
     return read("module").replace("@variants@", variants) + "\n".join(texts)

@@ -35,11 +35,11 @@ FRESH = ("within", "enum", "list in a length")
 DEEPEST, STRUCTS = 3, 3
 # How deep the deep ones are, whose innermost struct stands behind four heads.
 DEPTH = 10
-FIELDS, FIELDS_WITHIN = (2, 14), (1, 4)
+FIELDS, FIELDS_WITHIN = (2, 13), (1, 4)
 
 
 class Known(NamedTuple):
-    """A number that a field says: its name, its type, and how: as a number, in LEB128, in bits, as a length, in a struct, or given."""
+    """A number that a field says: its name, its type, and how: as a `number`, `leb`, `bits`, `length`, in a `struct`, or `given`."""
 
     name: str
     type: str
@@ -139,7 +139,8 @@ class Draw(random.Random):
     def condition(self, known: Sequence[Known]) -> Condition:
         name, kind = self.least_used([it.name for it in known if it.how != "length"]), self.take("condition: ", CONDITIONS)
         bit, other = 1 << self.randint(0, 7), self.randint(1, 200)
-        sign = {"a bit": "!=", "no bit": "==", "equal": "==", "not zero": "!="}.get(kind) or self.choice(["<", "<="] if kind == "less" else [">", ">="])
+        signs = {"a bit": ["!="], "not zero": ["!="], "less": ["<", "<="], "greater": [">", ">="]}
+        sign = self.choice(signs.get(kind, ["=="]))
         if kind in ("a bit", "no bit"):
             return Condition(name, sign, 0, bit)
         return Condition(name, sign, 0 if kind == "not zero" else other)
@@ -153,8 +154,8 @@ class Draw(random.Random):
             made = Group(self.new_type(), tuple((f".r{at}", it) for at, it in enumerate(kinds)))
             self.items.append(made)
             return made
-        types = FLOATS if "float" in kind else SIGNED if kind == "signed" else {**UNSIGNED, **SIGNED} if "array" in kind else UNSIGNED
-        of = Plain(self.choice([*types]))
+        whole = {**UNSIGNED, **SIGNED} if "array" in kind else SIGNED if kind == "signed" else UNSIGNED
+        of = Plain(self.choice([*(FLOATS if "float" in kind else whole)]))
         if kind == "array of arrays" or (kind == "array of floats" and self.chance(30)):
             return array(array(of, self.randint(1, 4)), self.randint(1, 4))
         return array(of, self.randint(1, 4)) if kind.startswith("array") else of
@@ -180,7 +181,8 @@ class Draw(random.Random):
 
     def kind(self, kind: str, known: Sequence[Known], depth: int, can_differ: bool = True) -> Kind:
         """A kind of field, by the numbers that are known."""
-        count: Callable[[], Sum] = lambda: self.count(known, can_differ=can_differ, can_own=kind in ("slice", "text", "table", "table of records"))
+        can_own = kind in ("slice", "text", "table", "table of records")
+        count: Callable[[], Sum] = lambda: self.count(known, can_differ=can_differ, can_own=can_own)
         makers: Dict[str, Callable[[], Kind]] = {
             "text to a byte": lambda: Ended(self.choice([0, 10, 32])),
             "C string": lambda: Ended(-1),
@@ -200,9 +202,11 @@ class Draw(random.Random):
         return makers[kind]()
 
     def listing(self, how: str, known: Sequence[Known], depth: int, can_differ: bool) -> Listing:
-        can_nest, fixed = depth < DEEPEST and self.structs_left > 0, self.choice(["unsigned", "signed", "array", "record"])
-        makers: List[Callable[[], Kind]] = [lambda: Leb(False), lambda: Leb(True), lambda: Ended(-1), lambda: Number(self.fixed(fixed))]
-        item = Inner(self.struct(depth + 1)) if can_nest and self.chance(50) else self.choice(makers)()
+        can_nest, leaf = depth < DEEPEST and self.structs_left > 0, self.choice([Leb(False), Leb(True), Ended(-1), None])
+        if can_nest and self.chance(50):
+            item: Kind = Inner(self.struct(depth + 1))
+        else:
+            item = leaf or Number(self.fixed(self.choice(["unsigned", "signed", "array", "record"])))
         count = Sum([]) if how == "mark" else self.count(known, how == "bytes", can_differ, True)
         mark = bytes(self.choices(range(256), k=self.randint(1, 2))) if how == "mark" else b""
         made = Listing(f"{self.new_type()}s", item, how, count, mark)
@@ -255,11 +259,13 @@ class Draw(random.Random):
         while len(made.fields) < fewest:
             unused = [it for it in known if it.how == "number" and it.is_small and it.is_free and not self.uses[it.name]]
             nested = [it for it in NESTED if depth < DEEPEST and self.structs_left]
-            kinds = [*PARTS[: len(LEAVES) + 3], *nested, *WRAPPED, *(["bits"] if fewest - len(made.fields) > 3 else []), *(["padding"] if made.fields else [])]
+            kinds = [*LEAVES, *LISTS, *nested, *WRAPPED, *(["bits"] if fewest - len(made.fields) > 3 else [])]
+            kinds += ["padding"] if made.fields else []
             kind = self.take("", kinds) if self.chance(75) else "numbers"
             if made.fields and self.chance(20) and any(it.startswith("condition: ") for it in self.bag):
                 kind = "optional"
-            if kind not in ("numbers", "bits", "padding", *LEAVES[:4]) and not unused and (self.chance(70) or kind in FRESH or all(it.how == "length" for it in known)):
+            needs = kind not in ("numbers", "bits", "padding", *LEAVES[:4]) and not unused
+            if needs and (self.chance(70) or kind in FRESH or all(it.how == "length" for it in known)):
                 made.fields.append(Field(f"f{len(made.fields)}", Number(Plain(self.choice(["u8", "u16", "u32"])))))
                 known += self.says(made.fields[-1])
             if kind == "bits":
@@ -268,7 +274,8 @@ class Draw(random.Random):
                 made.fields.append(Field(f"f{len(made.fields)}", Gap(Sum([]), self.choice([2, 4, 8]))))
             else:
                 made.fields.append(self.field(f"f{len(made.fields)}", kind, known, depth))
-            known = [*([Known("given", "usize", "given")] if is_given else []), *(said for it in made.fields for said in self.says(it))]
+            known = [Known("given", "usize", "given")] if is_given else []
+            known += [said for it in made.fields for said in self.says(it)]
         self.uses = uses
         if made.multiple:
             self.kinds.append(PADDED)
@@ -282,7 +289,8 @@ class Draw(random.Random):
         if of.condition:
             return []
         if isinstance(kind, Number) and isinstance(kind.of, Group):
-            return [Known(name + where, it.type, "struct", False) for where, it in kind.of.parts if kind.of.is_struct and is_count(it)]
+            counts = [(where, it) for where, it in kind.of.parts if kind.of.is_struct and is_count(it)]
+            return [Known(name + where, it.type, "struct", False) for where, it in counts]
         if isinstance(kind, Number):
             return [Known(name, kind.type, "bits" if kind.bits else "number", kind.constant is None)] if is_count(kind.of) else []
         if isinstance(kind, Leb) and not kind.is_signed:
@@ -291,7 +299,8 @@ class Draw(random.Random):
             return [Known(f"{name}.len()", "usize", "length")]
         if isinstance(kind, Inner):
             fields = [it for it in kind.struct.fields if it.is_plain and isinstance(it.kind, (Number, Leb))]
-            return [Known(f"{name}.{it.name}", said.type, "struct", False) for it in fields for said in Draw.says(it) if said.name == it.name]
+            inner = [said for it in fields for said in Draw.says(it) if said.name == it.name]
+            return [Known(f"{name}.{it.name}", it.type, "struct", False) for it in inner]
         return []
 
     def chain(self, levels: int) -> Struct:
@@ -301,7 +310,8 @@ class Draw(random.Random):
         known: List[Known] = []
         for _ in range(4 if levels == 2 else 1):
             at = len(made.fields)
-            made.fields += [Field(f"f{at}", Number(self.fixed(self.choice(["unsigned", "array"])))), Field(f"f{at + 1}", Number(Plain("u8")))]
+            made.fields.append(Field(f"f{at}", Number(self.fixed(self.choice(["unsigned", "array"])))))
+            made.fields.append(Field(f"f{at + 1}", Number(Plain("u8"))))
             known += self.says(made.fields[-1])
             made.fields.append(self.field(f"f{at + 2}", self.choice(["slice", "text", "table"]), known, DEEPEST))
         if inner:

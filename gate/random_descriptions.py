@@ -3,22 +3,21 @@
 
     python3 gate/random_descriptions.py [SEED [COUNT]]
 
-COUNT structs (12) are drawn from SEED (1) by gate/descriptions_drawn.py, of 2 to 14 fields of all kinds that tools/derive takes, nested;
-the first one is nested to depth 10. `python3 tools/derive` prints what they need, in crates of some structs over the libraries as `rt
-lib` proves them in this repository. Each struct has three functions that use it, with no proof by hand: a reader that says where fields
-stand and which error a short source is, a writer that reads a field back, and without floats a copier. `rt run` proves and builds each
-crate, a program that reads and writes values.
+COUNT structs (12) are drawn from SEED (1) by gate/descriptions_drawn.py, of 2 to 14 fields of all kinds that tools/derive takes,
+nested; the first one is nested to depth 10. `python3 tools/derive` prints what they need, in crates of some structs over the
+libraries as `rt lib` proves them in this repository. Each struct has three functions that use it, with no proof by hand: a reader
+that says where fields stand and which error a short source is, a writer that reads a field back, and without floats a copier. `rt
+run` proves and builds each crate, a program that reads and writes values.
 
-Then values are drawn, and their bytes made, by gate/description_structs.py, which knows the descriptions alone. The program reads them,
-each cut of them, each count one greater and at its greatest, each constant and tag wrong, and bytes that are damaged at random; it also
-changes fields before it writes a value, so that counts disagree, and writes into targets that are too small. It prints the error, or the
-size and a digest of all fields that it read, and what it wrote; each has to be what the description says. (A digest takes a short line
-of code for a field, which is proved in no time; printed fields take some hundred times as long.) Where a float is no number, nothing
-is compared.
+Then values are drawn, and their bytes made, by gate/description_structs.py, which knows the descriptions alone. The program reads
+them, and them cut, with each number one greater and at its greatest, counts, constants and tags among these, and with bytes that
+are damaged at random; it also changes fields before it writes a value, so that counts disagree, and writes into targets that are
+too small. It prints the error, or the size and a digest of all fields that it read, and what it wrote; each has to be what the
+description says. Where a float is no number, nothing is compared.
 
-Each struct is a check that it is proved, and a check that it agrees. One that isn't proved is named with its functions that aren't, and
-with the prover's reasons; with `--keep FOLDER` the crates stay there. That each kind is in a struct is a check where COUNT is at least
-16; so is that a false claim of a reader is refused, and that a lie in what is expected is found.
+Each struct is a check that it is proved, and a check that it agrees. One that isn't proved is named with its functions that
+aren't, and with the prover's reasons; with `--keep FOLDER` the crates stay there. That each kind is in a struct is a check where
+COUNT is at least 16; so is that a false claim of a reader is refused, and that a lie in what is expected is found.
 """
 
 import argparse
@@ -46,7 +45,7 @@ ALL, AGAIN = 16, 50
 # How many structs are in a crate at most: the more, the more memory a check takes.
 MOST = 3
 # How many values of a struct are tried, and how many cuts and damages of each.
-VALUES, CUTS, DAMAGES = 24, 40, 30
+VALUES, CUTS, DAMAGES = 12, 40, 30
 VERDICT = re.compile(r"(?m)^(?:so far: )?((?:fn|impl|struct|enum) (\w+)::(\w+)::\S+): (.*)")
 PRIME = 1_099_511_628_211
 # A struct about which a false claim is made.
@@ -219,8 +218,9 @@ def differences(step: Step, program: Path, cases: List[Case]) -> List[str]:
         status, said = step.call(program, stdin=given, timeout=60)
     lines = said.decode(errors="replace").splitlines()
     if status or len(lines) != len(cases):
-        return [f"status {status}, and {len(lines)} lines for {len(cases)}: {''.join(lines[-1:])[:200]}"]
-    return [f"{it.line[:300]}\n    wanted {it.wanted[:300]}\n    got    {line[:300]}" for it, line in zip(cases, lines) if it.wanted not in (line, NAN)]
+        return [f"    status {status}, and {len(lines)} lines for {len(cases)}: {''.join(lines[-1:])[:200]}\n"]
+    others = [(it, line) for it, line in zip(cases, lines) if it.wanted not in (line, NAN)]
+    return [f"    {it.line[:300]}\n    wanted {it.wanted[:300]}\n    got    {line[:300]}\n" for it, line in others]
 
 
 # What is proved
@@ -260,7 +260,8 @@ def write_crates(step: Step, modules: List[Module], top: Path) -> List[str]:
 
 def fault_of(module: Module, said: str) -> Optional[str]:
     """Returns what of a module isn't proved."""
-    verdicts = {what: verdict for what, crate, name, verdict in VERDICT.findall(said) if (crate, name) == (module.crate, module.name)}
+    place = (module.crate, module.name)
+    verdicts = {what: verdict for what, crate, name, verdict in VERDICT.findall(said) if (crate, name) == place}
     open_ones = {what: verdict for what, verdict in verdicts.items() if verdict != "proved"}
     missing = [it for it in module.users if f"fn {module.crate}::{module.name}::{it}" not in verdicts]
     if not open_ones and not missing:
@@ -268,7 +269,8 @@ def fault_of(module: Module, said: str) -> Optional[str]:
     own = {what: verdict for what, verdict in open_ones.items() if not WAITS.search(verdict)} or open_ones
     errors = re.findall(rf"(?m)^src/{module.name}(?:/derived)?\.rt:\d+:\d+: error.*", said)
     goals = re.findall(rf"(?m)^note: (`.*` of proofs/{module.name}/.* must prove: .*)", said)
-    lines = [*(f"{what}: {verdict}" for what, verdict in own.items()), *(f"{it} has no verdict" for it in missing), *errors, *goals]
+    lines = [*(f"{what}: {verdict}" for what, verdict in own.items()), *(f"{it} has no verdict" for it in missing)]
+    lines += [*errors, *goals]
     return "".join(f"    {it}"[:400] + "\n" for it in lines)
 
 
@@ -279,7 +281,7 @@ def compare(step: Step, given: argparse.Namespace, top: Path, modules: List[Modu
         program = top / "crates" / it.crate / "out" / it.crate
         cases = list(cases_of(it.made.struct, f"{given.seed} {it.name}"))
         found = differences(step, program, cases)
-        step.count(f"{it.crate}::{it.name} agrees", "".join(f"    {line}\n" for line in found[:3]) + f"    {len(found)} differ\n" if found else None)
+        step.count(f"{it.crate}::{it.name} agrees", "".join([*found[:3], f"    {len(found)} differ\n"]) if found else None)
         lies = [case._replace(wanted=case.wanted.replace("1", "2", 1)) for case in cases if "1" in case.wanted]
         step.count(f"a lie about {it.name} is found", None if len(differences(step, program, lies)) == len(lies) else "")
         asked += len(cases)
