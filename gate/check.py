@@ -11,11 +11,12 @@ The steps are:
                     as two compilers build it
     docs.py         the documents: their code, names and links are those of the sources, and what is made of these is current
     check.sh        what tools/derive/derive.sh prints is in the files that were proved
-    seeds.py        proves again what misuse.py, embed.py, random_formats.py, compare/run.sh and edits.py begin with
+    seeds.py        proves again what misuse.py, embed.py, random_descriptions.py, compare/run.sh and edits.py begin with
     misuse.py       what must not compile
     embed.py        the library of embed/ in C and Python, and in Rust where cargo is, on real files and on damaged ones
     depending.py    README's first command, its lines for a repository of one's own, and the documentation's examples
-    random_formats  random structs of scroll_layouts, and what uses them, are proved with no word by hand
+    random_descriptions.py
+                    random descriptions are printed, proved with what uses them, and what they read and write is that of another reader
     sessions.py     the stored sessions, whole and with their buffers cut, by the program that rt ci proved; by random_sessions.py, random ones
     limits.py       long inputs, at which that program must not run out of memory
     faults.py       the sessions and the tests of all libraries where memory is refused and streams fail, by what rt ci proved
@@ -174,7 +175,7 @@ def list_steps(groups: Sequence[str], workers: int) -> List[Step]:
         steps.append(Step(f"python3 gate/edits.py {name}", half if at else workers, needs))
     if "stands" in groups:
         steps += [Step(it, 1, (seeds,)) for it in (EMBED, "python3 gate/depending.py", "python3 gate/misuse.py")]
-        steps.append(Step("python3 gate/random_formats.py", half, (seeds,)))
+        steps.append(Step("python3 gate/random_descriptions.py", half, (seeds,)))
     if edited:
         steps.append(Step("python3 gate/limits.py --edits", 1, (seeds,)))
     if "stands" in groups:

@@ -41,7 +41,9 @@ impl<'a> Head<RecordHead2<'a>, Error> for RecordSays2 {
     }
 
     fn next(&self, head: &RecordHead2<'a>) -> RecordNext2 {
-        (self.0 as usize).saturating_sub(head.len()).saturating_sub(1)
+        (self.0 as usize)
+            .saturating_sub(head.len())
+            .saturating_sub(1)
     }
 }
 
