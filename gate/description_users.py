@@ -1,7 +1,7 @@
 """Prints what uses a described struct: three functions whose clauses say what stands in bytes, and what a program runs."""
 
 from pathlib import Path
-from typing import List, NamedTuple, Optional, Sequence, Tuple
+from typing import List, NamedTuple, Optional, Sequence, Tuple, Union
 
 from description_counts import SIGNED, UNSIGNED, Group, Sum
 from description_kinds import Ended, Gap, Leb, Listing, Number, Slice, Table
@@ -207,7 +207,7 @@ def changes_of(struct: Struct) -> List[Tuple[Field, str]]:
     return found
 
 
-def print_digest(of: "Struct | Enum") -> str:
+def print_digest(of: Union[Struct, Enum]) -> str:
     """Prints a function that adds a value to a digest."""
     name = of.name.lower()
     if isinstance(of, Struct):

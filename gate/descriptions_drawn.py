@@ -2,7 +2,7 @@
 
 import random
 from collections import Counter
-from typing import Callable, Dict, List, NamedTuple, Optional, Sequence, Tuple, Union
+from typing import Callable, Dict, List, NamedTuple, Optional, Sequence, Union
 
 from description_counts import FLOATS, SIGNED, UNSIGNED, Fixed, Group, Plain, Sum, array, is_count
 from description_kinds import Ended, Gap, Kind, Leb, Listing, Number, Slice, Table
@@ -39,7 +39,7 @@ FIELDS, FIELDS_WITHIN = (2, 13), (1, 4)
 
 
 class Known(NamedTuple):
-    """A number that a field says: its name, its type, and how: as a `number`, `leb`, `bits`, `length`, in a `struct`, or `given`."""
+    """A number that a field says: its name, its type, and how: `number`, `leb`, `bits`, `length`, `struct` or `given`."""
 
     name: str
     type: str
