@@ -42,7 +42,7 @@ SECTIONS = {
     "Laws": ["laws", "laws/numbers", "laws/fixed", "laws/reads", "laws/texts", "laws/leb128", "laws/histories", f"{FORMATS}/laws"],
     "Formats of any size": [f"{FORMATS}/{it}" for it in ("encode", "put", "many", "kept", "lists", "until", "optional", "table", "zeros", "located", "small_error")],
     "Formats in the logic": [f"{LAYOUTS}/{it}" for it in ("lib", "run", "run/contexts", "fixed", "fixed/numbers", "fixed/arrays", "fixed/records")]
-    + [f"{LAYOUTS}/{it}" for it in ("bytes", "padding", "texts", "c_strings", "leb128", "leb128/parts")]
+    + [f"{LAYOUTS}/{it}" for it in ("bytes", "padding", "texts", "c_strings", "std_c_strings", "leb128", "leb128/parts")]
     + [f"{LAYOUTS}/{it}" for it in ("leb128", "leb128/parts", "bits", "bits/fields", "bits/words", "tables", "lists", "marked", "walk", "walk/parts")]
     + [f"{LAYOUTS}/{it}" for it in ("pairs", "head", "within", "optional", "choice", "variants", "borrowed", "shape", "whole", "append", "each")],
 }
