@@ -43,7 +43,7 @@ SECTIONS = {
     "Formats of any size": [f"{FORMATS}/{it}" for it in ("encode", "put", "many", "kept", "lists", "until", "optional", "table", "zeros", "located", "small_error")],
     "Formats in the logic": [f"{LAYOUTS}/{it}" for it in ("lib", "run", "run/contexts", "fixed", "fixed/numbers", "fixed/arrays", "fixed/records")]
     + [f"{LAYOUTS}/{it}" for it in ("bytes", "padding", "texts", "c_strings", "std_c_strings", "leb128", "leb128/parts")]
-    + [f"{LAYOUTS}/{it}" for it in ("leb128", "leb128/parts", "bits", "bits/fields", "bits/words", "tables", "lists", "marked", "walk", "walk/parts")]
+    + [f"{LAYOUTS}/{it}" for it in ("bits", "bits/fields", "bits/words", "tables", "lists", "marked", "walk", "walk/parts")]
     + [f"{LAYOUTS}/{it}" for it in ("pairs", "head", "within", "optional", "choice", "variants", "borrowed", "shape", "whole", "append", "each")],
 }
 ITEM = re.compile(r"(?P<indent>(?:    )?)(?P<open>pub )?(?:final |const |unsafe )*(?P<kind>trait|struct|enum|fn|const|type|impl)\b(?P<rest>.*)")
