@@ -66,7 +66,7 @@ import re
 for file in Path("crates").glob("*/src/**/*.rt"):
     crate, text = Path(*file.parts[:2]), file.read_text(encoding="utf-8")
     for kind, name in re.findall(r"(?m)^impl(?:<'a>)? (Record|TryFromCtx)(?:<'a, Endian>)? for (\w+)", text):
-        if "tests" not in file.parts and (kind == "Record" or (crate / "specs" / f"{name}Format.antt").exists()):
+        if "tests" not in file.parts and file.name != "derived.rt" and (kind == "Record" or (crate / "specs" / f"{name}Format.antt").exists()):
             status, out, err = call("--check", str(file), name)
             tell(not status, f"{out}{err}")
 END
@@ -85,29 +85,29 @@ END
 
 # The same for the files of a struct of any size: a line of its implementations, of its definitions and of its proof.
 while IFS='|' read -r file old words; do
-    rm -rf "$room/zip" && mkdir "$room/zip" && cp -R crates/zip/src crates/zip/specs "$room/zip"
-    sed "s/$old/other/" "crates/zip/$file" >"$room/zip/$file"
-    said=$(sh tools/derive/derive.sh --check "$room/zip/src/end.rt" EndRecord 2>&1)
+    rm -rf "$room/shapes" && mkdir "$room/shapes" && cp -R crates/shapes/src crates/shapes/specs "$room/shapes"
+    sed "s/$old/other/" "crates/shapes/$file" >"$room/shapes/$file"
+    said=$(sh tools/derive/derive.sh --check "$room/shapes/src/formats.rt" Chunk 2>&1)
     status=$?
-    ! cmp -s "crates/zip/$file" "$room/zip/$file" && [ "$status" -eq 1 ] && [ "$said" = "$room/zip/src/end.rt: $words" ]
+    ! cmp -s "crates/shapes/$file" "$room/shapes/$file" && [ "$status" -eq 1 ] && [ "$said" = "$room/shapes/src/formats.rt: $words" ]
     result=$?
     [ "$result" -eq 0 ] || echo "derive: with another '$old' --check ended with $status and '$said'"
     count "$result"
 done <<'END'
-src/end.rt|check_room(22|the implementation for EndRecord is not what tools/derive/derive.sh prints
-src/end.rt|put_whole(dst|the implementation for EndRecord is not what tools/derive/derive.sh prints
-specs/EndRecordFormat.antt|◌≢◌|specs/EndRecordFormat.antt is not what tools/derive/derive.sh prints for EndRecord
-specs/EndRecordFormat.antt|whole|specs/EndRecordFormat.antt is not what tools/derive/derive.sh prints for EndRecord
-specs/EndRecordBack.antt|p7|specs/EndRecordBack.antt is not what tools/derive/derive.sh prints for EndRecord
+src/formats.rt|check_room(7|the implementation for Chunk is not what tools/derive/derive.sh prints
+src/formats.rt|FormatError::BadMark(mark)|the implementation for Chunk is not what tools/derive/derive.sh prints
+specs/ChunkFormat.antt|◌≢◌|specs/ChunkFormat.antt is not what tools/derive/derive.sh prints for Chunk
+specs/ChunkFormat.antt|whole|specs/ChunkFormat.antt is not what tools/derive/derive.sh prints for Chunk
+specs/ChunkBack.antt|p2|specs/ChunkBack.antt is not what tools/derive/derive.sh prints for Chunk
 END
 
 # A file with one of the two traits alone.
 for trait in TryFromCtx TryIntoCtx; do
-    rm -rf "$room/zip" && mkdir "$room/zip" && cp -R crates/zip/src crates/zip/specs "$room/zip"
-    awk -v trait="$trait" '/^impl/ { left = index($0, trait) } !left { print } /^}/ { left = 0 }' crates/zip/src/end.rt >"$room/zip/src/end.rt"
-    said=$(sh tools/derive/derive.sh --check "$room/zip/src/end.rt" EndRecord 2>&1)
+    rm -rf "$room/shapes" && mkdir "$room/shapes" && cp -R crates/shapes/src crates/shapes/specs "$room/shapes"
+    awk -v trait="$trait" '/^impl/ { left = index($0, trait) && / for Chunk/ } !left { print } /^}/ { left = 0 }' crates/shapes/src/formats.rt >"$room/shapes/src/formats.rt"
+    said=$(sh tools/derive/derive.sh --check "$room/shapes/src/formats.rt" Chunk 2>&1)
     status=$?
-    [ "$status" -eq 1 ] && [ "$said" = "$room/zip/src/end.rt: the implementation for EndRecord is not what tools/derive/derive.sh prints" ]
+    [ "$status" -eq 1 ] && [ "$said" = "$room/shapes/src/formats.rt: the implementation for Chunk is not what tools/derive/derive.sh prints" ]
     result=$?
     [ "$result" -eq 0 ] || echo "derive: without $trait --check ended with $status and '$said'"
     count "$result"

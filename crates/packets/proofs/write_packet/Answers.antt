@@ -1,5 +1,5 @@
 -- An offset of zero isn't past the end.
-use Rattle.std.proofs.Common.{arith}
+use Rattle.std.proofs.Common.{arith, inl, inr}
 use Rattle.scroll.proofs.lemmas.callers.Cursors.{handed-on}
 use Rattle.packets.proofs.write_packet.Goals as goal
 
