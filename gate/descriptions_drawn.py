@@ -239,7 +239,9 @@ class Draw(random.Random):
         if kind == "optional":
             tags = ["enum"] if depth < DEEPEST and any(it.how == "number" and it.is_free for it in known) else []
             inner = self.kind(self.take("", [*LEAVES, *LISTS, *nested, *tags]), known, depth)
-            inner = Number(inner.of) if isinstance(inner, Number) else inner
+            if isinstance(inner, Number):
+                # (an optional array is refused)
+                inner = Number(inner.of if isinstance(inner.of, Plain) or inner.of.is_struct else Plain("u16"))
             return Field(name, inner, condition=self.condition(known))
         if kind in WRAPPED:
             within = self.count(known, True) if kind == "within" else None

@@ -3,7 +3,7 @@
 
     python3 gate/random_descriptions.py [SEED [COUNT]]
 
-COUNT structs (12) are drawn from SEED (1) by gate/descriptions_drawn.py, of 2 to 14 fields of all kinds that tools/derive takes,
+COUNT structs (3) are drawn from SEED (1) by gate/descriptions_drawn.py, of 2 to 14 fields of all kinds that tools/derive takes,
 nested; the first one is nested to depth 10. `python3 tools/derive` prints what they need, in crates of some structs over the
 libraries as `rt lib` proves them in this repository. Each struct has three functions that use it, with no proof by hand: a reader
 that says where fields stand and which error a short source is, a writer that reads a field back, and without floats a copier. `rt
@@ -39,7 +39,7 @@ from edit_judge import WAITS
 from step import FOLDERS, TOP, Step, Stop, below, copy_kept, count_workers, read_crates, run_step
 
 LIBRARY = "scroll_layouts"
-SEED, COUNT = 1, 12
+SEED, COUNT = 1, 3
 # So many structs have all kinds, for which they are drawn again.
 ALL, AGAIN = 16, 50
 # How many structs are in a crate at most: the more, the more memory a check takes.

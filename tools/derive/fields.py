@@ -255,6 +255,8 @@ class Optional_(Kind):
             self.reader.refuse(self.at, "has no `if = ..`, which says when it is there, as `if = flags & 1 != 0`")
         if len(self.of.arguments) != 1 or self.of.arguments[0].name == "Option":
             self.reader.refuse(self.at, f"is of {self.of.text}, and takes one type")
+        if self.of.arguments[0].name == "[;]":
+            self.reader.refuse(self.at, "is an optional array: put the array into a struct")
         count = len(self.reader.rules)
         inside = self.reader.part(self.at, self.of.arguments[0], {k: v for k, v in self.at.notes.items() if k != "if"})
         condition = self.reader.condition(self.at, self.at.notes["if"])
