@@ -49,6 +49,9 @@ pub record Leaf (E X : Type 0) : Type 1 where
 -- the value after it, in the format that `rest` gives for what `next` says of the head
 -- `padded gives m f`: a value, and zeros up to a multiple of `m` bytes, counted from its first one
 -- `within gives n f`: a value in the format `f` that uses up `n` bytes
+-- `behind gives n f rest`: a value of at most `n` bytes, and the one after it, in the format that
+-- `rest` gives for how many of them it leaves
+-- `ordered o f`: a value in the format `f`, in the byte order `o`
 -- `leaf l`: a value of the kind `l`
 -- `choice gives b f g`: one of two values, by `b`
 -- `when gives b f`: a value that is there if `b` says so
@@ -62,6 +65,9 @@ pub data Format (E : Type 0) : Type 0 → Type 1 where
       → (D → Format E B) → Format E (A × B)
   padded : {A : Type 0} → (Error → E → Type 0) → ℕ → Format E A → Format E A
   within : {X : Type 0} → (Error → E → Type 0) → ℕ → Format E X → Format E X
+  behind : {A B : Type 0} → (Error → E → Type 0) → ℕ → Format E A → (ℕ → Format E B)
+      → Format E (A × B)
+  ordered : {X : Type 0} → Endian → Format E X → Format E X
   leaf : {X : Type 0} → Leaf E X → Format E X
   choice : {A B : Type 0} → (Error → E → Type 0) → Bool → Format E A → Format E B
       → Format E (Choice A B)
@@ -77,6 +83,8 @@ len (pair f g) x = len f x.0 + len g x.1
 len (headed f holds fails next rest) x = len f x.0 + len (rest (next x.0)) x.1
 len (padded gives m f) x = len f x + padding_len (len f x) m
 len (within gives n f) x = n
+len (behind gives n f rest) x = len f x.0 + len (rest (n - len f x.0)) x.1
+len (ordered o f) x = len f x
 len (leaf l) x = l.leaf_len x
 len (choice gives b f g) (First x) = len f x
 len (choice gives b f g) (Second x) = len g x
@@ -95,6 +103,9 @@ bytes (headed f holds fails next rest) order x =
 bytes (padded gives m f) order x =
     bytes f order x ++ replicate (padding_len (len f x) m) 0
 bytes (within gives n f) order x = bytes f order x
+bytes (behind gives n f rest) order x =
+    bytes f order x.0 ++ bytes (rest (n - len f x.0)) order x.1
+bytes (ordered o f) order x = bytes f o x
 bytes (leaf l) order x = l.leaf_bytes order x
 bytes (choice gives b f g) order (First x) = bytes f order x
 bytes (choice gives b f g) order (Second x) = bytes g order x
@@ -120,6 +131,10 @@ reads (padded gives m f) order s at x =
     ≡ replicate (padding_len (len f x) m) 0))
 reads (within gives n f) order s at x =
     (at + n ≤ length s) × reads f order s at x × (len f x ≡ n)
+reads (behind gives n f rest) order s at x =
+    reads f order s at x.0
+    × ((len f x.0 ≤ n) × reads (rest (n - len f x.0)) order s (at + len f x.0) x.1)
+reads (ordered o f) order s at x = reads f o s at x
 reads (leaf l) order s at x = l.leaf_reads order s at x
 reads (choice gives true f g) order s at (First x) = reads f order s at x
 reads (choice gives true f g) order s at (Second x) = ⊥
@@ -133,7 +148,8 @@ reads (when gives false f) order s at None = ⊤
 -- `refuses f order s at e`: the error of the first part that isn't there. Without its bytes it
 -- is `TooBig` with their number, at most the greatest `usize`, and the number of bytes there; a
 -- value that leaves some of its `n` bytes is `BadInput` with how many it has and the message `fewer
--- bytes than its part`
+-- bytes than its part`; one that has more of them is one with the message `more bytes than its
+-- part`
 abbrev pub refuses : {E X : Type 0} → Format E X → Endian → List ℕ → ℕ → E → Type 0
 refuses (run gives p) order s at e = NoRoom gives (min (width p) (2 ^ 64 - 1)) (drop at s) e
 refuses (counted gives n) order s at e = NoRoom gives n (drop at s) e
@@ -156,6 +172,12 @@ refuses (within {X} gives n f) order s at e =
     ⊎ ((at + n ≤ length s) × refuses f order (take n (drop at s)) 0 e)
     ⊎ ((x : X) × reads f order (take n (drop at s)) 0 x × (len f x ≢ n)
     × GivesBadInput gives (len f x) (codes "fewer bytes than its part") e)
+refuses (behind {A} gives n f rest) order s at e =
+    refuses f order s at e
+    ⊎ ((y : A) × reads f order s at y
+    × (((n < len f y) × GivesBadInput gives (len f y) (codes "more bytes than its part") e)
+    ⊎ ((len f y ≤ n) × refuses (rest (n - len f y)) order s (at + len f y) e)))
+refuses (ordered o f) order s at e = refuses f o s at e
 refuses (leaf l) order s at e = l.leaf_refuses order s at e
 refuses (choice gives true f g) order s at e = refuses f order s at e
 refuses (choice gives false f g) order s at e = refuses g order s at e
@@ -174,6 +196,9 @@ agrees (headed f holds fails next rest) order x =
     agrees f order x.0 × (holds x.0 × agrees (rest (next x.0)) order x.1)
 agrees (padded gives m f) order x = agrees f order x
 agrees (within gives n f) order x = agrees f order x × (len f x ≡ n)
+agrees (behind gives n f rest) order x =
+    agrees f order x.0 × ((len f x.0 ≤ n) × agrees (rest (n - len f x.0)) order x.1)
+agrees (ordered o f) order x = agrees f o x
 agrees (leaf l) order x = l.leaf_agrees order x
 agrees (choice gives true f g) order (First x) = agrees f order x
 agrees (choice gives true f g) order (Second x) = ⊥
@@ -186,7 +211,8 @@ agrees (when gives false f) order None = ⊤
 
 -- `differs f order x e`: the error of the first part that doesn't agree, or of a rule or a leaf. It
 -- is `BadInput` with the length of the bytes and the message `another length than its count`; the
--- number of bytes that the value must use up and `another length than its part`; 1 if the first
+-- number of bytes that the value must use up and `another length than its part`; the most bytes
+-- that it may have and `more bytes than its part`; 1 if the first
 -- value must be there, and 0 if it mustn't, and `another variant than its tag`; 1 and `an optional
 -- part is missing`; or 0 and `an optional part is too many`
 abbrev pub differs : {E X : Type 0} → Format E X → Endian → X → E → Type 0
@@ -206,6 +232,13 @@ differs (within gives n f) order x e =
     differs f order x e
     ⊎ (agrees f order x × ((len f x ≢ n) ⊎ (n ≡ 2 ^ 64 - 1))
     × GivesBadInput gives n (codes "another length than its part") e)
+differs (behind gives n f rest) order x e =
+    differs f order x.0 e
+    ⊎ (agrees f order x.0
+    × ((((n < len f x.0) ⊎ (n ≡ 2 ^ 64 - 1))
+    × GivesBadInput gives n (codes "more bytes than its part") e)
+    ⊎ ((len f x.0 ≤ n) × differs (rest (n - len f x.0)) order x.1 e)))
+differs (ordered o f) order x e = differs f o x e
 differs (leaf l) order x e = l.leaf_differs order x e
 differs (choice gives true f g) order (First x) e = differs f order x e
 differs (choice gives true f g) order (Second x) e =
@@ -230,6 +263,8 @@ exact (pair f g) = exact f × exact g
 exact (headed {A} {B} {D} f holds fails next rest) = exact f × ((d : D) → exact (rest d))
 exact (padded gives m f) = exact f
 exact (within gives n f) = exact f
+exact (behind gives n f rest) = exact f × ((k : ℕ) → exact (rest k))
+exact (ordered o f) = exact f
 exact (leaf l) = ⊤
 exact (choice gives b f g) = exact f × exact g
 exact (when gives b f) = exact f

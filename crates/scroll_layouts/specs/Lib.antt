@@ -5,8 +5,15 @@ pub mod Formats
 pub mod OneWay
 pub mod Starts
 pub mod Leaves
+pub mod Varints
+pub mod VarintLeaves
+pub mod Numerals
+pub mod Fills
+pub mod FillLeaves
 pub mod Lists
+pub mod MarkSizes
 pub mod Marks
+pub mod ListEnds
 pub mod ListLeaves
 pub mod Fields
 pub mod Bits

@@ -8,7 +8,7 @@ use Rattle.scroll.specs.declared.error.Error.{Error}
 use Rattle.scroll_layouts.specs.Errors.{NoRoom, GivesBadInput}
 use Rattle.scroll_layouts.specs.Formats.{Format, Leaf}
 use Rattle.scroll_layouts.specs.Lists.{SomeItems, CountedItems, RefusesItems, RefusesCounted}
-use Rattle.scroll_layouts.specs.Marks.{MarkedItems, RefusesMarked}
+use Rattle.scroll_layouts.specs.Marks.{Mark, MarkedItems, RefusesMarked}
 use Rattle.scroll_layouts.specs.OneWay.{told}
 use Rattle.scroll_layouts.specs.lemmas.ListLemmas.{counted-one}
 use Rattle.scroll_layouts.specs.lemmas.MarkLemmas.{marked-one}
@@ -71,11 +71,11 @@ list_of gives f n = held (told f) (λ order x. CountedItems f order x 0 (length 
 
 -- a list of values up to a mark, with the mark. One that has bytes after the mark is `BadInput`
 -- with the offset where the mark ends and the message `another length than its values`
-abbrev pub list_until : {E X : Type 0} → (Error → E → Type 0) → List ℕ → Format E X
+abbrev pub list_until : {E X : Type 0} → (Error → E → Type 0) → Mark → Format E X
     → Leaf E (List ℕ)
-list_until gives mark f = held (told f) (λ order x. MarkedItems mark f order x 0 (length x))
+list_until gives mark f = held (told f) (λ order x. MarkedItems mark f order x (length x))
     (λ t order s. marked-one mark f t order s)
     (λ order s at e. RefusesMarked gives mark f order (drop at s) e)
     (λ order x e. RefusesMarked gives mark f order x e
-    ⊎ ((end : ℕ) × MarkedItems mark f order x 0 end × (end ≢ length x)
+    ⊎ ((end : ℕ) × MarkedItems mark f order x end × (end ≢ length x)
     × GivesBadInput gives end (codes "another length than its values") e))

@@ -2,10 +2,10 @@
 -- and an error. So what was written and is read again is the same, and lists of such values are
 -- walked where they lie.
 use Rattle.std.specs.List.{All}
-use Rattle.std.specs.Prelude.{◌≡◌, ◌<◌, ⊤, ℕ, List, Some, None}
+use Rattle.std.specs.Prelude.{◌≡◌, ◌<◌, ◌-◌, ⊤, ℕ, List, Some, None}
 use Rattle.scroll.specs.declared.endian.Endian.{Endian}
 use Rattle.scroll_layouts.specs.Layouts.{same_fields}
-use Rattle.scroll_layouts.specs.Formats.{Format, run, counted, zeros, last, pair, headed, padded, within, leaf, choice, when}
+use Rattle.scroll_layouts.specs.Formats.{Format, run, counted, zeros, last, pair, headed, padded, within, behind, ordered, leaf, choice, when, len}
 use Rattle.scroll_layouts.specs.declared.choice.Choice.TheVariants.{First, Second}
 
 -- `same f x y`: each part of the one value is that of the other
@@ -18,6 +18,9 @@ same (pair f g) x y = same f x.0 y.0 × same g x.1 y.1
 same (headed f holds fails next rest) x y = same f x.0 y.0 × same (rest (next x.0)) x.1 y.1
 same (padded gives m f) x y = same f x y
 same (within gives n f) x y = same f x y
+same (behind gives n f rest) x y =
+    same f x.0 y.0 × same (rest (n - len f x.0)) x.1 y.1
+same (ordered o f) x y = same f x y
 same (leaf l) x y = l.leaf_same x y
 same (choice gives b f g) (First x) (First y) = same f x y
 same (choice gives b f g) (First x) (Second y) = ⊥
@@ -39,6 +42,8 @@ told (headed {A} {B} {D} f holds fails next rest) =
     told f × ((x y : A) → same f x y → next x ≡ next y) × ((d : D) → told (rest d))
 told (padded gives m f) = told f
 told (within gives n f) = told f
+told (behind gives n f rest) = told f × ((k : ℕ) → told (rest k))
+told (ordered o f) = told f
 told (leaf l) = l.leaf_told
 told (choice gives b f g) = told f × told g
 told (when gives b f) = told f
@@ -58,6 +63,8 @@ one_way {E} (headed {A} {B} {D} f holds fails next rest) =
     × ((d : D) → one_way (rest d))
 one_way (padded gives m f) = one_way f
 one_way (within gives n f) = one_way f
+one_way (behind gives n f rest) = one_way f × ((k : ℕ) → one_way (rest k))
+one_way (ordered o f) = one_way f
 one_way {E} {X} (leaf l) =
     l.leaf_told
     × ((order : Endian) (s : List ℕ) (at : ℕ) (x : X) (e : E) → All (λ b. b < 256) s

@@ -7,6 +7,11 @@ use Rattle.scroll.specs.declared.error.Error.TheVariants.{NoMemory}
 use Rattle.scroll_layouts.specs.Formats.{Format, reads, len, bytes, agrees, differs}
 use Rattle.scroll_layouts.specs.OneWay.{same}
 
+-- a source has a value at its start. That is `reads` once more, which `search` doesn't take apart
+-- so: it finds the parts of large values by this, and other facts by `reads`
+pub data AtStart {E X : Type 0} (f : Format E X) (order : Endian) (s : List ℕ) : X → Type 0 where
+  at_start : (x : X) → reads f order s 0 x → AtStart f order s x
+
 -- a value is read from the first `n` bytes of a source: it agrees, and has `n` bytes. Each value
 -- that the source has there is the same. And where the source is the rest of another one from the
 -- offset `o` on, what stands in it at an offset stands `o` bytes further in that
@@ -17,7 +22,8 @@ pub record ReadsWhole {E X : Type 0} (f : Format E X) (order : Endian) (s : List
   pub size : n ≡ len f x
   pub inside : n ≤ length s
   pub count : length (bytes f order x) ≡ n
-  pub only : (y : X) → reads f order s 0 y → same f x y
+  pub only : (y : X) → AtStart f order s y → same f x y
+  pub one : (y : X) → reads f order s 0 y → same f x y
   pub places : (o w : ℕ) (t : List ℕ) → s ≡ drop o t → drop (o + w) t ≡ drop w s
 
 -- the same, and the bytes of the value are those that were read
@@ -29,7 +35,8 @@ pub record ReadsExact {E X : Type 0} (f : Format E X) (order : Endian) (s : List
   pub inside : n ≤ length s
   pub count : length (bytes f order x) ≡ n
   pub back : bytes f order x ≡ take n s
-  pub only : (y : X) → reads f order s 0 y → same f x y
+  pub only : (y : X) → AtStart f order s y → same f x y
+  pub one : (y : X) → reads f order s 0 y → same f x y
   pub places : (o w : ℕ) (t : List ℕ) → s ≡ drop o t → drop (o + w) t ≡ drop w s
 
 -- a value that was written is read from the first `n` bytes of a source that begins with its bytes
@@ -50,8 +57,9 @@ pub record WritesWhole {E X : Type 0} (f : Format E X) (order : Endian) (x : X) 
   pub wrote : WritesPrefix (length (bytes f order x)) (bytes f order x) old new n
   pub size : n ≡ len f x
   pub written : take n new ≡ bytes f order x
-  pub again : reads f order new 0 x
-  pub kept : (rest : List ℕ) → reads f order (take n new ++ rest) 0 x
+  pub value : reads f order new 0 x
+  pub again : AtStart f order new x
+  pub kept : (rest : List ℕ) → AtStart f order (take n new ++ rest) x
 
 -- the target is unchanged: the value doesn't agree, or its bytes have no room, which is `TooBig`
 -- with their number, at most the greatest `usize`, and the length of the target
@@ -68,9 +76,11 @@ pub record AppendsWhole {E X : Type 0} (f : Format E X) (order : Endian) (x : X)
     (old new : List ℕ) : Type 0 where
   pub agreed : agrees f order x
   pub is : new ≡ old ++ bytes f order x
-  pub again : reads f order (drop (length old) new) 0 x
+  pub size : length new ≡ length old + len f x
+  pub value : reads f order (drop (length old) new) 0 x
+  pub again : AtStart f order (drop (length old) new) x
   pub kept : (later rest : List ℕ) → later ≡ new ++ rest
-      → reads f order (drop (length old) later) 0 x
+      → AtStart f order (drop (length old) later) x
 
 -- `AppendsEach f order old xs new`: the values `xs` are appended, one after another, and each is
 -- read where it was appended
@@ -78,6 +88,7 @@ abbrev pub AppendsEach : {E X : Type 0} → Format E X → Endian → List ℕ �
 AppendsEach f order old [] new = new ≡ old
 AppendsEach f order old (x ∷ xs) new =
     reads f order (drop (length old) new) 0 x
+    × AtStart f order (drop (length old) new) x
     × ((mid : List ℕ) × AppendsWhole f order x old mid × AppendsEach f order mid xs new)
 
 -- the values of `all` before some value are appended, and that one doesn't agree, or there is no

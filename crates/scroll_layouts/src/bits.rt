@@ -8,6 +8,7 @@ ghost use Rattle.scroll_layouts.specs.Fields.{Fields, packed, splits, small, hig
 ghost use Rattle.scroll_layouts.specs.Formats.{leaf};
 
 mod fields;
+mod three_bytes;
 mod words;
 
 use crate::{Part, ReadPart};
@@ -15,7 +16,7 @@ use scroll::{Endian, Error, check_room};
 use std::marker::PhantomData;
 use std::result::Result;
 
-/// A number that fields of bits are packed in: `u8`, `u16`, `u32` or `u64`.
+/// A number that fields of bits are packed in: `u8`, `u16`, [`U24`], `u32` or `u64`.
 pub trait Word: Drop {
     // How many bytes it has.
     ghost size_of: { ℕ };
@@ -42,6 +43,17 @@ pub trait Word: Drop {
         requires { (number < 256 ^ size_of) × (size_of ≤ length dst.old) }
         ensures { dst.new ≡ number_bytes order size_of number ++ drop size_of dst.old };
 }
+
+/// A number of three bytes, whose fields are those of a `u32`.
+///
+/// ```rust
+/// let bytes: [u8; 3] = [1, 2, 3];
+/// let (number, _) =
+///     read_whole::<Packed<U24, ()>, Error, u32>(&bytes, BE, &Packed(std::marker::PhantomData, ()))?;
+/// assert_eq!(rt; number, 0x01_02_03);
+/// ```
+#[derive(Drop)]
+pub struct U24;
 
 /// The fields of a number `W`, from its highest bits on: an unsigned number of the size of `W`, or
 /// a pair of such fields and an unsigned number below them.

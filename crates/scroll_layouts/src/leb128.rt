@@ -1,10 +1,13 @@
 // Numbers in LEB128. (The types of `scroll` can't be named in a bound yet.)
 ghost use Rattle.std.specs.Prelude.{◌≡◌};
 ghost use Rattle.scroll.specs.Encoding.{HasEncoding, HasSignedEncoding};
-
-use scroll::{Sleb128, Uleb128};
+ghost use Rattle.scroll_layouts.specs.Varints.{zigzag};
 
 mod parts;
+mod zigzags;
+
+use self::zigzags::to_zigzag;
+use scroll::{Sleb128, Uleb128};
 
 /// An unsigned number of 64 bits in LEB128, with the length of its encoding, from 1 to 10 bytes.
 ///
@@ -12,7 +15,7 @@ mod parts;
 /// let code = Uleb::shortest(300);
 /// assert_eq!(rt; (code.value, code.count), (300, 2));
 /// ```
-#[derive(Clone, Copy)]
+#[derive(Clone, Copy, Debug)]
 pub struct Uleb {
     /// The number.
     pub value: u64,
@@ -40,7 +43,7 @@ impl Uleb {
 /// let delta = Sleb::shortest(-65);
 /// assert_eq!(rt; (delta.value, delta.count), (-65, 2));
 /// ```
-#[derive(Clone, Copy)]
+#[derive(Clone, Copy, Debug)]
 pub struct Sleb {
     /// The number.
     pub value: i64,
@@ -56,6 +59,36 @@ impl Sleb {
     {
         let number = Sleb128::shortest(value);
         Sleb {
+            value,
+            count: number.size(),
+        }
+    }
+}
+
+/// A signed number of 64 bits in zigzag, as Protocol Buffers has signed ones: twice the number in
+/// LEB128, or of a negative one twice the number without its sign, less one; with the length of its
+/// encoding, from 1 to 10 bytes.
+///
+/// ```rust
+/// let delta = Zigzag::shortest(-65);
+/// assert_eq!(rt; (delta.value, delta.count), (-65, 2));
+/// ```
+#[derive(Clone, Copy, Debug)]
+pub struct Zigzag {
+    /// The number.
+    pub value: i64,
+    /// The length of its encoding in bytes.
+    pub count: usize,
+    ghost encoded: { HasEncoding (zigzag value) count },
+}
+
+impl Zigzag {
+    /// Returns the number with the length of its shortest encoding.
+    pub fn shortest(value: i64) -> Zigzag
+        ensures { result.value ≡ value }
+    {
+        let number = Uleb128::shortest(to_zigzag(value));
+        Zigzag {
             value,
             count: number.size(),
         }

@@ -12,47 +12,62 @@ ghost use Rattle.std.specs.Prelude.{◌≡◌, ◌≤◌, ◌+◌, ◌-◌, ◌^
 ghost use Rattle.scroll_layouts.specs.Formats.{Format, len, bytes, reads, refuses, agrees, differs};
 
 mod append;
+mod behind;
 mod bits;
 mod borrowed;
 mod bytes;
 mod c_strings;
 mod choice;
 mod each;
+mod fills;
 mod fixed;
 mod head;
 mod leb128;
 mod lists;
 mod marked;
+mod numerals;
 mod optional;
+mod ordered;
 mod padding;
 mod pairs;
 mod run;
 mod shape;
+mod shifts;
 mod std_c_strings;
 mod tables;
 #[cfg(test)]
 mod tests;
 mod texts;
 mod variants;
+mod vlq;
 mod walk;
 mod whole;
 mod within;
 
 pub use crate::append::{append_each, append_whole};
-pub use crate::bits::{BitFields, Low, Packed, Word};
+pub use crate::behind::Behind;
+pub use crate::bits::{BitFields, Low, Packed, U24, Word};
 pub use crate::borrowed::Borrowed;
 pub use crate::choice::{Choice, Choose};
 pub use crate::each::write_list;
+pub use crate::fills::Filled;
 pub use crate::fixed::{Field, FixedLayout, Number, SameLayout};
 pub use crate::head::{Head, Headed, is};
-pub use crate::leb128::{Sleb, Uleb};
+pub use crate::leb128::{Sleb, Uleb, Zigzag};
 pub use crate::lists::{Count, Items, Listed};
-pub use crate::marked::{Marked, ToMark};
+pub use crate::marked::{
+    EndMark, Marked, MarkedValues, NameEnd, ToMark, TwoZeroUlebs, ZeroUleb, append_until,
+    begins_with,
+};
+pub use crate::numerals::{Decimal, Digits, Hexadecimal, Octal};
 pub use crate::optional::When;
+pub use crate::ordered::Ordered;
 pub use crate::padding::Padded;
 pub use crate::run::Run;
 pub use crate::shape::{Given, Shape};
+pub use crate::shifts::shifted;
 pub use crate::texts::Ends;
+pub use crate::vlq::Vlq;
 pub use crate::walk::{Certain, CertainHead, Values};
 pub use crate::whole::{read_exact, read_whole, write_whole};
 pub use crate::within::Within;
@@ -72,7 +87,10 @@ use std::result::Result;
 /// | [`Zeros`](scroll_formats::Zeros) | `usize` | as many zero bytes |
 /// | `A` | [`Padded`] | a value, and zeros up to a multiple of a size |
 /// | [`Uleb`], [`Sleb`] | `()` | a number in LEB128 |
+/// | [`Zigzag`], [`Vlq`] | `()` | a signed number in zigzag; a number with its high groups first |
+/// | [`Digits<BASE, N>`](Digits) | `()` | a number in digits in a field of `N` bytes |
 /// | [`CStr`](scroll::cstr::CStr), of the crate or of std | `()` | a C string |
+/// | `&[u8]` | [`Filled`] | a text in a field that others fill up |
 /// | `&str` | `usize` | a text of as many bytes as the context says |
 /// | `&str` | [`Ends`] | a text, and the byte that ends it |
 /// | [`Items`] | `usize` | values of any size, in as many bytes as the context says |
@@ -83,6 +101,9 @@ use std::result::Result;
 /// | `(A, B)` | `(C, D)` | one after the other |
 /// | `(A, B)` | [`Headed`] | a head with constants, which says the context of what follows |
 /// | `A` | [`Within`] | a value that uses up as many bytes as the context says |
+/// | `(A, B)` | [`Behind`] | a value, and what it leaves of as many bytes as the context says |
+/// | `Option<A>` | `usize` | a value that uses up so many bytes, and is there if there are any |
+/// | `A` | [`Ordered`] | a value in a byte order of its own |
 /// | `Option<A>` | [`When`] | a value that is there if the context says so |
 /// | [`Choice<A, B>`](Choice) | [`Choose`] | one of two values, as the context says |
 /// | a struct | `()` | its parts |

@@ -33,6 +33,7 @@ pub struct Count(pub usize);
 ///
 /// They are read when the list is read, so its bytes are good ones; then the list is walked where
 /// it lies, without memory.
+#[derive(Debug)]
 pub struct Items<'a, K>(pub &'a [u8], pub PhantomData<K>);
 
 impl<'a, K> Copy for Items<'a, K> {}

@@ -1,10 +1,16 @@
 // Lists that end with a mark.
-ghost use Rattle.std.specs.Prelude.{◌≡◌, ◌≢◌, ◌≤◌, ◌<◌, ◌+◌, ◌-◌, ◌^◌, ◌++◌, ◌⊎◌, List, ℕ, length, take, drop, min, codes, IfOk, IfErr, OnOk};
-ghost use Rattle.std.specs.Bool.{OnTrue, OnFalse};
+ghost use Rattle.std.specs.Prelude.{◌≡◌, ◌≢◌, ◌≤◌, ◌<◌, ◌+◌, ◌-◌, ◌^◌, ◌++◌, ◌⊎◌, [], ◌∷◌, List, ℕ, Some, None, Option, length, take, drop, min, codes, IfOk, IfErr, IfSome, IfNone, OnOk};
 ghost use Rattle.scroll_layouts.specs.Formats.{leaf, last, len, reads, refuses};
 ghost use Rattle.scroll_layouts.specs.ListLeaves.{list_until};
-ghost use Rattle.scroll_layouts.specs.Marks.{MarkAt, MarkedItems, RefusesMarked};
+ghost use Rattle.scroll_layouts.specs.Marks.{Mark, MarkEnds, MarkedItems, RefusesMarked};
 
+mod ends;
+mod until;
+mod values;
+
+pub use self::ends::{EndMark, NameEnd, TwoZeroUlebs, ZeroUleb, begins_with};
+pub use self::until::append_until;
+pub use self::values::MarkedValues;
 use crate::{Items, Listed, Part, ReadPart};
 use scroll::{Endian, Error};
 use std::marker::PhantomData;
@@ -16,22 +22,12 @@ use std::result::Result;
 ///
 /// ```rust
 /// impl<'a> Marked<'a> for ItemKind {
-///     ghost mark_of = { 0 ∷ [] };
-///
-///     fn mark() -> &'static [u8]
-///         ensures { result.now ≡ 0 ∷ [] }
-///     {
-///         &[0]
-///     }
+///     type End = ItemKind;
 /// }
 /// ```
 pub trait Marked<'a>: Listed<'a> {
-    // The bytes of the mark.
-    ghost mark_of: { List ℕ };
-
-    /// Returns the bytes of the mark.
-    fn mark() -> &'static [u8]
-        ensures { result.now ≡ mark_of };
+    /// What ends a list.
+    type End: EndMark;
 }
 
 /// The context of a list that ends with its mark.
@@ -47,11 +43,11 @@ where
     K::Item: ReadPart<'a, (), E>,
 {
     ghost format = { λ _.
-        last (leaf (list_until E.from_gives K.mark_of (K.Item.format tt))) (λ x. x.0.now) };
+        last (leaf (list_until E.from_gives K.End.mark (K.Item.format tt))) (λ x. x.0.now) };
 
     fn check(&self, order: Endian, _ctx: &ToMark) -> Result<(), E> {
         let bytes = self.0;
-        let end = find_end::<E, K::Item>(bytes, order, K::mark())?;
+        let end = find_end::<E, K>(bytes, order)?;
         if end != bytes.len() {
             return Err(E::from(Error::BadInput {
                 size: end,
@@ -77,7 +73,7 @@ where
     K::Item: ReadPart<'a, (), E>,
 {
     ghost format = { λ _.
-        last (leaf (list_until E.from_gives K.mark_of (K.Item.format tt))) (λ x. x.0.now) };
+        last (leaf (list_until E.from_gives K.End.mark (K.Item.format tt))) (λ x. x.0.now) };
 
     #[inline(always)]
     fn read_at(
@@ -87,25 +83,27 @@ where
         _ctx: &ToMark,
     ) -> Result<(Items<'a, K>, usize), E> {
         let rest = &from[offset..];
-        let end = find_end::<E, K::Item>(rest, order, K::mark())?;
+        let end = find_end::<E, K>(rest, order)?;
         Ok((Items(&rest[..end], PhantomData), offset + end))
     }
 }
 
 // Returns where the mark ends that stands after some values.
-fn find_end<'a, E: From<Error>, T: ReadPart<'a, (), E>>(
-    bytes: &'a [u8],
-    order: Endian,
-    mark: &[u8],
-) -> Result<usize, E>
-    ensures read { IfOk result (MarkedItems mark.now (T.format tt) order bytes.now 0) }
+#[inline(always)]
+fn find_end<'a, E: From<Error>, K: Marked<'a>>(bytes: &'a [u8], order: Endian) -> Result<usize, E>
+where
+    K::Item: ReadPart<'a, (), E>,
+    ensures read { IfOk result (MarkedItems K.End.mark (K.Item.format tt) order bytes.now) }
     ensures inside { IfOk result (λ end. end ≤ length bytes.now) }
     ensures refused { IfErr result
-        (RefusesMarked E.from_gives mark.now (T.format tt) order bytes.now) }
+        (RefusesMarked E.from_gives K.End.mark (K.Item.format tt) order bytes.now) }
 {
     let mut at = 0;
-    while !has_mark(bytes, at, mark) {
-        let (_value, next) = T::read_at(bytes, at, order, &())?;
+    loop {
+        if let Some(end) = end_at::<K::End>(bytes, at) {
+            return Ok(end);
+        }
+        let next = skip::<E, K::Item>(bytes, at, order)?;
         if next == at {
             return Err(E::from(Error::BadInput {
                 size: at,
@@ -114,19 +112,35 @@ fn find_end<'a, E: From<Error>, T: ReadPart<'a, (), E>>(
         }
         at = next;
     }
-    Ok(at + mark.len())
 }
 
-// Returns whether the mark stands at an offset.
-fn has_mark(bytes: &[u8], at: usize, mark: &[u8]) -> bool
+// Returns where the value ends that stands at an offset.
+#[inline(always)]
+fn skip<'a, E, T: ReadPart<'a, (), E>>(
+    bytes: &'a [u8],
+    at: usize,
+    order: Endian,
+) -> Result<usize, E>
     requires { at ≤ length bytes.now }
-    ensures yes { OnTrue result
-        ((at + length mark.now ≤ length bytes.now) × MarkAt mark.now bytes.now at) }
-    ensures no { OnFalse result (MarkAt mark.now bytes.now at → ⊥) }
+    ensures read { IfOk result (λ next. (x : T) × reads (T.format tt) order bytes.now at x
+        × (next ≡ at + len (T.format tt) x)) }
+    ensures inside { IfOk result (λ next. next ≤ length bytes.now) }
+    ensures refused { IfErr result (refuses (T.format tt) order bytes.now at) }
 {
-    let len = mark.len();
-    if bytes.len() - at < len {
-        return false;
+    match T::read_at(bytes, at, order, &()) {
+        Ok((_, next)) => Ok(next),
+        Err(error) => Err(error),
     }
-    &bytes[at..at + len] == mark
+}
+
+// Returns where the mark ends that stands at an offset.
+#[inline(always)]
+pub(crate) fn end_at<M: EndMark>(bytes: &[u8], at: usize) -> Option<usize>
+    requires { at ≤ length bytes.now }
+    ensures found { IfSome result (MarkEnds M.mark bytes.now at) }
+    ensures inside { IfSome result (λ end. end ≤ length bytes.now) }
+    ensures none { IfNone result (M.mark.size (drop at bytes.now) ≡ None) }
+{
+    let size = M::mark_size(&bytes[at..])?;
+    Some(at + size)
 }

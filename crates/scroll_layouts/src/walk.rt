@@ -90,6 +90,6 @@ impl<'a, E: Drop, T: Certain<'a, (), E>> Iterator for Values<'a, E, T> {
 }
 
 // Does nothing, and says that bytes are below 256.
-fn below(bytes: &[u8])
+pub(crate) fn below(bytes: &[u8])
     ensures { All (λ b. b < 256) bytes.now }
 {}

@@ -1,13 +1,13 @@
 -- The laws of formats, by recursion: a line or two for each form. They are proved, and promise
 -- nothing.
-use Rattle.std.proofs.Common.{◌≡◌, ℕ, ◌+◌, ◌<◌, ◌≤◌, ◌++◌, List, length, ◌∙◌, refl, take, drop, arith, subst, sym, ap, length-drop}
+use Rattle.std.proofs.Common.{◌≡◌, ℕ, ◌+◌, ◌-◌, ◌<◌, ◌≤◌, ◌++◌, List, length, ◌∙◌, refl, take, drop, arith, subst, sym, ap, length-drop}
 use Rattle.std.proofs.lemmas.List.{length-replicate, length-take-le, take-append-drop, take-take}
 use Rattle.std.specs.List.{All}
 use Rattle.std.specs.Prelude.{true, false, Some, None, replicate}
 use Rattle.scroll.specs.Fixed.{SameAt}
 use Rattle.scroll.specs.lemmas.FixedLemmas.{both-len, both-back, both-kept, same-first, same-second}
 use Rattle.scroll.specs.declared.endian.Endian.{Endian}
-use Rattle.scroll_layouts.specs.Formats.{Leaf, Format, run, counted, zeros, last, pair, headed, padded, within, leaf, choice, when, len, bytes, reads, agrees, exact}
+use Rattle.scroll_layouts.specs.Formats.{Leaf, Format, run, counted, zeros, last, pair, headed, padded, within, behind, ordered, leaf, choice, when, len, bytes, reads, agrees, exact}
 use Rattle.scroll_formats.specs.Zeros.{padding_len}
 use Rattle.scroll_layouts.specs.Layouts.{width, laid_bytes}
 use Rattle.scroll_layouts.specs.lemmas.LayoutLaws.{layout-len, layout-back, layout-fits, layout-moved, layout-kept}
@@ -31,6 +31,11 @@ inside (headed f holds fails next rest) order s at x here h =
 inside (padded gives m f) order s at x here h =
     pair-within at (len f x) (padding_len (len f x) m) s h.1.0
 inside (within gives n f) order s at x here h = h.0
+inside (behind gives n f rest) order s at x here h =
+    pair-within at (len f x.0) (len (rest (n - len f x.0)) x.1) s
+    (inside (rest (n - len f x.0)) order s (at + len f x.0) x.1
+    (inside f order s at x.0 here h.0) h.1.1)
+inside (ordered o f) order s at x here h = inside f o s at x here h
 inside (leaf l) order s at x here h = l.leaf_inside order s at x here h
 inside (choice gives true f g) order s at (First x) here h = inside f order s at x here h
 inside (choice gives true f g) order s at (Second x) here h = absurd h
@@ -59,6 +64,11 @@ made-agrees (headed f holds fails next rest) order s at x all h = (
 made-agrees (padded gives m f) order s at x all h = made-agrees f order s at x all h.0
 made-agrees (within gives n f) order s at x all h =
     (made-agrees f order s at x all h.1, h.2)
+made-agrees (behind gives n f rest) order s at x all h = (
+  made-agrees f order s at x.0 all h.0,
+  (h.1.0, made-agrees (rest (n - len f x.0)) order s (at + len f x.0) x.1 all h.1.1),
+)
+made-agrees (ordered o f) order s at x all h = made-agrees f o s at x all h
 made-agrees (leaf l) order s at x all h = l.leaf_made order s at x all h
 made-agrees (choice gives true f g) order s at (First x) all h = made-agrees f order s at x all h
 made-agrees (choice gives true f g) order s at (Second x) all h = absurd h
@@ -86,6 +96,10 @@ bytes-len (padded gives m f) order x h =
     both-len (bytes f order x) (replicate (padding_len (len f x) m) 0) (bytes-len f order x h)
     (length-replicate (padding_len (len f x) m) 0)
 bytes-len (within gives n f) order x h = bytes-len f order x h.0 ∙ h.1
+bytes-len (behind gives n f rest) order x h =
+    both-len (bytes f order x.0) (bytes (rest (n - len f x.0)) order x.1)
+    (bytes-len f order x.0 h.0) (bytes-len (rest (n - len f x.0)) order x.1 h.1.1)
+bytes-len (ordered o f) order x h = bytes-len f o x h
 bytes-len (leaf l) order x h = l.leaf_bytes-len order x h
 bytes-len (choice gives true f g) order (First x) h = bytes-len f order x h
 bytes-len (choice gives true f g) order (Second x) h = absurd h
@@ -140,6 +154,13 @@ back (within gives n f) order x prefix rest h =
       back f order x prefix rest h.0,
       h.1,
     )
+back (behind gives n f others) order x prefix rest h =
+    both-back (len f x.0) (bytes f order x.0) (bytes (others (n - len f x.0)) order x.1) prefix
+    rest (bytes-len f order x.0 h.0) (λ s at. reads f order s at x.0)
+    (λ s at. (len f x.0 ≤ n) × reads (others (n - len f x.0)) order s at x.1)
+    (λ l t. back f order x.0 l t h.0)
+    (λ l t. (h.1.0, back (others (n - len f x.0)) order x.1 l t h.1.1))
+back (ordered o f) order x prefix rest h = back f o x prefix rest h
 back (leaf l) order x prefix rest h = l.leaf_back order x prefix rest h
 back (choice gives true f g) order (First x) prefix rest h = back f order x prefix rest h
 back (choice gives true f g) order (Second x) prefix rest h = absurd h
@@ -169,6 +190,11 @@ kept (padded gives m f) order s at x e all h =
     (sym h.1.1)
 kept (within gives n f) order s at x e all h =
     kept f order s at x e all h.1 ∙ ap (λ k. take k (drop at s)) h.2
+kept (behind gives n f rest) order s at x e all h =
+    both-kept (len f x.0) (len (rest (n - len f x.0)) x.1) s at
+    (kept f order s at x.0 e.0 all h.0)
+    (kept (rest (n - len f x.0)) order s (at + len f x.0) x.1 (e.1 (n - len f x.0)) all h.1.1)
+kept (ordered o f) order s at x e all h = kept f o s at x e all h
 kept (leaf l) order s at x e all h = l.leaf_kept order s at x all h
 kept (choice gives true f g) order s at (First x) e all h = kept f order s at x e.0 all h
 kept (choice gives true f g) order s at (Second x) e all h = absurd h
@@ -235,6 +261,17 @@ moved (within gives n f) order s at t to x all there same h = (
       (subst (λ k. SameAt k s at t to) (sym h.2) same) h.1,
   h.2,
 )
+moved (behind gives n f rest) order s at t to x all there same h =
+    let a = len f x.0 in let b = len (rest (n - len f x.0)) x.1 in (
+      moved f order s at t to x.0 all (first-within to a b t there)
+          (same-first a b s at t to same) h.0,
+      (
+        h.1.0,
+        moved (rest (n - len f x.0)) order s (at + a) t (to + a) x.1 all
+            (second-within to a b t there) (same-second a b s at t to same) h.1.1,
+      ),
+    )
+moved (ordered o f) order s at t to x all there same h = moved f o s at t to x all there same h
 moved (leaf l) order s at t to x all there same h =
     leaf-moved l order s at t to x all there same h
 moved (choice gives true f g) order s at t to (First x) all there same h =

@@ -12,7 +12,7 @@ use Rattle.scroll.specs.declared.error.Error.{Error}
 use Rattle.scroll.specs.declared.endian.Endian.{Endian}
 use Rattle.scroll_formats.specs.Zeros.{RefusesZeros, padding_len}
 use Rattle.scroll_layouts.specs.OneWay.{one_way}
-use Rattle.scroll_layouts.specs.Formats.{Format, run, counted, zeros, last, pair, headed, padded, within, leaf, choice, when, reads, refuses, len}
+use Rattle.scroll_layouts.specs.Formats.{Format, run, counted, zeros, last, pair, headed, padded, within, behind, ordered, leaf, choice, when, reads, refuses, len}
 use Rattle.scroll_layouts.specs.Bits.{packed_in}
 use Rattle.scroll_layouts.specs.Errors.{NoRoom}
 use Rattle.scroll_layouts.specs.Fields.{Fields}
@@ -79,6 +79,17 @@ no-clash (within gives n f) t order s at x e all h (inr (inr (y, k, other, g))) 
     other (one-len f (tells f t) order (take n (drop at s)) 0 y x (bytes-taken n at s all) k
     (alone f order s at n x all h.0 h.2 h.1)
     ∙ h.2)
+no-clash (behind gives n f rest) t order s at x e all h (inl r) =
+    no-clash f t.0 order s at x.0 e all h.0 r
+no-clash (behind gives n f rest) t order s at x e all h (inr (y, k, inl r)) =
+    let size : len f y ≡ len f x.0 = one-len f (tells f t.0) order s at y x.0 all k h.0 in
+    omega (arith, size, r.0, h.1.0)
+no-clash (behind gives n f rest) t order s at x e all h (inr (y, k, inr r)) =
+    let size : len f y ≡ len f x.0 = one-len f (tells f t.0) order s at y x.0 all k h.0 in
+    let left = n - len f x.0 in
+    no-clash (rest left) (t.1 left) order s (at + len f x.0) x.1 e all h.1.1
+    (subst (λ m. refuses (rest (n - m)) order s (at + m) e) size r.1)
+no-clash (ordered o f) t order s at x e all h r = no-clash f t o s at x e all h r
 no-clash (leaf l) t order s at x e all h r = t.1 order s at x e all h r
 no-clash (choice gives true f g) t order s at (First x) e all h r =
     no-clash f t.0 order s at x e all h r
@@ -169,8 +180,8 @@ items-clash gives f t order s at (x ∷ xs) (y ∷ ys) to stop e all h k l r =
     (subst (λ n. Items f order s (at + n) ys stop) same k.2) l r
 
 -- a number in LEB128 isn't read and refused
-leb-clash : {V : Type 0} (value_of : List ℕ → V) (Fits : V → Type 0) (s : List ℕ) (x : V) (n : ℕ)
-    (e : Error) → ReadsLeb value_of Fits s x n → RefusesLeb value_of Fits s e → ⊥
+pub leb-clash : {V : Type 0} (value_of : List ℕ → V) (Fits : V → Type 0) (s : List ℕ) (x : V)
+    (n : ℕ) (e : Error) → ReadsLeb value_of Fits s x n → RefusesLeb value_of Fits s e → ⊥
 leb-clash value_of Fits s x n e h (inl r) = omega (arith, h.complete.0, r.cut.0)
 leb-clash value_of Fits s x n e h (inr r) = r.unfit h.complete h.fits
 

@@ -1,11 +1,11 @@
 -- The values of a source are the same, by recursion: a line or two for each form. The lemmas are
 -- proved, and promise nothing.
-use Rattle.std.proofs.Common.{◌≡◌, ℕ, ◌+◌, ◌<◌, List, refl, sym, ap, subst, ◌∙◌, arith}
+use Rattle.std.proofs.Common.{◌≡◌, ℕ, ◌+◌, ◌-◌, ◌<◌, List, refl, sym, ap, subst, ◌∙◌, arith}
 use Rattle.std.specs.List.{All}
 use Rattle.std.specs.Prelude.{true, false, Some, None}
 use Rattle.scroll.specs.declared.endian.Endian.{Endian}
 use Rattle.scroll_formats.specs.Zeros.{padding_len}
-use Rattle.scroll_layouts.specs.Formats.{Format, run, counted, zeros, last, pair, headed, padded, within, leaf, choice, when, reads, len}
+use Rattle.scroll_layouts.specs.Formats.{Format, run, counted, zeros, last, pair, headed, padded, within, behind, ordered, leaf, choice, when, reads, len}
 use Rattle.scroll_layouts.specs.OneWay.{same, told, one_way}
 use Rattle.scroll_layouts.specs.declared.choice.Choice.TheVariants.{First, Second}
 use Rattle.scroll_layouts.specs.lemmas.LayoutLaws.{layout-one}
@@ -44,6 +44,18 @@ one (padded gives m f) t order s at x y all h k =
     (ap (λ n. n + padding_len n m) first.0, first.1)
 one (within gives n f) t order s at x y all h k =
     (refl, (one f t order s at x y all h.1 k.1).1)
+one (behind gives n f rest) t order s at x y all h k =
+    let first : (len f x.0 ≡ len f y.0) × same f x.0 y.0 =
+    one f t.0 order s at x.0 y.0 all h.0 k.0 in
+    let left = n - len f x.0 in
+    let there : reads (rest left) order s (at + len f x.0) y.1 =
+    subst (λ m. reads (rest (n - m)) order s (at + m) y.1) (sym first.0) k.1.1 in
+    let second : (len (rest left) x.1 ≡ len (rest left) y.1) × same (rest left) x.1 y.1 =
+    one (rest left) (t.1 left) order s (at + len f x.0) x.1 y.1 all h.1.1 there in
+    let other : len (rest left) y.1 ≡ len (rest (n - len f y.0)) y.1 =
+    ap (λ m. len (rest (n - m)) y.1) first.0 in
+    (omega (arith, first.0, second.0, other), (first.1, second.1))
+one (ordered o f) t order s at x y all h k = one f t o s at x y all h k
 one (leaf l) t order s at x y all h k = l.leaf_one t order s at x y all h k
 one (choice gives true f g) t order s at (First x) (First y) all h k =
     one f t.0 order s at x y all h k
@@ -79,6 +91,8 @@ tells (pair f g) t = (tells f t.0, tells g t.1)
 tells (headed f holds fails next rest) t = (tells f t.0, t.1, λ d. tells (rest d) (t.3 d))
 tells (padded gives m f) t = tells f t
 tells (within gives n f) t = tells f t
+tells (behind gives n f rest) t = (tells f t.0, λ k. tells (rest k) (t.1 k))
+tells (ordered o f) t = tells f t
 tells (leaf l) t = t.0
 tells (choice gives b f g) t = (tells f t.0, tells g t.1)
 tells (when gives b f) t = tells f t

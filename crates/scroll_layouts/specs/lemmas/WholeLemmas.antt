@@ -10,7 +10,7 @@ use Rattle.scroll.specs.declared.error.Error.{Error}
 use Rattle.scroll.specs.declared.error.Error.TheVariants.{NoMemory}
 use Rattle.scroll_layouts.specs.Formats.{Format, reads, len, bytes, agrees, differs, exact}
 use Rattle.scroll_layouts.specs.OneWay.{told}
-use Rattle.scroll_layouts.specs.Wholes.{ReadsWhole, ReadsExact, ReadsBack, WritesWhole, AppendsWhole, AppendsEach, FailsEach}
+use Rattle.scroll_layouts.specs.Wholes.{AtStart, at_start, ReadsWhole, ReadsExact, ReadsBack, WritesWhole, AppendsWhole, AppendsEach, FailsEach}
 use Rattle.scroll_layouts.specs.lemmas.FormatLaws.{inside, made-agrees, bytes-len, back, kept}
 use Rattle.scroll_layouts.specs.lemmas.LayoutLaws.{layout-len}
 use Rattle.scroll_layouts.specs.lemmas.SameLaws.{one-value}
@@ -24,6 +24,11 @@ places : (s : List ℕ) (o w : ℕ) (t : List ℕ) → s ≡ drop o t → drop (
 places s o w t is =
     ap (λ k. drop k t) (omega arith) ∙ sym (drop-drop w o t) ∙ ap (drop w) (sym is)
 
+-- what stands at the start is read there
+stood : {E X : Type 0} (f : Format E X) (order : Endian) (s : List ℕ) (x : X) → AtStart f order s x
+    → reads f order s 0 x
+stood f order s _ (at_start x h) = h
+
 -- a value that was read at the start
 pub whole-read : {E X : Type 0} (f : Format E X) (order : Endian) (s : List ℕ) (x : X) (n : ℕ)
     → told f → All (λ b. b < 256) s → reads f order s 0 x → n ≡ len f x
@@ -36,7 +41,8 @@ whole-read f order s x n t all h size =
       size = size;
       inside = omega (arith, size, inside f order s 0 x (omega arith) h);
       count = bytes-len f order x agreed ∙ sym size;
-      only = λ y k. one-value f t order s 0 x y all h k;
+      only = λ y k. one-value f t order s 0 x y all h (stood f order s y k);
+      one = λ y k. one-value f t order s 0 x y all h k;
       places = places s;
     }
 
@@ -50,6 +56,7 @@ exact-read f order s x n e all h = record {
   count = h.count;
   back = kept f order s 0 x e all h.value ∙ ap (λ k. take k s) (sym h.size);
   only = h.only;
+  one = h.one;
   places = h.places;
 }
 
@@ -57,17 +64,19 @@ exact-read f order s x n e all h = record {
 pub whole-written : {E X : Type 0} (f : Format E X) (order : Endian) (x : X) (old new : List ℕ)
     (n : ℕ) → agrees f order x → WritesPrefix (length (bytes f order x)) (bytes f order x) old new n
     → WritesWhole f order x old new n
-whole-written f order x old new n agreed wrote = record {
-  agreed = agreed;
-  wrote = wrote;
-  size = wrote.size ∙ bytes-len f order x agreed;
-  written = ap (λ l. take n l) wrote.after
-      ∙ take_at (bytes f order x) (drop (length (bytes f order x)) old) n (sym wrote.size);
-  again = subst (λ s. reads f order s 0 x) (sym wrote.after)
-      (back f order x [] (drop (length (bytes f order x)) old) agreed);
-  kept = λ rest. WritesPrefix-back (λ (s : List ℕ) (v m : ℕ). reads f order s 0 x) 0
-      (bytes f order x) old new rest n (back f order x [] rest agreed) wrote;
-}
+whole-written f order x old new n agreed wrote =
+    let there : reads f order new 0 x = subst (λ s. reads f order s 0 x) (sym wrote.after)
+    (back f order x [] (drop (length (bytes f order x)) old) agreed) in record {
+      agreed = agreed;
+      wrote = wrote;
+      size = wrote.size ∙ bytes-len f order x agreed;
+      written = ap (λ l. take n l) wrote.after
+          ∙ take_at (bytes f order x) (drop (length (bytes f order x)) old) n (sym wrote.size);
+      value = there;
+      again = at_start x there;
+      kept = λ rest. at_start x (WritesPrefix-back (λ (s : List ℕ) (v m : ℕ). reads f order s 0 x) 0
+          (bytes f order x) old new rest n (back f order x [] rest agreed) wrote);
+    }
 
 -- a value that was written is read, whatever is written after it
 pub whole-kept : {E X : Type 0} (f : Format E X) (order : Endian) (x : X) (old new : List ℕ)
@@ -76,7 +85,7 @@ pub whole-kept : {E X : Type 0} (f : Format E X) (order : Endian) (x : X) (old n
 whole-kept f order x old new n h rest =
     let size : length (take n new) ≡ n = ap length h.written ∙ sym h.wrote.size in
     record {
-      value = h.kept rest;
+      value = stood f order (take n new ++ rest) x (h.kept rest);
       agreed = h.agreed;
       size = h.size;
       inside = omega (arith, size, length-append (take n new) rest);
@@ -94,12 +103,17 @@ whole-appended f order x old new agreed is =
     ∙ ap (drop (length old)) (sym (append_assoc old (bytes f order x) rest))
     ∙ ap (λ s. drop (length old) (s ++ rest)) (sym is))
     (back f order x [] rest agreed) in
+    let there : reads f order (drop (length old) new) 0 x =
+    subst (λ s. reads f order (drop (length old) s) 0 x) (append-nil new) (kept []) in
     record {
       agreed = agreed;
       is = is;
-      again = subst (λ s. reads f order (drop (length old) s) 0 x) (append-nil new) (kept []);
-      kept = λ later rest more.
-          subst (λ s. reads f order (drop (length old) s) 0 x) (sym more) (kept rest);
+      size = ap length is ∙ length-append old (bytes f order x)
+          ∙ ap (λ n. length old + n) (bytes-len f order x agreed);
+      value = there;
+      again = at_start x there;
+      kept = λ later rest more. at_start x
+          (subst (λ s. reads f order (drop (length old) s) 0 x) (sym more) (kept rest));
     }
 
 -- what is appended stands behind what was there
@@ -107,10 +121,10 @@ each-behind : {E X : Type 0} (f : Format E X) (order : Endian) (old : List ℕ) 
     (new : List ℕ) → AppendsEach f order old xs new → (rest : List ℕ) × (new ≡ old ++ rest)
 each-behind f order old [] new h = ([], h ∙ sym (append-nil old))
 each-behind f order old (x ∷ xs) new h =
-    let mid : List ℕ = h.1.0 in
-    let behind : (rest : List ℕ) × (new ≡ mid ++ rest) = each-behind f order mid xs new h.1.2 in (
+    let mid : List ℕ = h.2.0 in
+    let behind : (rest : List ℕ) × (new ≡ mid ++ rest) = each-behind f order mid xs new h.2.2 in (
       bytes f order x ++ behind.0,
-      behind.1 ∙ ap (λ l. l ++ behind.0) h.1.1.is ∙ append_assoc old (bytes f order x) behind.0,
+      behind.1 ∙ ap (λ l. l ++ behind.0) h.2.1.is ∙ append_assoc old (bytes f order x) behind.0,
     )
 
 -- one more value is appended
@@ -119,14 +133,17 @@ each-push : {E X : Type 0} (f : Format E X) (order : Endian) (old : List ℕ) (x
     → AppendsEach f order old (xs ++ x ∷ []) new
 each-push f order old [] x mid new h last =
     let here : AppendsWhole f order x old new =
-    subst (λ l. AppendsWhole f order x l new) h last in (here.again, (new, here, refl))
+    subst (λ l. AppendsWhole f order x l new) h last in
+    (here.value, here.again, (new, here, refl))
 each-push f order old (y ∷ ys) x mid new h last =
-    let to : List ℕ = h.1.0 in
+    let to : List ℕ = h.2.0 in
     let others : AppendsEach f order to (ys ++ x ∷ []) new =
-    each-push f order to ys x mid new h.1.2 last in
+    each-push f order to ys x mid new h.2.2 last in
     let behind : (rest : List ℕ) × (new ≡ to ++ rest) =
     each-behind f order to (ys ++ x ∷ []) new others in
-    (h.1.1.kept new behind.0 behind.1, (to, h.1.1, others))
+    let there : AtStart f order (drop (length old) new) y =
+    h.2.1.kept new behind.0 behind.1 in
+    (stood f order (drop (length old) new) y there, there, (to, h.2.1, others))
 
 -- the first values, and the one after them
 more : {X : Type 0} (xs : List X) (i : ℕ) (x : X) → i < length xs → x ≡ slice_index_or xs i x

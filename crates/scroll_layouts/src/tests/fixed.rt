@@ -1,5 +1,7 @@
 // Structs of a fixed size: as fields of a struct of any size, through streams and through the calls
 // without a test.
+mod derived;
+
 ghost use Rattle.std.specs.Prelude.{◌≡◌, ◌<◌, ◌≤◌, ◌+◌, ◌^◌, ◌++◌, length, take, drop, IfOk, IfErr, OnOk};
 ghost use Rattle.std.proofs.Common.{refl, rules};
 ghost use Rattle.scroll.specs.Numbers.{number, signed_number, number_bytes, signed_bytes};
@@ -8,7 +10,7 @@ ghost use Rattle.scroll_layouts.specs.Formats.{refuses};
 ghost use Rattle.scroll_layouts.specs.Wholes.{ReadsExact};
 
 use crate::{Field, Head, Headed, ReadPart, Run, Shape, read_exact};
-use scroll::ctx::{FromCtx, IntoCtx, Record, SizeWith, TryFromCtx};
+use scroll::ctx::{FromCtx, IntoCtx, SizeWith, TryFromCtx};
 use scroll::{Cread, Endian, Error, IOread, IOwrite, Pread, Result, slice};
 use std::io;
 use std::marker::PhantomData;
@@ -110,40 +112,11 @@ pub fn foo_again(target: &mut [u8], foo: Foo, at: usize, order: Endian) -> Foo
 }
 
 /// A point.
+// #[derive(Pread, Pwrite)]
 #[derive(Clone, Copy, Debug, PartialEq, Eq)]
 pub struct Point {
     pub x: i16,
     pub y: u32,
-}
-
-impl Record for Point {
-    type Parts = (i16, u32);
-
-    ghost parts_of = { λ x. (x.x, x.y) };
-
-    ghost of_parts = { λ p. record { x = p.0; y = p.1 } };
-
-    ghost fields_in = { λ order s x.
-        (x.x ≡ signed_number order 2 s)
-        × (x.y ≡ number order 4 (drop 2 s)) };
-
-    ghost again = { λ x. refl };
-
-    ghost there = { λ p. refl };
-
-    ghost fields_of_parts = { λ order s x h. (h.0, h.1) };
-
-    ghost parts_of_fields = { λ order s x h. (h.0, h.1) };
-
-    ghost small = { Prim.search rules };
-
-    fn parts(self) -> (i16, u32) {
-        (self.x, self.y)
-    }
-
-    fn of_parts((x, y): (i16, u32)) -> Point {
-        Point { x, y }
-    }
 }
 
 /// A line between two points, with a label.

@@ -6,11 +6,12 @@ ghost use Rattle.scroll.specs.declared.error.Error.TheVariants.{TooBig};
 ghost use Rattle.scroll.specs.lemmas.Frames.{WritesPrefix-keeps};
 ghost use Rattle.scroll_layouts.specs.Errors.{IsNot};
 ghost use Rattle.scroll_layouts.specs.Formats.{refuses};
+ghost use Rattle.scroll_layouts.specs.ListEnds.{bytes_mark};
 ghost use Rattle.scroll_layouts.specs.Wholes.{ReadsExact, WritesWhole, KeepsWhole};
 
 use crate::{
-    Count, Head, Headed, Items, Listed, Marked, Part, ReadPart, Run, Shape, ToMark, is, read_exact,
-    write_whole,
+    Count, EndMark, Head, Headed, Items, Listed, Marked, Part, ReadPart, Run, Shape, ToMark,
+    begins_with, is, read_exact, write_whole,
 };
 use scroll::ctx::{TryFromCtx, TryIntoCtx};
 use scroll::{Endian, Error, Pread, Result, slice};
@@ -86,12 +87,16 @@ impl<'a> Listed<'a> for ItemKind {
 }
 
 impl<'a> Marked<'a> for ItemKind {
-    ghost mark_of = { 0 ∷ [] };
+    type End = ItemKind;
+}
 
-    fn mark() -> &'static [u8]
-        ensures { result.now ≡ 0 ∷ [] }
+impl EndMark for ItemKind {
+    ghost mark = { bytes_mark (0 ∷ []) };
+
+    fn mark_size(from: &[u8]) -> Option<usize>
+        ensures { result ≡ (bytes_mark (0 ∷ [])).size from.now }
     {
-        &[0]
+        begins_with(from, &[0])
     }
 }
 

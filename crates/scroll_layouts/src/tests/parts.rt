@@ -1,7 +1,8 @@
 // Parts by themselves, on bytes that Python's `struct`, `zipfile` and `gzip` made.
+mod derived;
+
 ghost use Rattle.std.specs.Prelude.{◌≡◌, ◌<◌, ◌^◌, ◌/◌, ◌%◌, codes, nat_eq, IfErr, OnOk};
 ghost use Rattle.std.proofs.Common.{refl, rules};
-ghost use Rattle.scroll.specs.Arrays.{MakesArray};
 ghost use Rattle.scroll.specs.Numbers.{number};
 ghost use Rattle.scroll_layouts.specs.Errors.{IsNot};
 
@@ -10,7 +11,6 @@ use crate::tests::results::{check_eq, check_error};
 use crate::tests::zip::STORED;
 use crate::{Field, Head, Headed, Low, Packed, Run, When, is, read_whole};
 use scroll::cstr::CStr;
-use scroll::ctx::Record;
 use scroll::{BE, Error, LE, Result};
 use std::marker::PhantomData;
 use std::result;
@@ -42,38 +42,10 @@ fn numbers_of_each_width(rt: HostRuntime) -> result::Result<(), Fail> {
 }
 
 /// An array of arrays, which can be the element of an array in a struct.
+// #[derive(Pread, Pwrite)]
 #[derive(Clone, Copy)]
 pub struct Plane {
     pub cells: [[u8; 2]; 2],
-}
-
-impl Record for Plane {
-    type Parts = [[u8; 2]; 2];
-
-    ghost parts_of = { λ x. x.cells };
-
-    ghost of_parts = { λ p. record { cells = p } };
-
-    ghost fields_in = { λ order s x.
-        MakesArray 2 (λ s x. MakesArray 1 (λ s x. x ≡ number order 1 s) 2 s x) 2 s x.cells };
-
-    ghost again = { λ x. refl };
-
-    ghost there = { λ p. refl };
-
-    ghost fields_of_parts = { λ order s x h. h };
-
-    ghost parts_of_fields = { λ order s x h. h };
-
-    ghost small = { Prim.search rules };
-
-    fn parts(self) -> [[u8; 2]; 2] {
-        self.cells
-    }
-
-    fn of_parts(cells: [[u8; 2]; 2]) -> Plane {
-        Plane { cells }
-    }
 }
 
 static GRID: [u8; 12] = [0, 1, 0, 2, 0, 3, 0, 4, 1, 244, 2, 88];

@@ -1,16 +1,16 @@
 // Values from outside at offsets, appended, and one after another.
-use crate::Uleb;
 use crate::tests::appends::{appended_contents, appended_name, appended_suites, first_contents};
 use crate::tests::calls::{contents_again_at, read_file_at, read_two_files, write_file_at};
 use crate::tests::fixed::{Foo, foo_again, foo_at, read_foo, read_line, write_foo};
 use crate::tests::handshake::read_message;
-use crate::tests::many::{listed_contents, second_again};
+use crate::tests::many::{StoredFiles, listed_contents, second_again};
 use crate::tests::nested::MESSAGE;
 use crate::tests::results::{check_eq, check_error, check_value};
 use crate::tests::stored::{StoredFile, read_file};
 use crate::tests::zip::STORED;
+use crate::{Uleb, append_until};
 use scroll::{BE, Error, LE};
-use scroll_formats::{append_until, read_many, read_to_end};
+use scroll_formats::{read_many, read_to_end};
 use std::test::Fail;
 
 #[test]
@@ -96,8 +96,8 @@ fn many_files(rt: HostRuntime) -> Result<(), Fail> {
     let last: Vec<StoredFile> = read_to_end(rt.alloc(), &archive[..74], &mut offset, LE)?;
     check_eq(&rt, (last.len(), offset), (1, 74));
     let mut until: Vec<StoredFile> = Vec::new(rt.alloc());
-    let bytes = append_until(&mut until, &archive, &mut 0, LE)?;
-    check_eq(&rt, (until.len(), bytes.len()), (2, 75));
+    let list = append_until::<Error, StoredFiles>(&mut until, &archive, &mut 0, LE)?;
+    check_eq(&rt, (until.len(), list.0.len()), (2, 75));
     Ok(())
 }
 

@@ -5,8 +5,8 @@ ghost use Rattle.scroll_layouts.specs.Formats.{reads, refuses, len};
 
 use crate::walk::{Certain, CertainHead};
 use crate::{
-    BitFields, Choice, Choose, Ends, FixedLayout, Headed, Items, Listed, Packed, Padded, ReadPart,
-    Run, Sleb, Uleb, When, Within, Word,
+    Behind, BitFields, Choice, Choose, Digits, Ends, Filled, FixedLayout, Headed, Items, Listed,
+    Ordered, Packed, Padded, ReadPart, Run, Sleb, Uleb, Vlq, When, Within, Word, Zigzag,
 };
 use scroll::Error;
 use scroll::cstr::CStr;
@@ -35,6 +35,28 @@ impl<'a, E: From<Error>> Certain<'a, (), E> for Uleb {
 impl<'a, E: From<Error>> Certain<'a, (), E> for Sleb {
     #[tactic(auto, using(crate::specs::lemmas::OneWayLemmas::leaves_one_way))]
     fn certain() {}
+}
+
+impl<'a, E: From<Error>> Certain<'a, (), E> for Zigzag {
+    #[tactic(auto, using(crate::specs::lemmas::OneWayLemmas::leaves_one_way))]
+    fn certain() {}
+}
+
+impl<'a, E: From<Error>> Certain<'a, (), E> for Vlq {
+    #[tactic(auto, using(crate::specs::lemmas::LeavesOneWay::more_leaves_one_way))]
+    fn certain() {}
+}
+
+impl<'a, E: From<Error>, const BASE: u64, const N: usize> Certain<'a, (), E> for Digits<BASE, N> {
+    #[tactic(auto, using(crate::specs::lemmas::LeavesOneWay::more_leaves_one_way))]
+    fn certain() {}
+}
+
+impl<'a, E: From<Error>> Certain<'a, Filled, E> for &'a [u8] {
+    #[tactic(auto, using(crate::specs::lemmas::LeavesOneWay::more_leaves_one_way))]
+    fn certain()
+        ensures { (ctx : Filled) → one_way (⟦<&'a [u8] as ReadPart<'a, Filled, E>>⟧.format ctx) }
+    {}
 }
 
 impl<'a, E: From<Error>> Certain<'a, (), E> for CStr<'a> {
@@ -102,6 +124,29 @@ impl<'a, E: From<Error>, C: Drop, A: Certain<'a, C, E>> Certain<'a, Within<C>, E
 }
 
 impl<'a, E: From<Error>, C: Drop, A: Certain<'a, C, E>> Certain<'a, When<C>, E> for Option<A> {
+    fn certain() {
+        A::certain()
+    }
+}
+
+impl<'a, E, C: Drop, A: Certain<'a, C, E>> Certain<'a, Ordered<C>, E> for A {
+    fn certain() {
+        A::certain()
+    }
+}
+
+impl<'a, E: From<Error>, C: Drop, A: Certain<'a, C, E>, B: Certain<'a, usize, E>> Certain<
+    'a,
+    Behind<C>,
+    E,
+> for (A, B) {
+    fn certain() {
+        A::certain();
+        B::certain();
+    }
+}
+
+impl<'a, E: From<Error>, A: Certain<'a, (), E>> Certain<'a, usize, E> for Option<A> {
     fn certain() {
         A::certain()
     }

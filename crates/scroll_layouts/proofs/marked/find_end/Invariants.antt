@@ -3,9 +3,10 @@ use Rattle.std.proofs.Common.{◌≤◌, ◌-◌, length}
 use Rattle.scroll_layouts.specs.Marks.{SomeBefore}
 use Rattle.scroll_layouts.proofs.marked.find_end.Given as goal
 
-abbrev pub invariant-loop-order : goal.invariant-loop-order
-invariant-loop-order g l =
-    SomeBefore l.mark (g.T.ReadPart.format (tt)) l.order l.bytes 0 l.at × (l.at ≤ length l.bytes)
+abbrev pub invariant-loop-end : goal.invariant-loop-end
+invariant-loop-end g l =
+    SomeBefore g.K.End.EndMark.mark (g.K.Item.ReadPart.format (tt)) l.order l.bytes l.at
+    × (l.at ≤ length l.bytes)
 
-abbrev pub decreases-loop-order : goal.decreases-loop-order
-decreases-loop-order g l = length l.bytes - l.at
+abbrev pub decreases-loop-end : goal.decreases-loop-end
+decreases-loop-end g l = length l.bytes - l.at

@@ -1,7 +1,6 @@
 -- The values are values of their own bytes.
-use Rattle.std.proofs.Common.{◌≡◌, ◌-◌, length, drop, take, sym, ap, subst, ◌∙◌, arith, length-drop}
+use Rattle.std.proofs.Common.{◌≡◌, ◌-◌, length, drop, take, sym, ap, ◌∙◌, arith, length-drop}
 use Rattle.std.proofs.lemmas.List.{take_all, length-take-le}
-use Rattle.scroll_layouts.specs.Marks.{MarkedItems}
 use Rattle.scroll_layouts.specs.lemmas.Parts.{bytes-taken}
 use Rattle.scroll_layouts.specs.lemmas.WholeLemmas.{bytes-below}
 use Rattle.scroll_layouts.specs.lemmas.MarkLemmas.{marked-cut}
@@ -19,9 +18,10 @@ returns-clause-read g c =
     let long : length (take end rest) ≡ end = length-take-le end rest inside in (
       omega (arith, long, inside, ap length is, length-drop o s, c.requires),
       ap (take end) is ∙ ap (λ k. take k (drop o s)) (sym long),
-      subst (λ m. MarkedItems m f c.args.order (take end rest) 0 (length (take end rest)))
-          c.mark.ensures
-          (marked-cut c.mark.result.now f c.args.order rest end
-          (bytes-taken (length s - o) o s (bytes-below s c.type_inv.from)) inside
-          c.in_ok-end.ensures.read),
+      (
+        c.in_ok-end.ensures.read.0,
+        marked-cut g.K.End.EndMark.mark f c.args.order rest c.in_ok-end.ensures.read.0 end
+            (bytes-taken (length s - o) o s (bytes-below s c.type_inv.from)) inside
+            c.in_ok-end.ensures.read.1,
+      ),
     )

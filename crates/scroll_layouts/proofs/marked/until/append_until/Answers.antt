@@ -1,0 +1,81 @@
+-- One more value was read and appended.
+use Rattle.std.proofs.Common.{◌-◌, ◌≤◌, ◌++◌, ◌∷◌, [], length, take, drop, refl, sym, ap, subst, ◌∙◌, arith, inl, inr, rules, append-nil, append_assoc, length-drop}
+use Rattle.std.proofs.lemmas.List.{take_all}
+use Rattle.scroll_formats.proofs.lemmas.callers.Written.{prefix-stands}
+use Rattle.scroll_layouts.specs.Marks.{ItemsBefore, StopsList}
+use Rattle.scroll_layouts.specs.lemmas.MarkLemmas.{marked-cut, push}
+use Rattle.scroll_layouts.specs.lemmas.Parts.{bytes-taken}
+use Rattle.scroll_layouts.specs.lemmas.WholeLemmas.{bytes-below}
+use Rattle.scroll_layouts.proofs.marked.until.append_until.Goals as goal
+
+pub returns-in-Some-clause-values : goal.returns-in-Some-clause-values
+returns-in-Some-clause-values g c =
+    let s = c.args.from.now in
+    let o = c.args.offset.now in
+    let h = c.loop-end.invariant in (
+      h.0,
+      marked-cut g.K.End.EndMark.mark (g.K.Item.ReadPart.format (tt)) c.args.order
+          (take (length s - o) (drop o s)) h.0 c.in-Some.end
+          (bytes-taken (length s - o) o s (bytes-below s c.type_inv.from)) c.in-Some.ensures.inside
+          record { stop = c.loop-end.at; each = h.1; ends = c.in-Some.ensures.found },
+      h.2,
+    )
+
+pub returns-in-Some-clause-there : goal.returns-in-Some-clause-there
+returns-in-Some-clause-there g c =
+    let s = c.args.from.now in
+    let o = c.args.offset.now in
+    let end = c.in-Some.end in
+    let whole = take_all (length s - o) (drop o s) (omega (arith, length-drop o s)) in
+    let room : end ≤ length (drop o s) = omega (arith, ap length whole, c.in-Some.ensures.inside) in
+    prefix-stands end (omega (arith, c.if-start-from.false)) room (ap (take end) (sym whole)) refl
+
+pub loop-end-preserved : goal.loop-end-preserved
+loop-end-preserved g c =
+    let s = c.args.from.now in
+    let o = c.args.offset.now in
+    let h = c.loop-end.invariant in
+    let next = c.in-Ok.ensures.read in
+    let mark = g.K.End.EndMark.mark in
+    let f = g.K.Item.ReadPart.format (tt) in
+    let rest = take (length s - o) (drop o s) in (
+      h.0 ++ next.0 ∷ [],
+      subst (λ k. ItemsBefore mark f c.args.order rest 0 (h.0 ++ next.0 ∷ []) k) (sym next.2)
+          (push mark f c.args.order rest 0 h.0 c.loop-end.at next.0 h.1 c.in_default.ensures.none
+          next.1 next.3),
+      next.4 ∙ ap (λ l. l ++ next.0 ∷ []) h.2
+          ∙ append_assoc c.args.values.now.items h.0 (next.0 ∷ []),
+      c.in-Ok.ensures.forward.1,
+    )
+
+pub returns-in-Err-clause-refused : goal.returns-in-Err-clause-refused
+returns-in-Err-clause-refused g c =
+    let s = c.args.from.now in
+    let o = c.args.offset.now in
+    let h = c.loop-end.invariant in
+    let whole = take_all (length s - o) (drop o s) (omega (arith, length-drop o s)) in
+    let at = c.loop-end.at in
+    let stops : StopsList g.E.From.from_gives g.K.End.EndMark.mark (g.K.Item.ReadPart.format (tt))
+    c.args.order (take (length s - o) (drop o s)) h.0 at c.in-Err.error = record {
+      each = h.1;
+      other = c.in_default.ensures.none;
+      error = c.in-Err.ensures.refused;
+    } in (
+      h.0,
+      c.in-Err.ensures.same ∙ h.2,
+      record {
+        why = inr (
+          at,
+          refl,
+          subst (λ l. StopsList g.E.From.from_gives g.K.End.EndMark.mark
+              (g.K.Item.ReadPart.format (tt)) c.args.order l h.0 at c.in-Err.error) whole stops,
+        );
+      },
+    )
+
+pub returns-then-start-from-clause-refused : goal.returns-then-start-from-clause-refused
+returns-then-start-from-clause-refused g c = (
+  [],
+  sym (append-nil c.args.values.now.items),
+  record { why = inl (c.if-start-from.true, refl, refl, search rules) },
+)

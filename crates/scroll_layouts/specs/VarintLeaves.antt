@@ -1,0 +1,40 @@
+-- Numbers of any length besides those in LEB128, as parts.
+use Rattle.std.proofs.Common.{◌≡◌, ℕ, ◌+◌, ◌<◌, ◌^◌, length, take, sym, ap, ◌∙◌, arith}
+use Rattle.scroll.specs.Encoding.{HasEncoding}
+use Rattle.scroll.specs.Leb128.{Counted, count_of}
+use Rattle.scroll.specs.declared.error.Error.{Error}
+use Rattle.scroll_layouts.specs.Starts.{Start}
+use Rattle.scroll_layouts.specs.Varints.{zigzag, vlq_of, vlq_bytes, ReadsVlq, RefusesVlq}
+use Rattle.scroll_layouts.specs.declared.leb128.Zigzag.{Zigzag}
+use Rattle.scroll_layouts.specs.declared.vlq.Vlq.{Vlq}
+use Rattle.scroll_layouts.specs.lemmas.VlqLemmas.{vlq-len, vlq-back, vlq-kept, vlq-has}
+
+-- the number in LEB128 that a number in zigzag is, and the length of its encoding
+abbrev pub zigzag_counted : Zigzag → Counted ℕ
+zigzag_counted x = record { value = zigzag x.value; count = x.count }
+
+-- a number and the length of its encoding
+abbrev pub vlq_counted : Vlq → Counted ℕ
+vlq_counted x = record { value = x.value; count = x.count }
+
+-- a number with its high groups first
+abbrev pub vlq : {E : Type 0} → (Error → E → Type 0) → Start E (Counted ℕ)
+vlq gives = record {
+  start_len = λ x. x.count;
+  start_bytes = λ x. vlq_bytes x.value x.count;
+  start_reads = ReadsVlq;
+  start_refuses = λ s e. (inner : Error) × RefusesVlq s inner × gives inner e;
+  start_agrees = λ x. HasEncoding x.value x.count;
+  start_differs = λ x e. ⊥;
+  start_same = λ x y. (x.value ≡ y.value) × (x.count ≡ y.count);
+  start_inside = λ s x n h. omega (arith, h.0.complete.0, h.0.size);
+  start_made = λ s x n all h. vlq-has s x n h;
+  start_bytes-len = λ x h. vlq-len x.value x.count;
+  start_back = λ x rest h. vlq-back x.value x.count rest h;
+  start_kept = λ s x n all h.
+      ap (λ v. vlq_bytes v x.count) h.0.value
+      ∙ ap (λ k. vlq_bytes (vlq_of s) k) (h.1 ∙ h.0.size)
+      ∙ vlq-kept s all h.0.complete.0 ∙ ap (λ k. take k s) (sym h.0.size);
+  start_one = λ s x y h k.
+      (h.0.size ∙ sym k.0.size, (h.0.value ∙ sym k.0.value, h.0.size ∙ sym k.0.size));
+}

@@ -1,0 +1,65 @@
+// Numbers in digits as parts.
+ghost use Rattle.std.specs.Prelude.{◌≡◌, ◌≤◌, ◌<◌, ◌+◌, ◌-◌, ◌^◌, ◌++◌, ◌⊎◌, length, take, drop, min, codes};
+ghost use Rattle.scroll_layouts.specs.Formats.{leaf, last};
+ghost use Rattle.scroll_layouts.specs.Numerals.{numeral};
+ghost use Rattle.scroll_layouts.specs.Starts.{start};
+
+use crate::{Digits, Part, ReadPart};
+use scroll::{Endian, Error, check_room};
+use std::result::Result;
+
+/// A number in digits. A shorter source is [`Error::TooBig`] with the size of the field and the
+/// number of bytes there. A field that is no number is [`Error::BadInput`] with its size and the
+/// message `the digits are no number`.
+impl<E: From<Error>, const BASE: u64, const N: usize> Part<(), E> for Digits<BASE, N> {
+    ghost format = { λ _. last (leaf (start (numeral E.from_gives BASE N)))
+        (λ x. record { bytes = x.bytes; value = x.value }) };
+
+    fn check(&self, _order: Endian, _ctx: &()) -> Result<(), E> {
+        let _number = *self;
+        Ok(())
+    }
+
+    fn size(&self, _order: Endian, _ctx: &()) -> usize {
+        N
+    }
+
+    #[inline(always)]
+    fn put(&self, dst: &mut [u8], _order: Endian, _ctx: &()) {
+        let number = *self;
+        dst[..N].copy_from_slice(&number.bytes);
+    }
+}
+
+impl<'a, E: From<Error>, const BASE: u64, const N: usize> ReadPart<'a, (), E> for Digits<BASE, N> {
+    ghost format = { λ _. last (leaf (start (numeral E.from_gives BASE N)))
+        (λ x. record { bytes = x.bytes; value = x.value }) };
+
+    #[inline(always)]
+    fn read_at(
+        from: &'a [u8],
+        offset: usize,
+        _order: Endian,
+        _ctx: &(),
+    ) -> Result<(Digits<BASE, N>, usize), E> {
+        check_room(N, from.len() - offset)?;
+        match Digits::new(field_at(from, offset)) {
+            Some(number) => Ok((number, offset + N)),
+            None => Err(E::from(Error::BadInput {
+                size: N,
+                msg: "the digits are no number",
+            })),
+        }
+    }
+}
+
+// Returns the field at an offset.
+#[inline(always)]
+fn field_at<const N: usize>(from: &[u8], offset: usize) -> [u8; N]
+    requires { offset + N ≤ length from.now }
+    ensures { result ≡ take N (drop offset from.now) }
+{
+    let mut field = [0; N];
+    field.copy_from_slice(&from[offset..offset + N]);
+    field
+}
