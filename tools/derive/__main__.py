@@ -39,10 +39,8 @@ def main(words: List[str]) -> int:
         return 2
     stale = [path for path, text in files.items() if not path.is_file() or not is_same(path.read_text(encoding="utf-8"), text)]
     if is_check:
-        for path in stale:
-            print(f"{path} is stale: run `python3 tools/derive {names[0]}`")
-        for path in left:
-            print(f"{path} is left over: run `python3 tools/derive {names[0]}`")
+        for path, what in [*((it, "stale") for it in stale), *((it, "left over") for it in left)]:
+            print(f"{path} is {what}: run `python3 tools/derive {names[0]}`")
         return 1 if stale or left else 0
     for path in stale:
         path.parent.mkdir(parents=True, exist_ok=True)

@@ -2,46 +2,17 @@
 
 import re
 from pathlib import Path
-from typing import Any, Dict, List, Sequence, Set, Tuple
+from typing import Any, Dict, Iterator, List, Set, Tuple
 
 from items import Item, SourceFile
 from model import Crate, Enum, ListType
+from names import CHOICE, CODE, GHOST
 from printing import Printer
 from readers import read_form
-from records import record_blocks
-from text import alias_of, ghost_lines, use_lines
-from tokens import Refused
+from records import record_text
+from text import alias_of, lay_out
 
 HEAD = "// Printed by tools/derive from "
-PRELUDE = ("◌≡◌", "◌≢◌", "◌<◌", "◌≤◌", "◌+◌", "◌-◌", "◌*◌", "◌/◌", "◌%◌", "◌^◌", "◌⊎◌", "[]", "◌∷◌")
-GHOST: Dict[str, Sequence[str]] = {
-    "Rattle.std.specs.Prelude": (*PRELUDE, "length", "drop", "codes", "nat_eq", "nat_lt", "option_map"),
-    "Rattle.std.specs.Float": ("binary32", "binary64"),
-    "Rattle.std.proofs.Common": ("refl", "rules"),
-    "Rattle.scroll.specs.Arrays": ("MakesArray",),
-    "Rattle.scroll.specs.Errors": ("IsBadInput",),
-    "Rattle.scroll.specs.Numbers": ("float", "number", "signed_number"),
-    "Rattle.scroll.specs.lemmas.Frames": ("WritesPrefix-keeps",),
-    "Rattle.scroll_formats.specs.SmallErrors": ("small_error",),
-    "Rattle.scroll_layouts.specs.Errors": ("GivesBadInput", "IsNot"),
-    "Rattle.scroll_layouts.specs.Formats": ("last", "refuses"),
-    "Rattle.scroll_layouts.specs.OneWay": ("one_way",),
-    "Rattle.scroll_layouts.specs.Wholes": ("KeepsWhole", "ReadsBack", "ReadsExact", "ReadsWhole", "WritesWhole"),
-    "Rattle.scroll_layouts.specs.lemmas.WholeLemmas": ("whole-kept",),
-    "Rattle.scroll_layouts.specs.declared.choice.Choice.TheVariants": ("First", "Second"),
-}
-CODE: Dict[str, Sequence[str]] = {
-    "scroll::ctx": ("Record", "TryFromCtx", "TryIntoCtx", "Written"),
-    "scroll": ("Endian", "Error"),
-    "scroll_formats": ("Kept", "SmallError", "Table", "Zeros"),
-    "scroll_layouts::Choice": ("First", "Second"),
-    "scroll_layouts": tuple(
-        "Certain CertainHead Choice Choose Count Ends Field Given Head Headed Items Listed Low Marked Packed Padded Part "
-        "ReadPart Run Shape Sleb ToMark Uleb When Within is read_exact read_whole write_whole".split()
-    ),
-    "std::marker": ("PhantomData",),
-    "std::result": ("Result",),
-}
 
 
 def derived_path(path: str) -> Path:
@@ -76,41 +47,59 @@ def left_over(folder: Path, files: Dict[Path, str]) -> List[Path]:
 
 
 def print_file(crate: Crate, file: SourceFile, items: List[Tuple[Item, Any]]) -> str:
-    blocks: List[List[str]] = []
+    texts: List[str] = []
     # (a C string is that of the crate or of std, as the file imports it)
     own: Set[str] = {"CStr", *(item.name for item, _ in items)}
     modules: Dict[str, str] = {}
     for item, form in items:
         if form is None:
-            blocks += record_blocks(crate.record(item))
+            texts.append(record_text(crate.record(item)))
             continue
-        printer = Printer(form, crate.is_walked(item.name))
-        blocks += printer.print()
+        printer = Printer(form)
+        texts += printer.print()
         own |= {*form.used}
-        if form.error and form.error.name != "SmallError" and not isinstance(form, ListType):
+        if form.error and form.error.module and not isinstance(form, ListType):
             own.add(form.error.name)
             modules[form.error.module] = alias_of(form.error.name)
+        modules["Rattle.scroll.specs.declared.endian.Endian.TheVariants"] = "endian_is"
         if isinstance(form, Enum):
             modules[f"{crate.declared(item)}.TheVariants"] = alias_of(item.name)
         for name in printer.names:
-            if crate.find(name, file.path):
-                said = f"the {item.word} {item.name} has a type {name} printed, whose name another has"
-                raise Refused(file.path, item.line, said)
-    body = "\n\n".join("\n".join(it) for it in blocks)
+            if name in own or name in [it.name for it in file.items]:
+                item.refuse(f"has a type {name} printed, whose name another has")
+    body = "\n".join(row for line in "\n\n".join(texts).split("\n") for row in lay_out(line))
+    return "\n".join([f"{HEAD}{Path(file.path).name}.", *imports(crate, own, modules, body), "", body, ""])
+
+
+def imports(crate: Crate, own: Set[str], modules: Dict[str, str], body: str) -> Iterator[str]:
+    """Returns the lines that import what a text names."""
     ghost = "\n".join(re.findall(r"ghost \w+ = \{.*?(?=\n\n|\Z)|ensures \{.*?(?=\n    \{)", body, re.S))
+    for module, names in GHOST.items():
+        found = [it for it in names if is_said(it, ghost)]
+        if found:
+            yield f"ghost use {module}.{{{', '.join(found)}}};"
+    yield from (f"ghost use {module} as {name};" for module, name in modules.items() if f"{name}." in ghost)
+    yield ""
     words = {*re.findall(r"[\w-]+", body)}
-    imports = {module: [it for it in names if is_said(it, ghost)] for module, names in GHOST.items()}
-    named = [f"ghost use {module} as {name};" for module, name in modules.items() if f"{name}." in ghost]
-    code = {"super": sorted(own & words)}
+    yield from use_lines("super", own & words)
     for module, names in CODE.items():
-        module = re.sub(rf"^{crate.name}\b", "crate", module)
-        code[module] = [it for it in names if it in words - own and (module[-6:] != "Choice" or f"{it}(" in body)]
-    head = f"{HEAD}{Path(file.path).name}."
-    return "\n".join([head, *ghost_lines(imports), *named, "", *use_lines(code), "", body, ""])
+        called = {it for it in names if f"{it}(" in body or f"{it}::<" in body}
+        found = {it for it in names if it in (called if it.islower() or module == CHOICE else words)}
+        yield from use_lines(re.sub(rf"^{crate.name}\b", "crate", module), found - own)
+
+
+def use_lines(module: str, names: Set[str]) -> List[str]:
+    if not names:
+        return []
+    said = sorted(names)
+    return lay_out(f"use {module}::{{{', '.join(said)}}};" if len(said) > 1 else f"use {module}::{said[0]};")
 
 
 def is_said(name: str, ghost: str) -> bool:
     """Returns whether a name stands in clauses."""
+    if name in ("not", "if◌then◌else◌"):
+        return f"({name[:3].strip('◌')} " in ghost
     if "◌" in name:
         return name in ("◌≡◌", "◌<◌", "◌^◌") or f" {name.strip('◌')} " in ghost
-    return name in ghost if name == "[]" else re.search(rf"(?<![\w.-]){re.escape(name)}(?![\w-])", ghost) is not None
+    # (before `=` is the name of a field)
+    return name in ghost if name == "[]" else re.search(rf"(?<![\w.-]){re.escape(name)}(?![\w-])(?! = )", ghost) is not None

@@ -1,20 +1,26 @@
 """The fields of a struct of any size: one class for each kind, which reads the notes before a field and makes its part."""
 
-from typing import TYPE_CHECKING, Dict, List, Tuple, Type as TypeOf
+import re
+from typing import TYPE_CHECKING, Dict, Tuple, Type as TypeOf
 
-from fixed_types import PLAIN, Array, Fixed, Record
-from forms import NOTHING, Number, Part, numbers, one, record, there
+from fixed_types import PLAIN, Array, Fixed, Record, is_counter
+from forms import NOTHING, Number, Part, numbers, one, there
 from items import Note, RawField, Type
 from model import Enum, ListType, Struct
-from rules import constant_rule, guarded, tag_rule
+from rules import bytes_rule, constant_rule, guarded, tag_rule
 from sums import Value
-from text import Call
+from text import call, record
 
 if TYPE_CHECKING:
     from reader import Reader
 
 # The notes of any field.
-WRAPPERS = ("if", "within", "padded")
+WRAPPERS = ("if", "within", "padded", "order", "big", "check")
+
+
+def around(name: str, value: Value) -> Value:
+    """Returns a context that holds a value."""
+    return Value(record(value.ghost), call(name, value.code))
 
 
 class Kind:
@@ -29,26 +35,38 @@ class Kind:
         for word, note in at.notes.items():
             if word not in (*self.words, *WRAPPERS):
                 words = " or ".join(f"`{it} = ..`" for it in self.words) or f"no note but {', '.join(WRAPPERS)}"
-                reader.refuse_note(at, note, f"has the note `{word} = ..`; {of.text} takes {words}")
+                at.refuse(f"has the note `{word} = ..`; {of.text} takes {words}", note)
         if of.has_lifetime and not reader.item.lifetime:
-            reader.refuse(at, f"borrows, and the {reader.item.word} has no lifetime: `{reader.item.name}<'a>`")
+            at.refuse(f"borrows, and the {reader.item.word} has no lifetime: `{reader.item.name}<'a>`")
 
     @property
     def ctx(self) -> Note:
-        note = self.at.notes.get("ctx")
-        if not note:
-            self.reader.refuse(self.at, f"has no `ctx = ..`: {self.example}")
-        return note
+        if "ctx" not in self.at.notes:
+            self.at.refuse(f"has no `ctx = ..`: {self.example}")
+        return self.at.notes["ctx"]
+
+    @property
+    def element(self) -> Type:
+        return self.of.arguments[0] if len(self.of.arguments) == 1 else self.of
 
     def make(self) -> Part:
-        raise NotImplementedError
+        return self.one("usize", self.reader.count(self.at, self.ctx))
 
-    def one(self, context_type: str, context: Value, told: Tuple[Number, ...] = ()) -> Part:
+    def one(self, context_type: str, context: Value, *told: Number) -> Part:
         return one(self.at.name, self.of.text, context_type, context, told)
 
-    def length(self) -> Tuple[Number, ...]:
-        """The length of a slice or a text."""
-        return (Number(f"{self.at.name}.len()", "usize", "(length ^.now)", "^.len()"),)
+    def with_length(self, context_type: str, context: Value) -> Part:
+        """A slice or a text, which says its length."""
+        return self.one(context_type, context, Number(f"{self.at.name}.len()", "usize"))
+
+
+    def byte(self, note: Note, said: str) -> Value:
+        """Returns a literal of a byte, perhaps of a letter."""
+        letter = re.fullmatch(r"b'(.)'", note.text)
+        byte = ord(letter[1]) if letter else self.reader.constant(note.text)
+        if not 0 <= byte < 256:
+            self.at.refuse(f"{said} {note.text}, which is no literal of a byte", self.ctx)
+        return Value(str(byte), str(byte))
 
 
 class Slice(Kind):
@@ -56,7 +74,14 @@ class Slice(Kind):
     example = "how many bytes it has, as `ctx = len as usize`"
 
     def make(self) -> Part:
-        return self.one("usize", self.reader.count(self.at, self.ctx), self.length())
+        called, (count, *rest) = self.reader.call(self.ctx)
+        if called != "Filled":
+            return self.with_length("usize", self.reader.count(self.at, self.ctx))
+        if len(rest) != 1:
+            said = "write `Filled(16, 0)`, the size of the field and the byte that fills it behind the text"
+            self.at.refuse(f"has the context {self.ctx.text}: {said}", self.ctx)
+        size, byte = self.reader.count(self.at, count), self.byte(rest[0], "is filled by")
+        return self.with_length("Filled", Value(record(size.ghost, byte.ghost), call("Filled", size.code, byte.code)))
 
 
 class Text(Kind):
@@ -65,21 +90,16 @@ class Text(Kind):
 
     def make(self) -> Part:
         note = self.ctx
-        call, inside = self.reader.call(note)
-        if call == "StrCtx::Required":
-            byte = self.reader.constant(inside.text)
-            if not 0 <= byte < 256:
-                self.reader.refuse_note(self.at, note, f"ends at {inside.text}, which is no literal of a byte")
-            if "else" in self.at.notes:
-                self.reader.refuse_note(self.at, note, "has the note `else = ..`, which only a context that subtracts takes")
-            return self.one("Ends", Value(record(str(byte)), Call("Ends", (str(byte),))), self.length())
-        if call in ("StrCtx::Delimiter", "StrCtx::DelimiterUntil"):
-            said = f"may end without its delimiter, which has no layout: write `StrCtx::Required({inside.text})`"
-            self.reader.refuse_note(self.at, note, said)
-        if call != "StrCtx::Length":
-            said = f"has the context {note.text}: write `StrCtx::Length({note.text})`, or `StrCtx::Required(0)`"
-            self.reader.refuse_note(self.at, note, said)
-        return self.one("usize", self.reader.count(self.at, inside), self.length())
+        called, (inside, *_) = self.reader.call(note)
+        if called == "StrCtx::Length":
+            return self.with_length("usize", self.reader.count(self.at, inside))
+        if called in ("StrCtx::Delimiter", "StrCtx::DelimiterUntil"):
+            self.at.refuse(f"may end without its delimiter, which has no layout: write `StrCtx::Required({inside.text})`", note)
+        if called != "StrCtx::Required":
+            self.at.refuse(f"has the context {note.text}: write `StrCtx::Length({note.text})`, or `StrCtx::Required(0)`", note)
+        byte = self.byte(inside, "ends at")
+        self.reader.no_else(self.at)
+        return self.with_length("Ends", around("Ends", byte))
 
 
 class CString(Kind):
@@ -90,20 +110,30 @@ class CString(Kind):
         return part
 
 
+# The kinds that have an unsigned number as their `value`.
+COUNTED = ("Uleb", "Vlq", "Octal", "Decimal", "Hexadecimal")
+
+
 class Leb(Kind):
+    """A number that is kept with its encoding."""
+
     def make(self) -> Part:
-        if self.of.name == "Sleb":
-            return self.one("()", NOTHING)
-        name = self.at.name
-        return self.one("()", NOTHING, (*(Number(it, "u64", "^.value", "^.value") for it in (name, f"{name}.value")),))
+        names = (self.at.name, f"{self.at.name}.value") if self.of.name in COUNTED else ()
+        return self.one("()", NOTHING, *(Number(it, "u64", ".value") for it in names))
+
+
+class Numeral(Leb):
+    """A number in digits."""
+
+    def make(self) -> Part:
+        if len(self.of.arguments) != 1 or self.reader.constant(self.of.arguments[0].text) < 1:
+            self.at.refuse(f"is of {self.of.text}: write the size of its field, as `{self.of.name}<12>`")
+        return super().make()
 
 
 class Gap(Kind):
     words = ("ctx",)
     example = "how many zeros there are, as `ctx = 4` or `ctx = padding(offset, 8)`"
-
-    def make(self) -> Part:
-        return self.one("usize", self.reader.count(self.at, self.ctx))
 
 
 class TableOf(Kind):
@@ -111,16 +141,14 @@ class TableOf(Kind):
     example = "how many elements it has, as `ctx = count as usize`"
 
     def make(self) -> Part:
-        element = self.of.arguments[0] if len(self.of.arguments) == 1 else self.of
+        crate, element = self.reader.crate, self.element
         if element.name == "[;]":
-            said = f"is a table of arrays: put {element.text} into a struct of one field, and take a table of it"
-            self.reader.refuse(self.at, said)
-        found = self.reader.crate.find(element.name, self.reader.item.path)
-        if found and not self.reader.crate.is_fixed_type(self.reader.item, element) and found.is_marked:
-            said = f"is a table of {element.text}, which has no fixed size: take `Items<'a, {element.text}>`"
-            self.reader.refuse(self.at, said)
-        self.reader.use(self.reader.crate.fixed(self.reader.item, self.at, element))
-        return self.one("usize", self.reader.count(self.at, self.ctx))
+            self.at.refuse(f"is a table of arrays: put {element.text} into a struct of one field, and take a table of it")
+        found = crate.find(element.name, self.reader.item.path)
+        if found and found.is_marked and not crate.is_fixed_type(self.reader.item, element):
+            self.at.refuse(f"is a table of {element.text}, which has no fixed size: take `Items<'a, {element.text}>`")
+        self.reader.use(crate.fixed(self.reader.item, self.at, element))
+        return super().make()
 
 
 class ListOf(Kind):
@@ -128,28 +156,24 @@ class ListOf(Kind):
     example = "as `ctx = len as usize` for so many bytes, `ctx = Count(n as usize)` for so many values, or `ctx = ToMark`"
 
     def make(self) -> Part:
-        element = self.of.arguments[0] if len(self.of.arguments) == 1 else self.of
+        element = self.element
         found = self.reader.crate.find(element.name, self.reader.item.path)
         if not found or "items" not in found.notes:
             name = f"{element.name}s" if found else "Numbers"
             said = f"name the list, `// #[scroll(items = {element.text})] struct {name};`, and take `Items<'a, {name}>`"
-            self.reader.refuse(self.at, f"is a list of {element.text}: {said}")
+            self.at.refuse(f"is a list of {element.text}: {said}")
         form = self.reader.inner(self.at, element)
-        self.reader.same_error(self.at, form)
-        call, inside = self.reader.call(self.ctx)
-        if call == "Count":
-            count = self.reader.count(self.at, inside)
-            part = self.one("Count", Value(record(count.ghost), Call("Count", (count.code,))))
-            part.is_certain = False
-        elif self.ctx.text == "ToMark":
+        called, (inside, *_) = self.reader.call(self.ctx)
+        if self.ctx.text == "ToMark":
             if not form.ends:
-                said = f"is a list up to a mark, and {element.text} has no `ends = ..`, which says the mark's bytes"
-                self.reader.refuse(self.at, said)
+                self.at.refuse(f"is a list up to a mark, and {element.text} has no `ends = ..`, which says its mark")
             part = self.one("ToMark", Value("record {}", "ToMark"))
-            part.is_certain = False
+        elif called == "Count":
+            part = self.one("Count", around("Count", self.reader.count(self.at, inside)))
         else:
-            part = self.one("usize", self.reader.count(self.at, self.ctx))
-            part.is_certain = not form.form or form.form.is_certain
+            part = super().make()
+        # (the prover doesn't find it of a struct with a list)
+        part.is_certain = False
         return part
 
 
@@ -161,22 +185,24 @@ class FixedSize(Kind):
     def fixed(self) -> Fixed:
         made = self.reader.crate.fixed(self.reader.item, self.at, self.of)
         if isinstance(made, Record):
-            if any(isinstance(it, Record) or not is_of_numbers(it) for _, it in made.fields):
+            if not all(is_of_numbers(it) for _, it in made.fields):
                 said = f"is of {made.text}, which has a struct in it: as a part of a format it has numbers and arrays alone"
-                self.reader.refuse(self.at, said)
+                self.at.refuse(said)
             self.reader.use(made)
         elif not is_of_numbers(made):
-            self.reader.refuse(self.at, "is an array of structs: take `Table<'a, ..>`, or put the structs into a struct")
+            self.at.refuse("is an array of structs: take `Table<'a, ..>`, or put the structs into a struct")
         if array_depth(made) > 2:
-            self.reader.refuse(self.at, "is an array of arrays of arrays: put the inner array into a struct")
+            self.at.refuse("is an array of arrays of arrays: put the inner array into a struct")
         return made
 
     def make(self) -> Part:
         made = self.fixed()
-        if "is" in self.at.notes:
-            self.reader.rules.append((constant_rule(self.reader, self.at, made), [self.at.name]))
-        elif "else" in self.at.notes:
-            self.reader.refuse_note(self.at, self.at.notes["else"], "has the note `else = ..` without `is = ..`")
+        if "is" in self.at.notes and isinstance(made, Array) and made.element == PLAIN["u8"]:
+            self.reader.rules.append(bytes_rule(self.reader, self.at, made))
+        elif "is" in self.at.notes:
+            self.reader.rules.append(constant_rule(self.reader, self.at, made))
+        elif "else" in self.at.notes and "check" not in self.at.notes:
+            self.at.refuse("has the note `else = ..` without `is = ..`", self.at.notes["else"])
         return numbers([(self.at.name, made)], "")
 
 
@@ -194,85 +220,73 @@ class Nested(Kind):
     words = ("ctx",)
 
     def make(self) -> Part:
-        form = self.reader.inner(self.at, self.of)
+        form, name = self.reader.inner(self.at, self.of), self.of.name
         if isinstance(form, ListType):
-            self.reader.refuse(self.at, f"is of {form.item.name}, which names a list: take `Items<'a, {form.item.name}>`")
-        self.reader.same_error(self.at, form)
+            self.at.refuse(f"is of {name}, which names a list: take `Items<'a, {name}>`")
         if isinstance(form, Enum) and not form.is_own:
-            part = self.enum(form)
+            part = self.one(f"Given<{form.context_type}>", around("Given", self.tag(form)))
         elif form.given:
-            self.example = f"the number `{form.given}` that {form.item.name} is given, as `ctx = len as usize`"
-            count = self.reader.count(self.at, self.ctx)
-            part = self.one("Given<usize>", Value(record(count.ghost), Call("Given", (count.code,))))
+            self.example = f"the number `{form.given}` that {name} is given, as `ctx = len as usize`"
+            part = self.one("Given<usize>", around("Given", self.reader.count(self.at, self.ctx)))
+        elif "ctx" in self.at.notes:
+            self.at.refuse(f"has the note `ctx = ..`, and {name} is given no number", self.ctx)
         else:
-            if "ctx" in self.at.notes:
-                self.reader.refuse_note(self.at, self.ctx, f"has the note `ctx = ..`, and {form.item.name} is given no number")
             part = self.one("()", NOTHING)
+        part.is_exact, part.is_certain = form.is_exact, form.is_certain
         if isinstance(form, Struct):
-            part.numbers = self.numbers(form)
-        part.is_exact, part.is_certain = form.is_exact, form.is_certain and not form.given
+            kinds = {it.name: it.type.name for it in form.item.fields}
+            counting = [(it, kind, "") for it, kind in kinds.items() if kind in PLAIN and is_counter(PLAIN[kind])]
+            counting += [(it, "u64", ".value") for it, kind in kinds.items() if kind in COUNTED]
+            part.numbers = [Number(f"{self.at.name}.{it}", kind, f".{it}{way}") for it, kind, way in counting]
         return part
 
-    def numbers(self, form: Struct) -> List[Number]:
-        """The numbers that are fields of a struct."""
-        found: Dict[str, Number] = {}
-        fields = {it.name: it.type.name for it in form.item.fields if it.types}
-        for name, kind in fields.items():
-            if kind in PLAIN and PLAIN[kind].kind == "unsigned" and PLAIN[kind].width <= 8:
-                found[name] = Number(f"{self.at.name}.{name}", kind, f"^.{name}", f"^.{name}")
-            elif kind == "Uleb":
-                found[name] = Number(f"{self.at.name}.{name}", "u64", f"^.{name}.value", f"^.{name}.value")
-        return list(found.values())
-
-    def enum(self, form: Enum) -> Part:
+    def tag(self, form: Enum) -> Value:
+        """Returns the tag that an enum is given, perhaps with a length, and adds the rule that it is that of a variant."""
         needs = f"({form.tag} as its tag, and a length)" if form.given else f"its tag, a `{form.tag}`"
-        self.example = f"{form.item.name} is given {needs}: " + ("`ctx = (kind, len as usize)`" if form.given else "`ctx = kind`")
-        note = self.ctx
-        call, inside = self.reader.call(note)
-        tokens = inside.value if call == "" and note.text.startswith("(") else note.value
-        tag = self.reader.tag(self.at, note, tokens, form)
-        said = Value(f"@{tag}@", f"@{tag}@")
-        if form.given:
-            rest = self.reader.rest_of(note, tokens)
-            if not rest:
-                self.reader.refuse_note(self.at, note, f"has no length: {self.example}")
-            count = self.reader.count(self.at, rest)
-            said = Value(f"(@{tag}@, {count.ghost})", "")
-            code = Call("Given", ((f"@{tag}@", count.code),))
-        else:
-            code = Call("Given", (said.code,))
-        self.reader.rules.append((tag_rule(self.reader, self.at, form, tag), [tag]))
-        return self.one(f"Given<{form.context_type}>", Value(record(said.ghost), code))
+        example = "`ctx = (kind, len as usize)`" if form.given else "`ctx = kind`"
+        self.example = f"{form.item.name} is given {needs}: {example}"
+        note, (tag, *length) = self.ctx, self.reader.call(self.ctx)[1]
+        if len(length) != bool(form.given):
+            self.at.refuse(f"has the context {note.text}: {self.example}", note)
+        name = tag.text
+        kind = self.reader.number(self.at, note, name).type
+        if kind != form.tag:
+            self.at.refuse(f"is given {name}, a {kind}, and {form.item.name} a {form.tag}", note)
+        said = Value(f"@{name}@", f"@{name}@")
+        for it in length:
+            said = Value(*(call("", *both) for both in zip(said, self.reader.count(self.at, it))))
+        if not form.takes_any:
+            self.reader.rules.append(tag_rule(self.reader, self.at, form, name))
+        return said
 
 
-class Optional_(Kind):
+class OptionOf(Kind):
     """A field that may be absent."""
 
     words = ("ctx", "else")
 
     def make(self) -> Part:
         if "if" not in self.at.notes:
-            self.reader.refuse(self.at, "has no `if = ..`, which says when it is there, as `if = flags & 1 != 0`")
-        if len(self.of.arguments) != 1 or self.of.arguments[0].name == "Option":
-            self.reader.refuse(self.at, f"is of {self.of.text}, and takes one type")
-        if self.of.arguments[0].name == "[;]":
-            self.reader.refuse(self.at, "is an optional array: put the array into a struct")
+            self.at.refuse("has no `if = ..`, which says when it is there, as `if = flags & 1 != 0`")
+        if self.element.name == "Option":
+            self.at.refuse(f"is of {self.of.text}, and takes one type")
+        if self.element.name == "[;]":
+            self.at.refuse("is an optional array: put the array into a struct")
         count = len(self.reader.rules)
-        inside = self.reader.part(self.at, self.of.arguments[0], {k: v for k, v in self.at.notes.items() if k != "if"})
+        inside = self.reader.part(self.at, self.element, {word: it for word, it in self.at.notes.items() if word != "if"})
         condition = self.reader.condition(self.at, self.at.notes["if"])
-        rules = self.reader.rules
-        rules[count:] = [(guarded(rule, condition), [*names, condition.name]) for rule, names in rules[count:]]
-        return there(inside, self.at.name, *condition.said())
+        self.reader.rules[count:] = [guarded(it, condition) for it in self.reader.rules[count:]]
+        return there(inside, self.at.name, condition.said())
 
 
 KINDS: Dict[str, TypeOf[Kind]] = {
     "&[u8]": Slice,
     "&str": Text,
     "CStr": CString,
-    "Uleb": Leb,
-    "Sleb": Leb,
+    **dict.fromkeys(("Uleb", "Sleb", "Vlq", "Zigzag"), Leb),
+    **dict.fromkeys(("Octal", "Decimal", "Hexadecimal"), Numeral),
     "Zeros": Gap,
     "Table": TableOf,
     "Items": ListOf,
-    "Option": Optional_,
+    "Option": OptionOf,
 }

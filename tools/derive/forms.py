@@ -1,35 +1,52 @@
 """The parts of a struct as they are printed.
 
-A part's context and its rules are said with `@name@` for a number that an earlier part says. `^` in a number stands for its part.
+A part's context and its rules are said with `@name@` for a number that an earlier part says. Code of several
+lines begins each with a new line.
 """
 
 from dataclasses import dataclass, field, replace
 from typing import Any, List, NamedTuple, Sequence, Tuple
 
-from fixed_types import Fixed, Record, is_exact_type, numbers_of
+from fixed_types import Array, Fixed, Record, is_exact_type, numbers_of
 from sums import Value
-from text import Call, Tree, flat, label, nested, paths, pattern_lines, tuple_lines
+from text import call, label, nested, paths, record
 
 # Names that the printed functions have, which a field's variable can't.
 TAKEN = {"parts", "self", "ctx", "order", "from", "dst"}
 NOTHING = Value("tt", "()")
+# The longest tuple of fields of a fixed size that stands in another one.
+LONGEST = 56
 
 
 class Number(NamedTuple):
-    """A number that a part says: its name, its type, and what it is of the part in the logic and in code."""
+    """A number that a part says: its name, its type, and the way to it from the part. That to a length ends at what has it."""
 
     name: str
     type: str
-    ghost: str
-    code: str
+    way: str = ""
+
+    def behind(self, way: str) -> "Number":
+        """Returns it as a number of what its part stands in, at this place."""
+        return self._replace(way=way + self.way)
+
+    @property
+    def is_length(self) -> bool:
+        return self.name.endswith("()")
+
+    def said(self, of: str) -> Value:
+        """Returns it as a number of a value."""
+        if self.is_length:
+            return Value(f"(length {of}{self.way}.now)", f"{of}{self.way}.len()")
+        return Value(of + self.way, of + self.way)
 
 
 class Rule(NamedTuple):
-    """What has to hold of numbers, the error where it doesn't, and the code that returns it."""
+    """What has to hold of numbers, the error where it doesn't, and the code that returns it, behind a test."""
 
     holds: str
     fails: str
-    code: List[str]
+    test: str
+    code: str
 
 
 @dataclass
@@ -40,29 +57,26 @@ class Part:
     type: str
     context_type: str
     context: Value
-    ghost: str
-    split: Tree
-    join: Tree
-    before: List[str] = field(default_factory=list)
-    after: List[str] = field(default_factory=list)
+    ghost: str = ""
+    split: str = ""
+    join: str = ""
+    before: str = ""
+    after: str = ""
     numbers: List[Number] = field(default_factory=list)
     rules: List[Rule] = field(default_factory=list)
     is_exact: bool = True
     # Whether a source has the part in one way, so that a list of such values can be walked.
     is_certain: bool = True
-    # Fields of a fixed size, which are this part; or the parts that it is, of which there may be several.
+    # Fields of a fixed size, which are this part; or the parts that it is, of which there may be several, and types that are
+    # printed for it, with their names.
     fields: Sequence[Tuple[str, Fixed]] = ()
     inside: Any = None
+    aliases: Sequence[Tuple[str, str]] = ()
 
     def around(self, name: str, type_: str, ghost: str, code: str) -> "Part":
         """Returns the part in a context around its own."""
-        context = Value(record(ghost, self.context.ghost), Call(name, (code, self.context.code)))
+        context = Value(record(ghost, self.context.ghost), call(name, code, self.context.code))
         return replace(self, type=type_, context_type=f"{name}<{self.context_type}>", context=context)
-
-
-def record(*items: str) -> str:
-    """Returns a struct in the logic."""
-    return "record { " + "; ".join(f"{at} = {it}" for at, it in enumerate(items)) + " }" if items else "record {}"
 
 
 def local(name: str) -> str:
@@ -80,59 +94,71 @@ def nothing() -> Part:
     return Part("Zeros", "usize", Value("0", "0"), "record {}", "Zeros", "_")
 
 
-def run_type(tree: Tree) -> str:
-    return f"Run<{flat(tree)}>"
+def fixed_tuple(fields: Sequence[Tuple[str, Fixed]], said: Sequence[str], around: str = "Field({})") -> str:
+    """Returns what is said of fields of a fixed size in tuples, a struct in `Field`."""
+    return nested([around.format(it) if isinstance(of, Record) else it for (_, of), it in zip(fields, said)])
 
 
-def fixed_tree(fields: Sequence[Tuple[str, Fixed]], form: str = "{}") -> Tree:
-    """Returns fields of a fixed size in tuples, a struct in `Field`, by their names, or by their types if there is no form."""
-    said = [(of, form.format(local(name) if form == "{}" else name) if form else of.text) for name, of in fields]
-    around = "Field({})" if form else "Field<{}>"
-    return nested([around.format(it) if isinstance(of, Record) else it for of, it in said])
+def fixed_type(fields: Sequence[Tuple[str, Fixed]]) -> str:
+    return fixed_tuple(fields, [of.text for _, of in fields], "Field<{}>")
 
 
 def numbers(fields: Sequence[Tuple[str, Fixed]], variable: str) -> Part:
     """Fields of a fixed size, one after another. Where they are many, they have a variable."""
-    ways = [(name, of, f"^{way}{'.0' * isinstance(of, Record)}") for (name, of), way in zip(fields, paths(len(fields), ".0"))]
-    told = [Number(name + inner, kind, way + inner, way + inner) for name, of, way in ways for inner, kind in numbers_of(of)]
-    ghosts = [record(f"x.{label(name)}") if isinstance(of, Record) else f"x.{label(name)}" for name, of in fields]
-    split, join, types = fixed_tree(fields, "self.{}"), fixed_tree(fields), fixed_tree(fields, "")
-    before = after = []
-    if len(fields) > 1 and max(len(flat(split)), len(flat(types))) > 56:
-        before, after = tuple_lines(f"let {variable} = ", split, ";", 8), pattern_lines("let ", join, f" = {variable};", 8)
+    ways = [(name, of, way + ".0" * isinstance(of, Record)) for (name, of), way in zip(fields, paths(len(fields), ".0"))]
+    told = [Number(name + inner, kind, way + inner) for name, of, way in ways for inner, kind in numbers_of(of)]
+    # (bytes that may be a constant)
+    told += [Number(name, of.text, way) for name, of, way in ways if isinstance(of, Array)]
+    ghost = nested([record(f"x.{label(name)}") if isinstance(of, Record) else f"x.{label(name)}" for name, of in fields])
+    split, join = fixed_tuple(fields, [f"self.{it}" for it, _ in fields]), fixed_tuple(fields, [local(it) for it, _ in fields])
+    type_, before, after = fixed_type(fields), "", ""
+    if len(fields) > 1 and max(len(split), len(type_)) > LONGEST:
+        before, after = f"\n        let {variable} = {split};", f"\n        let {join} = {variable};"
         split = join = variable
-    exact = all(is_exact_type(of) for _, of in fields)
-    values = (record(flat(nested(ghosts))), f"Run({flat(split)})", f"Run({flat(join)})")
-    return Part(run_type(types), "()", NOTHING, *values, before, after, told, is_exact=exact, fields=fields)
+    made = Part(f"Run<{type_}>", "()", NOTHING, record(ghost), f"Run({split})", f"Run({join})", before, after, told)
+    made.fields = fields
+    made.is_exact = all(is_exact_type(of) for _, of in fields)
+    return made
 
 
-def bits(fields: Sequence[Tuple[str, str]], masks: Sequence[int]) -> Part:
+def bits(word: str, fields: Sequence[Tuple[str, str]], masks: Sequence[int]) -> Part:
     """Fields of bits in a number: the highest field, and those below it, each with its type and its mask."""
-    (first, word), below = fields[0], fields[1:]
-    type_, inner, context = word, "()", NOTHING
-    ghost, split, join = f"x.{label(first)}", f"self.{first}", local(first)
+    (first, kind), below = fields[0], fields[1:]
+    made = one(first, kind, "()", NOTHING)
     for (name, kind), mask in zip(below, masks):
-        type_, inner = f"({type_}, {kind})", f"Low<{kind}, {inner}>"
-        ghost, split, join = f"({ghost}, x.{label(name)})", f"({split}, self.{name})", f"({join}, {local(name)})"
-        context = Value(record(str(mask), context.ghost), f"Low({mask}, {flat(context.code)})")
-    ways = ["^" + ".0" * (len(below) - at) + (".1" if at else "") for at in range(len(fields))]
-    told = [Number(name, kind, way, way) for (name, kind), way in zip(fields, ways)]
-    context = Value(record("record {}", context.ghost), Call("Packed", ("PhantomData", context.code)))
-    return Part(type_, f"Packed<{word}, {inner}>", context, ghost, split, join, numbers=told)
+        lower = one(name, kind, "", NOTHING)
+        made.type, made.context_type = f"({made.type}, {kind})", f"Low<{kind}, {made.context_type}>"
+        made.ghost, made.split, made.join = (
+            call("", *it) for it in ((made.ghost, lower.ghost), (made.split, lower.split), (made.join, lower.join))
+        )
+        made.context = Value(record(str(mask), made.context.ghost), f"Low({mask}, {made.context.code})")
+    ways = [".0" * (len(below) - at) + (".1" if at else "") for at in range(len(fields))]
+    made.numbers = [Number(name, kind, way) for (name, kind), way in zip(fields, ways)]
+    made.context_type = f"Packed<{word}, {made.context_type}>"
+    made.context = Value(record("record {}", made.context.ghost), call("Packed", "PhantomData", made.context.code))
+    return made
 
 
-def there(part: Part, name: str, ghost: str, code: str) -> Part:
+def there(part: Part, name: str, condition: Value) -> Part:
+    """A field that is there on a condition."""
+    return optional(part.around("When", part.type, *condition), name)
+
+
+def optional(part: Part, name: str) -> Part:
     """A field that may be absent. One of a fixed size is put into a part, and taken out of it."""
-    made = part.around("When", f"Option<{part.type}>", ghost, code)
-    made = replace(made, ghost=f"x.{label(name)}", split=f"self.{name}", join=local(name), numbers=[], fields=())
+    made = replace(part, type=f"Option<{part.type}>", ghost=f"x.{label(name)}", split=f"self.{name}", join=local(name))
+    made.numbers, made.fields = [], ()
     if not part.fields:
         return made
     is_record = isinstance(part.fields[0][1], Record)
     inside, wrapped = record(record("v") if is_record else "v"), "Run(Field(it))" if is_record else "Run(it)"
 
-    def lines(of: str, pattern: str, value: str) -> List[str]:
-        head = f"        let {local(name)} = match {of} {{"
-        return [head, f"            Some({pattern}) => Some({value}),", "            None => None,", "        };"]
+    def text(of: str, pattern: str, value: str) -> str:
+        return f"""
+        let {local(name)} = match {of} {{
+            Some({pattern}) => Some({value}),
+            None => None,
+        }};"""
 
-    before, after = lines(f"self.{name}", "it", wrapped), lines(local(name), wrapped, "it")
-    return replace(made, ghost=f"option_map (λ v. {inside}) x.{label(name)}", split=local(name), before=before, after=after)
+    made.ghost, made.split = f"option_map (λ v. {inside}) {made.ghost}", local(name)
+    return replace(made, before=text(f"self.{name}", "it", wrapped), after=text(local(name), wrapped, "it"))

@@ -2,9 +2,9 @@
 
 import re
 from dataclasses import dataclass, field
-from typing import Dict, List, NamedTuple, Optional, Tuple
+from typing import Dict, List, NamedTuple, NoReturn, Optional, Tuple
 
-from tokens import KEPT, MARK, Tokens, read_tokens, scan
+from tokens import KEPT, MARK, PART, Refused, Token, Tokens, read_tokens, scan
 
 
 class Note(NamedTuple):
@@ -13,6 +13,11 @@ class Note(NamedTuple):
     value: Tokens
     text: str
     line: int
+
+    @property
+    def tokens(self) -> Tokens:
+        """Its tokens, from the first one on."""
+        return Tokens(self.value.path, self.value.tokens)
 
 
 Notes = Dict[str, Note]
@@ -30,13 +35,25 @@ class Type:
 
 
 @dataclass
-class RawField:
+class Named:
+    """What a file has under a name: what it is, and where it stands."""
+
+    path: str
+    word: str
+    name: str
+    line: int
+    notes: Notes
+
+    def refuse(self, message: str, note: Optional[Note] = None) -> NoReturn:
+        """Says what isn't supported of it, or of a note before it."""
+        raise Refused(self.path, (note or self).line, f"the {self.word} {self.name} {message}")
+
+
+@dataclass
+class RawField(Named):
     """A field, or a variant of an enum, whose values are `types`. A field has one type."""
 
-    name: str
     types: List[Type]
-    notes: Notes
-    line: int
     is_ghost: bool = False
     has_names: bool = False
 
@@ -46,24 +63,24 @@ class RawField:
 
 
 @dataclass
-class Item:
-    """A struct or an enum, with the file that it is in."""
+class Item(Named):
+    """A struct or an enum."""
 
-    path: str
-    name: str
-    is_enum: bool
-    lifetime: str
-    fields: List[RawField]
-    is_tuple: bool
-    notes: Notes
-    line: int
     is_marked: bool
-    is_kept: bool = False
+    is_kept: bool
+    is_part: bool
+    fields: List[RawField] = field(default_factory=list)
+    lifetime: str = ""
     has_parameters: bool = False
+    is_tuple: bool = False
 
     @property
-    def word(self) -> str:
-        return "enum" if self.is_enum else "struct"
+    def is_enum(self) -> bool:
+        return self.word == "enum"
+
+    @property
+    def names(self) -> List[str]:
+        return [it.name for it in self.fields]
 
 
 @dataclass
@@ -79,49 +96,50 @@ class SourceFile:
 
 def read_file(path: str, text: str) -> SourceFile:
     """Returns the structs, the enums and the constants of a file."""
-    tokens, file = read_tokens(path, text), SourceFile(path, re.search(r"(?m)^\s*mod\s+derived;", text) is not None, re.search(r"\bffi::[^;]*\bCStr\b", text) is not None)
+    file = SourceFile(path, bool(re.search(r"(?m)^\s*mod\s+derived;", text)), bool(re.search(r"\bffi::[^;]*\bCStr\b", text)))
+    tokens = read_tokens(path, text)
     notes: Notes = {}
-    mark, is_kept = 0, False
-    while not tokens.is_done:
+    mark: Optional[Token] = None
+    while True:
         token = tokens.take()
-        if token.kind == "note":
-            read_note(tokens, token.text, token.line, notes)
-        elif token.kind == "mark":
+        if token.kind == "mark":
             if mark:
                 tokens.refuse(token.line, f"this is a second line `// {MARK}` before one struct")
-            mark, is_kept = token.line, token.text == KEPT
-        elif token.text == "#":
-            skip_attribute(tokens, token.line)
-        elif token.text == "pub":
-            if tokens.next.text == "(":
-                tokens.inside()
+            mark = token
         elif token.kind == "name" and token.text in ("struct", "enum") and tokens.next.kind == "name":
-            item = read_item(tokens, token.text == "enum", notes, mark)
-            item.is_kept = is_kept
-            if notes and not mark:
-                tokens.refuse(token.line, f"the {item.word} {item.name} has a note, but no line `// {MARK}` before it")
-            file.items.append(item)
-            notes, mark, is_kept = {}, 0, False
-        else:
+            file.items.append(read_item(tokens, token, notes, mark))
+            notes, mark = {}, None
+        elif not read_between(tokens, token, notes):
             if mark or notes:
-                line = mark or next(iter(notes.values())).line
-                tokens.refuse(line, "the note stands before no struct, enum or field")
+                tokens.refuse((mark or next(iter(notes.values()))).line, "the note stands before no struct, enum or field")
+            if token.kind == "end":
+                return file
             if token.text == "const" and tokens.next.kind == "name":
                 read_constant(tokens, file)
-    if mark or notes:
-        tokens.refuse(mark or next(iter(notes.values())).line, "the note stands before no struct, enum or field")
-    return file
+
+
+def read_between(tokens: Tokens, token: Token, notes: Notes) -> bool:
+    """Reads what may stand before a struct, an enum or a field, and returns whether this token began it."""
+    if token.kind == "note":
+        read_note(tokens, token.text, token.line, notes)
+    elif token.text == "#":
+        skip_attribute(tokens, token.line)
+    elif token.text == "pub":
+        if tokens.next.text == "(":
+            tokens.inside()
+    else:
+        return False
+    return True
 
 
 def read_constant(tokens: Tokens, file: SourceFile) -> None:
-    """Reads a constant that is a literal number."""
-    name, before = tokens.take().text, tokens.place
-    if tokens.has(":") and tokens.take().kind == "name" and tokens.has("=") and tokens.next.kind == "number":
-        number = tokens.take().text
-        if tokens.next.text == ";":
-            file.constants[name] = number
-            return
-    tokens.place = before
+    """Reads the value of a constant."""
+    name, begin = tokens.take().text, tokens.place
+    texts = [it.text for it in tokens.tokens[begin:]]
+    if "=" in texts and ";" in texts[texts.index("=") :]:
+        equal = texts.index("=")
+        end = texts.index(";", equal)
+        file.constants[name] = Tokens(tokens.path, tokens.tokens[begin + equal + 1 : begin + end]).said
 
 
 def skip_attribute(tokens: Tokens, line: int) -> None:
@@ -130,7 +148,7 @@ def skip_attribute(tokens: Tokens, line: int) -> None:
         return
     inside = tokens.inside()
     name = inside.next.text
-    if name == "scroll" or (name == "derive" and any(it.text in ("Pread", "Pwrite") for it in inside.tokens)):
+    if name == "scroll" or (name == "derive" and any(it.text in ("Pread", "Pwrite", "Part") for it in inside.tokens)):
         tokens.refuse(line, f"`#[{name}(..)]` has to be a comment: `// #[{name}(..)]`")
 
 
@@ -139,8 +157,7 @@ def read_note(tokens: Tokens, text: str, line: int, notes: Notes) -> None:
     inside = Tokens(tokens.path, [it._replace(line=line) for it in scan(tokens.path, text, line)])
     if inside.is_done:
         tokens.refuse(line, "the note is empty")
-    while not inside.is_done:
-        said = inside.until_comma("([{", ")]}")
+    for said in inside.split("([{", ")]}"):
         name = said.take().text
         if not re.fullmatch(r"[a-z]+", name) or not said.has("=") or said.is_done:
             tokens.refuse(line, f"`{said.said}` is not `NAME = ..`")
@@ -150,10 +167,13 @@ def read_note(tokens: Tokens, text: str, line: int, notes: Notes) -> None:
         notes[name] = Note(value, value.said, line)
 
 
-def read_item(tokens: Tokens, is_enum: bool, notes: Notes, mark: int) -> Item:
+def read_item(tokens: Tokens, word: Token, notes: Notes, mark: Optional[Token]) -> Item:
     """Reads a struct or an enum, of which the first word was taken."""
     name = tokens.take()
-    item = Item(tokens.path, name.text, is_enum, "", [], False, notes, name.line, mark > 0)
+    said = mark.text if mark else ""
+    item = Item(tokens.path, word.text, name.text, name.line, notes, bool(mark), said == KEPT, said == PART)
+    if notes and not mark:
+        item.refuse(f"has a note, but no line `// {MARK}` before it")
     if tokens.next.text == "<":
         inside = tokens.inside()
         item.lifetime = inside.next.text if inside.next.kind == "lifetime" else ""
@@ -169,65 +189,55 @@ def read_item(tokens: Tokens, is_enum: bool, notes: Notes, mark: int) -> Item:
 def read_fields(tokens: Tokens, item: Item) -> None:
     notes: Notes = {}
     while not tokens.is_done:
-        token = tokens.next
-        if token.kind == "note":
-            read_note(tokens, tokens.take().text, token.line, notes)
-        elif token.kind == "mark":
+        token = tokens.take()
+        if token.kind == "mark":
             tokens.refuse(token.line, f"the line `// {MARK}` stands in the {item.word} {item.name}, not before it")
-        elif token.text == "#":
-            tokens.take()
-            skip_attribute(tokens, token.line)
-        elif token.text == "pub":
-            tokens.take()
-            if tokens.next.text == "(":
-                tokens.inside()
-        else:
-            made = read_variant(tokens, notes) if item.is_enum else read_field(tokens, item, notes)
-            item.fields.append(made)
-            if notes and not item.is_marked:
-                line = next(iter(notes.values())).line
-                tokens.refuse(line, f"the {item.word} {item.name} has a note, but no line `// {MARK}` before it")
-            notes = {}
+        if read_between(tokens, token, notes):
+            continue
+        tokens.place -= 1
+        item.fields.append(read_variant(tokens, notes) if item.is_enum else read_field(tokens, item, notes))
+        if notes and not item.is_marked:
+            item.refuse(f"has a note, but no line `// {MARK}` before it", next(iter(notes.values())))
+        notes = {}
     if notes:
         tokens.refuse(next(iter(notes.values())).line, "the note stands before no field")
 
 
 def read_field(tokens: Tokens, item: Item, notes: Notes) -> RawField:
-    token = tokens.next
-    is_ghost = token.text == "ghost" and not item.is_tuple
-    name = str(len(item.fields)) if item.is_tuple else (tokens.take(), tokens.take() if is_ghost else token)[1].text
-    if not item.is_tuple:
+    name = tokens.next
+    made = RawField(tokens.path, "field", name.text, name.line, notes, [])
+    if item.is_tuple:
+        made.name = str(len(item.fields))
+    else:
+        made.is_ghost = tokens.take().text == "ghost"
+        made.name = tokens.take().text if made.is_ghost else name.text
         tokens.has(":")
     inside = tokens.until_comma()
-    if is_ghost:
-        return RawField(name, [], notes, token.line, is_ghost)
-    return RawField(name, [read_type(inside)], notes, token.line)
+    made.types = [] if made.is_ghost else [read_type(inside)]
+    return made
 
 
 def read_variant(tokens: Tokens, notes: Notes) -> RawField:
-    name = tokens.take()
-    inside = tokens.until_comma()
-    types: List[Type] = []
+    name, inside = tokens.take(), tokens.until_comma()
+    made = RawField(tokens.path, "variant", name.text, name.line, notes, [], has_names=inside.next.text == "{")
     if inside.next.text == "(":
-        values = inside.inside()
-        while not values.is_done:
-            types.append(read_type(values.until_comma()))
-    return RawField(name.text, types, notes, name.line, False, inside.next.text == "{")
+        made.types = [read_type(it) for it in inside.inside().split()]
+    return made
 
 
 def read_type(tokens: Tokens) -> Type:
-    """Reads a type; one that isn't supported has its text as name."""
+    """Reads a type; one that isn't supported has no name."""
     text, begin = tokens.said, tokens.place
     made = parse_type(tokens)
     if made and tokens.is_done:
         return made
     tokens.place = begin
-    return Type(text, (), False, "", text)
+    return Type("", (), False, "", text)
 
 
 def parse_type(tokens: Tokens) -> Optional[Type]:
     if tokens.has("&"):
-        has_lifetime = tokens.next.kind == "lifetime" and bool(tokens.take())
+        has_lifetime = tokens.next.kind == "lifetime" and tokens.next.text != "'static" and bool(tokens.take())
         if tokens.has("[", "u8", "]"):
             return Type("&[u8]", (), has_lifetime, "", "&'a [u8]")
         return Type("&str", (), has_lifetime, "", "&'a str") if tokens.has("str") else None
@@ -244,11 +254,13 @@ def parse_type(tokens: Tokens) -> Optional[Type]:
     arguments: List[Type] = []
     has_lifetime = False
     if tokens.next.text == "<":
-        inside = tokens.inside()
-        while not inside.is_done:
-            argument = inside.until_comma()
-            if argument.next.kind == "lifetime":
+        for argument in tokens.inside().split():
+            if argument.next.kind == "lifetime" and argument.next.text != "'static":
                 has_lifetime = True
+                continue
+            if argument.next.kind == "number":
+                text = argument.take().text
+                arguments.append(Type("", (), False, "", text))
                 continue
             made = parse_type(argument)
             if not made or not argument.is_done:

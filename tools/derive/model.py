@@ -1,23 +1,19 @@
 """A crate, its structs and enums, and what they are by their notes."""
 
+import ast
 import re
 from dataclasses import dataclass, field
 from pathlib import Path
 from typing import Any, Callable, Dict, List, Optional, Tuple
 
+from conditions import Both, Comparison, Condition
 from fixed_types import PLAIN, Array, Fixed, Record, width_of
 from forms import Part
 from items import Item, RawField, SourceFile, Type, read_file
+from names import CHOICES, RECORDS, TAKEN
 from sums import bracketed, number_of
-from text import alias_of, flat
+from text import alias_of, call
 from tokens import MARK, Refused
-
-# What the library has under these names, which a struct's can't be, since the printed text imports them.
-LIBRARY = {
-    *("BitFields Borrowed CStr Certain CertainHead Choice Choose Count Endian Ends Error Field FixedLayout Given Head").split(),
-    *("Headed Items Kept Listed Low Marked Packed Padded Part PhantomData ReadPart Result Run Shape Sleb Table").split(),
-    *("ToMark TryFromCtx TryIntoCtx Uleb When Within Word Zeros Option Vec String").split(),
-}
 
 
 @dataclass(frozen=True)
@@ -33,8 +29,9 @@ class OwnError:
     @property
     def gives(self) -> str:
         """Which of its errors one of the library's becomes."""
-        return f"(λ error e. e ≡ {self.said(self.variant)} error)" if self.variant else "⟦<SmallError as From<Error>>⟧.from_gives"
-
+        if not self.variant:
+            return "⟦<SmallError as From<Error>>⟧.from_gives"
+        return f"(λ error e. e ≡ {self.said(self.variant)} error)"
 
     def said(self, variant: str) -> str:
         """Returns a variant in the logic."""
@@ -42,23 +39,48 @@ class OwnError:
 
 
 @dataclass
-class Struct:
-    """A struct of any size: its parts, the size up to a multiple of which it is padded, the number that it is given, its error,
-    the structs and enums in it, and the types of the crate that its fields have."""
+class Form:
+    """What a struct of any size, an enum or a list is: its error, the structs, enums and lists in it, and the types of the
+    crate that it names."""
 
     item: Item
-    parts: List[Part]
-    multiple: int
-    given: str
     error: Optional[OwnError]
-    inner: "List[Any]" = field(default_factory=list)
-    used: List[str] = field(default_factory=list)
-    # The fields that are zeros up to a multiple.
-    gaps: Tuple[str, ...] = ()
+    inner: "List[Form]"
+    used: List[str]
+    # Whether it is in a list whose values are walked where they lie, by itself or in another.
+    is_walked: bool = field(default=False, init=False)
 
     @property
     def type(self) -> str:
         return self.item.name + ("<'a>" if self.item.lifetime else "")
+
+    # Whether a source has a value in one way.
+    @property
+    def is_certain(self) -> bool:
+        return False
+
+    @property
+    def has_any_error(self) -> bool:
+        return False
+
+    def walk(self) -> None:
+        if self.is_certain and not self.is_walked:
+            self.is_walked = True
+            for it in self.inner:
+                it.walk()
+
+
+@dataclass
+class Struct(Form):
+    """A struct of any size: its parts, the size up to a multiple of which it is padded, the number that it is given, and the
+    fields that are zeros up to a multiple."""
+
+    parts: List[Part]
+    multiple: int
+    given: str
+    gaps: Tuple[str, ...]
+    # Its byte order, in the logic and in code, if it has one of its own.
+    order: Tuple[str, ...]
 
     @property
     def is_exact(self) -> bool:
@@ -71,75 +93,87 @@ class Struct:
 
 @dataclass
 class Variant:
+    """A variant of an enum, and which tags say it: one number, those from a number to another, or any other one."""
+
     name: str
-    tag: int
+    tags: Optional[Tuple[int, int]]
     fields: List[str]
     part: Part
+
+    def is_said(self, tag: str) -> Condition:
+        """Returns that a tag says it."""
+        assert self.tags
+        low, high = self.tags
+        if low == high:
+            return Comparison(tag, "==", low)
+        return Both(tuple([*([Comparison(tag, ">=", low)] if low else []), Comparison(tag, "<=", high)]), False)
 
     @property
     def code(self) -> str:
         """The part in code, of the values that are borrowed."""
-        return flat(self.part.split).replace("self.v", "*v")
+        return self.part.split.replace("self.v", "*v")
 
-    def arm(self, ways: List[str], form: str, made: str) -> List[str]:
-        """Returns the arm of a match that takes the part apart. (The borrow checker's part of a proof doesn't cover an array in
-        its pattern.)"""
-        has_array = any(isinstance(of, Array) for _, of in self.part.fields)
-        pattern = "it" if has_array else flat(self.part.join)
-        for way in reversed(ways):
-            pattern = f"{way}({pattern})"
-        if not has_array:
-            return [f"            {form.format(pattern)} => {made},"]
-        head = f"            {form.format(pattern)} => {{"
-        return [head, f"                let {flat(self.part.join)} = it;", f"                {made}", "            }"]
+    @property
+    def has_array(self) -> bool:
+        """(The borrow checker's part of a proof doesn't cover an array in a pattern.)"""
+        return any(isinstance(of, Array) for _, of in self.part.fields)
+
+    @property
+    def pattern(self) -> str:
+        return "it" if self.has_array else self.part.join
+
+    def arm(self, pattern: str, made: str) -> str:
+        """Returns the arm of a match that takes the part apart."""
+        if not self.has_array:
+            return f"\n            {pattern} => {made},"
+        return f"""
+            {pattern} => {{
+                let {self.part.join} = it;
+                {made}
+            }}"""
 
 
 @dataclass
-class Enum:
-    """An enum by a tag of this type, which it is given, perhaps with a number, or which is its own `head`; and the variant of its
-    error for an unknown tag."""
+class Enum(Form):
+    """An enum by a tag of this type, which it is given, perhaps with a number, or which is its own `head`; and the variant of
+    its error for an unknown tag."""
 
-    item: Item
     tag: str
     given: str
     variants: List[Variant]
-    error: Optional[OwnError]
     other: str
-    inner: "List[Any]" = field(default_factory=list)
-    used: List[str] = field(default_factory=list)
     head: Optional[Part] = None
+
+    @property
+    def takes_any(self) -> bool:
+        """Whether the last variant is said by any other tag."""
+        return self.variants[-1].tags is None
 
     @property
     def is_own(self) -> bool:
         return self.head is not None
 
     @property
-    def type(self) -> str:
-        return self.item.name + ("<'a>" if self.item.lifetime else "")
-
-    @property
     def context_type(self) -> str:
         return f"({self.tag}, usize)" if self.given else self.tag
 
-    def ways(self, at: int) -> List[str]:
-        """Returns which of two choices a variant is, one in another."""
-        return ["Second"] * at + ["First"] * (at + 1 < len(self.variants))
+    def chosen(self, at: int, said: str, made: Callable[[str, str], str] = call) -> str:
+        """Returns which of two choices what is said of a variant is, one in another."""
+        for way in ["First"] * (at + 1 < len(self.variants)) + ["Second"] * at:
+            said = made(way, said)
+        return said
 
     def ghost(self, at: int) -> str:
         """Returns a variant's choice in the logic."""
-        said = self.variants[at].part.ghost.replace("x.v", "v")
-        for way in reversed(self.ways(at)):
-            said = f"{way} {bracketed(said)}"
-        return said
+        return self.chosen(at, self.variants[at].part.ghost.replace("x.v", "v"), lambda way, it: f"{way} {bracketed(it)}")
 
-    def cases(self, values: List[str], indent: int) -> List[str]:
+    def cases(self, values: List[str], indent: int) -> str:
         """Returns the lines of what is said of each variant in the logic."""
         heads = [" ".join([f"{alias_of(self.item.name)}.{it.name}", *it.fields]) for it in self.variants]
-        return [f"{' ' * indent}| {head} ↦ {value}" for head, value in zip(heads, values)]
+        return "".join(f"\n{' ' * indent}| {head} ↦ {value}" for head, value in zip(heads, values))
 
     def pattern(self, variant: Variant) -> str:
-        values = f"({', '.join(variant.fields)})" if variant.fields else ""
-        return f"{self.item.name}::{variant.name}{values}"
+        return f"{self.item.name}::{variant.name}" + (call("", *variant.fields) if variant.fields else "")
 
     @property
     def is_exact(self) -> bool:
@@ -147,25 +181,21 @@ class Enum:
 
     @property
     def is_certain(self) -> bool:
-        return False
+        return all(it.part.is_certain for it in self.variants)
 
 
 @dataclass
-class ListType:
-    """A struct without fields that names the values of a list: their type, the bytes that end a list of them, and what they are
-    if they are structs of any size."""
+class ListType(Form):
+    """A struct without fields that names the values of a list: their type, what ends a list of them, and what they are if they
+    are structs of any size or enums."""
 
-    item: Item
     of: str
-    ends: List[int]
-    error: Optional[OwnError]
-    form: Optional[Struct]
-    used: List[str]
-    inner: "List[Any]" = field(default_factory=list)
+    ends: str
+    form: Optional[Form] = None
 
     @property
-    def type(self) -> str:
-        return self.item.name
+    def has_any_error(self) -> bool:
+        return not self.form
 
 
 class Crate:
@@ -178,14 +208,12 @@ class Crate:
             raise Refused(str(folder), 0, "there is no src/ in this folder, so it is no crate")
         self.files: Dict[str, SourceFile] = {}
         self.forms: Dict[int, Any] = {}
-        self.listed: List[str] = []
         for path in sorted(source.rglob("*.rt")):
             if path.name != "derived.rt":
                 try:
                     text = path.read_text(encoding="utf-8")
                 except (OSError, UnicodeDecodeError) as error:
-                    reason = (error.strerror or "can't be read") if isinstance(error, OSError) else "not UTF-8"
-                    raise Refused(str(path), 0, reason) from error
+                    raise Refused(str(path), 0, str(error)) from error
                 self.files[str(path)] = read_file(str(path), text)
         for file in self.files.values():
             self.check(file)
@@ -193,6 +221,8 @@ class Crate:
     def check(self, file: SourceFile) -> None:
         """Refuses what no struct can be."""
         names: Dict[str, Item] = {}
+        taken = {*TAKEN, *(RECORDS if any(map(self.is_fixed, self.marked(file))) else ())}
+        taken |= {*(CHOICES if any(it.is_enum for it in self.marked(file)) else ())}
         for item in file.items:
             if item.name in names and (item.is_marked or names[item.name].is_marked):
                 raise Refused(file.path, item.line, f"there is a second {item.word} {item.name} in this file")
@@ -200,35 +230,18 @@ class Crate:
             if not item.is_marked:
                 continue
             if not file.has_module:
-                raise Refused(file.path, item.line, f"the {item.word} {item.name} needs `mod derived;` in this file")
+                item.refuse("needs `mod derived;` in this file")
             if item.has_parameters:
-                raise Refused(file.path, item.line, f"the {item.word} {item.name} has parameters, and takes one lifetime at most")
-            has_records = item.name in ("Record", "Written") and any(it.is_marked and self.is_fixed(it) for it in file.items)
-            if item.name in LIBRARY or has_records:
-                said = f"the {item.word} {item.name} has a name that the printed text has: give it another"
-                raise Refused(file.path, item.line, said)
-            is_plain = "items" in item.notes or "given" in item.notes or self.is_fixed(item)
-            if item.is_kept and is_plain:
-                said = f"the {item.word} {item.name} takes no `Kept`: it is of a fixed size, or isn't written alone"
-                raise Refused(file.path, item.line, said)
+                item.refuse("has parameters, and takes one lifetime at most")
+            if item.name in taken:
+                item.refuse("has a name that the printed text has: give it another")
+            if (item.is_kept or item.is_part) and ("items" in item.notes or "given" in item.notes or self.is_fixed(item)):
+                word = "Kept" if item.is_kept else "Part"
+                item.refuse(f"takes no `{word}`: it is of a fixed size, or isn't written alone")
             if "items" in item.notes and (item.fields or item.is_enum or item.lifetime):
-                raise Refused(file.path, item.line, f"the {item.word} {item.name} names a list: write `struct {item.name};`")
+                item.refuse(f"names a list: write `struct {item.name};`")
             if not item.fields and "items" not in item.notes:
-                said = f"the {item.word} {item.name} has no {'variants' if item.is_enum else 'fields'}"
-                raise Refused(file.path, item.line, said)
-
-    def is_walked(self, name: str) -> bool:
-        """Returns whether a struct is in a list whose values are walked where they lie, by itself or in another."""
-        walked = [*self.listed]
-        for it in walked:
-            form = next((form for form in self.forms.values() if form.item.name == it), None)
-            if form and form.is_certain:
-                # (what is in a list of its own is in `listed`)
-                inner = [it.item.name for it in form.inner if not isinstance(it, ListType)]
-                walked += [it for it in inner if it not in walked]
-            if form and form.is_certain and it == name:
-                return True
-        return False
+                item.refuse(f"has no {'variants' if item.is_enum else 'fields'}")
 
     def form(self, item: Item, outer: Tuple[Item, ...] = ()) -> Any:
         """Returns a struct of any size, an enum or a list, which is read once."""
@@ -241,11 +254,9 @@ class Crate:
 
     def find(self, name: str, path: str) -> Optional[Item]:
         """Returns the struct or the enum of this name that a file has, or else the crate."""
-        own = [it for it in self.files[path].items if it.name == name]
-        if own:
-            return own[0]
         found = [it for file in self.files.values() for it in file.items if it.name == name]
-        return next((it for it in found if it.is_marked), found[0] if found else None)
+        found = [it for it in found if it.path == path] or [it for it in found if it.is_marked] or found
+        return found[0] if found else None
 
     def module(self, path: str) -> List[str]:
         """Returns the module of a file."""
@@ -260,9 +271,13 @@ class Crate:
         """Returns a literal number, or a constant of the file that is one, or -1."""
         return number_of(self.files[path].constants.get(text, text))
 
-    def refuse_field(self, item: Item, at: RawField, message: str) -> Refused:
-        what = "variant" if item.is_enum else "field"
-        return Refused(item.path, at.line, f"the {what} {at.name} {message}")
+    def constant_bytes(self, path: str, text: str) -> Optional[bytes]:
+        """Returns a literal of bytes, or a constant of the file that is one, or nothing."""
+        try:
+            found = ast.literal_eval(self.files[path].constants.get(text, text).lstrip("*& "))
+            return bytes(found) if isinstance(found, (bytes, list)) else None
+        except (SyntaxError, TypeError, ValueError):
+            return None
 
     # Types of a fixed size
 
@@ -288,18 +303,17 @@ class Crate:
         if of.name == "[;]":
             element, length = self.fixed(item, at, of.arguments[0]), self.constant(item.path, of.length)
             if length < 0:
-                said = f"has the length {of.length}, which is no literal and no constant of this file that is one"
-                raise self.refuse_field(item, at, said)
+                at.refuse(f"has the length {of.length}, which is no literal and no constant of this file that is one")
             return Array(element, length, of.text)
         found = self.find(of.name, item.path)
         if not found or not self.is_fixed_type(item, of):
-            raise self.refuse_field(item, at, self.why_not(item, of))
+            at.refuse(self.why_not(item, of))
         return self.record(found)
 
     def record(self, item: Item) -> Record:
         made = Record(item.name, tuple((it.name, self.fixed(item, it, it.type)) for it in item.fields), item.is_tuple)
         if width_of(made) == 0:
-            raise Refused(item.path, item.line, f"the struct {item.name} has no bytes")
+            item.refuse("has no bytes")
         return made
 
     def why_not(self, item: Item, of: Type) -> str:
@@ -317,6 +331,8 @@ class Crate:
             return f"is of {of.name}: take a number"
         if re.search(r"\bstatic\b", of.text):
             return f"is of {of.text}, which isn't read"
+        if found:
+            return f"is of {of.text}, which has no fixed size"
         return f"is of the type {of.text}, which is none of `scroll_layouts` and no struct or enum of this crate"
 
     # Errors
@@ -333,8 +349,8 @@ class Crate:
         if not found or not found.is_enum:
             said = f"the error {note.text} is no `SmallError`, and no variant of an enum of this crate"
             raise Refused(item.path, note.line, said)
-        if variant not in [it.name for it in found.fields]:
-            said = f"{name}::{found.fields[0].name}" if found.fields else name
+        if variant not in found.names:
+            said = f"{name}::{found.names[0]}" if found.names else name
             said = f"the error {note.text} is no variant of {name}: write one that holds an `Error`, as `{said}`"
             raise Refused(item.path, note.line, said)
-        return OwnError(name, variant, f"{self.declared(found)}.TheVariants", tuple(it.name for it in found.fields))
+        return OwnError(name, variant, f"{self.declared(found)}.TheVariants", tuple(found.names))

@@ -1,15 +1,18 @@
 """What is read of the notes of a struct or an enum, field by field."""
 
-from typing import Any, List, NoReturn, Optional, Sequence, Tuple
+import re
+from dataclasses import replace
+from math import prod
+from typing import Any, List, Sequence, Tuple
 
+from conditions import Both, Condition, read_condition
 from fields import KINDS, FixedSize, Nested
 from fixed_types import PLAIN, Fixed, Record
 from forms import Number, Part, Rule, numbers
 from items import Item, Note, Notes, RawField, Type
-from model import Crate, Enum, ListType
-from rules import below_rule
-from sums import Condition, Sum, SumReader, Value, read_condition, read_path
-from tokens import Refused, Tokens
+from model import Crate, Form
+from rules import below_rule, great_rule, multiple_rule
+from sums import PLACE, Sum, Term, Value, read_sum
 
 
 class Reader:
@@ -22,183 +25,213 @@ class Reader:
         self.crate, self.item, self.outer = crate, item, (*outer, item)
         self.error = crate.error(item)
         self.parts: List[Part] = []
-        self.rules: List[Tuple[Rule, List[str]]] = []
+        self.rules: List[Rule] = []
         # The types of the crate that are named, and the structs, enums and lists among them.
         self.used: List[str] = []
-        self.forms: List[Any] = []
+        self.forms: List[Form] = []
         # The number that it is given.
         self.given: List[Number] = []
         for word, note in item.notes.items():
             if word not in self.words:
                 known = ", ".join(f"`{it}`" for it in self.words)
-                self.refuse_head(note, f"has the note `{word} = ..`, and takes {known}")
+                item.refuse(f"has the note `{word} = ..`, and takes {known}", note)
 
-    def read(self) -> Any:
+    def read(self) -> Form:
         raise NotImplementedError
 
-    # What is refused
-
-    def refuse_head(self, note: Note, message: str) -> NoReturn:
-        raise Refused(self.item.path, note.line, f"the {self.item.word} {self.item.name} {message}")
-
-    def refuse(self, at: RawField, message: str) -> NoReturn:
-        raise self.crate.refuse_field(self.item, at, message)
-
-    def refuse_note(self, at: RawField, note: Note, message: str) -> NoReturn:
-        raise self.crate.refuse_field(self.item, RawField(at.name, at.types, {}, note.line), message)
+    # Other structs and enums
 
     def use(self, of: Fixed) -> None:
         if isinstance(of, Record):
             self.used.append(of.text)
 
-    # Other structs and enums
-
     def inner(self, at: RawField, of: Type) -> Any:
-        """Returns the struct of any size or the enum that a type is."""
+        """Returns the struct of any size, the enum or the list that a type is."""
         found = self.crate.find(of.name, self.item.path)
         if not found or not found.is_marked:
-            self.refuse(at, self.crate.why_not(self.item, of))
+            at.refuse(self.crate.why_not(self.item, of))
         if any(found is it for it in self.outer):
-            self.refuse(at, f"is of {of.text}, which holds it")
+            at.refuse(f"is of {of.text}, which holds it")
         form = self.crate.form(found, self.outer)
+        self.check_error(at, form)
         self.used.append(found.name)
         self.forms.append(form)
         return form
 
-    def same_error(self, at: RawField, form: Any) -> None:
+    def check_error(self, at: RawField, form: Form) -> None:
         own, other = (it.name if it else "scroll::Error" for it in (self.error, form.error))
-        if isinstance(form, ListType) and not form.form:
-            return
-        if own != other:
-            self.refuse(at, f"is of {form.item.name}, whose error is {other}, not {own}: write one `error = ..` before both")
+        if own != other and not form.has_any_error:
+            at.refuse(f"is of {form.item.name}, whose error is {other}, not {own}: write one `error = ..` before both")
 
     # Numbers
 
-    def numbers(self) -> List[Number]:
-        return [*self.given, *(it for part in self.parts for it in part.numbers)]
-
     def number(self, at: RawField, note: Note, name: str) -> Number:
         """Returns an earlier number."""
-        found = next((it for it in self.numbers() if it.name == name), None)
-        if found:
-            return found
-        first = name.partition(".")[0]
-        order = [it.name for it in self.item.fields]
+        for it in (*self.given, *(it for part in self.parts for it in part.numbers)):
+            if it.name == name and not it.type.startswith("["):
+                return it
+        first, order = name.partition(".")[0], self.item.names
         if first not in order:
-            self.refuse_note(at, note, f"has a note that names {first}, which is no field")
+            at.refuse(f"has a note that names {first}, which is no field", note)
         if at.name in order and order.index(first) >= order.index(at.name):
-            self.refuse_note(at, note, f"has a note that names {first}, which doesn't stand before it")
+            at.refuse(f"has a note that names {first}, which doesn't stand before it", note)
         if name.endswith("()"):
-            self.refuse_note(at, note, f"has a note that names {name}, and {first} is no slice or text")
-        self.refuse_note(at, note, f"has a note that names {name}, which is no unsigned number of at most 64 bits")
+            at.refuse(f"has a note that names {name}, and {first} is no slice or text", note)
+        at.refuse(f"has a note that names {name}, which is no unsigned number of at most 64 bits", note)
 
     def sum(self, at: RawField, note: Note) -> Sum:
-        def fail() -> NoReturn:
-            said = f"has the context {note.text}, which is no sum of fields `as usize`, perhaps times numbers, and numbers"
-            self.refuse_note(at, note, said)
+        found = read_sum(note, [it.name for it in self.given])
+        if not found:
+            said = "which is no sum of fields `as usize`, perhaps times numbers, and numbers"
+            at.refuse(f"has the context {note.text}, {said}", note)
+        whole = self.fitted(at, note, found.whole)
+        less = found.less
+        if less:
+            parts = [self.fitted(at, note, it) for it in less.parts]
+            less = replace(less, terms=tuple(it for part in parts for it in part.terms))
+        return replace(found, terms=whole.terms, less=less)
 
-        found = SumReader(note, fail).read()
-        for side in (found.whole, *(found.less.parts if found.less else [])):
-            most, wide = side.number, 0
-            for name, times in side.terms:
-                kind = self.number(at, note, name).type
-                wide += kind == "u64" or (kind == "usize" and not name.endswith("()"))
-                most += 2**63 * times if name.endswith("()") else 256 ** PLAIN[kind].width * times if kind in PLAIN else 0
-            alone = len(side.terms) == 1 and side.terms[0][1] == 1 and not side.number
-            if (wide and not alone) or (not wide and most >= 2**64):
-                said = f"has the context {note.text}, which adds to a number of more than 32 bits: it may not fit usize"
-                self.refuse_note(at, note, said)
-        return found
+    def fitted(self, at: RawField, note: Note, side: Sum) -> Sum:
+        """Returns a side of a sum, whose one product or shift may be too great. (A sum of several terms never is.)"""
+        mosts = [self.most(at, note, it) for it in side.terms]
+        most, alone = side.number + sum(mosts), len(side.terms) == 1 and not side.number
+        if most < 2**64 or (alone and not side.terms[0].shift and len(side.terms[0].factors) * side.terms[0].times == 1):
+            return side
+        if not alone or side.terms[0].times > 1 or len(side.terms[0].factors) > 2:
+            said = "which adds to a number of more than 32 bits: it may not fit usize"
+            at.refuse(f"has the context {note.text}, {said}", note)
+        return replace(side, terms=(replace(side.terms[0], may_be_great=True),))
+
+    def most(self, at: RawField, note: Note, term: Term) -> int:
+        """Returns a number that a term is below."""
+        limits = [self.limit(self.number(at, note, it)) for it in term.names]
+        if term.shift:
+            if limits[0] > 2**32 and not term.shift.modulus:
+                at.refuse(f"has the context {note.text}, whose shift is by a number of more than 32 bits", note)
+            bits = min(term.shift.modulus or limits[0], limits[0]) - 1 + term.shift.more
+            return term.shift.number * 2 ** min(bits, 64) + 1
+        if len(limits) == 1:
+            return limits[0] * term.times
+        return prod((limit - 1) // it.by for limit, it in zip(limits, term.factors)) * term.times + 1
+
+    @staticmethod
+    def limit(of: Number) -> int:
+        """Returns what a number is below. (No slice is longer than half of what fits `usize`.)"""
+        return 2**63 if of.is_length else 256 ** PLAIN[of.type].width if of.type in PLAIN else 2**64
 
     def count(self, at: RawField, note: Note) -> Value:
-        """Returns a sum, and adds the rule that it isn't below zero."""
+        """Returns a sum, and adds the rules that it isn't below zero, that its quotients have no remainder, and that it fits."""
         found = self.sum(at, note)
+        for term in (*found.terms, *(found.less.terms if found.less else ())):
+            self.rules += [multiple_rule(self, at, *it) for it in term.factors if it.by > 1]
+            if term.may_be_great:
+                self.rules.append(great_rule(self, at, term))
         if found.less:
-            self.rules.append((below_rule(self, at, found, found.less), found.names))
-        elif "else" in at.notes:
-            self.refuse_note(at, at.notes["else"], "has the note `else = ..`, which only a context that subtracts takes")
+            self.rules.append(below_rule(self, at, found, found.less))
+        else:
+            self.no_else(at)
         return found.said()
 
+    def no_else(self, at: RawField) -> None:
+        if "else" in at.notes:
+            at.refuse("has the note `else = ..`, which only a context that subtracts takes", at.notes["else"])
+
     def condition(self, at: RawField, note: Note) -> Condition:
+        """Returns a condition on earlier numbers."""
         found = read_condition(note)
         if not found:
-            said = f"has the condition {note.text}: write `kind == 1`, `kind != 0`, `kind < 1`, or `flags & 4 != 0` of one bit"
-            self.refuse_note(at, note, said)
-        number = self.number(at, note, found.name)
-        if max(found.number, found.bit) >= 256 ** (PLAIN[number.type].width if number.type in PLAIN else 8):
-            self.refuse_note(at, note, f"has the condition {note.text} with a number that doesn't fit {found.name}")
+            said = "write `kind == 1`, `len < other`, or `flags & 4 != 0` of one bit, perhaps several with `&&` or `||`"
+            at.refuse(f"has the condition {note.text}: {said}", note)
+        self.check_condition(at, note, found)
         return found
 
-    def call(self, note: Note) -> Tuple[str, Note]:
-        """Returns the name of the function that a note calls, and the arguments."""
-        tokens = Tokens(note.value.path, note.value.tokens)
+    def check_condition(self, at: RawField, note: Note, found: Condition) -> None:
+        if isinstance(found, Both):
+            for it in found.parts:
+                self.check_condition(at, note, it)
+            return
+        kinds = [self.number(at, note, it).type for it in found.names]
+        most = max(found.bit, found.other) if isinstance(found.other, int) else 0
+        if most >= 256 ** (PLAIN[kinds[0]].width if kinds[0] in PLAIN else 8):
+            at.refuse(f"has the condition {note.text} with a number that doesn't fit {found.name}", note)
+
+    def call(self, note: Note) -> Tuple[str, List[Note]]:
+        """Returns the name of the function that a note calls, and the arguments; or the parts of a tuple, or the note."""
+        tokens = note.tokens
         name = ""
         while tokens.next.kind == "name" or tokens.next.text == "::":
             name += tokens.take().text
         if tokens.next.text == "(":
             inside = tokens.inside()
             if tokens.is_done:
-                return name, Note(inside, inside.said, note.line)
-        return "", note
+                return name, [Note(it, it.said, note.line) for it in inside.split()] or [note]
+        return "", [note]
 
     def constant(self, text: str) -> int:
         return self.crate.constant(self.item.path, text)
 
-    def tag(self, at: RawField, note: Note, tokens: Tokens, form: Enum) -> str:
-        """Takes the name of a tag."""
-        name = read_path(Tokens(tokens.path, tokens.tokens))
-        if not name:
-            self.refuse_note(at, note, f"has the context {note.text}, which doesn't begin with the tag of {form.item.name}")
-        kind = self.number(at, note, name).type
-        if kind != form.tag:
-            self.refuse_note(at, note, f"is given {name}, a {kind}, and {form.item.name} a {form.tag}")
-        return name
+    def multiple(self, at: "Item | RawField") -> int:
+        """Returns the size up to a multiple of which something is padded, or 0."""
+        note = at.notes.get("padded")
+        found = self.constant(note.text) if note else 0
+        if note and found < 1:
+            at.refuse(f"is padded to a multiple of {note.text}, which is no literal", note)
+        return found
 
-    def rest_of(self, note: Note, tokens: Tokens) -> Optional[Note]:
-        """Returns what stands behind a comma."""
-        left = Tokens(tokens.path, tokens.tokens)
-        left.until_comma()
-        rest = Tokens(tokens.path, left.tokens[left.place :])
-        return Note(rest, rest.said, note.line) if rest.tokens else None
+    # Parts
 
     def attach(self) -> None:
         """Gives each rule to the last part whose number it names."""
-        for rule, names in self.rules:
+        for rule in self.rules:
+            names = PLACE.findall(rule.holds)
             found = [part for part in self.parts if any(it.name in names for it in part.numbers)]
             if not found:
-                note = next(iter(self.item.notes.values()))
-                said = "is counted by the given number less another, which no part can refuse"
-                self.refuse_note(self.item.fields[0], note, said)
+                self.item.refuse("has a rule for the number alone that it is given, which no part can refuse")
             found[-1].rules.append(rule)
         self.rules = []
 
     def part(self, at: RawField, of: Type, notes: Notes) -> Part:
         """Returns the part of a field, with what is around it."""
-        bare = RawField(at.name, [of], notes, at.line)
+        at = replace(at, types=[of], notes=notes)
+        if "if" in notes and of.name != "Option":
+            at.refuse(f"has the note `if = ..`, and is of {of.text}: write `Option<{of.text}>`", notes["if"])
         kind = KINDS.get(of.name)
         if not kind:
-            is_fixed = self.crate.is_fixed_type(self.item, of) or of.name == "[;]"
             found = self.crate.find(of.name, self.item.path)
-            kind = FixedSize if is_fixed or not found or not found.is_marked else Nested
-        made = kind(self, bare, of).make()
+            is_fixed = of.name == "[;]" or self.crate.is_fixed_type(self.item, of)
+            if not is_fixed and not (found and found.is_marked):
+                at.refuse(self.crate.why_not(self.item, of))
+            kind = FixedSize if is_fixed else Nested
+        made = kind(self, at, of).make()
         if of.name == "Option":
             return made
         if "within" in notes:
-            count = self.count(RawField(at.name, [of], {}, at.line), notes["within"])
-            made = made.around("Within", made.type, *count)
-        if "padded" in notes:
-            multiple = self.constant(notes["padded"].text)
-            if multiple < 1:
-                self.refuse_note(at, notes["padded"], f"is padded to a multiple of {notes['padded'].text}, which is no literal")
-            made = made.around("Padded", made.type, str(multiple), str(multiple))
-        return made
+            made = made.around("Within", made.type, *self.count(replace(at, notes={}), notes["within"]))
+        multiple = self.multiple(at)
+        made = made.around("Padded", made.type, str(multiple), str(multiple)) if multiple else made
+        order = self.order(at)
+        return made.around("Ordered", made.type, *order) if order else made
+
+    def order(self, at: "Item | RawField") -> "Tuple[str, ...]":
+        """Returns the byte order that something has of its own, in the logic and in code, or nothing."""
+        order, big = at.notes.get("order"), at.notes.get("big")
+        if order and big:
+            at.refuse("has both `order = ..` and `big = ..`", big)
+        if order and order.text not in ("LE", "BE"):
+            at.refuse(f"is in the order {order.text}: write `order = LE`, `order = BE`, or `big = ..` a condition", order)
+        if order:
+            return f"endian_is.{'Big' if order.text == 'BE' else 'Little'}", order.text
+        if not big or not isinstance(at, RawField):
+            return ()
+        said = self.condition(at, big).said()
+        return f"(if {said.ghost} then endian_is.Big else endian_is.Little)", f"if {said.code} {{ BE }} else {{ LE }}"
 
     def together(self, fields: Sequence[Tuple[str, Fixed]]) -> Part:
         """Returns fields of a fixed size as one part, with a name for its type and a variable where it is long."""
         every = [it for part in self.parts for it in (part.inside.parts if part.inside else [part])]
         count = sum(len(it.fields) > 1 for it in every)
         variable = f"numbers_{count + 1}" if count else "numbers"
-        while variable in [it.name for it in self.item.fields]:
+        while variable in self.item.names:
             variable += "_"
         made = numbers(fields, variable)
         if len(made.type) > 64 and len(fields) > 1:
@@ -210,15 +243,13 @@ class Reader:
         note = self.item.notes.get("given")
         if not note:
             return []
-        text = note.text[1:-1] if note.text.startswith("(") else note.text
-        found = [(name.strip(), kind.strip()) for name, _, kind in (it.partition(":") for it in text.split(","))]
-        kinds = [kind for _, kind in found]
-        if self.item.is_enum and (kinds[0] not in ("u8", "u16", "u32", "u64") or kinds[1:] not in ([], ["usize"])):
-            said = f"is given {note.text}: write `given = kind: u8`, its tag, or `given = (kind: u8, len: usize)`"
-            self.refuse_head(note, said)
-        if not self.item.is_enum and kinds != ["usize"]:
-            self.refuse_head(note, f"is given {note.text}: write `given = len: usize`")
-        if any(name in [it.name for it in self.item.fields] for name, _ in found):
-            self.refuse_head(note, f"is given {note.text}, which is the name of a field too")
-        self.given = [Number(name, "usize", "n", "(*ctx)") for name, kind in found if kind == "usize"]
+        tag = r"\w+: u(?:8|16|32|64)"
+        form = rf"{tag}|\({tag}, \w+: usize\)" if self.item.is_enum else r"\w+: usize"
+        if not re.fullmatch(form, note.text):
+            said = "kind: u8`, its tag, or `given = (kind: u8, len: usize)`" if self.item.is_enum else "len: usize`"
+            self.item.refuse(f"is given {note.text}: write `given = {said}", note)
+        found = re.findall(r"(\w+): (\w+)", note.text)
+        if any(name in self.item.names for name, _ in found):
+            self.item.refuse(f"is given {note.text}, which is the name of a field too", note)
+        self.given = [Number(name, "usize") for name, kind in found if kind == "usize"]
         return found

@@ -1,23 +1,26 @@
 """Reads structs of any size, enums, and lists."""
 
-from typing import Any, List, Sequence, Tuple, Type as TypeOf
+from dataclasses import replace
+from typing import List, Optional, Tuple, Type as TypeOf
 
 from fields import FixedSize
 from fixed_types import PLAIN, Record, is_counter
-from forms import NOTHING, Part, bits, nothing, numbers
-from items import Item, RawField, read_type
-from model import Crate, Enum, ListType, Struct, Variant
+from forms import NOTHING, Part, bits, nothing, numbers, optional
+from items import Item, Note, RawField, read_type
+from model import Crate, Enum, Form, ListType, Struct, Variant
 from reader import Reader
-from rules import own_variant, tag_rule
-from shapes import Chain, together
+from rules import check_rule, own_variant, tag_rule
+from shapes import Chain, leaving, together
 from sums import number_of
-from tokens import Refused, Tokens
+from tokens import read_tokens
+
+TAGS = ("u8", "u16", "u32", "u64")
 
 
 class StructReader(Reader):
     """Reads a struct. `padding` is the size up to a multiple of which the last field pads those before it."""
 
-    words = ("error", "given", "padded")
+    words = ("error", "given", "padded", "order", "bits")
 
     def __init__(self, crate: Crate, item: Item, outer: Tuple[Item, ...]) -> None:
         super().__init__(crate, item, outer)
@@ -28,61 +31,55 @@ class StructReader(Reader):
     def read(self) -> Struct:
         item = self.item
         if item.is_tuple:
-            said = f"of the struct {item.name} has no name, which a struct of any size needs"
-            raise self.crate.refuse_field(item, item.fields[0], said)
+            item.fields[0].refuse(f"of the struct {item.name} has no name, which a struct of any size needs")
         self.read_given()
-        multiple = self.read_multiple()
+        multiple, self.is_low = self.multiple(item), self.read_is_low()
         for at, field in enumerate(item.fields):
+            self.padding = 0
             self.read_field(field)
-            if self.padding:
-                if at + 1 < len(item.fields):
-                    self.close(self.padding)
-                else:
-                    multiple = self.padding
-        if self.bits:
-            self.refuse(self.bits[-1][0], "is the last of fields of bits that don't fill their number")
+            # (zeros at the end are those of the whole, unless it has others)
+            if self.padding and (at + 1 < len(item.fields) or multiple):
+                self.close(self.padding)
+                self.padding = 0
+        self.close_bits()
         self.attach()
-        given = self.given[0].name if self.given else ""
-        return Struct(item, self.parts, multiple, given, self.error, self.forms, self.used, self.gaps)
-
-    def read_multiple(self) -> int:
-        note = self.item.notes.get("padded")
-        found = self.constant(note.text) if note else 0
-        if note and found < 1:
-            self.refuse_head(note, f"is padded to a multiple of {note.text}, which is no literal")
-        return found
+        given, multiple = self.given[0].name if self.given else "", self.padding or multiple
+        return Struct(item, self.error, self.forms, self.used, self.parts, multiple, given, self.gaps, self.order(item))
 
     def read_field(self, field: RawField) -> None:
-        self.padding = 0
         if field.is_ghost:
-            self.refuse(field, "is a ghost field, which no bytes have")
+            field.refuse("is a ghost field, which no bytes have")
         if field.name.startswith("r#"):
-            self.refuse(field, "has a raw name: give it another")
-        if self.bits and "bits" not in field.notes:
-            self.refuse(field, "stands behind fields of bits that don't fill their number")
+            field.refuse("has a raw name: give it another")
         if "bits" in field.notes:
             self.read_bits(field)
             return
-        if "if" in field.notes and field.type.name != "Option":
-            said = f"has the note `if = ..`, and is of {field.type.text}: write `Option<{field.type.text}>`"
-            self.refuse_note(field, field.notes["if"], said)
-        if field.type.name == "Zeros" and "ctx" in field.notes:
-            call, inside = self.call(field.notes["ctx"])
-            if call == "padding":
-                arguments = Tokens(inside.value.path, inside.value.tokens)
-                is_offset = arguments.until_comma().said == "offset"
-                self.padding = self.constant(arguments.until_comma().said) if is_offset else -1
-                if self.padding < 1 or not self.parts:
-                    said = f"has the context {field.notes['ctx'].text}: write `padding(offset, 8)`, behind a field"
-                    self.refuse_note(field, field.notes["ctx"], said)
-                self.gaps = (*self.gaps, field.name)
-                return
-        made = self.part(field, field.type, field.notes)
-        last = self.parts[-1] if self.parts else None
-        if made.fields and made.context == NOTHING and last and last.fields and last.context == NOTHING:
-            self.parts.pop()
-            made = self.together([*last.fields, *made.fields])
-        self.parts.append(made)
+        self.close_bits()
+        if any(field.notes[it].text == "rest" for it in ("ctx", "if") if it in field.notes):
+            self.read_rest(field)
+        elif not self.read_padding(field):
+            made = self.part(field, field.type, field.notes)
+            last = self.parts[-1] if self.parts else None
+            if made.fields and made.context == NOTHING and last and last.fields and last.context == NOTHING:
+                self.parts.pop()
+                made = self.together([*last.fields, *made.fields])
+            self.parts.append(made)
+            self.read_check(field)
+
+    def read_padding(self, field: RawField) -> bool:
+        """Reads zeros up to a multiple, and returns whether a field is these."""
+        note = field.notes.get("ctx")
+        called, arguments = self.call(note) if note and field.type.name == "Zeros" else ("", [])
+        if called != "padding":
+            return False
+        if len(field.notes) > 1:
+            field.refuse("has another note beside `padding(..)`, which takes none", note)
+        first, *rest = [it.text for it in arguments]
+        self.padding = self.constant(rest[0]) if first == "offset" and len(rest) == 1 else -1
+        if self.padding < 1 or not self.parts:
+            field.refuse(f"has the context {note.text}: write `padding(offset, 8)`, behind a field", note)
+        self.gaps = (*self.gaps, field.name)
+        return True
 
     def close(self, multiple: int) -> None:
         """Puts the parts so far into one, with zeros behind it."""
@@ -91,29 +88,87 @@ class StructReader(Reader):
         self.heads = chain.end
         self.parts = [together(chain, multiple, len(self.gaps))]
 
+    def read_check(self, field: RawField) -> None:
+        """Adds the rule that a condition on the fields so far holds."""
+        note = field.notes.get("check")
+        if note:
+            self.rules.append(check_rule(self, field, note, self.condition(field, note)))
+
     def read_bits(self, field: RawField) -> None:
         note = field.notes["bits"]
         count, of = self.constant(note.text), PLAIN.get(field.type.name)
-        if len(field.notes) > 1:
-            self.refuse_note(field, note, "has another note beside `bits = ..`, which takes none")
+        if field.notes.keys() - {"bits", "check", "else"}:
+            field.refuse("has another note beside `bits = ..`, which takes `check = ..` alone", note)
         if not of or not is_counter(of) or not 0 < count <= 8 * of.width:
-            said = f"has `bits = {note.text}`, and is of {field.type.text}: take an unsigned number with room for them"
-            self.refuse_note(field, note, said)
+            said = "take an unsigned number with room for them"
+            field.refuse(f"has `bits = {note.text}`, and is of {field.type.text}: {said}", note)
+        if self.bits_are_three_bytes and (count > 8 or of.width > 4):
+            self.close_bits()
         if self.bits and of.width > 4:
-            self.refuse_note(field, note, "is a lower field of bits of 64 bits: take one of at most 32")
+            field.refuse("is a lower field of bits of 64 bits: take one of at most 32", note)
         self.bits.append((field, count))
-        word = PLAIN[self.bits[0][0].type.name]
-        filled = sum(it for _, it in self.bits)
+        word, filled = PLAIN[self.bits[0][0].type.name], sum(it for _, it in self.bits)
         if filled > 8 * word.width:
             said = f"is the {filled}th bit of {word.text}, the type of the first field of bits, which says the number"
-            self.refuse_note(field, note, said)
-        if filled < 8 * word.width:
+            field.refuse(said, note)
+        if filled == 8 * word.width:
+            self.close_bits()
+
+    @property
+    def bits_are_three_bytes(self) -> bool:
+        return sum(it for _, it in self.bits) == 24 and self.bits[0][0].type.name == "u32"
+
+    def close_bits(self) -> None:
+        """Makes fields of bits a part. Those of a `u32` may be a number of three bytes."""
+        if not self.bits:
             return
-        if len(self.bits) == 1:
-            self.refuse_note(field, note, f"fills {word.text} alone, and needs no `bits = ..`")
-        fields = [(it.name, it.type.name) for it, _ in self.bits]
-        self.parts.append(bits(fields, [2**it - 1 for _, it in self.bits[1:]]))
+        (first, _), (last, _) = self.bits[0], self.bits[-1]
+        word, filled = first.type.name, sum(it for _, it in self.bits)
+        if self.bits_are_three_bytes:
+            word = "U24"
+        elif filled < 8 * PLAIN[word].width:
+            last.refuse("is the last of fields of bits that don't fill their number")
+        elif len(self.bits) == 1:
+            first.refuse(f"fills {word} alone, and needs no `bits = ..`", first.notes["bits"])
+        if self.is_low and last.type.name != first.type.name:
+            last.refuse(f"has the highest bits of {first.type.name}: make it of that type")
+        found = self.bits[::-1] if self.is_low else self.bits
+        self.parts.append(bits(word, [(it.name, it.type.name) for it, _ in found], [2**it - 1 for _, it in found[1:]]))
+        for it, _ in self.bits:
+            self.read_check(it)
         self.bits = []
+
+    def read_is_low(self) -> bool:
+        """Returns whether the first fields of bits are the lowest."""
+        note = self.item.notes.get("bits")
+        if note and note.text not in ("low", "high"):
+            self.item.refuse(f"has `bits = {note.text}`: write `bits = low` where the first field has the lowest bits", note)
+        return bool(note) and note.text == "low"
+
+    def read_rest(self, field: RawField) -> None:
+        """Reads the last field, which has the bytes that those before it leave."""
+        note = field.notes["ctx" if "ctx" in field.notes else "if"]
+        if "check" in field.notes:
+            field.refuse("has the rest, which no `check = ..` tests", note)
+        if not self.given or not self.parts or field is not self.item.fields[-1]:
+            said = "has the rest, which the last field has of a struct that is given its length: `given = len: usize` before it"
+            field.refuse(said, note)
+        self.attach()
+        chain = Chain(self.item.name, self.parts, self.heads)
+        self.heads = chain.end
+        others = {word: it for word, it in field.notes.items() if it is not note}
+        if field.type.name == "Option":
+            made = self.part(field, field.type.arguments[0], others)
+            if made.context_type != "()":
+                field.refuse(f"is of {field.type.text}, which takes a context: put it into a struct", note)
+            rest = optional(made, field.name)
+        elif field.type.name in ("&[u8]", "&str", "Items") and not others:
+            ctx = "StrCtx::Length(0)" if field.type.name == "&str" else "0"
+            rest = self.part(field, field.type, {"ctx": Note(read_tokens(self.item.path, ctx), ctx, note.line)})
+        else:
+            said = "write `ctx = rest` before a slice, a text or a list, or `if = rest` before an option"
+            field.refuse(f"has the rest: {said}", note)
+        self.parts = [leaving(chain, rest, self.given[0].name)]
 
 
 class EnumReader(Reader):
@@ -122,46 +177,61 @@ class EnumReader(Reader):
     def read(self) -> Enum:
         item = self.item
         own, found = item.notes.get("tag"), self.read_given()
-        if own and (found or own.text not in ("u8", "u16", "u32", "u64")):
-            self.refuse_head(own, f"has the tag {own.text}: write `tag = u8` of its own, or `given = kind: u8` of one before it")
+        if own and (found or own.text not in TAGS):
+            item.refuse(f"has the tag {own.text}: write `tag = u8` of its own, or `given = kind: u8` of one before it", own)
         if not own and not found:
-            said = "has no tag: write `tag = u8` before it, or `given = kind: u8` where a field before it has its tag"
-            raise Refused(item.path, item.line, f"the enum {item.name} {said}")
+            item.refuse("has no tag: write `tag = u8` before it, or `given = kind: u8` where a field before it has its tag")
         tag, given = own.text if own else found[0][1], found[1][0] if len(found) > 1 else ""
         variants: List[Variant] = []
         for raw in item.fields:
-            variants.append(self.read_variant(raw, tag, [it.tag for it in variants]))
+            variants.append(self.read_variant(raw, tag, [it.tags for it in variants]))
         note = item.notes.get("else")
-        other = own_variant(self, RawField(item.name, [], {}, item.line), note) if note else ""
-        made = Enum(item, tag, given, variants, self.error, other, self.forms, self.used)
+        other = own_variant(self, item, note) if note else ""
+        made = Enum(item, self.error, self.forms, self.used, tag, given, variants, other)
         if own:
             made.head = numbers([("tag", PLAIN[tag])], "")
-            made.head.rules.append(tag_rule(self, RawField(item.name, [], {}, item.line), made, "tag"))
+            made.head.rules.append(tag_rule(self, item, made, "tag"))
         return made
 
-    def read_variant(self, raw: RawField, tag: str, before: Sequence[int]) -> Variant:
+    def read_variant(self, raw: RawField, tag: str, before: List[Optional[Tuple[int, int]]]) -> Variant:
         if raw.has_names:
-            self.refuse(raw, "has fields with names: put them into a struct")
-        note = raw.notes.get("is")
-        if not note:
-            self.refuse(raw, "has no `is = ..`, its tag")
-        number = self.constant(note.text)
-        if number < 0 or number >= 256 ** PLAIN[tag].width:
-            self.refuse_note(raw, note, f"has the tag {note.text}, which is no literal that fits {tag}")
-        if number in before:
-            self.refuse_note(raw, note, f"has the tag {note.text}, which is that of another")
+            raw.refuse("has fields with names: put them into a struct")
+        if "is" not in raw.notes:
+            raw.refuse("has no `is = ..`, its tag")
+        note = raw.notes["is"]
+        tags = self.read_tags(raw, note, tag)
+        for other in before:
+            if not other:
+                raw.refuse("stands behind `is = _`, which has all other tags", note)
+            if tags and tags[0] <= other[1] and other[0] <= tags[1]:
+                raw.refuse(f"has the tag {note.text}, which is that of another", note)
         notes = {word: it for word, it in raw.notes.items() if word != "is"}
+        if "check" in notes:
+            raw.refuse("has the note `check = ..`, which a field of a struct takes", note)
         names = [f"v{at}" for at in range(len(raw.types))]
-        if not raw.types:
-            part: Part = nothing()
-        elif len(raw.types) == 1:
-            part = self.part(RawField(names[0], raw.types, notes, raw.line), raw.types[0], notes)
+        if len(raw.types) == 1:
+            part: Part = self.part(replace(raw, word=f"variant {raw.name}'s value", name=names[0]), raw.types[0], notes)
+        elif notes:
+            raw.refuse(f"has the note `{[*notes][0]} = ..`, which a variant of one value takes", note)
         else:
-            made = [FixedSize(self, RawField(it, [of], notes, raw.line), of).fixed() for it, of in zip(names, raw.types)]
-            part = numbers([*zip(names, made)], "")
+            values = [replace(raw, name=name, types=[of], notes={}) for name, of in zip(names, raw.types)]
+            part = numbers([(it.name, FixedSize(self, it, it.type).fixed()) for it in values], "") if values else nothing()
         if self.rules:
-            self.refuse_note(raw, note, "has a note with a rule, which a variant doesn't take: put it into a struct")
-        return Variant(raw.name, number, names, part)
+            raw.refuse("has a note with a rule, which a variant doesn't take: put it into a struct", note)
+        return Variant(raw.name, tags, names, part)
+
+    def read_tags(self, raw: RawField, note: Note, tag: str) -> Optional[Tuple[int, int]]:
+        """Returns the least and the greatest tag of a variant, or nothing where it has all others."""
+        is_any, is_own = note.text == "_", "tag" in self.item.notes
+        if is_any and not is_own:
+            return None
+        low, _, high = note.text.partition(".. =")
+        found = [self.constant(it.strip()) for it in (low, high or low)]
+        if is_own and (is_any or high):
+            raw.refuse("has several tags, of which none is kept: take the tag as a field, and `given = ..`", note)
+        if min(found) < 0 or max(found) >= 256 ** PLAIN[tag].width or found[1] < found[0]:
+            raw.refuse(f"has the tag {note.text}, which is no literal that fits {tag}", note)
+        return found[0], found[1]
 
 
 class ListReader(Reader):
@@ -169,37 +239,48 @@ class ListReader(Reader):
 
     def read(self) -> ListType:
         """Reads a struct that names the values of a list."""
-        item = self.item
-        note = item.notes["items"]
-        of = read_type(Tokens(item.path, note.value.tokens))
-        at = RawField(item.name, [of], {}, note.line)
+        item, note = self.item, self.item.notes["items"]
+        of = read_type(note.tokens)
+        at = RawField(item.path, item.word, item.name, note.line, {}, [of])
+        is_fixed = self.crate.is_fixed_type(item, of)
         found = self.crate.find(of.name, item.path)
-        if of.name in ("Uleb", "Sleb", "CStr"):
-            return ListType(item, of.text if of.name != "CStr" else "CStr<'a>", self.read_ends(), None, None, self.used)
-        if self.crate.is_fixed_type(item, of) or not found or not found.is_marked:
-            if not self.crate.is_fixed_type(item, of):
-                self.refuse_head(note, self.crate.why_not(item, of).replace("is of", "is a list of", 1))
+        if of.name in ("Uleb", "Sleb", "Vlq", "Zigzag", "CStr"):
+            return self.list(of.text if of.name != "CStr" else "CStr<'a>")
+        if is_fixed:
             made = FixedSize(self, at, of).fixed()
-            text = f"Run<Field<{made.text}>>" if isinstance(made, Record) else f"Run<{made.text}>"
-            return ListType(item, text, self.read_ends(), None, None, self.used)
+            return self.list(f"Run<Field<{made.text}>>" if isinstance(made, Record) else f"Run<{made.text}>")
+        if not found or not found.is_marked:
+            item.refuse(self.crate.why_not(item, of).replace("is of", "is a list of", 1), note)
         form = self.inner(at, of)
-        if not isinstance(form, Struct) or form.given:
-            self.refuse_head(note, f"is a list of {of.text}, which is given a number: put it into a struct with that")
-        self.crate.listed.append(of.name)
-        return ListType(item, form.type, self.read_ends(), form.error, form, self.used, [form])
+        if isinstance(form, ListType) or form.given or (isinstance(form, Enum) and not form.is_own):
+            item.refuse(f"is a list of {of.text}, which is given a number: put it into a struct with that", note)
+        form.walk()
+        self.error = form.error
+        return replace(self.list(form.type), form=form)
 
-    def read_ends(self) -> List[int]:
+    def check_error(self, at: RawField, form: Form) -> None:
+        """(A list has the error of its values.)"""
+
+    def list(self, of: str) -> ListType:
+        return ListType(self.item, self.error, self.forms, self.used, of, self.read_ends())
+
+    def read_ends(self) -> str:
+        """Returns what ends a list: the bytes of a mark, or the name of a type that says it."""
         note = self.item.notes.get("ends")
         if not note:
-            return []
-        text = note.text.strip("[]")
-        found = [number_of(it.strip()) for it in text.split(",")]
-        if any(not 0 <= it < 256 for it in found):
-            self.refuse_head(note, f"ends a list at {note.text}: write the mark's bytes, as `ends = 0` or `ends = [0, 0]`")
-        return found
+            return ""
+        found = [number_of(it.strip()) for it in note.text.strip("[]").split(",")]
+        if all(0 <= it < 256 for it in found):
+            return f"[{', '.join(map(str, found))}]"
+        if self.crate.find(note.text, self.item.path):
+            self.used.append(note.text)
+        elif note.text not in ("NameEnd", "TwoZeroUlebs", "ZeroUleb"):
+            said = "write the mark's bytes, as `ends = 0` or `ends = [0, 0]`, or a type that says it, as `ends = ZeroUleb`"
+            self.item.refuse(f"ends a list at {note.text}: {said}", note)
+        return note.text
 
 
-def read_form(crate: Crate, item: Item, outer: Tuple[Item, ...]) -> Any:
+def read_form(crate: Crate, item: Item, outer: Tuple[Item, ...]) -> Form:
     """Returns a struct of any size, an enum or a list."""
     reader: TypeOf[Reader] = EnumReader if item.is_enum else ListReader if "items" in item.notes else StructReader
     return reader(crate, item, outer).read()

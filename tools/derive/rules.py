@@ -1,104 +1,154 @@
-"""The rules that notes say of numbers: constants, what is subtracted, and tags."""
+"""The rules that notes say of numbers: constants, conditions, what is subtracted, and tags."""
 
-from typing import TYPE_CHECKING, List, Tuple
+import re
+from typing import TYPE_CHECKING, Tuple
 
-from fixed_types import Fixed, Plain, is_counter
+from conditions import Both, Condition
+from fixed_types import Array, Fixed, is_counter
 from forms import Rule
-from items import Note, RawField
+from items import Named, Note, RawField
 from model import Enum
-from sums import Condition, Sum, as_usize, bracketed, number_of, side_text
-from text import call_lines
+from sums import Sum, Term, as_usize, bracketed, number_of
 
 if TYPE_CHECKING:
     from reader import Reader
 
 
-def own_variant(reader: "Reader", at: RawField, note: Note) -> str:
+def own_variant(reader: "Reader", at: Named, note: Note) -> str:
     """Returns the variant of the error type that a note `else = ..` says."""
     name, _, variant = note.text.partition("::")
     error = reader.error
     if not error or name != error.name or variant not in error.variants:
         said = f"the error {error.name}" if error else "no error of its own: write `error = ..` before it"
-        reader.refuse_note(at, note, f"has the error {note.text}, and the {reader.item.word} {reader.item.name} has {said}")
+        at.refuse(f"has the error {note.text}, and the {reader.item.word} {reader.item.name} has {said}", note)
     return variant
 
 
-def refusal(reader: "Reader", at: RawField, ghost: str, code: str, text: str) -> Tuple[str, List[str]]:
-    """Returns what says that a `BadInput` is the error, and the lines that return it."""
+def bad_input(reader: "Reader", at: Named, ghost: str, code: str, text: str) -> Tuple[str, str]:
+    """Returns what says that a `BadInput` is the error, and the code that returns it."""
     error = reader.error
     if error and not error.variant:
-        reader.refuse(at, "is tested, which isn't proved with the error SmallError: take an error of your own")
-    made = f"{error.name}::from(Error::BadInput {{" if error else "Error::BadInput {"
-    lines = [f"            return Err({made}", f"                size: {code},", f'                msg: "{text}",']
-    lines.append(f"            }}{')' if error else ''});")
-    said = f"GivesBadInput {error.gives}" if error else "IsBadInput e"
-    return f'{said} {ghost} (codes "{text}")' + (" e" if error else ""), lines
+        at.refuse("is tested, which isn't proved with the error SmallError: take an error of your own")
+    begin, end = (f"{error.name}::from(", ")") if error else ("", "")
+    said = f'GivesBadInput {error.gives} {ghost} (codes "{text}") e' if error else f'IsBadInput e {ghost} (codes "{text}")'
+    return said, f"""
+            return Err({begin}Error::BadInput {{
+                size: {code},
+                msg: "{text}",
+            }}{end});"""
 
 
-def own_refusal(reader: "Reader", variant: str, number: str) -> Tuple[str, List[str]]:
+def own_error(reader: "Reader", variant: str, number: str) -> Tuple[str, str]:
     """The same of an error of one's own, which holds a number."""
     assert reader.error
-    return f"(e ≡ {reader.error.said(variant)} {number})", [f"            return Err({reader.error.name}::{variant}({number}));"]
+    code = f"\n            return Err({reader.error.name}::{variant}({number}));"
+    return f"(e ≡ {reader.error.said(variant)} {number})", code
+
+
+def tested(holds: str, is_not: str, test: str, error: Tuple[str, str]) -> Rule:
+    """A rule whose test finds what it refuses."""
+    fails, returned = error
+    return Rule(f"({holds})", f"{is_not} × {fails}", test, f"\n        if {test} {{{returned}\n        }}")
 
 
 def constant_rule(reader: "Reader", at: RawField, of: Fixed) -> Rule:
     """A number is a constant."""
-    note = at.notes["is"]
+    note, other = at.notes["is"], at.notes.get("else")
     value = reader.constant(note.text)
     if note.text.startswith(('b"', '"', "[")):
-        reader.refuse_note(at, note, f"is {note.text}: write the literal number that the bytes are in the format's byte order")
+        at.refuse(f"is {note.text}: take an array of bytes, or write the literal number that they are", note)
     if value < 0:
-        reader.refuse_note(at, note, f"is {note.text}, which is no literal, and no constant of this file that is one")
-    if not isinstance(of, Plain) or not is_counter(of):
-        reader.refuse_note(at, note, "has a constant, and is no unsigned number of at most 64 bits")
+        at.refuse(f"is {note.text}, which is no literal, and no constant of this file that is one", note)
+    if not is_counter(of):
+        at.refuse("has a constant, and is no unsigned number of at most 64 bits", note)
     if value >= 256**of.width:
-        reader.refuse_note(at, note, f"is {note.text}, which doesn't fit {of.text}")
+        at.refuse(f"is {note.text}, which doesn't fit {of.text}", note)
     name, said, text = f"@{at.name}@", note.text if number_of(note.text) >= 0 else str(value), f"{at.name} is not {note.text}"
-    if not reader.error and "else" not in at.notes:
-        lines = call_lines("is", [as_usize(at.name), said, f'"{text}"'], "?;", 8)
-        return Rule(f"({name} ≡ {value})", f'IsNot {value} {name} (codes "{text}") e', lines)
-    if "else" in at.notes:
-        fails, lines = own_refusal(reader, own_variant(reader, at, at.notes["else"]), name)
+    if not reader.error and not other:
+        code = f'\n        is({as_usize(at.name)}, {said}, "{text}")?;'
+        return Rule(f"({name} ≡ {value})", f'IsNot {value} {name} (codes "{text}") e', "", code)
+    if other:
+        error = own_error(reader, own_variant(reader, at, other), name)
     else:
-        fails, lines = refusal(reader, at, name, as_usize(at.name), text)
-    lines = [f"        if {name} != {said} {{", *lines, "        }"]
-    return Rule(f"({name} ≡ {value})", f"({name} ≢ {value}) × {fails}", lines)
+        error = bad_input(reader, at, name, as_usize(at.name), text)
+    return tested(f"{name} ≡ {value}", f"({name} ≢ {value})", f"{name} != {said}", error)
+
+
+def bytes_rule(reader: "Reader", at: RawField, of: Array) -> Rule:
+    """The bytes of an array are constant."""
+    note, name = at.notes["is"], f"@{at.name}@"
+    value = reader.crate.constant_bytes(reader.item.path, note.text)
+    if value is None:
+        at.refuse(f"is {note.text}, which is no literal of bytes, and no constant of this file that is one", note)
+    if len(value) != of.length:
+        at.refuse(f"is {note.text}, which has {len(value)} bytes, not {of.length}", note)
+    if "else" in at.notes:
+        at.refuse("has the note `else = ..`, whose variant holds a number, and is bytes", at.notes["else"])
+    text = re.sub(r'^b?"|"$', "", note.text).replace("\\", "")
+    wanted = f"({' ∷ '.join([*map(str, value), '[]'])})"
+    error = bad_input(reader, at, "0", "0", f"{at.name} is not {text}")
+    return tested(f"{name} ≡ {wanted}", f"({name} ≢ {wanted})", f"{name} != [{', '.join(map(str, value))}]", error)
+
+
+def check_rule(reader: "Reader", at: RawField, note: Note, condition: Condition) -> Rule:
+    """A condition holds."""
+    first, other = condition.names[0], condition.negated()
+    if "else" in at.notes and not {"is", "ctx"} & at.notes.keys():
+        error = own_error(reader, own_variant(reader, at, at.notes["else"]), f"@{first}@")
+    else:
+        text = re.sub(r" ?([<>]=?) ?", r" \1 ", note.text)
+        error = bad_input(reader, at, f"@{first}@", as_usize(first), f"it is not so that {text}")
+    return tested(condition.holds()[1:-1], other.holds(), other.said().code, error)
+
+
+def multiple_rule(reader: "Reader", at: RawField, name: str, by: int) -> Rule:
+    """A number is a multiple of another."""
+    error = bad_input(reader, at, f"@{name}@", as_usize(name), f"{name} is no multiple of {by}")
+    return tested(f"@{name}@ % {by} ≡ 0", f"(@{name}@ % {by} ≢ 0)", f"@{name}@ % {by} != 0", error)
+
+
+def great_rule(reader: "Reader", at: RawField, term: Term) -> Rule:
+    """A product or a shift fits `usize`, whose greatest value is no count."""
+    name = term.names[0]
+    error = bad_input(reader, at, f"@{name}@", as_usize(name), f"{term.text} is too great")
+    whole, test = term.product(), f"{term.said().code} == usize::MAX"
+    return tested(f"{whole} < 2 ^ 64 - 1", f"(2 ^ 64 - 1 ≤ {whole})", test, error)
 
 
 def below_rule(reader: "Reader", at: RawField, found: Sum, less: Sum) -> Rule:
     """A sum isn't less than what is subtracted from it."""
     whole, below, other = found.whole.said(), less.said(), at.notes.get("else")
-    if other and (len(found.terms) != 1 or found.number or found.terms[0][1] != 1):
-        reader.refuse_note(at, other, "has the note `else = ..`, and its context subtracts from more than one field")
     if other:
-        fails, lines = own_refusal(reader, own_variant(reader, at, other), f"@{found.terms[0][0]}@")
+        first = found.terms[0]
+        if len(found.terms) != 1 or found.number or first.times != 1 or len(first.factors) != 1 or first.factors[0].by > 1:
+            at.refuse("has the note `else = ..`, and its context subtracts from more than one field", other)
+        error = own_error(reader, own_variant(reader, at, other), f"@{first.factors[0].name}@")
     else:
-        text = f"{side_text(list(found.terms), found.number)} is less than {less.text}"
-        fails, lines = refusal(reader, at, bracketed(whole.ghost), whole.code, text)
+        text = f"{found.text} is less than {less.text}"
+        error = bad_input(reader, at, bracketed(whole.ghost), whole.code, text)
     tests, left = [], whole.code
     for it in less.steps:
         tests.append(f"{it.code} > {left}")
         left += f" - {it.code}"
-    lines = [f"        if {' || '.join(tests)} {{", *lines, "        }"]
-    return Rule(f"({below.ghost} ≤ {whole.ghost})", f"({whole.ghost} < {below.ghost}) × {fails}", lines)
+    return tested(f"{below.ghost} ≤ {whole.ghost}", f"({whole.ghost} < {below.ghost})", " || ".join(tests), error)
 
 
-def tag_rule(reader: "Reader", at: RawField, form: Enum, tag: str) -> Rule:
+def tag_rule(reader: "Reader", at: Named, form: Enum, tag: str) -> Rule:
     """A tag is that of a variant."""
-    name, tags = f"@{tag}@", [it.tag for it in form.variants]
+    name = f"@{tag}@"
     if form.other:
-        fails, lines = own_refusal(reader, form.other, name)
+        error = own_error(reader, form.other, name)
     else:
-        fails, lines = refusal(reader, at, name, as_usize(tag), f"{form.item.name} has no such tag")
-    others = " × ".join(f"({name} ≢ {it})" for it in tags)
-    test = f"        if {' && '.join(f'{name} != {it}' for it in tags)} {{"
-    return Rule(f"({' ⊎ '.join(f'({name} ≡ {it})' for it in tags)})", f"({others}) × {fails}", [test, *lines, "        }"])
+        error = bad_input(reader, at, name, as_usize(tag), f"{form.item.name} has no such tag")
+    known = [it.is_said(tag) for it in form.variants]
+    found = known[0] if len(known) == 1 else Both(tuple(known), True)
+    return tested(found.holds()[1:-1], found.negated().holds(), found.negated().said().code, error)
 
 
 def guarded(rule: Rule, condition: Condition) -> Rule:
     """A rule of a field that may be absent holds where that is there."""
-    there, absent = condition.sides()
-    test = rule.code[0].strip()[len("if ") : -len(" {")]
-    test = f"({test})" if " || " in test else test
-    first = f"        if {condition.said().code} && {test} {{"
-    return Rule(f"({absent} ⊎ {rule.holds})", f"{there} × {rule.fails}", [first, *rule.code[1:]])
+    there, inner = condition.said().code, f"({rule.test})" if " || " in rule.test else rule.test
+    there = f"({there})" if isinstance(condition, Both) and condition.is_any else there
+    code = rule.code.replace(f"if {rule.test} {{", f"if {there} && {inner} {{")
+    fails = f"{condition.holds()} × {rule.fails}"
+    return Rule(f"({condition.negated().holds()} ⊎ {rule.holds})", fails, f"{there} && {inner}", code)

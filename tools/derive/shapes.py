@@ -1,29 +1,23 @@
 """Parts one after another, in groups: a head, and the parts whose contexts it says."""
 
-import re
 from dataclasses import dataclass, field, replace
 from typing import Dict, List, Optional, Sequence, Set, Tuple
 
-from forms import Number, Part, nothing, record
-from sums import Value
-from text import Call, Tree, each, flat, lifetime, right
-
-PLACE = re.compile(r"@([^@]+)@")
+from forms import Part, nothing
+from sums import PLACE, Value
+from text import call, lifetime, record, right
 
 
-def names_in(parts: Sequence[Part]) -> Set[str]:
-    """Returns the numbers that the contexts and the rules of some parts name."""
-    texts = [it for part in parts for it in (part.context.ghost, flat(part.context.code), *rule_texts(part))]
+def names_in(parts: Sequence[Part], with_contexts: bool = True) -> Set[str]:
+    """Returns the numbers that the rules, and the contexts, of some parts name."""
+    texts = [it for part in parts for rule in part.rules for it in rule]
+    texts += [it for part in parts for it in part.context if with_contexts]
     return {name for it in texts for name in PLACE.findall(it)}
 
 
-def rule_texts(part: Part) -> List[str]:
-    return [it for rule in part.rules for it in (rule.holds, rule.fails, *rule.code)]
-
-
-def resolve(tree: Tree, said: Dict[str, str]) -> Tree:
+def resolve(text: str, said: Dict[str, str]) -> str:
     """Puts what is said of numbers in the place of their names; a name that isn't known stays."""
-    return each(tree, lambda text: PLACE.sub(lambda it: said.get(it[1], it[0]), text))
+    return PLACE.sub(lambda it: said.get(it[1], it[0]), text)
 
 
 @dataclass
@@ -39,17 +33,15 @@ class Group:
         """Returns how the head says each number, in the logic and in code."""
         ghosts, codes = ({name: f"{word}.{at}" for at, name in enumerate(self.told)} for word in ("c", "self"))
         for it in self.head.numbers if self.head else []:
-            ghosts[it.name], codes[it.name] = it.ghost.replace("^", "h"), it.code.replace("^", "head")
+            ghosts[it.name], codes[it.name] = it.said("h").ghost, it.said("head" if it.way or it.is_length else "(*head)").code
         return ghosts, codes
 
     def context(self) -> Value:
         """The contexts of what is behind the head, by what that says."""
-        ghosts, codes = self.said()
-        ghost = resolve(right([it.context.ghost for it in self.parts]), ghosts)
-        return Value(flat(ghost), resolve(right([it.context.code for it in self.parts]), codes))
+        return Value(*(resolve(right([it.context[at] for it in self.parts]), said) for at, said in enumerate(self.said())))
 
     @property
-    def context_type(self) -> Tree:
+    def context_type(self) -> str:
         return right([it.context_type for it in self.parts])
 
 
@@ -61,12 +53,13 @@ class Chain:
         for group in self.groups:
             if group.head:
                 group.index, self.end = self.end, self.end + 1
-        self.types: List[Tree] = [""] * len(self.groups)
+        self.types = [""] * len(self.groups)
         behind: List[Part] = []
         for at in reversed(range(len(self.groups))):
             self.groups[at].parts += behind
             self.whole = self.join(at)
             behind = [replace(self.whole, type=self.called("Rest", at) + lifetime(self.types[at]))]
+        self.before, self.after = ("".join(it) for it in zip(*((part.before, part.after) for part in parts)))
 
     def called(self, word: str, at: int) -> str:
         """Returns the name of a group's type."""
@@ -77,34 +70,23 @@ class Chain:
         """Returns the parts from a group on as one."""
         group = self.groups[at]
         head, parts = group.head, group.parts
-        ghost, split, pattern, types = (right([*it]) for it in zip(*((p.ghost, p.split, p.join, p.type) for p in parts)))
         steps = [".1" * index + (".0" if index + 1 < len(parts) else "") for index in range(len(parts))]
-        numbers = [moved(it, step) for part, step in zip(parts, steps) for it in part.numbers]
+        numbers = [it.behind(step) for part, step in zip(parts, steps) for it in part.numbers]
+        said = [right([*it]) for it in zip(*((part.ghost, part.split, part.join) for part in parts))]
+        self.types[at] = right([it.type for it in parts])
         if not head:
-            self.types[at] = types
-            return Part("", flat(group.context_type), group.context(), flat(ghost), split, pattern, numbers=numbers)
-        group.told = sorted(names_in(parts) | names_in([replace(head, context=Value("", ""))]) - {it.name for it in head.numbers})
-        group.told = [it for it in group.told if it not in {number.name for number in head.numbers}]
+            return Part("", group.context_type, group.context(), *said, numbers=numbers)
+        group.told = sorted((names_in(parts) | names_in([head], False)) - {it.name for it in head.numbers})
         told = [f"@{it}@" for it in group.told]
-        self.types[at] = (self.called("Head", at) + lifetime(head.type), types)
-        says: Tree = Call(self.called("Says", at), tuple(told)) if told else self.called("Says", at)
+        self.types[at] = call("", self.called("Head", at) + lifetime(head.type), self.types[at])
+        says = call(self.called("Says", at), *told) if told else self.called("Says", at)
         context = Value(
-            record(head.context.ghost, record(*told), "record {}"), Call("Headed", (head.context.code, says, "PhantomData"))
+            record(head.context.ghost, record(*told), "record {}"), call("Headed", head.context.code, says, "PhantomData")
         )
         kind = f"Headed<{head.context_type}, {self.called('Next', at)}, {self.called('Says', at)}>"
-        numbers = [*(moved(it, ".0") for it in head.numbers), *(moved(it, ".1") for it in numbers)]
-        return Part("", kind, context, flat((head.ghost, ghost)), (head.split, split), (head.join, pattern), numbers=numbers)
-
-    def before(self) -> List[str]:
-        return [line for it in self.parts for line in it.before]
-
-    def after(self) -> List[str]:
-        return [line for it in self.parts for line in it.after]
-
-
-def moved(number: Number, way: str) -> Number:
-    """Returns a number of a part that stands at a place of another."""
-    return number._replace(ghost=number.ghost.replace("^", f"^{way}"), code=number.code.replace("^", f"^{way}"))
+        numbers = [*(it.behind(".0") for it in head.numbers), *(it.behind(".1") for it in numbers)]
+        said = [call("", *it) for it in zip((head.ghost, head.split, head.join), said)]
+        return Part("", kind, context, *said, numbers=numbers)
 
 
 def grouped(parts: Sequence[Part]) -> List[Group]:
@@ -126,6 +108,19 @@ def together(chain: Chain, multiple: int, index: int) -> Part:
     """Parts with zeros behind them up to a multiple of a size, counted from the first one. They are the padded ones so far."""
     name = f"{chain.name}Padded{index if index > 1 else ''}"
     made = chain.whole.around("Padded", name + lifetime(chain.types[0]), str(multiple), str(multiple))
-    made = replace(made, context_type=f"{name}Ctx", before=chain.before(), after=chain.after(), inside=chain)
+    aliases = ((name, chain.types[0]), (f"{name}Ctx", f"Padded<{chain.whole.context_type}>"))
+    made = replace(made, context_type=f"{name}Ctx", before=chain.before, after=chain.after, inside=chain, aliases=aliases)
     made.is_exact, made.is_certain = (all(it) for it in zip(*((part.is_exact, part.is_certain) for part in chain.parts)))
+    return made
+
+
+def leaving(chain: Chain, rest: Part, given: str) -> Part:
+    """Parts, and what they leave of the bytes that the struct is given."""
+    name, whole = f"{chain.name}Before", chain.whole
+    context = Value(record(f"@{given}@", whole.context.ghost), call("Behind", f"@{given}@", whole.context.code))
+    sides = [call("", *it) for it in ((whole.ghost, rest.ghost), (whole.split, rest.split), (whole.join, rest.join))]
+    type_ = call("", name + lifetime(chain.types[0]), rest.type)
+    made = Part(type_, f"Behind<{whole.context_type}>", context, *sides, chain.before + rest.before, chain.after + rest.after)
+    made.is_exact, made.is_certain = (all(it) for it in zip(*((it.is_exact, it.is_certain) for it in (*chain.parts, rest))))
+    made.inside, made.aliases = chain, ((name, chain.types[0]),)
     return made

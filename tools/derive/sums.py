@@ -1,13 +1,18 @@
-"""Sums and conditions in notes, and how they are said in the logic and in code.
+"""Sums in notes, and how they are said in the logic and in code.
 
 In what is said `@name@` stands for a number that a part says by this name.
 """
 
-from dataclasses import dataclass
-from typing import Callable, List, NamedTuple, Optional, Tuple
+import re
+from dataclasses import dataclass, replace
+from typing import List, NamedTuple, Optional, Sequence, Tuple
 
 from items import Note
+from text import call
 from tokens import Tokens
+
+
+PLACE = re.compile(r"@([^@]+)@")
 
 
 class Value(NamedTuple):
@@ -17,27 +22,99 @@ class Value(NamedTuple):
     code: str
 
 
-@dataclass(frozen=True)
-class Sum:
-    """Numbers, each times a number, and a number, without another such sum, `less`. A number is named as a note does: `len`,
-    `udp.len`, `name.len()`."""
+class Factor(NamedTuple):
+    """A number, and what it is divided by. It is named as a note does: `len`, `udp.len`, `name.len()`."""
 
-    terms: Tuple[Tuple[str, int], ...]
+    name: str
+    by: int = 1
+
+    def said(self) -> Value:
+        code = f"@{self.name}@" if self.name.endswith("()") else f"@{self.name}@ as usize"
+        less = f" / {self.by}" if self.by > 1 else ""
+        return Value(f"@{self.name}@{less}", code + less)
+
+    @property
+    def text(self) -> str:
+        return f"{self.name} / {self.by}" if self.by > 1 else self.name
+
+
+class Shift(NamedTuple):
+    """A number that is shifted to the left by another one, perhaps by its remainder, and by a number."""
+
     number: int
-    less: "Optional[Sum]"
-    text: str
+    name: str
+    modulus: int
+    more: int
+
+    def said(self) -> Value:
+        rest = (f" % {self.modulus}" if self.modulus else "") + (f" + {self.more}" if self.more else "")
+        return Value(f"@{self.name}@{rest}", f"@{self.name}@ as usize{rest}")
+
+    @property
+    def text(self) -> str:
+        return f"{self.number} << {bracketed(self.said().ghost.replace('@', ''))}"
+
+
+@dataclass(frozen=True)
+class Term:
+    """Numbers times one another and times a number, or a shift. What is too great is the greatest `usize`."""
+
+    factors: Tuple[Factor, ...]
+    times: int = 1
+    shift: Optional[Shift] = None
+    may_be_great: bool = False
 
     @property
     def names(self) -> List[str]:
-        return [name for name, _ in self.terms] + (self.less.names if self.less else [])
+        return [it.name for it in self.factors] if not self.shift else [self.shift.name]
+
+    @property
+    def is_length(self) -> bool:
+        return any(it.endswith("()") for it in self.names)
+
+    @property
+    def text(self) -> str:
+        said = self.shift.text if self.shift else " * ".join(it.text for it in self.factors)
+        return said if self.times == 1 else f"{said} * {self.times}"
+
+    def product(self) -> str:
+        """Returns it in the logic without a limit."""
+        if self.shift:
+            return f"{self.shift.number} * 2 ^ {bracketed(self.shift.said().ghost)}"
+        said = [bracketed(it.said().ghost) for it in self.factors]
+        return " * ".join([*([str(self.times)] if self.times > 1 else []), *said])
+
+    def said(self) -> Value:
+        if self.shift:
+            return Value(limited(self.product()), call("shifted", str(self.shift.number), self.shift.said().code))
+        said = [it.said() for it in self.factors]
+        if self.may_be_great:
+            return Value(limited(self.product()), f"({said[0].code}).saturating_mul({said[1].code})")
+        if len(said) == 1 and self.times == 1:
+            return said[0]
+        codes = [f"({it.code})" if " / " in it.code else it.code for it in said]
+        return Value(self.product(), " * ".join([*([str(self.times)] if self.times > 1 else []), *codes]))
+
+
+def limited(said: str) -> str:
+    return f"min ({said}) (2 ^ 64 - 1)"
+
+
+@dataclass(frozen=True)
+class Sum:
+    """Terms and a number, without another such sum, `less`."""
+
+    terms: Tuple[Term, ...]
+    number: int
+    less: "Optional[Sum]" = None
+    text: str = ""
 
     @property
     def parts(self) -> "List[Sum]":
         """Its terms, of which each is subtracted by itself if one is a length, since their sum may not fit `usize`."""
-        if not any(name.endswith("()") for name, _ in self.terms):
+        if not any(it.is_length for it in self.terms):
             return [self]
-        terms = [Sum((it,), 0, None, "") for it in self.terms]
-        return [*terms, *([Sum((), self.number, None, "")] if self.number else [])]
+        return [*(Sum((it,), 0) for it in self.terms), *([Sum((), self.number)] if self.number else [])]
 
     @property
     def steps(self) -> List[Value]:
@@ -49,15 +126,17 @@ class Sum:
         return Sum(self.terms, self.number, None, self.text)
 
     def said(self) -> Value:
-        ghosts = [f"@{name}@" if times == 1 else f"{times} * @{name}@" for name, times in self.terms]
-        codes = [as_usize(name) if times == 1 else f"{times} * {as_usize(name)}" for name, times in self.terms]
+        said = [it.said() for it in self.terms]
         number = [str(self.number)] if self.number or not self.terms else []
-        ghost, code = " + ".join([*ghosts, *number]), " + ".join([*codes, *number])
+        ghost, code = (" + ".join([*it, *number]) for it in ([one.ghost for one in said], [one.code for one in said]))
         if self.less:
             ghost, code = bracketed(ghost), bracketed(code)
             for it in self.less.steps:
                 ghost, code = f"{ghost} - {bracketed(it.ghost)}", f"{code}.saturating_sub({it.code})"
         return Value(ghost, code)
+
+
+NO_SUM = Sum((), 0)
 
 
 def bracketed(text: str) -> str:
@@ -66,50 +145,7 @@ def bracketed(text: str) -> str:
 
 
 def as_usize(name: str) -> str:
-    return f"@{name}@" if name.endswith("()") else f"@{name}@ as usize"
-
-
-class Condition(NamedTuple):
-    """A number is compared with a literal one; or a bit of it is there or not, where `bit` isn't 0."""
-
-    name: str
-    sign: str
-    number: int
-    bit: int
-    text: str
-
-    @property
-    def of_bit(self) -> str:
-        return f"@{self.name}@ % 2" if self.bit == 1 else f"@{self.name}@ / {self.bit} % 2"
-
-    def said(self) -> Value:
-        """The condition as a value of `bool`."""
-        it, n = f"@{self.name}@", self.number
-        if self.bit:
-            return Value(f"(nat_eq ({self.of_bit}) {n})", f"{self.of_bit} == {n}")
-        return {
-            "==": Value(f"(nat_eq {it} {n})", f"{it} == {n}"),
-            "!=": Value(f"(nat_lt 0 {it})", f"{it} > 0"),
-            "<": Value(f"(nat_lt {it} {n})", f"{it} < {n}"),
-            "<=": Value(f"(nat_lt {it} {n + 1})", f"{it} < {n + 1}"),
-            ">": Value(f"(nat_lt {n} {it})", f"{it} > {n}"),
-            ">=": Value(f"(nat_lt {n - 1} {it})", f"{it} > {n - 1}"),
-        }[self.sign]
-
-
-    def sides(self) -> Tuple[str, str]:
-        """The condition, and that it isn't so, as propositions."""
-        it, n = f"@{self.name}@", self.number
-        if self.bit:
-            it = self.of_bit
-        return {
-            "==": (f"({it} ≡ {n})", f"({it} ≢ {n})"),
-            "!=": (f"(0 < {it})", f"({it} ≡ 0)"),
-            "<": (f"({it} < {n})", f"({n} ≤ {it})"),
-            "<=": (f"({it} ≤ {n})", f"({n} < {it})"),
-            ">": (f"({n} < {it})", f"({it} ≤ {n})"),
-            ">=": (f"({n} ≤ {it})", f"({it} < {n})"),
-        }[self.sign]
+    return Factor(name).said().code
 
 
 def number_of(text: str) -> int:
@@ -132,89 +168,98 @@ def read_path(tokens: Tokens) -> str:
     return name
 
 
-class SumReader:
-    """Reads a sum. `fail` is called where there is none."""
-
-    def __init__(self, note: Note, fail: Callable[[], None]) -> None:
-        self.tokens, self.text, self.fail = Tokens(note.value.path, note.value.tokens), note.text, fail
-
-    def read(self) -> Sum:
-        terms, number, less, less_number = self.expression()
-        if not self.tokens.is_done or (less_number or less) and not terms:
-            self.fail()
-        below = Sum(tuple(less), less_number, None, side_text(less, less_number)) if less or less_number else None
-        return Sum(tuple(terms), number, below, side_text(terms, number) if below else self.text)
-
-    def expression(self) -> Tuple[List[Tuple[str, int]], int, List[Tuple[str, int]], int]:
-        terms: List[Tuple[str, int]] = []
-        less: List[Tuple[str, int]] = []
-        number = less_number = 0
-        is_less = False
-        while True:
-            found, more = self.term()
-            if is_less:
-                less, less_number = [*less, *found], less_number + more
-            else:
-                terms, number = [*terms, *found], number + more
-            sign = self.tokens.next.text
-            if sign not in ("+", "-"):
-                return terms, number, less, less_number
-            self.tokens.take()
-            is_less = sign == "-"
-
-    def term(self) -> Tuple[List[Tuple[str, int]], int]:
-        found, number = self.factor()
-        if self.tokens.has("*"):
-            others, times = self.factor()
-            if (found and others) or not (found or others):
-                self.fail()
-            return [(name, it * (times if found else number)) for name, it in found or others], 0
-        return found, number
-
-    def factor(self) -> Tuple[List[Tuple[str, int]], int]:
-        token = self.tokens.next
-        if token.text == "(":
-            outer, self.tokens = self.tokens, self.tokens.inside()
-            terms, number, less, less_number = self.expression()
-            if less or less_number or not self.tokens.is_done:
-                self.fail()
-            self.tokens = outer
-            return terms, number
-        if token.kind == "number":
-            number = number_of(self.tokens.take().text)
-            if number < 0:
-                self.fail()
-            return [], number
-        name = read_path(self.tokens)
-        if not name or not (name.endswith("()") or self.tokens.has("as", "usize")):
-            self.fail()
-        return [(name, 1)], 0
+class NoSum(Exception):
+    """A note has no sum."""
 
 
-def side_text(terms: List[Tuple[str, int]], number: int) -> str:
+def read_sum(note: Note, lengths: Sequence[str]) -> Optional[Sum]:
+    """Returns a sum, in which the numbers that are `lengths` are `usize`, or nothing where a note has none."""
+    try:
+        shift = read_shift(note.tokens)
+        whole, less = (Sum((shift,), 0), NO_SUM) if shift else read_sides(note.tokens, lengths)
+    except NoSum:
+        return None
+    if less == NO_SUM:
+        return replace(whole, text=note.text)
+    less = replace(less, text=side_text(less))
+    return Sum(whole.terms, whole.number, less, side_text(whole)) if whole.terms else None
+
+
+def read_shift(tokens: Tokens) -> Optional[Term]:
+    """Reads all tokens, where they begin with a number that is shifted."""
+    number = number_of(tokens.take().text)
+    if not tokens.has("<", "<"):
+        return None
+    by, modulus, more = tokens.inside() if tokens.next.text == "(" else tokens, 0, 0
+    name = read_path(by)
+    by.has("as", "usize")
+    if by.has("%"):
+        modulus = number_of(by.take().text)
+    if by is not tokens and by.has("+"):
+        more = number_of(by.take().text)
+    if number < 1 or not name or name.endswith("()") or min(modulus, more) < 0 or not (by.is_done and tokens.is_done):
+        raise NoSum
+    return Term((), 1, Shift(number, name, modulus, more))
+
+
+def read_sides(tokens: Tokens, lengths: Sequence[str]) -> Tuple[Sum, Sum]:
+    """Reads all tokens: what is added, and what is subtracted."""
+    sides = [NO_SUM, NO_SUM]
+    side = 0
+    while True:
+        found = read_term(tokens, lengths)
+        sides[side] = Sum(sides[side].terms + found.terms, sides[side].number + found.number)
+        if tokens.is_done:
+            return sides[0], sides[1]
+        if tokens.next.text not in ("+", "-"):
+            raise NoSum
+        side = int(tokens.take().text == "-")
+
+
+def read_term(tokens: Tokens, lengths: Sequence[str]) -> Sum:
+    found = read_factor(tokens, lengths)
+    if not found.terms and tokens.next.text != "*":
+        return found
+    while tokens.has("*"):
+        is_bracketed, other = tokens.next.text == "(", read_factor(tokens, lengths)
+        if not is_bracketed and any(it.by > 1 for term in other.terms for it in term.factors):
+            raise NoSum  # (a product would be divided)
+        found = times(found, other)
+    if not found.terms:
+        raise NoSum
+    return found
+
+
+def times(one: Sum, other: Sum) -> Sum:
+    """Returns a product, of which one is a number, or both are terms."""
+    if not one.terms:
+        one, other = other, one
+    if other.terms and (other.number or one.number or len(one.terms) + len(other.terms) > 2):
+        raise NoSum
+    by = other.terms[0] if other.terms else Term((), other.number)
+    terms = (replace(it, factors=it.factors + by.factors, times=it.times * by.times) for it in one.terms)
+    return Sum(tuple(terms), one.number * other.number)
+
+
+def read_factor(tokens: Tokens, lengths: Sequence[str]) -> Sum:
+    if tokens.next.text == "(":
+        whole, less = read_sides(tokens.inside(), lengths)
+        found = whole if less == NO_SUM else None
+    elif tokens.next.kind == "number":
+        number = number_of(tokens.take().text)
+        found = Sum((), number) if number >= 0 else None
+    else:
+        name = read_path(tokens)
+        if not name or not (tokens.has("as", "usize") or name.endswith("()") or name in lengths):
+            raise NoSum
+        by = number_of(tokens.take().text) if tokens.has("/") else 0
+        found = Sum((Term((Factor(name, by or 1),)),), 0) if by == 0 or by > 1 else None
+    if not found:
+        raise NoSum
+    return found
+
+
+def side_text(side: Sum) -> str:
     """Returns a side of a difference as a message says it."""
-    said = [name if times == 1 else f"{name} * {times}" for name, times in terms]
-    return " + ".join([*said, *([str(number)] if number or not said else [])])
-
-
-def read_condition(note: Note) -> Optional[Condition]:
-    """Returns a condition, or nothing where a note has none that is supported."""
-    tokens = Tokens(note.value.path, note.value.tokens)
-    name = read_path(tokens)
-    if not name or name.endswith("()"):
-        return None
-    bit = 0
-    if tokens.has("&"):
-        bit = number_of(tokens.take().text)
-        if bit <= 0 or bit & (bit - 1):
-            return None
-    sign, number = tokens.take().text, number_of(tokens.take().text)
-    if not tokens.is_done or number < 0 or sign not in ("==", "!=", "<", "<=", ">", ">="):
-        return None
-    if bit:
-        if sign not in ("==", "!=") or number not in (0, bit):
-            return None
-        return Condition(name, "==", int((sign == "==") == (number == bit)), bit, note.text)
-    if (sign == "!=" and number) or (sign == ">=" and not number):
-        return None
-    return Condition(name, sign, number, 0, note.text)
+    said = [it.text for it in side.terms]
+    return " + ".join([*said, *([str(side.number)] if side.number or not said else [])])

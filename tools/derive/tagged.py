@@ -1,70 +1,68 @@
 """Prints the parts of an enum whose first part is its own tag: a head, and one of its values."""
 
-from typing import TYPE_CHECKING, List
+from typing import List
 
-from text import WIDTH, Tree, call_lines, flat, impl_lines, lifetime, signature_lines
+from model import Enum
+from sums import Value
+from text import WIDTH, lifetime
 
-if TYPE_CHECKING:
-    from printing import Printer
 
+def tagged_texts(form: Enum, error: str, parts: str, context: str, said: Value) -> List[str]:
+    """Returns the implementations of `Part` and `ReadPart`. The parts are a pair in a context."""
+    cases = form.cases([f"(record {{ 0 = {it.tags[0]} }}, {form.ghost(at)})" for at, it in enumerate(form.variants)], 10)
 
-def tagged_blocks(printer: "Printer", parts: str, context: str, ghost: str, code: Tree) -> List[List[str]]:
-    """Returns the implementations of `Part` and `ReadPart`. The parts are a pair in a context, which is said twice."""
-    form, error = printer.form, printer.error
-    said = [f"(record {{ 0 = {it.tag} }}, {form.ghost(at)})" for at, it in enumerate(form.variants)]
-    format_ = [
-        f"    ghost format = {{ λ _. last (⟦<{parts} as Part<{context}, {error}>>⟧.format",
-        f"        ({ghost}))",
-        "        (elim [",
-        *form.cases(said, 10),
-        "        ]) };",
-    ]
-    ctx = "_ctx: &()"
+    def format_of(part: str) -> str:
+        return f"""    ghost format = {{ λ _. last (⟦<{parts} as {part}{context}, {error}>>⟧.format
+        ({said.ghost}))
+        (elim [{cases}
+        ]) }};"""
 
-    def calls(name: str, arguments: List[str]) -> List[str]:
-        lines = [f"        let ctx = {flat(code)};", "        match self {"]
+    def calls(name: str, arguments: str) -> str:
+        text = f"        let ctx = {said.code};\n        match self {{"
         for at, it in enumerate(form.variants):
-            value = it.code
-            for way in reversed(form.ways(at)):
-                value = f"{way}({value})"
-            call = call_lines(f"Part::<{context}, {error}>::{name}", ["&parts", *arguments, "&ctx"], "", 16)
-            made = [f"                let value = {value};", f"                let parts: {parts} = (Run({it.tag}), value);"]
-            lines += [f"            {form.pattern(it)} => {{", *made, *call, "            }"]
-        return [*lines, "        }", "    }"]
+            text += f"""
+            {form.pattern(it)} => {{
+                let value = {form.chosen(at, it.code)};
+                let parts: {parts} = (Run({it.tags[0]}), value);
+                Part::<{context}, {error}>::{name}(&parts, {arguments}, &ctx)
+            }}"""
+        return f"{text}\n        }}"
 
-    written = [
-        *impl_lines(lifetime(form.type), "Part", ["()", error], form.type),
-        *format_,
-        "",
-        *signature_lines("check", ["&self", "order: Endian", ctx], f"Result<(), {error}>", " {", 4),
-        *calls("check", ["order"]),
-        "",
-        *signature_lines("size", ["&self", "order: Endian", ctx], "usize", " {", 4),
-        *calls("size", ["order"]),
-        "",
-        "    #[inline(always)]",
-        *signature_lines("put", ["&self", "dst: &mut [u8]", "order: Endian", ctx], "", " {", 4),
-        *calls("put", ["dst", "order"]),
-        "}",
+    read = f"let (read, end) = <{parts} as ReadPart<'a, {context}, {error}>>::read_at"
+    line = f"        {read}(from, offset, order, &ctx)?;"
+    line = line if len(line) <= WIDTH else f"        {read}(\n            from, offset, order, &ctx,\n        )?;"
+    arms = [
+        it.arm(f"({it.tags[0]}, {form.chosen(at, it.pattern)})", f"Ok(({form.pattern(it)}, end))")
+        for at, it in enumerate(form.variants)
     ]
-    arguments = ["from: &'a [u8]", "offset: usize", "order: Endian", ctx]
-    whole = f"let (read, end) = <{parts} as ReadPart<'a, {context}, {error}>>::read_at"
-    read = [f"        {whole}(from, offset, order, &ctx)?;"]
-    arms = [it.arm(form.ways(at), f"({it.tag}, {{}})", f"Ok(({form.pattern(it)}, end))") for at, it in enumerate(form.variants)]
-    reader = [
-        *impl_lines("<'a>", "ReadPart", ["'a", "()", error], form.type),
-        *[it.replace(" as Part<", " as ReadPart<'a, ") for it in format_],
-        "",
-        "    #[inline(always)]",
-        *signature_lines("read_at", arguments, f"Result<({form.type}, usize), {error}>", " {", 4),
-        f"        let ctx = {flat(code)};",
-        *(read if len(read[0]) <= WIDTH else [f"        {whole}(", "            from, offset, order, &ctx,", "        )?;"]),
-        "        let (Run(tag), value) = read;",
-        "        match (tag, value) {",
-        *(line for it in arms for line in it),
-        "            _ => unreachable!(),",
-        "        }",
-        "    }",
-        "}",
+    return [
+        f"""impl{lifetime(form.type)} Part<(), {error}> for {form.type} {{
+{format_of("Part<")}
+
+    fn check(&self, order: Endian, _ctx: &()) -> Result<(), {error}> {{
+{calls("check", "order")}
+    }}
+
+    fn size(&self, order: Endian, _ctx: &()) -> usize {{
+{calls("size", "order")}
+    }}
+
+    #[inline(always)]
+    fn put(&self, dst: &mut [u8], order: Endian, _ctx: &()) {{
+{calls("put", "dst, order")}
+    }}
+}}""",
+        f"""impl<'a> ReadPart<'a, (), {error}> for {form.type} {{
+{format_of("ReadPart<'a, ")}
+
+    #[inline(always)]
+    fn read_at(from: &'a [u8], offset: usize, order: Endian, _ctx: &()) -> Result<({form.type}, usize), {error}> {{
+        let ctx = {said.code};
+{line}
+        let (Run(tag), value) = read;
+        match (tag, value) {{{"".join(arms)}
+            _ => unreachable!(),
+        }}
+    }}
+}}""",
     ]
-    return [written, reader]

@@ -1,23 +1,15 @@
-"""Text in the layout of `rt fmt`.
+"""Text: tuples and calls, and the layout of `rt fmt`.
 
-A tree is a text, a tuple of trees, or a call with trees as arguments.
+What is printed is made on lines of any length; `lay_out` breaks those that `rt fmt` would.
 """
 
 import re
-from typing import Any, Callable, Dict, List, NamedTuple, Sequence, Tuple, Union
-
-
-class Call(NamedTuple):
-    name: str
-    arguments: Tuple[Any, ...]
-
-
-Tree = Union[str, Tuple[Any, ...], Call]
+from typing import Callable, Iterator, List, Sequence, Tuple
 
 # A tuple has at most so many parts.
 MOST = 4
 
-# The longest line; the longest inside of a tuple or a call before its parts are on separate lines; and of a struct's expression.
+# The longest line; and the longest inside of a tuple or a call, and of a struct's expression, that stands on one.
 WIDTH, INSIDE, SHORT = 100, 60, 18
 
 # The words that antt reserves and that can be the name of a field here.
@@ -37,7 +29,33 @@ def alias_of(name: str) -> str:
     return re.sub(r"(?<=[a-z0-9])(?=[A-Z])", "_", name).lower() + "_is"
 
 
-def lengths(count: int) -> List[int]:
+def lifetime(type_: str) -> str:
+    return "<'a>" if "'a" in type_ else ""
+
+
+# Tuples and calls
+
+
+def call(name: str, *arguments: str) -> str:
+    """Returns a call, or a tuple where it has no name."""
+    return f"{name}({', '.join(arguments)})"
+
+
+def record(*items: str) -> str:
+    """Returns a struct in the logic."""
+    return "record { " + "; ".join(f"{at} = {it}" for at, it in enumerate(items)) + " }" if items else "record {}"
+
+
+def right(parts: Sequence[str]) -> str:
+    """Returns parts in pairs, in the second place of which the next one stands."""
+    return parts[0] if len(parts) == 1 else call("", parts[0], right(parts[1:]))
+
+
+def in_tuple(parts: Sequence[str]) -> str:
+    return call("", *parts)
+
+
+def groups(count: int) -> List[int]:
     """Returns how many parts each part of the outer tuple has."""
     most = 1
     while MOST * most < count:
@@ -45,204 +63,179 @@ def lengths(count: int) -> List[int]:
     return [min(most, count - at) for at in range(0, count, most)]
 
 
-def nested(parts: Sequence[Tree]) -> Tree:
+def nested(parts: Sequence[str], made: Callable[[Sequence[str]], str] = in_tuple) -> str:
     """Returns parts in tuples of two to four, nested where there are more."""
     if len(parts) == 1:
         return parts[0]
-    trees: List[Tree] = []
-    at = 0
-    for length in lengths(len(parts)):
-        trees.append(nested(parts[at : at + length]))
-        at += length
-    return tuple(trees)
+    left = [*parts]
+    return made([nested([left.pop(0) for _ in range(count)], made) for count in groups(len(parts))])
 
 
-def right(parts: Sequence[Tree]) -> Tree:
-    """Returns parts in pairs, in the second place of which the next one stands."""
-    return parts[0] if len(parts) == 1 else (parts[0], right(parts[1:]))
-
-
-def paths(count: int, path: str) -> List[str]:
-    """Returns the path to each part of nested tuples, in order."""
+def paths(count: int, path: str, in_pairs: bool = False) -> List[str]:
+    """Returns the path to each part of nested tuples; or where a tuple is a pair of its first part and the others."""
     if count == 1:
         return [path]
-    return [it for index, length in enumerate(lengths(count)) for it in paths(length, f"{path}.{index}")]
+    counts = groups(count)
+    ends = [".1" * at + ".0" * (at + 1 < len(counts)) if in_pairs else f".{at}" for at in range(len(counts))]
+    return [it for end, length in zip(ends, counts) for it in paths(length, path + end, in_pairs)]
 
 
-def pair_paths(count: int, path: str) -> List[str]:
-    """Returns the path to each part where a tuple is a pair of its first part and the others."""
-    if count == 1:
-        return [path]
-    found: List[str] = []
-    parts = lengths(count)
-    for index, length in enumerate(parts):
-        found += pair_paths(length, path + ".1" * index + (".0" if index < len(parts) - 1 else ""))
-    return found
+# Layout
 
 
-def in_pairs(tree: Tree) -> Tree:
-    """Returns nested tuples where a tuple is a pair of its first part and the others."""
-    if isinstance(tree, (str, Call)):
-        return tree
-    *parts, whole = (in_pairs(part) for part in tree)
-    while parts:
-        whole = (parts.pop(), whole)
-    return whole
-
-
-def flat(tree: Tree) -> str:
-    """Returns a tree on one line."""
-    if isinstance(tree, str):
-        return tree
-    name, parts = (tree.name, tree.arguments) if isinstance(tree, Call) else ("", tree)
-    return f"{name}({', '.join(flat(part) for part in parts)})"
-
-
-def each(tree: Tree, change: Callable[[str], str]) -> Tree:
-    """Returns a tree with its texts changed."""
-    if isinstance(tree, str):
-        return change(tree)
-    if isinstance(tree, Call):
-        return Call(change(tree.name), tuple(each(it, change) for it in tree.arguments))
-    return tuple(each(it, change) for it in tree)
-
-
-def lifetime(tree: Tree) -> str:
-    return "<'a>" if "'a" in flat(tree) else ""
-
-
-def broken(head: str, tree: Tree, tail: str, indent: int, inside: int) -> List[str]:
-    """Returns a tree after `head` and before `tail`: on one line, if its inside has at most so many letters, or part by part."""
-    line = f"{' ' * indent}{head}{flat(tree)}{tail}"
-    if isinstance(tree, str):
-        return [line]
-    name, parts = (tree.name, tree.arguments) if isinstance(tree, Call) else ("", tree)
-    if len(flat(tree)) - len(name) - 2 <= inside and len(line) <= WIDTH:
-        return [line]
-    lines = [f"{' ' * indent}{head}{name}("]
-    for part in parts:
-        lines += broken("", part, ",", indent + 4, inside)
-    return [*lines, f"{' ' * indent}){tail}"]
-
-
-def tuple_lines(head: str, tree: Tree, tail: str, indent: int) -> List[str]:
-    """Returns a tuple in code."""
-    return broken(head, tree, tail, indent, INSIDE)
-
-
-def pattern_lines(head: str, tree: Tree, tail: str, indent: int) -> List[str]:
-    """Returns a pattern, which is on one line where that has room, and then perhaps what is taken apart on the next one."""
-    first, _, rest = tail.partition("= ")
-    line = f"{' ' * indent}{head}{flat(tree)}{first}="
-    if len(line) <= WIDTH < len(line) + 1 + len(rest):
-        return [line, f"{' ' * (indent + 4)}{rest}"]
-    return broken(head, tree, tail, indent, WIDTH)
-
-
-def call_lines(head: str, arguments: Sequence[str], tail: str, indent: int) -> List[str]:
-    """Returns a call of what `head` ends in."""
-    return tuple_lines(head, tuple(arguments), tail, indent)
-
-
-def struct_lines(name: str, fields: Sequence[Tuple[str, str]], is_tuple: bool, indent: int, tail: str = "") -> List[str]:
-    """Returns the expression that makes a struct of its fields, by their names and values."""
-    space = " " * indent
-    if is_tuple:
-        return call_lines(name, [value for _, value in fields], tail, indent)
-    named = [key if key == value else f"{key}: {value}" for key, value in fields]
-    if len(", ".join(named)) <= SHORT:
-        return [f"{space}{name} {{ {', '.join(named)} }}{tail}"]
-    return [f"{space}{name} {{", *(f"{space}    {it}," for it in named), f"{space}}}{tail}"]
-
-
-def signature_lines(name: str, arguments: Sequence[str], result: str, tail: str, indent: int) -> List[str]:
-    """Returns the head of a function: its arguments are on separate lines where one line has no room."""
-    space = " " * indent
-    line = f"{space}fn {name}({', '.join(arguments)}){f' -> {result}' if result else ''}{tail}"
-    if len(line) <= WIDTH:
-        return [line]
-    end = f"{space}){f' -> {result}' if result else ''}{tail}"
-    return [f"{space}fn {name}(", *(f"{space}    {it}," for it in arguments), end]
-
-
-def impl_lines(life: str, trait: str, arguments: Sequence[str], of: str) -> List[str]:
-    """Returns the head of an implementation."""
-    of_these = f"<{', '.join(arguments)}>" if arguments else ""
-    line = f"impl{life} {trait}{of_these} for {of} {{"
-    if len(line) <= WIDTH:
-        return [line]
-    return [f"impl{life} {trait}<", *(f"    {it}," for it in arguments), f"> for {of} {{"]
-
-
-def use_lines(imports: Dict[str, Sequence[str]]) -> List[str]:
-    """Returns `use` lines: the names that are imported from each module."""
-    lines: List[str] = []
-    for module, names in imports.items():
-        names = sorted(set(names))
-        if not names:
-            continue
-        line = f"use {module}::{names[0]};" if len(names) == 1 else f"use {module}::{{{', '.join(names)}}};"
-        if len(line) <= WIDTH:
-            lines.append(line)
-            continue
-        lines.append(f"use {module}::{{")
-        row = "   "
-        for name in names:
-            if len(row) + len(name) + 2 >= WIDTH:
-                lines.append(row)
-                row = "   "
-            row += f" {name},"
-        lines += [row, "};"]
-    return lines
-
-
-def ghost_lines(imports: Dict[str, Sequence[str]]) -> List[str]:
-    """Returns `ghost use` lines, with the names in the order given."""
-    return [f"ghost use {module}.{{{', '.join(dict.fromkeys(names))}}};" for module, names in imports.items() if names]
-
-
-def split_top(text: str, sign: str) -> List[str]:
-    """Returns the parts of a text between signs outside brackets and quotes."""
-    parts, depth, start, is_quoted = [], 0, 0, False
+def outside(text: str) -> Iterator[Tuple[int, str]]:
+    """Returns the letters of a text outside brackets and quotes, with their places, and the brackets that are closed."""
+    depth, is_quoted = 0, False
     for place, char in enumerate(text):
         is_quoted ^= char == '"'
         if is_quoted:
             continue
-        depth += (char in "({[") - (char in ")}]")
-        if depth == 0 and text.startswith(f"{sign} ", place):
-            parts.append(text[start:place])
-            start = place + len(sign) + 1
-    return [*parts, text[start:]]
+        before = text[place - 1 : place]
+        depth -= char in ")}]" or (char == ">" and before not in (" ", "-", "="))
+        if depth == 0:
+            yield place, char
+        depth += char in "({[" or (char == "<" and before not in ("", " "))
+
+
+def split_top(text: str, sign: str) -> List[str]:
+    """Returns the parts of a text between signs."""
+    places = [place for place, char in outside(text) if char == sign and text.startswith(" ", place + 1)]
+    return [text[start:end] for start, end in zip([0, *(it + 2 for it in places)], [*places, len(text)])]
 
 
 def is_whole(text: str, opening: str) -> bool:
     """Returns whether the bracket that a text begins with is closed at its end."""
-    depth = 0
-    for place, char in enumerate(text[len(opening) - 1 :], len(opening) - 1):
-        depth += (char in "({[") - (char in ")}]")
-        if depth == 0:
-            return text.startswith(opening) and place == len(text) - 1
-    return False
+    return text.startswith(opening) and next((at for at, char in outside(text) if char in ")}]"), -1) == len(text) - 1
 
 
-def ghost_text(head: str, text: str, tail: str, indent: int) -> List[str]:
+def broken(head: str, text: str, tail: str, indent: int, inside: int = INSIDE) -> List[str]:
+    """Returns a tuple or a call on one line, if its inside has at most so many letters, or part by part."""
+    line = f"{' ' * indent}{head}{text}{tail}"
+    opening = re.match(r"[\w:]*\(", text)
+    if not opening or not is_whole(text, opening[0]):
+        return [line]
+    within = text[opening.end() : -1]
+    if len(within) <= inside and len(line) <= WIDTH:
+        return [line]
+    parts = split_top(within, ",")
+    if len(parts) == 1 and (opening[0] == "(" or (len(line) <= WIDTH and not within.endswith(")"))):
+        return [line]
+    lines = [row for part in parts for row in broken("", part, ",", indent + 4, inside)]
+    return [f"{' ' * indent}{head}{opening[0]}", *lines, f"{' ' * indent}){tail}"]
+
+
+def lay_out_ghost(head: str, text: str, tail: str, indent: int) -> List[str]:
     """Returns a clause. A long one is broken in its brackets, or before its signs."""
     space = " " * indent
     line = f"{space}{head}{text}{tail}"
     if len(line) <= WIDTH:
         return [line]
     if is_whole(text, "(") and len(split_top(text[1:-1], ",")) > 1:
-        inside = [row for part in split_top(text[1:-1], ",") for row in ghost_text("", part, ",", indent + 2)]
+        inside = [row for part in split_top(text[1:-1], ",") for row in lay_out_ghost("", part, ",", indent + 2)]
         return [f"{space}{head}(", *inside, f"{space}){tail}"]
     if is_whole(text, "record {"):
         fields = [part.partition(" = ") for part in split_top(text[8:-1].strip(), ";")]
-        inside = [row for name, _, value in fields for row in ghost_text(f"{name} = ", value, ";", indent + 2)]
+        inside = [row for name, _, value in fields for row in lay_out_ghost(f"{name} = ", value, ";", indent + 2)]
         return [f"{space}{head}record {{", *inside, f"{space}}}{tail}"]
-    lines, row = [], f"{space}{head}".rstrip()
-    for word in re.split(r" (?=[×⊎] |\(codes )", text + tail):
-        if len(row) + 1 + len(word) > WIDTH and row.strip():
+    return filled(f"{space}{head}".rstrip(), re.split(r" (?=[×⊎] |\(codes )", text + tail), " " * (indent + 3))
+
+
+def filled(row: str, words: Sequence[str], space: str, width: int = WIDTH) -> List[str]:
+    """Returns words behind the first row in rows of the full width."""
+    lines = []
+    for word in words:
+        if len(row) + 1 + len(word) > width and row.strip():
             lines.append(row)
-            row = f"{' ' * (indent + 4)}{word}"
-        else:
-            row += f" {word}"
+            row = space
+        row += f" {word}"
     return [*lines, row]
+
+
+def lay_out_struct(head: str, inside: str, tail: str, indent: int) -> List[str]:
+    """Returns the expression that makes a struct of its fields."""
+    if len(inside) <= SHORT:
+        return [f"{' ' * indent}{head} {{ {inside} }}{tail}"]
+    space = " " * indent
+    return [f"{space}{head} {{", *(f"{space}    {it}," for it in split_top(inside, ",")), f"{space}}}{tail}"]
+
+
+def lay_out_pattern(head: str, pattern: str, value: str, indent: int) -> List[str]:
+    """Returns a pattern, which is on one line where that has room, and then perhaps what is taken apart on the next one."""
+    line = f"{' ' * indent}{head}{pattern} ="
+    if len(line) <= WIDTH < len(line) + 1 + len(value):
+        return [line, f"{' ' * (indent + 4)}{value}"]
+    return broken(head, pattern, f" = {value}", indent, WIDTH)
+
+
+def lay_out_list(head: str, items: str, tail: str, indent: int) -> List[str]:
+    """Returns the arguments of a function or of a trait: on separate lines where one line has no room."""
+    line = f"{' ' * indent}{head}{items}{tail}"
+    if len(line) <= WIDTH:
+        return [line]
+    return [f"{' ' * indent}{head}", *(f"{' ' * indent}    {it}," for it in split_top(items, ",")), f"{' ' * indent}{tail}"]
+
+
+def lay_out_use(head: str, names: str, tail: str, indent: int) -> List[str]:
+    line = f"{head}{names}{tail}"
+    words = [f"{it}," for it in split_top(names, ",")]
+    return [line] if len(line) <= WIDTH else [head, *filled("   ", words, "   ", WIDTH - 1), tail]
+
+
+def lay_out_type(head: str, text: str, tail: str, indent: int) -> List[str]:
+    """Returns a type, of which a long one is broken in its angle brackets."""
+    line = f"{' ' * indent}{head}{text}{tail}"
+    if len(line) <= WIDTH or not text.endswith(">"):
+        return [line]
+    name, _, inside = text[:-1].partition("<")
+    places, depth = [], 0
+    for at, char in enumerate(inside):
+        depth += (char in "<([") - (char in ">)]")
+        places += [at] if char == "," and not depth else []
+    parts = [inside[start:end].strip() for start, end in zip([0, *(it + 1 for it in places)], [*places, len(inside)])]
+    rows = [row for part in parts for row in lay_out_type("", part, ",", indent + 4)]
+    return [f"{' ' * indent}{head}{name}<", *rows, f"{' ' * indent}>{tail}"]
+
+
+def lay_out_chain(root: str, calls: str, tail: str, indent: int) -> List[str]:
+    """Returns subtractions behind one another, on lines of their own if they are long."""
+    if len(root + calls) <= INSIDE:
+        return [f"{' ' * indent}{root}{calls}{tail}"]
+    rows = re.split(r"(?=\.saturating_sub\()", calls)[1:]
+    return [f"{' ' * indent}{root}", *(f"{' ' * indent}    {it}" for it in rows[:-1]), f"{' ' * indent}    {rows[-1]}{tail}"]
+
+
+def lay_out_arm(pattern: str, value: str, indent: int) -> List[str]:
+    """Returns the arm of a match, whose value may be one call in another."""
+    line, space = f"{' ' * indent}{pattern} => {value},", " " * indent
+    calls = re.fullmatch(r"((?:[\w:]+\()+)([^(]*?)(\)+)", value)
+    if len(line) <= WIDTH or not calls:
+        return [line]
+    if len(value) - len(value.partition("(")[0]) - 2 <= INSIDE:
+        return [f"{space}{pattern} =>", f"{space}    {value},"]
+    return [f"{space}{pattern} => {calls[1]}", f"{space}    {calls[2]},", f"{space}{calls[3]},"]
+
+
+# How a line is laid out that is written so.
+LAYOUTS: Sequence[Tuple[str, Callable[..., List[str]]]] = (
+    (r"(ghost \w+ = \{ (?:λ [^.]*\. )?)(.*)( \};)", lay_out_ghost),
+    (r"(use [\w:]+::\{)(.*)(\};)", lay_out_use),
+    (r"(impl\S* \w+<)(.*)(> for .* \{)", lay_out_list),
+    (r"(fn \w+\()(.*)(\)(?: -> .*)?(?: \{)?)", lay_out_list),
+    (r"(let )([A-Z]?\w*\(.*\)) = (.*;)", lay_out_pattern),
+    (r"([A-Z]\w*) \{ (.*) \}(.*)", lay_out_struct),
+    (r"(type [^=]*= )(\w+<.*>)(;)", lay_out_type),
+    (r"(\([^()]*\))((?:\.saturating_sub\([^()]*(?:\(\))?\))+)([;,]?)", lay_out_chain),
+    (r"((?:type [^=]*= |let \w+ = )?)(.*?)(\??[;,]?)", broken),
+)
+
+
+def lay_out(line: str) -> List[str]:
+    """Returns a line as `rt fmt` breaks it."""
+    said = line.lstrip(" ")
+    pattern, arrow, value = said.partition(" => ")
+    if arrow and value.endswith(","):
+        return lay_out_arm(pattern, value[:-1], len(line) - len(said))
+    if said.startswith("×") or arrow:
+        return [line]
+    found = next((match, made) for form, made in LAYOUTS for match in [re.fullmatch(form, said)] if match)
+    return found[1](*found[0].groups(), len(line) - len(said))

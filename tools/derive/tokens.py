@@ -1,12 +1,14 @@
 """The tokens of Rattle code, and notes, which are comments of one line."""
 
 import re
-from typing import List, NamedTuple, NoReturn, Sequence
+from typing import Iterator, List, NamedTuple, NoReturn, Sequence
 
 # The line that asks for the implementations of a struct or an enum.
 MARK = "#[derive(Pread, Pwrite)]"
 # The same, for what is also written by the calls that say that it reads back, such as `write_kept`.
 KEPT = "#[derive(Pread, Pwrite, Kept)]"
+# The same, for what only stands in others, and isn't read and written alone.
+PART = "#[derive(Part)]"
 TOKEN = re.compile(
     r"""(?P<space>\s+)
     |(?P<doc>//[/!][^\n]*)
@@ -86,14 +88,16 @@ class Tokens:
         self.has(",")
         return found
 
+    def split(self, opening: str = OPENING, closing: str = CLOSING) -> "Iterator[Tokens]":
+        """Takes what stands between commas outside brackets."""
+        while not self.is_done:
+            yield self.until_comma(opening, closing)
+
     @property
     def said(self) -> str:
         """Returns the tokens as code."""
         text = " ".join(it.text for it in self.tokens)
-        for old, new in ((" < ", "<"), ("< ", "<"), (" >", ">"), ("[ ", "["), (" ]", "]"), ("( ", "(")):
-            text = text.replace(old, new)
-        for old, new in ((" )", ")"), (" ,", ","), (" ;", ";"), (" ::", "::"), (":: ", "::"), (" :", ":"), (" . ", ".")):
-            text = text.replace(old, new)
+        text = re.sub(r" ?(<|::) ?| (\.) |(?<=[(\[]) | (?=[)\],;:>])", lambda it: it[1] or it[2] or "", text)
         text = re.sub(r"& (?=['\[]|str\b)", "&", text)
         return re.sub(r"(?<=[\w>]) \((?=\))|(?<=[a-z]) \(", "(", text)
 
@@ -120,7 +124,7 @@ def scan(path: str, text: str, line: int) -> List[Token]:
 
 def read_comment(path: str, comment: str, line: int, is_behind: bool) -> List[Token]:
     """Returns the note or the mark that a comment is, or nothing."""
-    found = re.search(r"#\[(?:scroll\b|derive\(P(?:read|write)\b)", comment)
+    found = re.search(r"#\[(?:scroll\b|derive\(P(?:read|write|art)\b)", comment)
     if not found:
         return []
     text = comment[2:].strip()
@@ -129,7 +133,7 @@ def read_comment(path: str, comment: str, line: int, is_behind: bool) -> List[To
     if comment[2 : found.start()].strip():
         raise Refused(path, line, "there is text before the note: write it on a line of its own")
     if text.startswith("#[derive"):
-        if text not in (MARK, KEPT):
+        if text not in (MARK, KEPT, PART):
             raise Refused(path, line, f"this is not the line `// {MARK}`")
         return [Token("mark", text, line)]
     if not text.startswith("#[scroll(") or not text.endswith(")]"):

@@ -49,9 +49,21 @@ class Derive(unittest.TestCase):
                 printed = self.derived.read_text(encoding="utf-8").split("\n")
                 place = 0
                 for line in wanted.rstrip("\n").split("\n"):
+                    if line.startswith("!"):
+                        self.assertNotIn(line[1:], printed)
+                        continue
                     self.assertIn(line, printed[place:])
                     place = printed.index(line, place) + 1
-                self.assertTrue(all(len(line) <= 100 for line in printed if "use Rattle" not in line))
+                self.assertTrue(all(len(line) <= 100 for line in printed if not line.lstrip().startswith(("ghost use", "×"))))
+
+    def test_what_only_stands_in_others(self) -> None:
+        for mark, count in (("Pread, Pwrite", 2), ("Part", 0)):
+            struct = "pub struct Name<'a> {\n    pub len: u8,\n    // #[scroll(ctx = len as usize)]\n    pub text: &'a [u8],\n}\n"
+            self.file.write_text(f"mod derived;\n// #[derive({mark})]\n{struct}", encoding="utf-8")
+            self.assertEqual(self.call(str(self.crate)), (0, "", ""))
+            printed = self.derived.read_text(encoding="utf-8")
+            self.assertEqual(len(re.findall(r"Ctx<.*> for Name<'a>", printed)), count)
+            self.assertIn("Shape for Name<'a>", printed)
 
     def test_what_is_refused(self) -> None:
         for case in cases("wrong.txt"):
@@ -85,6 +97,30 @@ class Derive(unittest.TestCase):
         (self.crate / "src" / "lib.rt").write_text(text, encoding="utf-8")
         self.assertEqual(self.call(str(self.crate)), (0, "", ""))
         self.assertIn("use super::Point;", (self.crate / "src" / "derived.rt").read_text(encoding="utf-8"))
+
+    def test_the_imports(self) -> None:
+        """A field has a name that another text would import, and a message has a word that is a function's name."""
+        names = ("last", "refuses", "length", "codes", "rules", "one_way", "is", "read_exact")
+        fields = "".join(f"    {it}: u8,\n" for it in names)
+        self.file.write_text(f"// #[derive(Pread, Pwrite)]\nstruct Data {{\n{fields}}}\nmod derived;\n", encoding="utf-8")
+        self.assertEqual(self.call(str(self.crate)), (0, "", ""))
+        head = self.derived.read_text(encoding="utf-8").partition("\n\nimpl")[0].splitlines()
+        wanted = [
+            "// Printed by tools/derive from shapes.rt.",
+            "ghost use Rattle.std.specs.Prelude.{◌≡◌, ◌<◌, ◌^◌, drop};",
+            "ghost use Rattle.std.proofs.Common.{refl, rules};",
+            "ghost use Rattle.scroll.specs.Numbers.{number};",
+            "",
+            "use super::Data;",
+            "use scroll::ctx::{Record, Written};",
+        ]
+        self.assertEqual(head, wanted)
+
+    def test_no_text(self) -> None:
+        self.file.write_bytes(b"\xff")
+        status, out, err = self.call(str(self.crate))
+        self.assertEqual((status, out), (2, ""))
+        self.assertIn(f"derive: {self.file}: 'utf-8'", err)
 
     def test_wrong_calls(self) -> None:
         for words in ((), ("--chek", "a"), ("a", "b")):

@@ -1,0 +1,39 @@
+"""The names that printed text imports, by their modules."""
+
+from typing import Dict, Sequence
+
+PRELUDE = ("◌≡◌", "◌≢◌", "◌<◌", "◌≤◌", "◌+◌", "◌-◌", "◌*◌", "◌/◌", "◌%◌", "◌^◌", "◌⊎◌", "[]", "◌∷◌", "◌&&◌", "◌||◌")
+GHOST: Dict[str, Sequence[str]] = {
+    "Rattle.std.specs.Prelude": (*PRELUDE, "length", "drop", "min", "codes", "nat_eq", "nat_lt", "not", "option_map", "if◌then◌else◌"),
+    "Rattle.std.specs.Float": ("binary32", "binary64"),
+    "Rattle.std.proofs.Common": ("refl", "rules"),
+    "Rattle.scroll.specs.Arrays": ("MakesArray",),
+    "Rattle.scroll.specs.Errors": ("IsBadInput",),
+    "Rattle.scroll.specs.Numbers": ("float", "number", "signed_number"),
+    "Rattle.scroll.specs.lemmas.Frames": ("WritesPrefix-keeps",),
+    "Rattle.scroll_formats.specs.SmallErrors": ("small_error",),
+    "Rattle.scroll_layouts.specs.Errors": ("GivesBadInput", "IsNot"),
+    "Rattle.scroll_layouts.specs.Formats": ("last", "refuses"),
+    "Rattle.scroll_layouts.specs.ListEnds": ("bytes_mark",),
+    "Rattle.scroll_layouts.specs.OneWay": ("one_way",),
+    "Rattle.scroll_layouts.specs.Wholes": ("KeepsWhole", "ReadsBack", "ReadsExact", "ReadsWhole", "WritesWhole"),
+    "Rattle.scroll_layouts.specs.lemmas.WholeLemmas": ("whole-kept",),
+    "Rattle.scroll_layouts.specs.declared.choice.Choice.TheVariants": ("First", "Second"),
+}
+CHOICE = "scroll_layouts::Choice"
+CODE: Dict[str, Sequence[str]] = {
+    "scroll::ctx": ("Record", "TryFromCtx", "TryIntoCtx", "Written"),
+    "scroll": ("BE", "Endian", "Error", "LE"),
+    "scroll_formats": ("Kept", "SmallError", "Table", "Zeros"),
+    CHOICE: ("First", "Second"),
+    "scroll_layouts": tuple(
+        "Behind Certain CertainHead Choice Choose Count Decimal EndMark Ends Field Filled Given Head Headed Hexadecimal Items "
+        "Listed Low Marked NameEnd Octal Ordered Packed Padded Part ReadPart Run Shape Sleb ToMark TwoZeroUlebs U24 Uleb Vlq "
+        "When Within ZeroUleb Zigzag begins_with is read_exact read_whole shifted write_whole".split()
+    ),
+    "std::marker": ("PhantomData",),
+    "std::result": ("Result",),
+}
+# What no struct or enum may be named; and what it may not be beside one of a fixed size, and beside an enum.
+RECORDS, CHOICES = ("Record", "Written"), ("First", "Second")
+TAKEN = {"CStr", "Option", "String", "Vec", *(it for names in CODE.values() for it in names)} - {*RECORDS, *CHOICES}
