@@ -1,5 +1,4 @@
 pub mod SpanLemmas
 pub mod ManyLemmas
 pub mod ZerosLemmas
-pub mod MarkLemmas
 pub mod callers

@@ -3,8 +3,4 @@ pub mod Spans
 pub mod SmallErrors
 pub mod Zeros
 pub mod Tagged
-pub mod Lists
 pub mod Many
--- Lemmas, and no definitions: the implementations cite them for the laws of their traits, which may
--- cite specs/ alone.
-pub mod lemmas

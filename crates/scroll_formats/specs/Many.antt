@@ -1,9 +1,9 @@
 -- Many values, and the elements of a table. The relation `gives` converts an `Error` to `e`.
-use Rattle.std.specs.Prelude.{◌≡◌, ◌≢◌, ◌<◌, ◌≤◌, ◌+◌, ◌++◌, ◌/◌, ◌∷◌, ℕ, List, length, take, drop, ◌⊎◌, Option, MatchOption, codes}
+use Rattle.std.specs.Prelude.{◌≡◌, ◌≢◌, ◌<◌, ◌≤◌, ◌+◌, ◌++◌, ◌/◌, [], ◌∷◌, ℕ, List, length, take, drop, ◌⊎◌, Option, MatchOption, codes}
 use Rattle.scroll.specs.Arrays.{WritesAll}
 use Rattle.scroll.specs.Reads.{ReadsAt, ReadsAll, ReadsBetween, RefusesAt, ReadsSome}
 use Rattle.std.specs.List.{AllZip}
-use Rattle.scroll.specs.Writes.{RefusesWriteAt}
+use Rattle.scroll.specs.Writes.{WritesAt, RefusesWriteAt}
 use Rattle.scroll.specs.Errors.{IsBadInput, PastEnd}
 use Rattle.scroll.specs.declared.error.Error.{Error}
 use Rattle.scroll.specs.declared.error.Error.TheVariants.{NoMemory}
@@ -67,16 +67,37 @@ pub record FailsMany {V E : Type 0} (writes : V → List ℕ → List ℕ → �
   pub each : WritesAll writes old from values mid stop
   pub error : RefusesWriteAt (refuses value) (PastEnd gives) mid stop new e
 
--- those before one of them are written, and `refuses` holds of `stop` and `e`
+-- those before one of them are written, and `refuses` holds of that one, `stop` and `e`
 pub record StopsBefore {V E : Type 0} (writes : V → List ℕ → List ℕ → ℕ → Type 0)
-    (refuses : ℕ → E → Type 0) (old : List ℕ) (from : ℕ) (all : List V) (new : List ℕ) (stop : ℕ)
-    (e : E) : Type 0 where
+    (refuses : V → ℕ → E → Type 0) (old : List ℕ) (from : ℕ) (all : List V) (new : List ℕ)
+    (stop : ℕ) (e : E) : Type 0 where
   pub values : List V
+  pub value : V
   pub others : List V
-  pub split : all ≡ values ++ others
-  pub more : 1 ≤ length others
+  pub split : all ≡ values ++ value ∷ others
   pub each : WritesAll writes old from values new stop
-  pub error : refuses stop e
+  pub error : refuses value stop e
+
+-- an entry describes the value and says the offset `stop`, and `e` says that there is no memory for
+-- it
+pub record LacksEntry {P V E : Type 0} (place : P → ℕ) (describes : P → V → Type 0)
+    (gives : Error → E → Type 0) (value : V) (stop : ℕ) (e : E) : Type 0 where
+  pub entry : P
+  pub there : place entry ≡ stop
+  pub is : describes entry value
+  pub error : gives NoMemory e
+
+-- `WritesPlaced writes place old from entries vs new to`: the values `vs` are written one after
+-- another, from `from` to `to`, each at the offset that its entry says
+abbrev pub WritesPlaced : {P V : Type 0} → (V → List ℕ → List ℕ → ℕ → Type 0) → (P → ℕ) → List ℕ
+    → ℕ → List P → List V → List ℕ → ℕ → Type 0
+WritesPlaced writes place old from [] [] new to = (new ≡ old) × (to ≡ from)
+WritesPlaced writes place old from [] (v ∷ vs) new to = ⊥
+WritesPlaced writes place old from (p ∷ ps) [] new to = ⊥
+WritesPlaced writes place old from (p ∷ ps) (v ∷ vs) new to =
+    (place p ≡ from)
+    × ((mid : List ℕ) × (n : ℕ) × WritesAt (writes v) old from mid n
+    × WritesPlaced writes place mid (from + n) ps vs new to)
 
 -- only bytes between the two offsets may differ
 pub record ChangesBetween (from to : ℕ) (old new : List ℕ) : Type 0 where

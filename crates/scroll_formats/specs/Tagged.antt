@@ -1,36 +1,9 @@
 -- A value after a tag. A tag is a number of `w` bytes that says what follows it, such as the number
 -- of an enum's variant.
 use Rattle.std.specs.Prelude.{◌≡◌, ◌≤◌, ◌<◌, ◌+◌, ℕ, List, length, take, drop, ◌⊎◌}
-use Rattle.scroll.specs.Numbers.{number}
-use Rattle.scroll.specs.Reads.{ReadsAt, RefusesAt}
 use Rattle.scroll.specs.Writes.{FailsAt}
-use Rattle.scroll.specs.declared.endian.Endian.{Endian}
 use Rattle.scroll.specs.declared.error.Error.{Error}
 use Rattle.scroll.specs.declared.error.Error.TheVariants.{TooBig}
-
--- the source has `w` bytes or more, and the number in the first of them is `tag`
-pub record HasTag (order : Endian) (w tag : ℕ) (s : List ℕ) : Type 0 where
-  pub room : w ≤ length s
-  pub is : number order w s ≡ tag
-
--- a tag is read, and a value after it by `reads`, in `n` bytes
-pub record ReadsTagged {V : Type 0} (order : Endian) (w tag : ℕ) (reads : List ℕ → V → ℕ → Type 0)
-    (s : List ℕ) (x : V) (n : ℕ) : Type 0 where
-  pub tagged : HasTag order w tag s
-  pub size : ℕ
-  pub value : ReadsAt reads s w x size
-  pub whole : n ≡ w + size
-
--- a tag is read with nothing after it
-pub record ReadsTag (order : Endian) (w tag : ℕ) (s : List ℕ) (n : ℕ) : Type 0 where
-  pub tagged : HasTag order w tag s
-  pub whole : n ≡ w
-
--- a tag is read, and the read of the value after it fails, as `RefusesAt` says
-pub record RefusesTagged {E : Type 0} (order : Endian) (w tag : ℕ) (refuses : List ℕ → E → Type 0)
-    (past_end : ℕ → E → Type 0) (s : List ℕ) (e : E) : Type 0 where
-  pub tagged : HasTag order w tag s
-  pub refused : RefusesAt refuses past_end s w e
 
 -- the bytes `tag` are written over the first `w` of a target, and a value after them by `writes`,
 -- in `n` bytes

@@ -5,18 +5,15 @@ ghost use Rattle.std.specs.List.{flat_map};
 ghost use Rattle.scroll.specs.Fixed.{exactly};
 ghost use Rattle.scroll.specs.Encoding.{leb_text};
 ghost use Rattle.scroll.specs.declared.endian.Endian.{Endian};
-ghost use Rattle.scroll_formats.specs.Zeros.{padding_len, zeros};
 
-use crate::zeros::padding;
 use scroll::ctx::{Fixed, Plain, TryIntoCtx};
 use scroll::{Endian, Leb128, LebNumber};
 use std::ffi::CStr;
 
 /// A value that is written as bytes, however many it has.
 ///
-/// A tuple of two to four is its parts in order, so a struct is written as tuples of its fields,
-/// such as `(a, b, c, (d, e))`. Slices, texts and arrays are parts, a value of a fixed size is one
-/// as [`Value`], and zeros as [`Gap`].
+/// A tuple of two to four is its parts in order, as in `(a, b, c, (d, e))`. Slices, texts, arrays
+/// and numbers in LEB128 are parts, and a value of a fixed size is one as [`Value`].
 pub trait Encode: Copy {
     // The bytes of a value.
     ghost bytes: { Endian → Self → List ℕ };
@@ -59,91 +56,6 @@ impl<P: Plain, const N: usize> Encode for [P; N] {
     #[inline(always)]
     fn put(self, dst: &mut [u8], order: Endian) {
         self.write_prefix(dst, order)
-    }
-}
-
-/// A text and the delimiter after it, which [`StrCtx::Required`](scroll::ctx::StrCtx::Required)
-/// reads.
-#[derive(Clone, Copy, Debug, PartialEq, Eq)]
-pub struct Delimited<'s>(pub &'s str, pub u8);
-
-impl<'s> Encode for Delimited<'s> {
-    ghost bytes = { λ _ x. x.0.now ++ x.1 ∷ [] };
-
-    fn size(self, _order: Endian) -> usize {
-        self.0.len() + 1
-    }
-
-    #[inline(always)]
-    fn put(self, dst: &mut [u8], order: Endian) {
-        let len = self.0.len();
-        self.0.put(dst, order);
-        dst[len] = self.1;
-    }
-}
-
-/// As many zero bytes as it says, such as padding.
-#[derive(Clone, Copy, Debug, PartialEq, Eq)]
-pub struct Gap(pub usize);
-
-impl Encode for Gap {
-    ghost bytes = { λ _ gap. zeros gap.0 };
-
-    fn size(self, _order: Endian) -> usize {
-        self.0
-    }
-
-    #[inline(always)]
-    fn put(self, dst: &mut [u8], _order: Endian) {
-        dst[..self.0].fill(0);
-    }
-}
-
-/// Parts, and the zero bytes after them up to a multiple of a size, counted from the first of the
-/// parts.
-#[derive(Clone, Copy, Debug, PartialEq, Eq)]
-pub struct Padded<A>(pub A, pub usize);
-
-impl<A: Encode> Encode for Padded<A> {
-    ghost bytes = { λ order x.
-        A.bytes order x.0 ++ zeros (padding_len (length (A.bytes order x.0)) x.1) };
-
-    fn size(self, order: Endian) -> usize {
-        let size = self.0.size(order);
-        size.saturating_add(padding(size, self.1))
-    }
-
-    #[inline(always)]
-    fn put(self, dst: &mut [u8], order: Endian) {
-        let gap = Gap(padding(self.0.size(order), self.1));
-        (self.0, gap).put(dst, order)
-    }
-}
-
-/// Parts of one type, in order.
-#[derive(Clone, Copy, Debug, PartialEq, Eq)]
-pub struct Each<'s, A>(pub &'s [A]);
-
-impl<'s, A: Encode> Encode for Each<'s, A> {
-    ghost bytes = { λ order x. flat_map (A.bytes order) x.0.now };
-
-    #[inline(always)]
-    fn size(self, order: Endian) -> usize {
-        let mut size: usize = 0;
-        for i in 0..self.0.len() {
-            size = size.saturating_add(self.0[i].size(order));
-        }
-        size
-    }
-
-    #[inline(always)]
-    fn put(self, dst: &mut [u8], order: Endian) {
-        let mut offset = 0;
-        for i in 0..self.0.len() {
-            let part = self.0[i];
-            put_behind(part, dst, offset, order);
-            offset += part.size(order);
-        }
     }
 }
 
@@ -199,19 +111,6 @@ impl<V: LebNumber> Encode for Leb128<V> {
             Ok(_size) => (),
             Err(_short) => unreachable!(),
         }
-    }
-}
-
-impl<'s, V: LebNumber> Encode for &'s Leb128<V> {
-    ghost bytes = { λ _ x. leb_text V.form x.now };
-
-    fn size(self, order: Endian) -> usize {
-        (*self).size(order)
-    }
-
-    #[inline(always)]
-    fn put(self, dst: &mut [u8], order: Endian) {
-        (*self).put(dst, order)
     }
 }
 

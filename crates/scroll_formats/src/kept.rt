@@ -8,6 +8,10 @@ use scroll::ctx::TryIntoCtx;
 /// [`write_kept`](crate::write_kept), [`write_many_kept`](crate::write_many_kept) and
 /// [`write_placed`](crate::write_placed) say so of what they write. `tools/derive` prints the
 /// implementation for most structs, as in `crates/zip/src/entry.rt`.
+///
+/// An implementation by hand promises that `reads` is the relation of the type's own reads, or one
+/// that says more: no law ties the two, and of a relation that holds of everything the three calls
+/// promise nothing.
 pub trait Kept<Ctx: Copy>: TryIntoCtx<Ctx> + Copy {
     // Holds of a context, a source, and each value and size that a read of them may return.
     ghost reads: { Ctx → List ℕ → Self → ℕ → Type 0 };

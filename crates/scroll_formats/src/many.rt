@@ -2,7 +2,7 @@
 ghost use Rattle.std.specs.Prelude.{◌≡◌, ◌≤◌, ◌<◌, ◌+◌, ◌∷◌, [], ℕ, List, length, take, IfOk, IfErr, OnOk, OnErr, ◌↔◌, ◌++◌, ◌⊎◌, IsTrue};
 ghost use Rattle.scroll.specs.Arrays.{WritesAll};
 ghost use Rattle.std.specs.List.{All};
-ghost use Rattle.scroll_formats.specs.Many.{LacksMemory, WithBytes, RefusesMany, RefusesSize, RefusesToEnd, FailsMany, ChangesBetween, KeepsOne, KeepsAll, StopsBefore, KeepsPlaced};
+ghost use Rattle.scroll_formats.specs.Many.{LacksMemory, WithBytes, RefusesMany, RefusesSize, RefusesToEnd, FailsMany, ChangesBetween, KeepsOne, KeepsAll, StopsBefore, LacksEntry, WritesPlaced, KeepsPlaced};
 ghost use Rattle.scroll.specs.Reads.{ReadsAll, ReadsBetween, RefusesAt};
 ghost use Rattle.scroll.specs.Errors.{PastEnd};
 ghost use Rattle.scroll.specs.Writes.{WritesAt, RefusesWriteAt};
@@ -294,6 +294,8 @@ pub fn write_placed<
 ) -> Result<Vec<P>, At<E>>
     ensures wrote { OnOk result
         (WritesAll (T.TryIntoCtx.writes ctx) dst.old offset.old values.now dst.new offset.new) }
+    ensures places { IfOk result (λ entries. WritesPlaced (T.TryIntoCtx.writes ctx) P.place dst.old
+        offset.old entries.items values.now dst.new offset.new) }
     ensures kept { IfOk result (λ entries. KeepsPlaced (T.Kept.reads ctx) P.place P.describes
         dst.new entries.items values.now offset.new) }
     ensures others { OnOk result (ChangesBetween offset.old offset.new dst.old dst.new) }
@@ -301,7 +303,8 @@ pub fn write_placed<
     ensures refused { IfErr result (λ located. FailsMany (T.TryIntoCtx.writes ctx)
         (T.TryIntoCtx.refuses ctx) E.from_gives dst.old offset.old values.now dst.new
         located.offset located.error
-        ⊎ StopsBefore (T.TryIntoCtx.writes ctx) (λ at e. P.misplaced at e ⊎ E.from_gives NoMemory e)
+        ⊎ StopsBefore (T.TryIntoCtx.writes ctx) (λ v at e. P.misplaced at e
+        ⊎ LacksEntry P.place P.describes E.from_gives v at e)
         dst.old offset.old values.now dst.new located.offset located.error) }
     ensures stays { IfErr result (λ located. offset.new ≡ located.offset) }
 {
@@ -335,7 +338,8 @@ fn write_entered<
     ensures others { OnOk result (ChangesBetween offset.old offset.new dst.old dst.new) }
     ensures refused { IfErr result (λ e. RefusesWriteAt (T.TryIntoCtx.refuses ctx value)
         (PastEnd E.from_gives) dst.old offset.old dst.new e
-        ⊎ ((dst.new ≡ dst.old) × (P.misplaced offset.old e ⊎ E.from_gives NoMemory e))) }
+        ⊎ ((dst.new ≡ dst.old) × (P.misplaced offset.old e
+        ⊎ LacksEntry P.place P.describes E.from_gives value offset.old e))) }
     ensures stays { OnErr result (offset.new ≡ offset.old) }
 {
     let entry = P::entry_of(&value, *offset)?;

@@ -1,6 +1,6 @@
 // Whole values that are written at an offset or appended, and runs of a fixed size that are read.
-ghost use Rattle.std.specs.Prelude.{◌≡◌, ◌≤◌, ◌<◌, ◌+◌, ◌-◌, ◌^◌, ◌++◌, ◌⊎◌, length, min, vec_capacity, IfOk, IfErr, IsOk, OnOk, OnErr};
-ghost use Rattle.scroll.specs.Bytes.{ReadsFixed, RefusesShort, WritesPrefix, FailsShort};
+ghost use Rattle.std.specs.Prelude.{◌≡◌, ◌≤◌, ◌<◌, ◌+◌, ◌-◌, ◌^◌, ◌++◌, length, min, vec_capacity, IfOk, IfErr, IsOk, OnOk, OnErr};
+ghost use Rattle.scroll.specs.Bytes.{ReadsFixed, RefusesShort};
 ghost use Rattle.scroll.specs.Errors.{IsBadOffset};
 ghost use Rattle.scroll.specs.Reads.{ReadsAt, RefusesAt};
 ghost use Rattle.scroll.specs.declared.error.Error.TheVariants.{NoMemory};
@@ -9,24 +9,6 @@ ghost use Rattle.scroll_formats.specs.Spans.{Puts};
 use crate::encode::{Encode, put_behind};
 use scroll::ctx::Fixed;
 use scroll::{Endian, Error, Result, check_room};
-
-/// A value whose fields may not agree, such as a count with the bytes that it counts.
-/// `tools/derive` prints the implementation.
-pub trait Checked: Copy {
-    /// The error of a value whose fields don't agree.
-    type Error;
-
-    // Holds of the values whose fields agree.
-    ghost agrees: { Self → Type 0 };
-
-    // Holds of the others, each with its error.
-    ghost differs: { Self → Self.Error → Type 0 };
-
-    /// Returns an error where the fields don't agree.
-    fn check(self) -> std::result::Result<(), Self::Error>
-        ensures agrees { OnOk result (agrees self) }
-        ensures differs { IfErr result (differs self) };
-}
 
 /// Reads a value of a fixed size at the cursor `offset`, also an array, and advances it past the
 /// value.
@@ -85,31 +67,6 @@ pub fn put_at<A: Encode>(
     Ok(offset + size)
 }
 
-/// Writes the bytes of a value to the start of `dst`, and returns their number.
-///
-/// Where they have no room, it returns [`Error::TooBig`] with their number and the length of `dst`,
-/// which is then unchanged.
-///
-/// ```rust
-/// let mut file = [0xffu8; 4];
-/// assert_eq!(rt; put_whole(&mut file, (Value(1u8), "ab"), LE)?, 3);
-/// assert_eq!(rt; file, [1, b'a', b'b', 0xff]);
-/// let short = put_whole(&mut file[..2], "abc", LE);
-/// assert!(rt; matches!(&short, Err(Error::TooBig { size: 3, len: 2 })));
-/// ```
-#[inline(always)]
-pub fn put_whole<A: Encode>(dst: &mut [u8], value: A, order: Endian) -> Result<usize>
-    ensures wrote { IfOk result (WritesPrefix (length (A.bytes order value))
-        (A.bytes order value) dst.old dst.new) }
-    ensures refused { IfErr result
-        (FailsShort (min (length (A.bytes order value)) (2 ^ 64 - 1)) dst.old dst.new) }
-{
-    let size = value.size(order);
-    check_room(size, dst.len())?;
-    value.put(dst, order);
-    Ok(size)
-}
-
 /// Appends the bytes of a value to a vector. An allocation failure is [`Error::NoMemory`], and the
 /// vector is then unchanged.
 ///
@@ -135,27 +92,5 @@ pub fn append<A: Encode>(target: &mut Vec<u8>, value: A, order: Endian) -> Resul
         return Err(Error::NoMemory);
     }
     value.put(&mut target.as_mut_slice()[start..], order);
-    Ok(())
-}
-
-/// Appends the bytes of a value to a vector if the value's fields agree.
-///
-/// Returns the value's own error if they don't, and that of [`Error::NoMemory`] on an allocation
-/// failure, which doesn't occur where the vector has the capacity. The vector is then unchanged.
-pub fn append_checked<E: From<Error>, A: Encode + Checked<Error = E>>(
-    target: &mut Vec<u8>,
-    value: A,
-    order: Endian,
-) -> std::result::Result<(), E>
-    ensures appended { OnOk result
-        (target.new.items ≡ target.old.items ++ A.bytes order value) }
-    ensures agrees { OnOk result (A.agrees value) }
-    ensures unchanged { OnErr result (target.new.items ≡ target.old.items) }
-    ensures refused { IfErr result (λ e. A.differs value e ⊎ E.from_gives NoMemory e) }
-    ensures differs { length target.old.items + length (A.bytes order value)
-        ≤ vec_capacity target.old → IfErr result (A.differs value) }
-{
-    value.check()?;
-    append(target, value, order)?;
     Ok(())
 }

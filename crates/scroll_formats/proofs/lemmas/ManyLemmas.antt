@@ -1,5 +1,5 @@
 -- Values that are read or written one after another, and that these read back.
-use Rattle.std.proofs.Common.{◌≡◌, ℕ, ◌+◌, ◌<◌, ◌≤◌, ◌++◌, List, [], ◌∷◌, length, take, drop, None, Option, refl, sym, ap, subst, append_assoc, length-drop, length-take, arith, ◌∙◌}
+use Rattle.std.proofs.Common.{◌≡◌, ℕ, ◌+◌, ◌<◌, ◌≤◌, ◌++◌, List, [], ◌∷◌, length, take, drop, refl, sym, ap, subst, append_assoc, length-drop, length-take, arith, ◌∙◌}
 use Rattle.std.proofs.lemmas.List.{drop-drop, drop-take, length-take-le, take-take, take_more, take-append-drop}
 use Rattle.std.proofs.lemmas.List.Elements.{All-head, All-tail}
 use Rattle.std.specs.List.{All, AllZip, slice_index_or}
@@ -10,15 +10,7 @@ use Rattle.scroll.specs.Writes.{WritesAt, RefusesWriteAt}
 use Rattle.scroll.specs.declared.error.Error.{Error}
 use Rattle.scroll.specs.lemmas.Frames.{drop-same}
 use Rattle.scroll.proofs.lemmas.callers.Cursors.{ReadsAll-next, WritesAll-push}
-use Rattle.scroll_formats.specs.Lists.{ReadsListed}
-use Rattle.scroll_formats.specs.Many.{WithBytes, FailsMany, StopsBefore, ChangesBetween, KeepsOne, KeepsAll}
-
--- one more value of a list, where there is no mark
-pub listed-next : {V : Type 0} {reads : List ℕ → V → ℕ → Type 0} (mark : List ℕ → Option ℕ) {buffer : List ℕ} (from : ℕ) {mid to : ℕ} (vs : List V) {v : V}
-    → ReadsAll (ReadsListed reads mark) buffer from vs mid → ReadsBetween reads buffer mid to v → (mid ≤ length buffer → mark (drop mid buffer) ≡ None)
-    → ReadsAll (ReadsListed reads mark) buffer from (vs ++ v ∷ []) to
-listed-next {V} {reads} mark {buffer} from {mid} {to} vs {v} h read more =
-    ReadsAll-next (ReadsListed reads mark) buffer from vs mid to v h (read.0, read.1, record { inside = read.2.inside; value = record { more = more read.2.inside; value = read.2.value } })
+use Rattle.scroll_formats.specs.Many.{WithBytes, FailsMany, StopsBefore, WritesPlaced, ChangesBetween, KeepsOne, KeepsAll}
 
 -- values that have bytes are values
 pub with-bytes-read : {V : Type 0} (reads : List ℕ → V → ℕ → Type 0) (buffer : List ℕ) (from : ℕ) (vs : List V) (to : ℕ) → ReadsAll (WithBytes reads) buffer from vs to → ReadsAll reads buffer from vs to
@@ -111,15 +103,64 @@ pub AllZip-item : {A B : Type 0} (R : A → B → Type 0) (xs : List A) (x : A) 
 AllZip-item R xs x ys i y inside is h r = rw (more ys i y inside is) (AllZip-push R xs (take i ys) x y h r)
 
 -- the write of a list stops before one of its values
-pub StopsBefore-item : {V E : Type 0} (writes : V → List ℕ → List ℕ → ℕ → Type 0) (refuses : ℕ → E → Type 0) {old : List ℕ} {from : ℕ} (vs : List V) (i : ℕ) {new : List ℕ} {stop : ℕ} {e : E} → i < length vs → WritesAll writes old from (take i vs) new stop → refuses stop e → StopsBefore writes refuses old from vs new stop e
-StopsBefore-item writes refuses vs i inside h error = record {
+pub StopsBefore-item : {V E : Type 0} (writes : V → List ℕ → List ℕ → ℕ → Type 0)
+    (refuses : V → ℕ → E → Type 0) {old : List ℕ} {from : ℕ} (vs : List V) (i : ℕ) (v : V)
+    {new : List ℕ} {stop : ℕ} {e : E} → i < length vs → v ≡ slice_index_or vs i v
+    → WritesAll writes old from (take i vs) new stop → refuses v stop e
+    → StopsBefore writes refuses old from vs new stop e
+StopsBefore-item writes refuses vs i v inside is h error = record {
   values = take i vs;
-  others = drop i vs;
-  split = sym (take-append-drop i vs);
-  more = omega (arith, inside, length-drop i vs);
+  value = v;
+  others = drop (i + 1) vs;
+  split = sym (take-append-drop (i + 1) vs)
+      ∙ ap (λ l. l ++ drop (i + 1) vs) (more vs i v inside is)
+      ∙ append_assoc (take i vs) (v ∷ []) (drop (i + 1) vs);
   each = h;
   error = error;
 }
+
+-- one more value is written, where its entry says
+WritesPlaced-push : {P V : Type 0} (writes : V → List ℕ → List ℕ → ℕ → Type 0) (place : P → ℕ)
+    (old : List ℕ) (from : ℕ) (ps : List P) (vs : List V) (mid : List ℕ) (to : ℕ) (p : P) (v : V)
+    (new : List ℕ) (n : ℕ) → WritesPlaced writes place old from ps vs mid to → place p ≡ to
+    → WritesAt (writes v) mid to new n
+    → WritesPlaced writes place old from (ps ++ p ∷ []) (vs ++ v ∷ []) new (to + n)
+WritesPlaced-push writes place old from [] [] mid to p v new n h there wrote = (
+  there ∙ h.1,
+  (
+    new,
+    n,
+    subst (λ m. WritesAt (writes v) m from new n) h.0
+        (subst (λ k. WritesAt (writes v) mid k new n) h.1 wrote),
+    (refl, ap (λ k. k + n) h.1),
+  ),
+)
+WritesPlaced-push writes place old from [] (w ∷ ws) mid to p v new n h there wrote = absurd h
+WritesPlaced-push writes place old from (q ∷ qs) [] mid to p v new n h there wrote = absurd h
+WritesPlaced-push writes place old from (q ∷ qs) (w ∷ ws) mid to p v new n h there wrote = (
+  h.0,
+  (
+    h.1.0,
+    h.1.1,
+    h.1.2,
+    WritesPlaced-push writes place h.1.0 (from + h.1.1) qs ws mid to p v new n h.1.3 there wrote,
+  ),
+)
+
+-- and one more of a list, which a loop copies
+pub WritesPlaced-item : {P V : Type 0} (writes : V → List ℕ → List ℕ → ℕ → Type 0)
+    (place : P → ℕ) (old : List ℕ) (from : ℕ) (ps : List P) (p : P) (vs : List V) (i : ℕ) (v : V)
+    (mid : List ℕ) (to : ℕ) {new : List ℕ} {n : ℕ} (next : ℕ) → i < length vs
+    → v ≡ slice_index_or vs i v → WritesPlaced writes place old from ps (take i vs) mid to
+    → place p ≡ to → WritesAt (writes v) mid to new n → next ≡ to + n
+    → WritesPlaced writes place old from (ps ++ p ∷ []) (take (i + 1) vs) new next
+WritesPlaced-item writes place old from ps p vs i v mid to {new} {n} next inside is h there wrote
+    moves =
+    subst (λ k. WritesPlaced writes place old from (ps ++ p ∷ []) (take (i + 1) vs) new k)
+    (sym moves)
+    (subst (λ l. WritesPlaced writes place old from (ps ++ p ∷ []) l new (to + n))
+    (sym (more vs i v inside is))
+    (WritesPlaced-push writes place old from ps (take i vs) mid to p v new n h there wrote))
 
 -- the bytes before the first value are unchanged
 forward : {V : Type 0} (writes : V → List ℕ → List ℕ → ℕ → Type 0) (vs : List V) (old : List ℕ) (from : ℕ) (new : List ℕ) (to : ℕ) → WritesAll writes old from vs new to → from ≤ to

@@ -1,4 +1,2 @@
 pub mod Sequences
-pub mod TaggedLemmas
 pub mod Written
-pub mod Exact

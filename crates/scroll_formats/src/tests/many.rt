@@ -1,8 +1,11 @@
 // Many values, and bytes that are appended to a vector. The bytes are those of Python's
 // `struct.pack`.
-use crate::tests::results::{check_eq, check_value, expect_value};
-use crate::{Delimited, Table, Value, append, read_many, read_to_end, write_many, write_tagged};
+ghost use Rattle.std.specs.Prelude.{◌≤◌};
+
+use crate::tests::results::{check_eq, check_too_big, check_value, expect_value};
+use crate::{Table, Value, append, read_many, read_to_end, write_many, write_tagged};
 use scroll::{BE, Error, LE, Result};
+use std::alloc::Global;
 use std::process::Abort;
 
 static NUMBERS: [u16; 3] = [258, 772, 9];
@@ -33,6 +36,52 @@ fn many_values_up_to_the_end(rt: HostRuntime) {
     check_numbers(rt, values);
 }
 
+// A count that is more than the bytes are has the error of the first value that isn't there.
+#[test]
+fn fewer_values_than_the_count(rt: HostRuntime) {
+    let offset = &mut 1;
+    let values: Result<Vec<u16>> = read_many(rt.alloc(), &BYTES, offset, 9, BE).map_err(
+        Error::from,
+    );
+    check_too_big(&rt, values, 2, 1);
+    check_eq(&rt, *offset, 7);
+}
+
+// Vectors of each length, and a longer one. An allocation failure ends the test.
+#[test]
+fn vectors_of_each_length(rt: HostRuntime) {
+    for len in 0..1101 {
+        check_length(&rt, rt.alloc(), len);
+    }
+    check_length(&rt, rt.alloc(), 5000);
+}
+
+// Checks that so many values are read, and appended to a vector with and without values.
+fn check_length(rt: &impl Abort, alloc: Global, len: usize)
+    requires { len ≤ 5000 }
+{
+    let bytes = &[7u8; 5000][..len];
+    let many: Result<Vec<u8>> = read_many(alloc, bytes, &mut 0, len, BE).map_err(Error::from);
+    check_eq(rt, expect_value(rt, many).as_slice(), bytes);
+    let rest: Result<Vec<u8>> = read_to_end(alloc, bytes, &mut 0, BE).map_err(Error::from);
+    check_eq(rt, expect_value(rt, rest).as_slice(), bytes);
+    let mut file: Vec<u8> = Vec::new(alloc);
+    check_value(rt, append(&mut file, bytes, LE), ());
+    check_eq(rt, file.as_slice(), bytes);
+    check_value(rt, append(&mut file, (bytes, Value(9u8)), LE), ());
+    check_eq(rt, file.len() > 2 * len, true);
+}
+
+// A vector that grows by a value at a time.
+#[test]
+fn a_vector_of_many_values(rt: HostRuntime) {
+    let mut file: Vec<u8> = Vec::new(rt.alloc());
+    for _ in 0..5000 {
+        check_value(&rt, append(&mut file, Value(7u8), LE), ());
+    }
+    check_eq(&rt, file.as_slice(), [7; 5000].as_slice());
+}
+
 #[test]
 fn a_table_of_numbers(rt: HostRuntime) {
     let rt = &rt;
@@ -50,7 +99,7 @@ fn a_vector_grows(rt: HostRuntime) {
     let mut file: Vec<u8> = Vec::new(alloc);
     check_value(rt, append(&mut file, Value(1u8), LE), ());
     check_value(rt, append(&mut file, (Value(0x0302u16), "é"), LE), ());
-    check_value(rt, append(&mut file, Delimited("a", 10), LE), ());
+    check_value(rt, append(&mut file, ("a", Value(10u8)), LE), ());
     check_eq(
         rt,
         file.as_slice(),

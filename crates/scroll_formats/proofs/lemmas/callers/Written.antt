@@ -5,7 +5,7 @@ use Rattle.std.proofs.lemmas.List.Elements.{All-head, All-tail}
 use Rattle.std.specs.List.{All, flat_map}
 use Rattle.scroll.specs.Reads.{ReadsAll}
 -- bytes that are written are there
-pub use Rattle.scroll_formats.proofs.lemmas.SpanLemmas.{puts-stands}
+pub use Rattle.scroll_formats.proofs.lemmas.SpanLemmas.{prefix-stands, puts-stands}
 -- one write after another: the values that it keeps, and the bytes that it changes
 pub use Rattle.scroll_formats.proofs.lemmas.ManyLemmas.{kept-one, changes-one, changes-none, changes-next, changes-within}
 
