@@ -57,13 +57,6 @@ pub record BeginsWithLeb {V : Type 0} (Has : V → ℕ → Type 0) (form : V →
   pub has : Has v n
   pub prefix : take n s ≡ encoding (form v n) n
 
--- `v` has an encoding of `n` bytes, unsigned or signed, and `s` begins with it
-abbrev pub BeginsWith : List ℕ → ℕ → ℕ → Type 0
-BeginsWith = BeginsWithLeb HasEncoding (λ v n. v)
-
-abbrev pub BeginsWithSigned : List ℕ → ℤ → ℕ → Type 0
-BeginsWithSigned = BeginsWithLeb HasSignedEncoding unsigned_form
-
 -- `leb_text form x`, `uleb_text`, `sleb_text`: the encoding of a `Counted` in as many bytes as it
 -- says: its one leaf
 abbrev pub leb_text : {V : Type 0} → (V → ℕ → ℕ) → Counted V → List ℕ

@@ -3,9 +3,10 @@
 -- A name that begins with a capital is a statement, any other name a value. A statement of several
 -- parts names them: where `h` proves it, `h.size` proves the part `size`.
 --
--- No definition retraces the code, which shifts, copies and overwrites one array: the definitions
--- have sums of powers, lists by index, and a history in which nothing is overwritten. `TextStates`
--- alone has what the code has too, a table, and the contracts of private functions alone cite it.
+-- The definitions of reads, writes and runs don't retrace the code, which shifts, copies and
+-- overwrites one array: they have sums of powers, lists by index, and a history in which nothing is
+-- overwritten. `TextStates` has what the code has too, a table, and the contracts of private
+-- functions alone cite it; a test of one byte or a multiple is said as the code says it.
 pub mod Bytes
 pub mod Numbers
 pub mod Fixed

@@ -158,12 +158,6 @@ abbrev pub RefusesHere : {E : Type 0} → (List ℕ → E → Type 0) → (ℕ �
 RefusesHere refuses past_end buffer cursor at e after =
     RefusesAt refuses past_end buffer (offset_of at cursor) e × (after ≡ cursor)
 
--- `FailsKind what buffer offset e`: a read of `what` at an offset fails with `e`, as the relation
--- of its type says, or there is no memory for its copy
-abbrev pub FailsKind : Kind → List ℕ → ℕ → Error → Type 0
-FailsKind what buffer offset e =
-    RefusesAt (RefusesKind what) IsBadOffset buffer offset e ⊎ (Copies what × (e ≡ NoMemory))
-
 -- `ReadStep buffer cursor at what a after`: the result `a` of one read, and the cursor `after` it
 abbrev pub ReadStep : List ℕ → ℕ → Place → Kind → Answer → ℕ → Type 0
 ReadStep buffer cursor at what (answer.Read x) after =

@@ -24,9 +24,8 @@ use std::result;
 // the size of the value, once that has been copied. Only an allocation failure returns an error,
 // and then nothing has changed.
 //
-// Each kind has a function of its own, which appends its own answer: a result that served for all
-// kinds would be as large as the largest error, and be written and copied each time. All are
-// inlined but the reads of C strings, whose search is long.
+// Each kind has a function of its own, which appends its answer: a result for all kinds would be as
+// large as the largest error, and be copied. All but the reads of C strings are inlined.
 #[inline(always)]
 pub(crate) fn read(
     alloc: Global,

@@ -2,10 +2,14 @@
 // also passes where an allocation fails (`rt try --test --fail-alloc N`): the call that allocates
 // then returns `NoMemory`, and nothing else changes. So what allocates is called twice: whichever
 // allocation fails, one of the two calls must succeed.
+ghost use Rattle.std.specs.Prelude.{◌≤◌};
+
 use crate::cstr::{CStr, CString};
 use crate::ctx::{TryFromCtx, TryIntoCtx};
 use crate::tests::reads::{check_no_read, check_no_write, check_read, check_write};
-use crate::tests::results::{Parts, check_bad_input, check_eq, check_too_big, check_value};
+use crate::tests::results::{
+    Parts, check_bad_input, check_eq, check_too_big, check_value, expect_value,
+};
 use crate::{Error, Pread, Pwrite, Result};
 use std::alloc::Global;
 use std::ffi;
@@ -149,6 +153,27 @@ fn check_whole(rt: &impl Abort, alloc: Global, text: &[u8]) {
     check_reads(rt, &alloc, source, 0, source, source.len());
     let copy: ffi::CString = read_copy(rt, &alloc, source, 0, source.len());
     check_eq(rt, copy.as_bytes(), text);
+}
+
+// Texts of each length, and a longer one. An allocation failure ends the test.
+#[test]
+fn copies_of_each_length(rt: HostRuntime) {
+    for len in 0..1101 {
+        check_copies(&rt, rt.alloc(), len);
+    }
+    check_copies(&rt, rt.alloc(), 5000);
+}
+
+// Checks that a text of so many bytes is held, and that it is copied from a source.
+fn check_copies(rt: &impl Abort, alloc: Global, len: usize)
+    requires { len ≤ 5000 }
+{
+    let text = &[b'a'; 5000][..len];
+    let string = expect_value(rt, CString::new(alloc, text));
+    let source = string.as_bytes_with_nul();
+    let copy: CString = expect_value(rt, source.pread_with(0, &alloc));
+    let other: ffi::CString = expect_value(rt, source.pread_with(0, &alloc));
+    check_eq(rt, (copy.as_bytes(), other.as_bytes()), (text, text));
 }
 
 // Checks whether the C strings at the start of these bytes are equal.

@@ -37,9 +37,32 @@ fn check_length(rt: &impl Abort, alloc: Global, len: usize) {
 
 #[test]
 fn values_of_each_length(rt: HostRuntime) {
-    for len in &[0, 1, 255, 256, 4096, 8192] {
+    for len in 0..1101 {
+        check_length(&rt, rt.alloc(), len);
+    }
+    for len in &[4096, 5000, 8192] {
         check_length(&rt, rt.alloc(), *len);
     }
+}
+
+// Runs of each number of commands, and a longer one.
+#[test]
+fn runs_of_each_length(rt: HostRuntime) {
+    for count in 0..1101 {
+        check_count(&rt, rt.alloc(), count);
+    }
+    check_count(&rt, rt.alloc(), 5000);
+}
+
+const COMMAND: Command<'static> = Command::Write(WHOLE, Put::Number(Number::U8(98), LE));
+
+// Checks that so many commands have an answer each. An allocation failure ends the test.
+fn check_count(rt: &impl Abort, alloc: Global, count: usize) {
+    let commands = vec![in alloc; COMMAND; count].expect(rt, "commands");
+    let answers = &mut Vec::new(alloc);
+    let ran = run(alloc, &mut [0], &mut 0, commands.as_slice(), answers);
+    check_value(rt, ran, ());
+    check_eq(rt, answers.len(), count);
 }
 
 // The answers before those of the commands below, and then theirs.

@@ -6,6 +6,8 @@ ghost use Rattle.scroll.specs.lemmas.Frames.{drop-prefix, length-number_bytes};
 use crate::ctx::{FromCtx, IntoCtx, SizeWith};
 use crate::tests::results::{check_eq, check_value, expect_value};
 use crate::{BE, Endian, IOread, IOwrite};
+use std::io;
+use std::io::{ErrorKind, Write};
 use std::process::Abort;
 
 // `N` bytes.
@@ -70,8 +72,28 @@ fn blocks_of_each_size(rt: HostRuntime) {
     check_block::<2>(rt, &bytes);
     check_block::<16>(rt, &bytes);
     check_block::<17>(rt, &bytes);
+    check_block::<100>(rt, &bytes);
     check_block::<255>(rt, &bytes);
     check_block::<256>(rt, &bytes);
+}
+
+// A writer each of whose calls fails.
+#[derive(Drop)]
+struct Broken;
+
+impl Write for Broken {
+    fn write(&mut self, _buf: &[u8]) -> io::Result<usize> {
+        Err(io::Error::from(ErrorKind::BrokenPipe))
+    }
+
+    fn flush(&mut self) -> io::Result<()> {
+        Err(io::Error::from(ErrorKind::BrokenPipe))
+    }
+}
+
+#[test]
+fn no_bytes_call_no_writer(rt: HostRuntime) {
+    check_value(&rt, Broken.iowrite(Block([0u8; 0])), ());
 }
 
 // A number of two bytes that occupies four.

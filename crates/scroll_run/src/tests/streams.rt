@@ -1,4 +1,5 @@
 // Readers and writers that are slow, interrupted or faulty.
+use crate::output::write_output;
 use crate::session::session;
 use std::alloc::Global;
 use std::io::{ErrorKind, Read, Write};
@@ -170,6 +171,26 @@ static PIECES: [(usize, Fault); 7] = [
     (1, BY_NUMBER),
     (4096, BY_NUMBER),
 ];
+
+// Checks that a short output is written and flushed.
+fn check_flushed(rt: &impl Abort, alloc: Global, bytes: &[u8]) {
+    let mut output = Sink {
+        held: Vec::new(alloc),
+        step: 4096,
+        fault: Fault::Never,
+        calls: 0,
+        is_flushed: false,
+    };
+    write_output(&mut output, bytes).expect(rt, "an output");
+    assert!(rt; output.is_flushed);
+    assert!(rt; output.held.as_slice() == bytes);
+}
+
+#[test]
+fn short_outputs_are_flushed(rt: HostRuntime) {
+    check_flushed(&rt, rt.alloc(), b"");
+    check_flushed(&rt, rt.alloc(), b"bad line 1\n");
+}
 
 #[test]
 fn in_pieces(rt: HostRuntime) {

@@ -1,21 +1,14 @@
 -- Lemmas for callers: round trips. What was read is written back, and what was written reads back.
 use Rattle.std.proofs.Common.{◌≡◌, ◌≢◌, ℕ, ℤ, ◌+◌, ◌<◌, ◌≤◌, ◌++◌, ◌==◌, true, List, [], ◌∷◌, length, take, drop, get_or, slice_index, Fits, w8, refl, sym, ap, ◌∙◌, arith, IsUtf8, append_assoc, length-append}
 use Rattle.std.proofs.Math.Seq.{take-add}
-use Rattle.std.proofs.lemmas.List.{append-nil, drop-drop, take_at, take_all, take_more, get_or-drop}
+use Rattle.std.proofs.lemmas.List.{append-nil, take_at, take_all, take_more, get_or-drop}
 use Rattle.std.proofs.lemmas.List.Elements.{All-from_get_or}
 use Rattle.std.proofs.lemmas.List.Sums.{passes_at_first}
 use Rattle.std.specs.List.{All, flat_map}
-use Rattle.scroll.specs.lemmas.NumberLemmas.{bytes-fit}
-use Rattle.scroll.specs.lemmas.FixedLemmas.{number-back, signed-back}
 use Rattle.scroll.proofs.lemmas.TextLemmas.{offset-behind}
-use Rattle.scroll.proofs.lemmas.EncodingLemmas.{reads_encoding}
-use Rattle.scroll.specs.Encoding.{encoding, unsigned_form, uleb_text, sleb_text}
-use Rattle.scroll.specs.Leb128.{Counted, ReadsCountedUleb, ReadsCountedSleb}
-use Rattle.scroll.specs.Numbers.{number, number_bytes, signed_number, signed_bytes}
 use Rattle.scroll.specs.Reads.{ReadsAt, ReadsAll}
 use Rattle.scroll.specs.Texts.{index_of, ReadsText}
 use Rattle.scroll.specs.declared.ctx.str_ctx.StrCtx.TheVariants.{Required}
-use Rattle.scroll.specs.declared.endian.Endian.{Endian}
 -- where the first delimiter is, after bytes that are not the delimiter, and in lists that begin alike
 pub use Rattle.scroll.proofs.lemmas.TextLemmas.{offset-behind, index_of-prefixes}
 -- what was written in LEB128 reads back, and what is read are the bytes of an encoding
@@ -65,34 +58,3 @@ all-back reads bytes buffer vs {to} back h end = ReadsAll-back reads bytes buffe
 -- the bytes of a slice from an offset on are bytes
 pub bytes-below : (offset : ℕ) (s : List ℕ) → ((i : ℕ) → Fits w8 (slice_index s i)) → All (λ b. b < 256) (drop offset s)
 bytes-below offset s h = All-from_get_or (λ b. b < 256) (drop offset s) 0 (λ i l. rw (get_or-drop offset s i 0) (omega (arith, (h (offset + i)).fits)))
-
-pub fits-from : (at : ℕ) (s : List ℕ) → ((i : ℕ) → Fits w8 (slice_index s i)) → (i : ℕ) → Fits w8 (slice_index (drop at s) i)
-fits-from at s h = bytes-fit (drop at s) (bytes-below at s h)
-
--- the bytes of a number that was read at an offset are those there
-pub number-there : (order : Endian) (w at : ℕ) (s : List ℕ) {x : ℕ} → ((i : ℕ) → Fits w8 (slice_index s i)) → at + w ≤ length s → x ≡ number order w (drop at s) → number_bytes order w x ≡ take w (drop at s)
-number-there order w at s h room is = ap (number_bytes order w) is ∙ number-back order w at s h room
-
-pub signed-there : (order : Endian) (w at : ℕ) (s : List ℕ) {x : ℤ} → ((i : ℕ) → Fits w8 (slice_index s i)) → at + w ≤ length s → x ≡ signed_number order w (drop at s) → signed_bytes order w x ≡ take w (drop at s)
-signed-there order w at s h room is = ap (signed_bytes order w) is ∙ signed-back order w at s h room
-
--- a number in LEB128 is written back as the bytes at the offset where it was read
-pub uleb-there : (at n : ℕ) (s : List ℕ) {x : Counted ℕ} → ((i : ℕ) → Fits w8 (slice_index s i)) → ReadsCountedUleb (drop at s) x n → uleb_text x ≡ take n (drop at s)
-uleb-there at n s {x} bytes h =
-    let read = (reads_encoding unsigned-form (drop at s) x.value n (bytes-below at s bytes)).0 h.0 in
-    ap (λ k. encoding x.value k) h.1 ∙ sym read.prefix
-
-pub sleb-there : (at n : ℕ) (s : List ℕ) {x : Counted ℤ} → ((i : ℕ) → Fits w8 (slice_index s i)) → ReadsCountedSleb (drop at s) x n → sleb_text x ≡ take n (drop at s)
-sleb-there at n s {x} bytes h =
-    let read = (reads_encoding signed-form (drop at s) x.value n (bytes-below at s bytes)).0 h.0 in
-    ap (λ k. encoding (unsigned_form x.value k) k) h.1 ∙ sym read.prefix
-
--- bytes that are those at an offset, and those after them
-pub there-next : (at w m : ℕ) (s : List ℕ) {b rest : List ℕ} → b ≡ take w (drop at s) → rest ≡ take m (drop (at + w) s) → b ++ rest ≡ take (w + m) (drop at s)
-there-next at w m s {b} {rest} first others =
-    ap (λ l. l ++ rest) first ∙ ap (λ l. take w (drop at s) ++ l) (others ∙ ap (take m) (sym (drop-drop w at s)))
-    ∙ sym (take-add w m (drop at s))
-
--- the same with the offset of those after them as a sum
-pub there-then : (at w m next : ℕ) (s : List ℕ) {b rest : List ℕ} → at + w ≡ next → b ≡ take w (drop at s) → rest ≡ take m (drop next s) → b ++ rest ≡ take (w + m) (drop at s)
-there-then at w m next s is here after = there-next at w m s here (after ∙ ap (λ k. take m (drop k s)) (sym is))
