@@ -6,6 +6,7 @@ use Rattle.std.proofs.lemmas.List.{drop-drop, drop-set-lt, take_rest}
 use Rattle.object_files.specs.Headers.{IsOrder}
 use Rattle.scroll.specs.Numbers.{number}
 use Rattle.scroll.specs.declared.endian.Endian.{Endian}
+use Rattle.scroll.specs.declared.endian.Endian.TheVariants.{Little, Big}
 use Rattle.scroll_ffi.specs.Interface.{past, AreAll, AreFields, Fills, IsEntry, IsOpened, IsSection, HasLen, HasName}
 use Rattle.scroll_ffi.specs.declared.elf.ScrollElfSection.{ScrollElfSection}
 use Rattle.scroll_ffi.specs.declared.elf.ScrollElfSections.{ScrollElfSections}
@@ -73,6 +74,13 @@ name_at file names x s name len has names-is name-is len-is start inside =
       start = start ∙ ap (λ n. x.names_offset + n) (sym name-is);
       inside = inside;
     }
+
+-- a number names one byte order
+pub same_order : (a b : Endian) (n : ℕ) → IsOrder a n → IsOrder b n → a ≡ b
+same_order Little Little n first second = refl
+same_order Little Big n first second = absurd (omega (arith, first, second))
+same_order Big Little n first second = absurd (omega (arith, first, second))
+same_order Big Big n first second = refl
 
 -- the number of its name, which is read first
 pub same_name : (order : Endian) (file : List ℕ) (at : ℕ) (s : ScrollElfSection) (name : ℕ)

@@ -1,1 +1,2 @@
+pub mod Failed
 mod Filled

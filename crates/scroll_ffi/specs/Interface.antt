@@ -1,13 +1,19 @@
 -- What the functions store in their callers' structs, and in archives.
-use Rattle.std.specs.Prelude.{◌≡◌, ◌+◌, ℕ, List, length, ◌≢◌, ◌≤◌, ◌<◌, ◌*◌, ◌-◌, take, drop, slice_index_or}
+use Rattle.std.specs.Prelude.{◌≡◌, ◌+◌, ℕ, ℤ, pos, neg_ℤ, List, length, ◌≢◌, ◌≤◌, ◌<◌, ◌*◌, ◌-◌, take, drop, slice_index_or}
 use Rattle.object_files.specs.Headers.{IsOrder, ReadsHeader}
 use Rattle.object_files.specs.Names.{IsName}
 use Rattle.object_files.specs.Sections.{section_of}
 use Rattle.object_files.specs.declared.header.Header.{Header}
 use Rattle.object_files.specs.declared.sections.Section.{Section}
 use Rattle.scroll.specs.Numbers.{number}
-use Rattle.scroll.specs.Reads.{ReadsAt}
-use Rattle.scroll.specs.Writes.{WritesAt}
+use Rattle.scroll.specs.Errors.{IsBadOffset}
+use Rattle.scroll.specs.Reads.{ReadsAt, RefusesAt}
+use Rattle.scroll.specs.Writes.{WritesAt, RefusesWriteAt}
+use Rattle.scroll.specs.declared.error.Error.{Error}
+use Rattle.scroll.specs.declared.error.Error.TheVariants.{TooBig, BadOffset, BadInput, Custom, IO, NoMemory}
+use Rattle.scroll_ffi.specs.declared.ScrollError.{ScrollError}
+use Rattle.scroll_formats.specs.Many.{ChangesBetween}
+use Rattle.scroll_layouts.specs.Formats.{refuses}
 use Rattle.scroll.specs.Texts.{ReadsSlice}
 use Rattle.scroll.specs.declared.endian.Endian.TheVariants.{Little}
 use Rattle.scroll.specs.declared.endian.Endian.{Endian}
@@ -15,8 +21,9 @@ use Rattle.scroll_ffi.specs.declared.elf.ScrollElfSection.{ScrollElfSection}
 use Rattle.scroll_ffi.specs.declared.elf.ScrollElfSections.{ScrollElfSections}
 use Rattle.scroll_ffi.specs.declared.zip_files.ScrollZipEnd.{ScrollZipEnd}
 use Rattle.scroll_ffi.specs.declared.zip_files.ScrollZipFile.{ScrollZipFile}
-use Rattle.scroll_layouts.specs.Wholes.{ReadsBack, ReadsExact, WritesWhole}
-use Rattle.zip.specs.Archives.{Formats}
+use Rattle.scroll_layouts.specs.Wholes.{ReadsBack, ReadsExact, WritesWhole, KeepsWhole}
+use Rattle.zip.specs.Archives as Zip
+use Rattle.zip.specs.Archives.{Formats, EndsWith}
 use Rattle.zip.specs.declared.end.EndRecord.{EndRecord}
 use Rattle.zip.specs.declared.file.StoredFile.{StoredFile}
 
@@ -30,29 +37,18 @@ pub record AreNames (file : List ℕ) (h : Header) (x : ScrollElfSections) : Typ
   pub size : x.names_size ≡ entry.size
   pub bytes : ReadsAt (ReadsSlice entry.size) file entry.offset (take entry.size (drop entry.offset file)) entry.size
 
--- what `scroll_elf_open` stores: all of the file's sections are left, and the first is next
+-- what `scroll_elf_open` stores: all of the file's sections are left, and the first is next. A file
+-- without sections has no table
 pub record IsOpened (file : List ℕ) (x : ScrollElfSections) : Type 0 where
   pub header : Header
   pub read : ReadsHeader file header 64
   pub order : IsOrder header.order x.order
   pub left : x.left ≡ header.section_count
   pub next : x.next ≡ header.sections_offset
+  pub size : header.section_count ≢ 0 → header.section_size ≡ 64
   pub names : header.section_count ≢ 0 → AreNames file header x
-
--- the fields of a section as its entry has them
-abbrev pub fields_of : ScrollElfSection → Section
-fields_of s = record {
-  name = s.name;
-  kind = s.kind;
-  flags = s.flags;
-  address = s.address;
-  offset = s.offset;
-  size = s.size;
-  link = s.link;
-  info = s.info;
-  alignment = s.alignment;
-  entry_size = s.entry_size;
-}
+  pub none : header.section_count ≡ 0 → header.sections_offset ≡ 0
+  pub unnamed : header.section_count ≡ 0 → (x.names_offset ≡ 0) × (x.names_size ≡ 0)
 
 -- the numbers of the entry at an offset, as `section_of` has them
 pub record AreFields (order : Endian) (file : List ℕ) (at : ℕ) (s : ScrollElfSection) : Type 0 where
@@ -168,20 +164,107 @@ pub record IsStored (formats : Formats) (archive : List ℕ) (from to : ℕ) (x 
   pub numbers : IsPlainFile there from x
   pub end : to ≡ from + size
 
--- the archive reads as a stored file with this name, extra field and contents
-pub record IsPut (formats : Formats) (archive : List ℕ) (from to : ℕ) (name extra contents : List ℕ) : Type 0 where
+-- the file that is written of the numbers of `x` and of its parts
+pub record IsFileOf (x : ScrollZipFile) (name extra contents : List ℕ) (file : StoredFile)
+    : Type 0 where
+  pub signature : file.signature ≡ 0x04034b50
+  pub version : file.version ≡ x.version
+  pub flags : file.flags ≡ x.flags
+  pub method : file.method ≡ 0
+  pub time : file.time ≡ x.time
+  pub date : file.date ≡ x.date
+  pub crc : file.crc ≡ x.crc
+  pub packed : file.packed ≡ length contents
+  pub size : file.size ≡ x.size
+  pub lens : (file.name_len ≡ length name) × (file.extra_len ≡ length extra)
+  pub name-is : file.name.now ≡ name
+  pub extra-is : file.extra.now ≡ extra
+  pub contents-is : file.contents.now ≡ contents
+
+-- the archive reads as that file between two offsets, and its other bytes are as they were
+pub record IsPut (formats : Formats) (x : ScrollZipFile) (name extra contents old new : List ℕ)
+    (from to : ℕ) : Type 0 where
   pub there : StoredFile
+  pub is : IsFileOf x name extra contents there
   pub size : ℕ
-  pub read : ReadsAt (ReadsBack formats.file Little) archive from there size
-  pub name-is : there.name.now ≡ name
-  pub extra-is : there.extra.now ≡ extra
-  pub contents-is : there.contents.now ≡ contents
+  pub read : ReadsAt (ReadsBack formats.file Little) new from there size
+  pub others : ChangesBetween from to old new
   pub end : to ≡ from + size
 
--- an end record with this comment is written between two offsets
-pub record IsPutEnd (formats : Formats) (old new : List ℕ) (from to : ℕ) (comment : List ℕ) : Type 0 where
+-- the end record that is written of the numbers of `x` and of the comment
+pub record IsEndOf (x : ScrollZipEnd) (comment : List ℕ) (end : EndRecord) : Type 0 where
+  pub signature : end.signature ≡ 0x06054b50
+  pub disk : end.disk ≡ x.disk
+  pub directory_disk : end.directory_disk ≡ x.directory_disk
+  pub entries_here : end.entries_here ≡ x.entries_here
+  pub entries : end.entries ≡ x.entries
+  pub directory_size : end.directory_size ≡ x.directory_size
+  pub directory_place : end.directory_place ≡ x.directory_place
+  pub len : end.comment_len ≡ length comment
+  pub comment-is : end.comment.now ≡ comment
+
+-- that record is written between two offsets
+pub record IsPutEnd (formats : Formats) (x : ScrollZipEnd) (comment old new : List ℕ)
+    (from to : ℕ) : Type 0 where
   pub there : EndRecord
+  pub is : IsEndOf x comment there
   pub size : ℕ
   pub wrote : WritesAt (WritesWhole formats.end Little there) old from new size
-  pub comment-is : there.comment.now ≡ comment
   pub end : to ≡ from + size
+
+-- an error as it is stored
+abbrev pub faulted : ℤ → ℕ → ℕ → ScrollError
+faulted code at value = record { code = code; reserved = 0; offset = at; value = value }
+
+-- what is stored of an error, of a value that starts at an offset
+abbrev pub fault_of : Error → ℕ → ScrollError
+fault_of (TooBig size len) at = faulted (neg_ℤ (pos 2)) at 0
+fault_of (BadOffset offset) at = faulted (neg_ℤ (pos 3)) at 0
+fault_of (BadInput size msg) at = faulted (neg_ℤ (pos 4)) at size
+fault_of (Custom text) at = faulted (neg_ℤ (pos 4)) at 0
+fault_of (IO fault) at = faulted (neg_ℤ (pos 4)) at 0
+fault_of NoMemory at = faulted (neg_ℤ (pos 5)) at 0
+
+-- no end record has a comment that ends the archive
+abbrev pub HasNoEnd : List ℕ → ScrollError → Type 0
+HasNoEnd archive e =
+    ((len : ℕ) → ¬ EndsWith archive len) × (e ≡ faulted (neg_ℤ (pos 2)) (length archive) 0)
+
+-- the read of the end record fails
+pub record RefusesEndAt (formats : Formats) (archive : List ℕ) (e : ScrollError) : Type 0 where
+  pub place : ℕ
+  pub last : Zip.IsEnd archive place
+  pub why : Error
+  pub refused : RefusesAt (λ s. refuses formats.end Little s 0) IsBadOffset archive place why
+  pub is : e ≡ fault_of why place
+
+-- the read of a file fails
+pub record RefusesStored (formats : Formats) (archive : List ℕ) (from : ℕ) (e : ScrollError)
+    : Type 0 where
+  pub why : Error
+  pub refused : RefusesAt (λ s. refuses formats.file Little s 0) IsBadOffset archive from why
+  pub is : e ≡ fault_of why from
+
+-- a part has no number for its length
+abbrev pub IsLong : List ℕ → ℕ → Type 0
+IsLong part most = most < length part
+
+-- the write of a file fails, and the archive is as it was
+pub record FailsPut (formats : Formats) (x : ScrollZipFile) (name extra contents old new : List ℕ)
+    (from : ℕ) (e : ScrollError) : Type 0 where
+  pub why : Error
+  pub there : StoredFile
+  pub is : IsFileOf x name extra contents there
+  pub failed : RefusesWriteAt (KeepsWhole (λ e d. d ≡ e) formats.file Little there) IsBadOffset old
+      from new why
+  pub stored : e ≡ fault_of why from
+
+-- the write of an end record fails, and the archive is as it was
+pub record FailsPutEnd (formats : Formats) (x : ScrollZipEnd) (comment old new : List ℕ) (from : ℕ)
+    (e : ScrollError) : Type 0 where
+  pub why : Error
+  pub there : EndRecord
+  pub is : IsEndOf x comment there
+  pub failed : RefusesWriteAt (KeepsWhole (λ e d. d ≡ e) formats.end Little there) IsBadOffset old
+      from new why
+  pub stored : e ≡ fault_of why from

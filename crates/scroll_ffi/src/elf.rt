@@ -1,6 +1,7 @@
 // The sections of an ELF file, one at a time.
-ghost use Rattle.std.specs.Prelude.{◌≡◌, ◌≤◌, ◌<◌, ◌+◌, ◌-◌, ◌*◌, ◌<ℤ◌, ℕ, List, drop, pos, IfOk, IfErr, length};
+ghost use Rattle.std.specs.Prelude.{◌≡◌, ◌≤◌, ◌<◌, ◌+◌, ◌-◌, ◌*◌, ◌⊎◌, ◌<ℤ◌, ◌≤ℤ◌, ℕ, List, drop, pos, IfOk, IfErr, length};
 ghost use Rattle.scroll_ffi.specs.Interface.{IsOpened, IsEntry, AreFields, HasLen, HasName, past};
+ghost use Rattle.scroll_ffi.specs.Refusals.{RefusesOpen, RefusesEntryOf, RefusesPart, IsUnnamed, StopsNext, SkipsNext, RefusesLen, RefusesOrder};
 ghost use Rattle.object_files.specs.Sections.{section_of};
 ghost use Rattle.object_files.specs.Names.{IsName};
 ghost use Rattle.object_files.specs.Headers.{IsOrder};
@@ -61,14 +62,19 @@ pub struct ScrollElfSection {
 }
 
 /// Reads the header of an ELF file and stores its sections in `sections`, none of them read yet.
-/// Returns 0, or an error.
+/// Returns 0, or an error, after which `sections` is unchanged.
 #[unsafe(no_mangle)]
 pub extern "C" fn scroll_elf_open(
     file: &[u8],
     sections: &mut ScrollElfSections,
     error: &mut ScrollError,
 ) -> i32
+    ensures answer { (result ≡ pos 0) ⊎ (result <ℤ pos 0) }
     ensures opened { result ≡ pos 0 → IsOpened file.now sections.new }
+    ensures refused { result <ℤ pos 0 → RefusesOpen file.now error.new }
+    ensures code { result <ℤ pos 0 → result ≡ error.new.code }
+    ensures stays { result <ℤ pos 0 → sections.new ≡ sections.old }
+    ensures no_error { result ≡ pos 0 → error.new ≡ error.old }
 {
     match open(file) {
         Ok(found) => {
@@ -84,6 +90,7 @@ pub extern "C" fn scroll_elf_open(
 
 pub(crate) fn open(file: &[u8]) -> Result<ScrollElfSections, ScrollError>
     ensures opened { IfOk result (λ found. IsOpened file.now found) }
+    ensures refused { IfErr result (RefusesOpen file.now) }
     ensures error { IfErr result (λ e. e.code <ℤ pos 0) }
 {
     let header: Header = match file.pread_with(0, ()) {
@@ -129,6 +136,7 @@ fn read_entry(file: &[u8], table: u64, index: u64, order: Endian) -> Result<Sect
     requires { index < 65536 }
     ensures entry { IfOk result (λ entry.
         entry ≡ section_of order (drop (table + 64 * index) file.now)) }
+    ensures refused { IfErr result (RefusesEntryOf file.now table index) }
     ensures error { IfErr result (λ e. e.code <ℤ pos 0) }
 {
     let Some(offset) = table.checked_add(64 * index) else {
@@ -142,6 +150,7 @@ fn read_entry(file: &[u8], table: u64, index: u64, order: Endian) -> Result<Sect
 fn entry_at(file: &[u8], offset: u64, order: Endian) -> Result<Section, ScrollError>
     ensures entry { IfOk result (λ entry. entry ≡ section_of order (drop offset file.now)) }
     ensures room { IfOk result (λ _. offset + 64 ≤ length file.now) }
+    ensures refused { IfErr result (RefusesPart file.now offset 64) }
     ensures error { IfErr result (λ e. e.code <ℤ pos 0) }
 {
     check_part(file, offset, 64)?;
@@ -152,6 +161,7 @@ fn entry_at(file: &[u8], offset: u64, order: Endian) -> Result<Section, ScrollEr
 #[inline(always)]
 fn check_part(file: &[u8], offset: u64, size: u64) -> Result<(), ScrollError>
     ensures room { IfOk result (λ _. offset + size ≤ length file.now) }
+    ensures refused { IfErr result (RefusesPart file.now offset size) }
     ensures error { IfErr result (λ e. e.code <ℤ pos 0) }
 {
     let len = file.len() as u64;
@@ -165,8 +175,9 @@ fn check_part(file: &[u8], offset: u64, size: u64) -> Result<(), ScrollError>
 }
 
 /// Reads the next section and its name. Returns 1; or 0 after the last; or an error. After the
-/// error of a name the entry is stored, and the next call goes on with the section after it; after
-/// any other error no section is left.
+/// error of a name, whose offset is that of the names, the entry is stored with the name's offset and
+/// length 0, and the next call goes on with the section after it; after any other error no section is
+/// left, and `section` is unchanged.
 #[unsafe(no_mangle)]
 pub extern "C" fn scroll_elf_next(
     file: &[u8],
@@ -174,12 +185,20 @@ pub extern "C" fn scroll_elf_next(
     section: &mut ScrollElfSection,
     error: &mut ScrollError,
 ) -> i32
+    ensures answer { (result ≡ pos 1) ⊎ ((result ≡ pos 0) ⊎ (result <ℤ pos 0)) }
     ensures entry { result ≡ pos 1 → IsEntry file.now sections.old section.new }
     ensures name { result ≡ pos 1 → HasName file.now sections.old section.new }
     ensures passes { result ≡ pos 1 → sections.new ≡ past 1 sections.old }
     ensures fewer { result ≡ pos 1 → sections.old.left ≡ sections.new.left + 1 }
     ensures end { result ≡ pos 0 → sections.old.left ≡ 0 }
+    ensures stays { result ≡ pos 0 → (sections.new ≡ sections.old) × (section.new ≡ section.old) }
+    ensures refused { result <ℤ pos 0
+        → (StopsNext file.now sections.old sections.new error.new × (section.new ≡ section.old))
+        ⊎ (SkipsNext file.now sections.old sections.new error.new
+        × IsUnnamed file.now sections.old section.new) }
+    ensures code { result <ℤ pos 0 → result ≡ error.new.code }
     ensures ends { result <ℤ pos 0 → sections.new.left < sections.old.left }
+    ensures no_error { pos 0 ≤ℤ result → error.new ≡ error.old }
 {
     if sections.left == 0 {
         return 0;
@@ -204,6 +223,10 @@ pub(crate) fn next(
     ensures name { IfOk result (λ _. HasName file.now sections.old section.new) }
     ensures passes { IfOk result (λ _. sections.new ≡ past 1 sections.old) }
     ensures fewer { IfOk result (λ _. sections.old.left ≡ sections.new.left + 1) }
+    ensures refused { IfErr result (λ e.
+        (StopsNext file.now sections.old sections.new e × (section.new ≡ section.old))
+        ⊎ (SkipsNext file.now sections.old sections.new e
+        × IsUnnamed file.now sections.old section.new)) }
     ensures ends { IfErr result (λ _. sections.new.left < sections.old.left) }
     ensures error { IfErr result (λ e. e.code <ℤ pos 0) }
 {
@@ -237,6 +260,7 @@ pub(crate) fn next(
 pub(crate) fn name_len(names: &[u8], offset: u32, names_offset: u64) -> Result<u64, ScrollError>
     ensures name { IfOk result (λ len. HasLen names.now offset len) }
     ensures none { IfErr result (λ _. (text : List ℕ) → ¬ IsName names.now offset text) }
+    ensures refused { IfErr result (RefusesLen names.now offset names_offset) }
     ensures error { IfErr result (λ e. e.code <ℤ pos 0) }
 {
     if offset as usize > names.len() {
@@ -291,6 +315,7 @@ fn order_number(order: Endian) -> u32
 #[inline(always)]
 fn order_of(order: u32) -> Result<Endian, ScrollError>
     ensures order { IfOk result (λ found. IsOrder found order) }
+    ensures refused { IfErr result (RefusesOrder order) }
     ensures error { IfErr result (λ e. e.code <ℤ pos 0) }
 {
     match order {

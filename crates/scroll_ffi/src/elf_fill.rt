@@ -1,6 +1,7 @@
 // Many sections of an ELF file in one call.
-ghost use Rattle.std.specs.Prelude.{◌≡◌, ◌≤◌, ◌<◌, ◌+◌, ◌*◌, ◌<ℤ◌, take, drop, pos, length, IfOk, IfErr, IfSome, IfNone};
+ghost use Rattle.std.specs.Prelude.{◌≡◌, ◌≤◌, ◌<◌, ◌+◌, ◌*◌, ◌<ℤ◌, ◌⊎◌, take, drop, pos, length, IfOk, IfErr, IfSome, IfNone};
 ghost use Rattle.scroll_ffi.specs.Interface.{Fills, AreSections, IsSection, IsNoSection, past};
+ghost use Rattle.scroll_ffi.specs.Refusals.{RefusesNext};
 ghost use Rattle.object_files.specs.Headers.{IsOrder};
 
 use crate::ScrollError;
@@ -19,11 +20,16 @@ pub extern "C" fn scroll_elf_fill(
     count: &mut usize,
     error: &mut ScrollError,
 ) -> i32
+    ensures answer { (result ≡ pos 0) ⊎ (result <ℤ pos 0) }
     ensures filled { result ≡ pos 0
         → Fills file.now count.new sections.old sections.new filled.old filled.new }
+    ensures refused { result <ℤ pos 0
+        → RefusesNext file.now sections.old sections.new error.new }
+    ensures code { result <ℤ pos 0 → result ≡ error.new.code }
     ensures none { result <ℤ pos 0 → count.new ≡ 0 }
     ensures stays { result <ℤ pos 0 → filled.new ≡ filled.old }
     ensures ends { result <ℤ pos 0 → sections.new.left < sections.old.left }
+    ensures no_error { result ≡ pos 0 → error.new ≡ error.old }
 {
     match fill(file, sections, filled) {
         Ok(found) => {
@@ -46,6 +52,7 @@ pub(crate) fn fill(
 ) -> Result<usize, ScrollError>
     ensures filled { IfOk result (λ n.
         Fills file.now n sections.old sections.new filled.old filled.new) }
+    ensures refused { IfErr result (RefusesNext file.now sections.old sections.new) }
     ensures stays { IfErr result (λ _. filled.new ≡ filled.old) }
     ensures ends { IfErr result (λ _. sections.new.left < sections.old.left) }
     ensures error { IfErr result (λ e. e.code <ℤ pos 0) }

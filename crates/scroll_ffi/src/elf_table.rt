@@ -1,6 +1,7 @@
 // All sections of an ELF file in one call.
-ghost use Rattle.std.specs.Prelude.{◌≡◌, ◌≤◌, ◌<◌, ◌<ℤ◌, drop, pos, length, IfOk, IfErr, OnOk, OnErr};
+ghost use Rattle.std.specs.Prelude.{◌≡◌, ◌≤◌, ◌<◌, ◌<ℤ◌, ◌⊎◌, drop, pos, length, IfOk, IfErr, OnOk, OnErr};
 ghost use Rattle.scroll_ffi.specs.Interface.{AreAll, IsOpened};
+ghost use Rattle.scroll_ffi.specs.Refusals.{RefusesAll, LacksRoom};
 
 use crate::elf::{ScrollElfSection, ScrollElfSections, next, open};
 use crate::elf_fill::fill;
@@ -24,8 +25,9 @@ const BLANK: ScrollElfSection = ScrollElfSection {
 
 /// Reads all sections of an ELF file, with their names, into `sections`, and stores in `count` how
 /// many there are. It allocates memory for them, and frees it, so that `sections` is unchanged if
-/// an error occurs. Returns 0; or an error, `SCROLL_NO_MEMORY` if the memory is refused and
-/// `SCROLL_NO_ROOM`, with the count, if `sections` is shorter than the table.
+/// an error occurs, and `count` too, but for `SCROLL_NO_ROOM`. Returns 0; or an error,
+/// `SCROLL_NO_MEMORY` if the memory is refused and `SCROLL_NO_ROOM`, with the count, if `sections` is
+/// shorter than the table.
 #[unsafe(no_mangle)]
 pub extern "C" fn scroll_elf_table(
     alloc: Global,
@@ -34,10 +36,16 @@ pub extern "C" fn scroll_elf_table(
     count: &mut usize,
     error: &mut ScrollError,
 ) -> i32
+    ensures answer { (result ≡ pos 0) ⊎ (result <ℤ pos 0) }
     ensures all { result ≡ pos 0 → AreAll file.now count.new sections.new }
     ensures room { result ≡ pos 0 → count.new ≤ length sections.old }
     ensures rest { result ≡ pos 0 → drop count.new sections.new ≡ drop count.new sections.old }
+    ensures refused { result <ℤ pos 0
+        → (RefusesAll file.now error.new × (count.new ≡ count.old))
+        ⊎ LacksRoom file.now (length sections.old) count.new error.new }
+    ensures code { result <ℤ pos 0 → result ≡ error.new.code }
     ensures stays { result <ℤ pos 0 → sections.new ≡ sections.old }
+    ensures no_error { result ≡ pos 0 → error.new ≡ error.old }
 {
     let made = match read_all(alloc, file) {
         Ok(made) => made,
@@ -59,6 +67,7 @@ pub extern "C" fn scroll_elf_table(
 // Reads all sections.
 fn read_all(alloc: Global, file: &[u8]) -> Result<Vec<ScrollElfSection>, ScrollError>
     ensures all { IfOk result (λ made. AreAll file.now (length made.items) made.items) }
+    ensures refused { IfErr result (RefusesAll file.now) }
     ensures error { IfErr result (λ e. e.code <ℤ pos 0) }
 {
     let mut left = open(file)?;

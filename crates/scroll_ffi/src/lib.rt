@@ -6,6 +6,8 @@
 #![tactic(auto)]
 
 ghost use Rattle.std.specs.Prelude.{◌≡◌, ◌<ℤ◌, pos};
+ghost use Rattle.scroll_ffi.specs.Interface.{fault_of};
+ghost use Rattle.scroll_ffi.specs.Refusals.{elf_fault_of};
 
 mod elf;
 mod elf_fill;
@@ -76,7 +78,8 @@ pub fn fault(code: i32, offset: u64, value: u64) -> ScrollError
 
 /// Returns a read's error, of a value that should start at an offset.
 pub fn read_fault(error: &Error, offset: u64) -> ScrollError
-    ensures { result.code <ℤ pos 0 }
+    ensures is { result ≡ fault_of error.now offset }
+    ensures code { result.code <ℤ pos 0 }
 {
     match error {
         Error::TooBig { .. } => fault(SCROLL_TRUNCATED, offset, 0),
@@ -89,7 +92,8 @@ pub fn read_fault(error: &Error, offset: u64) -> ScrollError
 
 /// Returns the error of a read in an ELF file.
 pub fn elf_fault(error: &ElfError, offset: u64) -> ScrollError
-    ensures { result.code <ℤ pos 0 }
+    ensures is { result ≡ elf_fault_of error.now offset }
+    ensures code { result.code <ℤ pos 0 }
 {
     match error {
         ElfError::BadMagic(magic) => fault(SCROLL_BAD_MAGIC, 0, u64::from(*magic)),

@@ -1,4 +1,4 @@
-use Rattle.std.proofs.Common.{rules, arith, ◌≡◌, drop, length}
+use Rattle.std.proofs.Common.{rules, arith, refl, inl, ◌≡◌, drop, length}
 use Rattle.std.proofs.lemmas.Slice.{drop-append-drop}
 use Rattle.scroll_ffi.proofs.Filled.{all_before}
 use Rattle.scroll_ffi.proofs.elf_table.scroll_elf_table.Goals as goal
@@ -15,3 +15,6 @@ pub returns-clause-rest : goal.returns-clause-rest
 returns-clause-rest c = λ _.
     let size : length c.copy_from_slice.new.self ≡ c.len-found.result = search rules in
     drop-append-drop c.len-found.result c.args.sections.now _ _ (omega arith) size
+
+pub returns-in-Err-clause-refused : goal.returns-in-Err-clause-refused
+returns-in-Err-clause-refused c = λ _. inl (c.in-Err.ensures.refused, refl)
