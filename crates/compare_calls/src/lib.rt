@@ -7,6 +7,6 @@
 mod bounds;
 mod buffers;
 mod call;
-mod derived;
+mod records;
 mod streams;
 mod structs;

@@ -10,15 +10,18 @@ mod table;
 #[cfg(test)]
 mod tests;
 
-ghost use Rattle.std.specs.Prelude.{◌≡◌, List, ℕ, drop, IfOk, IfErr, OnOk, OnErr};
+ghost use Rattle.std.specs.Prelude.{◌≡◌, List, ℕ, IfOk, IfErr, OnOk, OnErr};
 ghost use Rattle.std.specs.List.{slice_range};
 ghost use Rattle.scroll_formats.specs.Spans.{Puts, Stands};
 ghost use Rattle.debug_tables.specs.Tables.{ReadsTable, ReadsTableBytes, RefusesTable, FailsPut};
 
-pub use crate::declaration::{Attribute, Children, Declaration, TableError};
+pub use crate::declaration::{
+    Attribute, Attributes, Children, Declaration, Declarations, TableError,
+};
 pub use crate::table::Table;
 use scroll::{Error, LE, Result};
-use scroll_formats::{append_until, put_at};
+use scroll_formats::put_at;
+use scroll_layouts::{ReadPart, append_until};
 use std::alloc::Global;
 
 /// Reads the table at the cursor `offset`, and advances the cursor past it. On an error the cursor
@@ -32,18 +35,21 @@ pub fn read_table<'a>(
     bytes: &'a [u8],
     offset: &mut usize,
 ) -> std::result::Result<Table<'a>, TableError>
-    ensures read { IfOk result (λ table. ReadsTable bytes.now offset.old offset.new table) }
-    ensures refused { IfErr result (λ e. RefusesTable bytes.now offset.old e) }
+    ensures read { IfOk result (ReadsTable
+        (⟦<Declaration<'a> as ReadPart<'a, (), TableError>>⟧.format tt) bytes.now offset.old
+        offset.new) }
+    ensures refused { IfErr result (RefusesTable
+        (⟦<Declaration<'a> as ReadPart<'a, (), TableError>>⟧.format tt) bytes.now offset.old) }
     ensures stays { OnErr result (offset.new ≡ offset.old) }
 {
     let mut at = *offset;
     let mut declarations = Vec::new(alloc);
-    match append_until(&mut declarations, bytes, &mut at, LE) {
-        Ok(bytes) => {
+    match append_until::<TableError, Declarations>(&mut declarations, bytes, &mut at, LE) {
+        Ok(list) => {
             *offset = at;
             Ok(Table {
                 declarations,
-                bytes,
+                bytes: list.0,
             })
         }
         Err(located) => Err(located.error),
@@ -56,11 +62,12 @@ pub fn read_table<'a>(
 ///
 /// Without room for the table, the error is a `TooBig` with its size, and with the cursor past the
 /// end a `BadOffset`. Then nothing is written, and the cursor is unchanged.
-pub fn write_table(target: &mut [u8], offset: &mut usize, table: &Table) -> Result<()>
+pub fn write_table<'a>(target: &mut [u8], offset: &mut usize, table: &Table<'a>) -> Result<()>
     ensures wrote { OnOk result
         (Puts table.now.bytes target.old target.new offset.old offset.new) }
-    ensures again { OnOk result
-        (ReadsTableBytes (drop offset.old target.new) table.now.bytes) }
+    ensures again { OnOk result (ReadsTableBytes
+        (⟦<Declaration<'a> as ReadPart<'a, (), TableError>>⟧.format tt) target.new offset.old
+        offset.new table.now.bytes) }
     ensures back { OnOk result ((source : List ℕ) (from to : ℕ)
         → Stands table.now.bytes source from to
         → slice_range target.new offset.old offset.new ≡ slice_range source from to) }

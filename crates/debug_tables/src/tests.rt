@@ -1,9 +1,13 @@
 // Tables of object files, and tables that are padded, truncated or wrong.
+ghost use Rattle.std.specs.Prelude.{◌≤◌};
+
 use crate::{Attribute, Children, Declaration, Table, TableError, read_table, write_table};
-use scroll::{BE, Endian, LE, Pread, Pwrite, Uleb128};
-use scroll_formats::{Until, write_many};
+use scroll::{BE, Endian, LE, Pread, Pwrite};
+use scroll_formats::write_many;
+use scroll_layouts::{Items, Uleb};
 use std::alloc::Global;
 use std::fmt::Debug;
+use std::marker::PhantomData;
 use std::process::Abort;
 
 // The section of `struct pair { int a; int b; } p;`, from
@@ -104,21 +108,17 @@ fn check_printed<T: Debug + Drop>(rt: &impl Abort, alloc: Global, value: T, want
 // Returns the numbers of an attribute.
 fn numbers_of(attribute: &Attribute) -> Numbers {
     let constant = match attribute.constant {
-        Some(constant) => Some(i64::from(constant)),
+        Some(constant) => Some(constant.value),
         None => None,
     };
-    (
-        u64::from(attribute.name),
-        u64::from(attribute.form),
-        constant,
-    )
+    (attribute.name.value, attribute.form.value, constant)
 }
 
 // Checks the first attributes of a declaration, and returns how many it has.
 fn check_attributes(rt: &impl Abort, declaration: &Declaration, wanted: &[Numbers]) -> usize {
     let mut count: usize = 0;
-    let mut values = declaration.attributes.values(LE);
-    for _ in 0..declaration.attributes.bytes.len() {
+    let mut values = declaration.attributes.values_to_mark::<TableError>(LE);
+    for _ in 0..declaration.attributes.0.len() {
         let Some(attribute) = values.next() else {
             break;
         };
@@ -133,9 +133,9 @@ fn check_attributes(rt: &impl Abort, declaration: &Declaration, wanted: &[Number
 // Checks the shape of a declaration, and its first attributes.
 fn check_declaration(rt: &impl Abort, declaration: &Declaration, wanted: &(Shape, &[Numbers])) {
     let shape = (
-        u64::from(declaration.code),
-        u64::from(declaration.tag),
-        declaration.tag.size(),
+        declaration.code.value,
+        declaration.tag.value,
+        declaration.tag.count,
         declaration.children == Children::Yes,
         check_attributes(rt, declaration, wanted.1),
     );
@@ -200,45 +200,32 @@ static LISTS: [(&[u8], &str); 13] = [
     (&[3, 8, 0, 0], "Ok(7)"),
     (&[0x3a, 0x21, 1, 3, 8, 0, 0], "Ok(10)"),
     (&[3, 8, 0x80, 0, 0x80, 0x80, 0], "Ok(10)"),
-    (&[], NONE),
-    (&[0xff], ONE),
-    (&[3, 8], TWO),
-    (&[3, 8, 0], THREE),
-    (&[3, 8, 0, 0x80], FOUR),
-    (&[0x3a, 0x21, 0, 0], FOUR),
-    (&[0, 0, 0], THREE),
-    (&[0, 0, 0, 0], FOUR),
-    (&[3, 8, 0, 0, 3, 8, 0, 0], EIGHT),
+    (&[], CUT),
+    (&[0xff], CUT),
+    (&[3, 8], CUT),
+    (&[3, 8, 0], CUT),
+    (&[3, 8, 0, 0x80], CUT),
+    (&[0x3a, 0x21, 0, 0], CUT),
+    (&[0, 0, 0], TWO),
+    (&[0, 0, 0, 0], TWO),
+    (&[3, 8, 0, 0, 3, 8, 0, 0], FOUR),
 ];
 
-const NONE: &str =
-    "Err(Read(BadInput { size: 0, msg: \"attributes is not a list up to its mark\" }))";
+const CUT: &str = "Err(Read(TooBig { size: 1, len: 0 }))";
 
-const ONE: &str =
-    "Err(Read(BadInput { size: 1, msg: \"attributes is not a list up to its mark\" }))";
+const TWO: &str = "Err(Read(BadInput { size: 2, msg: \"another length than its values\" }))";
 
-const TWO: &str =
-    "Err(Read(BadInput { size: 2, msg: \"attributes is not a list up to its mark\" }))";
+const FOUR: &str = "Err(Read(BadInput { size: 4, msg: \"another length than its values\" }))";
 
-const THREE: &str =
-    "Err(Read(BadInput { size: 3, msg: \"attributes is not a list up to its mark\" }))";
-
-const FOUR: &str =
-    "Err(Read(BadInput { size: 4, msg: \"attributes is not a list up to its mark\" }))";
-
-const EIGHT: &str =
-    "Err(Read(BadInput { size: 8, msg: \"attributes is not a list up to its mark\" }))";
-
-const MANY: &str =
-    "Some(At { offset: 5, error: Read(BadInput { size: 1, msg: \"attributes is not a list up to its mark\" }) })";
+const MANY: &str = "Some(At { offset: 5, error: Read(TooBig { size: 1, len: 0 }) })";
 
 // Returns a declaration with these attributes.
 fn declaration_of(attributes: &[u8]) -> Declaration<'_> {
     Declaration {
-        code: Uleb128::shortest(1),
-        tag: Uleb128::shortest(0x11),
+        code: Uleb::shortest(1),
+        tag: Uleb::shortest(0x11),
         children: Children::No,
-        attributes: Until::new(attributes),
+        attributes: Items(attributes, PhantomData),
     }
 }
 
@@ -255,7 +242,7 @@ fn check_list(rt: &impl Abort, alloc: Global, attributes: &[u8], order: Endian, 
     }
     let read: Result<Declaration, TableError> = target.pread_with(1, order);
     let read = read.expect(rt, "a declaration");
-    assert!(rt; *read.attributes.bytes == *attributes, "got {read:?}");
+    assert!(rt; *read.attributes.0 == *attributes, "got {read:?}");
 }
 
 // Checks the error of a write of a list of declarations, of which the second has no list.
@@ -290,4 +277,48 @@ fn no_room(rt: HostRuntime) {
     *at = 23;
     let past = write_table(&mut target, at, &table);
     check_printed(&rt, alloc, past, "Err(BadOffset(23))");
+}
+
+// Tables of each number of declarations, and a longer one, in tests of equal times. An allocation
+// failure ends a test.
+fn check_counts(rt: &impl Abort, alloc: Global, from: usize, to: usize)
+    requires { to ≤ 5000 }
+{
+    let mut bytes = [0u8; 25_001];
+    for place in 0..5000 {
+        bytes[5 * place] = 1;
+        bytes[5 * place + 1] = 0x11;
+    }
+    for count in from..to {
+        bytes[5 * count] = 0;
+        check_count(rt, alloc, &bytes, count);
+        bytes[5 * count] = 1;
+    }
+    check_count(rt, alloc, &bytes, 5000);
+}
+
+#[test]
+fn tables_of_few_declarations(rt: HostRuntime) {
+    check_counts(&rt, rt.alloc(), 0, 551);
+}
+
+#[test]
+fn tables_of_some_declarations(rt: HostRuntime) {
+    check_counts(&rt, rt.alloc(), 551, 779);
+}
+
+#[test]
+fn tables_of_more_declarations(rt: HostRuntime) {
+    check_counts(&rt, rt.alloc(), 779, 954);
+}
+
+#[test]
+fn tables_of_many_declarations(rt: HostRuntime) {
+    check_counts(&rt, rt.alloc(), 954, 1101);
+}
+
+// Checks that so many declarations are read.
+fn check_count(rt: &impl Abort, alloc: Global, bytes: &[u8], count: usize) {
+    let table = read_table(alloc, bytes, &mut 0).expect(rt, "a table");
+    check_eq(rt, table.declarations.len(), count);
 }

@@ -4,9 +4,10 @@
 //
 // An STL file has 80 bytes of any kind, the number of its triangles in 32 bits, and then the
 // triangles, 50 bytes each. All its numbers are little-endian.
+mod derived;
+
 ghost use Rattle.std.specs.Prelude.{◌≡◌, [], ◌∷◌, IfOk, IfErr, IfSome, OnErr, ◌≤◌, ◌<◌, ◌^◌, ◌+◌, ◌*◌, length, drop, IsOk};
 ghost use Rattle.std.specs.Float.{binary32};
-ghost use Rattle.std.proofs.Common.{refl, rules};
 ghost use Rattle.scroll.specs.Arrays.{ReadsArray, RefusesArray, MakesArray, SlotsFit};
 ghost use Rattle.scroll.specs.Bytes.{RefusesShort};
 ghost use Rattle.scroll.specs.Errors.{IsBadOffset};
@@ -18,7 +19,7 @@ ghost use Rattle.scroll.specs.declared.endian.Endian.TheVariants.{Little};
 ghost use Rattle.scroll.specs.declared.error.Error.TheVariants.{BadOffset};
 
 use crate::results::{check_eq, check_error, check_too_big, check_value};
-use scroll::ctx::{NULL, Record, StrCtx, TryFromCtx, array_fits};
+use scroll::ctx::{NULL, StrCtx, TryFromCtx, array_fits};
 use scroll::{Endian, Error, LE, Pread, Result};
 use std::result;
 
@@ -120,6 +121,7 @@ fn values_of_a_file(rt: HostRuntime) {
 }
 
 /// A point, or a direction.
+// #[derive(Pread, Pwrite)]
 #[derive(Clone, Copy, Debug, PartialEq)]
 pub struct Point {
     pub x: f32,
@@ -127,84 +129,13 @@ pub struct Point {
     pub z: f32,
 }
 
-impl Record for Point {
-    type Parts = (f32, f32, f32);
-
-    ghost parts_of = { λ x. (x.x, x.y, x.z) };
-
-    ghost of_parts = { λ p. record { x = p.0; y = p.1; z = p.2 } };
-
-    ghost fields_in = { λ order s x.
-        (x.x ≡ float binary32 order s)
-        × (x.y ≡ float binary32 order (drop 4 s))
-        × (x.z ≡ float binary32 order (drop 8 s)) };
-
-    ghost again = { λ x. refl };
-
-    ghost there = { λ p. refl };
-
-    ghost fields_of_parts = { λ order s x h. (h.0, h.1.0, h.1.1) };
-
-    ghost parts_of_fields = { λ order s x h. (h.0, (h.1, h.2)) };
-
-    ghost small = { Prim.search rules };
-
-    fn parts(self) -> Self::Parts {
-        (self.x, self.y, self.z)
-    }
-
-    fn of_parts(parts: Self::Parts) -> Point {
-        Point {
-            x: parts.0,
-            y: parts.1,
-            z: parts.2,
-        }
-    }
-}
-
 /// A triangle of a mesh: a normal, three corners, and 16 bits that programs use freely.
+// #[derive(Pread, Pwrite)]
 #[derive(Clone, Copy, Debug, PartialEq)]
 pub struct Triangle {
     pub normal: Point,
     pub corners: [Point; 3],
     pub attribute: u16,
-}
-
-impl Record for Triangle {
-    type Parts = (Point, [Point; 3], u16);
-
-    ghost parts_of = { λ x. (x.normal, x.corners, x.attribute) };
-
-    ghost of_parts = { λ p. record { normal = p.0; corners = p.1; attribute = p.2 } };
-
-    ghost fields_in = { λ order s x.
-        ((x.normal.x ≡ float binary32 order s) × (x.normal.y ≡ float binary32 order (drop 4 s)) × (x.normal.z ≡ float binary32 order (drop 8 s)))
-        × (MakesArray 12 (λ s x. ((x.x ≡ float binary32 order s) × (x.y ≡ float binary32 order (drop 4 s)) × (x.z ≡ float binary32 order (drop 8 s)))) 3 (drop 12 s) x.corners)
-        × (x.attribute ≡ number order 2 (drop 48 s)) };
-
-    ghost again = { λ x. refl };
-
-    ghost there = { λ p. refl };
-
-    ghost fields_of_parts = { λ order s x h. (h.0, h.1.0, h.1.1) };
-
-    ghost parts_of_fields = { λ order s x h. (h.0, (h.1, h.2)) };
-
-    ghost small = { Prim.search rules };
-
-    fn parts(self) -> Self::Parts {
-        let corners = self.corners;
-        (self.normal, corners, self.attribute)
-    }
-
-    fn of_parts(parts: Self::Parts) -> Triangle {
-        let corners = parts.1;
-        Triangle {
-            normal: parts.0,
-            corners,
-            attribute: parts.2,
-        }
-    }
 }
 
 /// Returns the triangle with this index, counted from 0. A file that ends before the triangle does

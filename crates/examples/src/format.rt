@@ -1,16 +1,17 @@
 // A struct of numbers in a byte order that is chosen at run time, read field by field, and as a
 // type. `read_back` alone has a proof.
+mod derived;
+
 ghost use Rattle.std.specs.Prelude.{◌≡◌, ◌≤◌, ◌<◌, ◌^◌, ◌++◌, length, take, drop, IfOk, IsOk, OnOk};
-ghost use Rattle.std.proofs.Common.{refl, rules};
 ghost use Rattle.scroll.specs.Numbers.{number, number_bytes};
 ghost use Rattle.scroll.specs.declared.endian.Endian.TheVariants.{Big};
 
 use crate::results::{check_eq, check_too_big, check_value};
-use scroll::ctx::{Record, Written};
 use scroll::laws::fixed_size_is_written_back;
 use scroll::{BE, Cread, Endian, LE, Pread, Pwrite, Result, check_room, slice};
 
 /// How sound is stored.
+// #[derive(Pread, Pwrite)]
 #[derive(Clone, Copy, Debug, PartialEq)]
 pub struct Format {
     pub tag: u16,
@@ -34,52 +35,6 @@ pub fn read_format(file: &[u8], order: Endian) -> Result<Format>
         channels: file.cread_with(2, order),
         rate: file.cread_with(4, order),
     })
-}
-
-impl Record for Format {
-    type Parts = (u16, u16, u32);
-
-    ghost parts_of = { λ x. (x.tag, x.channels, x.rate) };
-
-    ghost of_parts = { λ p. record { tag = p.0; channels = p.1; rate = p.2 } };
-
-    ghost fields_in = { λ order s x.
-        (x.tag ≡ number order 2 s)
-        × (x.channels ≡ number order 2 (drop 2 s))
-        × (x.rate ≡ number order 4 (drop 4 s)) };
-
-    ghost again = { λ x. refl };
-
-    ghost there = { λ p. refl };
-
-    ghost fields_of_parts = { λ order s x h. (h.0, h.1.0, h.1.1) };
-
-    ghost parts_of_fields = { λ order s x h. (h.0, (h.1, h.2)) };
-
-    ghost small = { Prim.search rules };
-
-    fn parts(self) -> Self::Parts {
-        (self.tag, self.channels, self.rate)
-    }
-
-    fn of_parts(parts: Self::Parts) -> Format {
-        Format {
-            tag: parts.0,
-            channels: parts.1,
-            rate: parts.2,
-        }
-    }
-}
-
-impl<'a> Written for &'a Format {
-    type Value = Format;
-
-    ghost value_of = { λ x. x.now };
-
-    #[inline(always)]
-    fn value(self) -> Format {
-        *self
-    }
 }
 
 /// Returns the format at the start of a file, read as a type.
@@ -115,46 +70,12 @@ pub fn write_two(file: &mut [u8], first: Format, second: Format, order: Endian) 
     Ok(offset)
 }
 
+// #[derive(Pread, Pwrite)]
 #[derive(Clone, Copy, Debug, PartialEq, Eq)]
 struct Data {
     one: u32,
     two: u16,
     three: u8,
-}
-
-impl Record for Data {
-    type Parts = (u32, u16, u8);
-
-    ghost parts_of = { λ x. (x.one, x.two, x.three) };
-
-    ghost of_parts = { λ p. record { one = p.0; two = p.1; three = p.2 } };
-
-    ghost fields_in = { λ order s x.
-        (x.one ≡ number order 4 s)
-        × (x.two ≡ number order 2 (drop 4 s))
-        × (x.three ≡ number order 1 (drop 6 s)) };
-
-    ghost again = { λ x. refl };
-
-    ghost there = { λ p. refl };
-
-    ghost fields_of_parts = { λ order s x h. (h.0, h.1.0, h.1.1) };
-
-    ghost parts_of_fields = { λ order s x h. (h.0, (h.1, h.2)) };
-
-    ghost small = { Prim.search rules };
-
-    fn parts(self) -> Self::Parts {
-        (self.one, self.two, self.three)
-    }
-
-    fn of_parts(parts: Self::Parts) -> Data {
-        Data {
-            one: parts.0,
-            two: parts.1,
-            three: parts.2,
-        }
-    }
 }
 
 #[test]

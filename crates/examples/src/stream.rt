@@ -1,11 +1,11 @@
 // Numbers over streams, each alone, and two as one type.
+mod derived;
+
 ghost use Rattle.std.specs.Prelude.{◌≡◌, ◌<◌, ◌^◌, ◌++◌, take, drop, IfOk, OnOk};
-ghost use Rattle.std.proofs.Common.{refl, rules};
 ghost use Rattle.scroll.specs.Numbers.{number, signed_number, number_bytes, signed_bytes};
 ghost use Rattle.scroll.specs.declared.endian.Endian.TheVariants.{Big};
 
 use crate::results::{check_eq, check_value};
-use scroll::ctx::Record;
 use scroll::{BE, Endian, IOread, IOwrite, LE};
 use std::io;
 
@@ -40,43 +40,21 @@ fn a_measurement_reads_back(rt: HostRuntime) {
     check_eq(rt, read_measurement(&mut source).is_err(), true);
 }
 
+// The example of the Rust crate's page: a number in 64 bits, and one in 32.
+#[test]
+fn numbers_of_two_widths(rt: HostRuntime) {
+    let rt = &rt;
+    let mut source: &[u8] = &[1, 0, 0, 0, 0, 0, 0, 0, 0xef, 0xbe, 0, 0];
+    check_value(rt, source.ioread::<u64>(), 1);
+    check_value(rt, source.ioread::<u32>(), 48879);
+    check_eq(rt, source.is_empty(), true);
+}
+
+// #[derive(Pread, Pwrite)]
 #[derive(Clone, Copy, Debug, PartialEq, Eq)]
 struct Foo {
     foo: i64,
     bar: u32,
-}
-
-impl Record for Foo {
-    type Parts = (i64, u32);
-
-    ghost parts_of = { λ x. (x.foo, x.bar) };
-
-    ghost of_parts = { λ p. record { foo = p.0; bar = p.1 } };
-
-    ghost fields_in = { λ order s x.
-        (x.foo ≡ signed_number order 8 s)
-        × (x.bar ≡ number order 4 (drop 8 s)) };
-
-    ghost again = { λ x. refl };
-
-    ghost there = { λ p. refl };
-
-    ghost fields_of_parts = { λ order s x h. (h.0, h.1) };
-
-    ghost parts_of_fields = { λ order s x h. (h.0, h.1) };
-
-    ghost small = { Prim.search rules };
-
-    fn parts(self) -> Self::Parts {
-        (self.foo, self.bar)
-    }
-
-    fn of_parts(parts: Self::Parts) -> Foo {
-        Foo {
-            foo: parts.0,
-            bar: parts.1,
-        }
-    }
 }
 
 // Reads the next twelve bytes of a source.

@@ -4,6 +4,7 @@
 ghost use Rattle.std.specs.Prelude.{◌<◌};
 
 use crate::{Entry, read_index, write_index};
+use scroll::{BE, slice};
 use std::alloc::Global;
 use std::fmt::Debug;
 use std::process::Abort;
@@ -125,4 +126,46 @@ fn what_is_written(rt: HostRuntime) {
         short,
         "Err(Short(TooBig { size: 228, len: 83 }))",
     );
+}
+
+// An index of many entries, whose header says each of these numbers of them in turn. An allocation
+// failure ends the test.
+fn check_counts(rt: &impl Abort, alloc: Global, from: u32, to: u32) {
+    let read = read_index(alloc, &INDEX).expect(rt, "the entries");
+    let entries = vec![in alloc; *read.get(0).expect(rt, "an entry"); 5000].expect(rt, "more");
+    let mut out = vec![in alloc; 0u8; 360_012].expect(rt, "room");
+    let written = write_index(out.as_mut_slice(), &entries);
+    check_printed(rt, alloc, written, "Ok(360012)");
+    for count in from..to {
+        check_count(rt, alloc, out.as_mut_slice(), count);
+    }
+    check_count(rt, alloc, out.as_mut_slice(), 5000);
+}
+
+#[test]
+fn indexes_of_few_entries(rt: HostRuntime) {
+    check_counts(&rt, rt.alloc(), 0, 551);
+}
+
+#[test]
+fn indexes_of_some_entries(rt: HostRuntime) {
+    check_counts(&rt, rt.alloc(), 551, 779);
+}
+
+#[test]
+fn indexes_of_more_entries(rt: HostRuntime) {
+    check_counts(&rt, rt.alloc(), 779, 954);
+}
+
+#[test]
+fn indexes_of_many_entries(rt: HostRuntime) {
+    check_counts(&rt, rt.alloc(), 954, 1101);
+}
+
+// Checks that so many entries are read of an index whose header says so.
+fn check_count(rt: &impl Abort, alloc: Global, index: &mut [u8], count: u32) {
+    let header = index.first_chunk_mut::<12>().expect(rt, "a header");
+    slice::cwrite_with(header, count, 8, BE);
+    let entries = read_index(alloc, index).expect(rt, "the entries");
+    assert!(rt; entries.len() == count as usize);
 }

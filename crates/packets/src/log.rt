@@ -11,20 +11,18 @@
 //! let first: Record = bytes.pread_with(0, LE)?;
 //! ```
 ghost use Rattle.std.specs.Prelude.{◌≡◌, length, take, IfOk, IfErr};
-ghost use Rattle.scroll_layouts.specs.Wholes.{ReadsBack};
-ghost use Rattle.scroll_layouts.specs.lemmas.WholeLemmas.{whole-kept};
 ghost use Rattle.packets.specs.Logs.{IsLog, RefusesLog, WritesLog, FailsLog, log_bytes};
 
 mod derived;
 
 use scroll::{Endian, Error};
-use scroll_formats::{At, Kept, read_to_end, write_many_kept};
+use scroll_formats::{At, read_to_end, write_many_kept};
 use scroll_layouts::ReadPart;
 use std::alloc::Global;
 use std::result::Result;
 
 /// A record.
-// #[derive(Pread, Pwrite)]
+// #[derive(Pread, Pwrite, Kept)]
 #[derive(Clone, Copy, Debug)]
 pub struct Record<'a> {
     /// How many bytes follow.
@@ -70,14 +68,4 @@ pub fn write_records<'a>(
     let mut offset = 0;
     write_many_kept(target, records, &mut offset, order)?;
     Ok(offset)
-}
-
-impl<'a> Kept<Endian> for Record<'a> {
-    ghost reads = { ReadsBack (⟦<Record<'a> as ReadPart<'a, (), Error>>⟧.format tt) };
-
-    ghost fits = { λ _. Unit {0} };
-
-    fn fit(self) {}
-
-    ghost back = { λ order x old new rest n fits h. whole-kept _ order x old new n h rest };
 }

@@ -15,6 +15,11 @@ static PICTURE: [u8; 70] = [
     0x4e, 0x44, 0xae, 0x42, 0x60, 0x82,
 ];
 
+#[test]
+fn the_picture_begins_with_the_signature(rt: HostRuntime) {
+    assert!(rt; PICTURE.starts_with(&SIGNATURE));
+}
+
 // The kinds of its chunks (`IHDR`, `IDAT` and `IEND`), where each begins, and its contents.
 static CHUNKS: [(u32, usize, &[u8]); 3] = [
     (0x4948_4452, 8, b"\0\0\0\x02\0\0\0\x01\x08\x02\0\0\0"),

@@ -2,6 +2,7 @@
 use crate::inputs::{Digest, Random, change_all, push_leb128};
 use debug_tables::{Attribute, Children, Declaration, TableError, read_table, write_table};
 use scroll::LE;
+use scroll_layouts::Uleb;
 use std::alloc::{AllocError, Global};
 
 const TABLES: u64 = 300;
@@ -58,21 +59,26 @@ fn make_section(alloc: Global, random: &mut Random) -> Result<Section, AllocErro
     Ok(Section { bytes, tags })
 }
 
+// Adds a number with the size of its encoding.
+fn add_number(digest: &mut Digest, number: &Uleb) {
+    digest.add(number.value ^ (number.count as u64) << 56);
+}
+
 fn add_attribute(digest: &mut Digest, attribute: &Attribute) {
-    digest.add_unsigned(attribute.name);
-    digest.add_unsigned(attribute.form);
-    if let Some(constant) = attribute.constant {
-        digest.add_signed(constant);
+    add_number(digest, &attribute.name);
+    add_number(digest, &attribute.form);
+    if let Some(constant) = &attribute.constant {
+        digest.add(constant.value.cast_unsigned() ^ (constant.count as u64) << 56);
     }
 }
 
 fn add_declaration(digest: &mut Digest, declaration: &Declaration) {
-    digest.add_unsigned(declaration.code);
-    digest.add_unsigned(declaration.tag);
+    add_number(digest, &declaration.code);
+    add_number(digest, &declaration.tag);
     digest.add(u64::from(matches!(declaration.children, Children::Yes)));
-    digest.add(declaration.attributes.bytes.len() as u64);
-    let mut attributes = declaration.attributes.values(LE);
-    for _ in 0..declaration.attributes.bytes.len() {
+    digest.add(declaration.attributes.0.len() as u64);
+    let mut attributes = declaration.attributes.values_to_mark::<TableError>(LE);
+    for _ in 0..declaration.attributes.0.len() {
         let Some(attribute) = attributes.next() else {
             break;
         };

@@ -1,4 +1,4 @@
-//! Structs with the implementations that tools/derive/derive.sh prints.
+//! Reads and writes of structs whose implementations tools/derive wrote.
 ghost use Rattle.std.specs.Prelude.{◌≤◌};
 
 use crate::bounds::has_room;

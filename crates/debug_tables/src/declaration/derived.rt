@@ -1,0 +1,369 @@
+// Printed by tools/derive from declaration.rt.
+ghost use Rattle.std.specs.Prelude.{◌≡◌, ◌≢◌, ◌<◌, ◌^◌, ◌⊎◌, nat_eq};
+ghost use Rattle.std.proofs.Common.{rules};
+ghost use Rattle.scroll.specs.lemmas.Frames.{WritesPrefix-keeps};
+ghost use Rattle.scroll_layouts.specs.Formats.{last, refuses};
+ghost use Rattle.scroll_layouts.specs.OneWay.{one_way};
+ghost use Rattle.scroll_layouts.specs.Wholes.{KeepsWhole, ReadsExact, WritesWhole};
+ghost use Rattle.scroll_layouts.specs.declared.choice.Choice.TheVariants.{First, Second};
+ghost use Rattle.debug_tables.specs.declared.declaration.TableError.TheVariants as table_error_is;
+ghost use Rattle.debug_tables.specs.declared.declaration.Children.TheVariants as children_is;
+
+use super::{Attribute, Attributes, Children, Declaration, Declarations, TableError};
+use scroll::ctx::{TryFromCtx, TryIntoCtx};
+use scroll::{Endian, Error};
+use scroll_formats::Zeros;
+use scroll_layouts::Choice::{First, Second};
+use scroll_layouts::{
+    Certain, CertainHead, Choice, Choose, Head, Headed, Items, Listed, Marked, Part, ReadPart, Run,
+    Shape, Sleb, ToMark, TwoZeroUlebs, Uleb, When, ZeroUleb, read_exact, write_whole,
+};
+use std::marker::PhantomData;
+use std::result::Result;
+
+type AttributeHead = Uleb;
+
+type AttributeNext = When<()>;
+
+#[derive(Drop)]
+pub struct AttributeSays;
+
+impl Head<AttributeHead, TableError> for AttributeSays {
+    type Next = AttributeNext;
+
+    ghost holds = { λ _ h. Unit {0} };
+
+    ghost fails = { λ _ h e. ⊥ };
+
+    ghost next = { λ _ h. record { 0 = (nat_eq h.value 33); 1 = tt } };
+
+    fn obey(&self, _head: &AttributeHead) -> Result<(), TableError> {
+        Ok(())
+    }
+
+    fn next(&self, head: &AttributeHead) -> AttributeNext {
+        When(head.value == 33, ())
+    }
+}
+
+type AttributeRest = (AttributeHead, Option<Sleb>);
+
+type AttributeParts = (Uleb, AttributeRest);
+
+type AttributeCtx = ((), Headed<(), AttributeNext, AttributeSays>);
+
+impl Shape for Attribute {
+    type Ctx = ();
+
+    type Inner = AttributeCtx;
+
+    type Parts = AttributeParts;
+
+    ghost parts_of = { λ x. (x.name, (x.form, x.constant)) };
+
+    ghost inner_of = { λ _. (tt, record { 0 = tt; 1 = record {}; 2 = record {} }) };
+
+    fn split(&self) -> AttributeParts {
+        (self.name, (self.form, self.constant))
+    }
+
+    fn join(parts: AttributeParts) -> Attribute {
+        let (name, (form, constant)) = parts;
+        Attribute {
+            name,
+            form,
+            constant,
+        }
+    }
+
+    fn inner(_ctx: &()) -> AttributeCtx
+        ensures { result ≡ ⟦<Attribute as Shape>⟧.inner_of _ctx.now }
+    {
+        ((), Headed((), AttributeSays, PhantomData))
+    }
+}
+
+impl<'a> CertainHead<'a, (), AttributeHead, TableError> for AttributeSays {
+    fn certain_next() {}
+}
+
+impl<'a> Certain<'a, (), TableError> for Attribute {
+    fn certain()
+        ensures { (ctx : Unit {0})
+            → one_way (⟦<Attribute as ReadPart<'a, (), TableError>>⟧.format ctx) }
+    {
+        <AttributeParts as Certain<'a, AttributeCtx, TableError>>::certain()
+    }
+}
+
+impl<'a> TryFromCtx<'a, Endian> for Attribute {
+    type Error = TableError;
+
+    ghost reads = { ReadsExact (⟦<Attribute as ReadPart<'a, (), TableError>>⟧.format tt) };
+
+    ghost refuses = { λ order s.
+        refuses (⟦<Attribute as ReadPart<'a, (), TableError>>⟧.format tt) order s 0 };
+
+    ghost reads_bounded = { λ order s x n h. Prim.search rules };
+
+    #[inline(always)]
+    fn try_from_ctx(from: &'a [u8], ctx: Endian) -> Result<(Attribute, usize), TableError> {
+        read_exact::<(), TableError, Attribute>(from, ctx, &())
+    }
+}
+
+impl TryIntoCtx<Endian> for Attribute {
+    type Error = TableError;
+
+    ghost writes = { WritesWhole (⟦<Attribute as Part<(), TableError>>⟧.format tt) };
+
+    ghost refuses = { KeepsWhole (λ error e. e ≡ table_error_is.Read error)
+        (⟦<Attribute as Part<(), TableError>>⟧.format tt) };
+
+    ghost writes_bounded = { λ order x old new n h. Prim.search rules };
+
+    ghost writes_keeps = { λ order x old new n h. WritesPrefix-keeps _ old new n h.wrote };
+
+    #[inline(always)]
+    fn try_into_ctx(self, dst: &mut [u8], ctx: Endian) -> Result<usize, TableError> {
+        write_whole::<(), TableError, Attribute>(&self, dst, ctx, &())
+    }
+}
+
+impl<'a> Listed<'a> for Attributes {
+    type Item = Attribute;
+}
+
+impl<'a> Marked<'a> for Attributes {
+    type End = TwoZeroUlebs;
+}
+
+type ChildrenHead = Run<u8>;
+
+type ChildrenNext = Choose<usize, usize>;
+
+#[derive(Drop)]
+pub struct ChildrenSays;
+
+impl Head<ChildrenHead, TableError> for ChildrenSays {
+    type Next = ChildrenNext;
+
+    ghost holds = { λ _ h. ((h.0 ≡ 0) ⊎ (h.0 ≡ 1)) };
+
+    ghost fails = { λ _ h e. ((h.0 ≢ 0) × (h.0 ≢ 1)) × (e ≡ table_error_is.BadChildren h.0) };
+
+    ghost next = { λ _ h. record { 0 = (nat_eq h.0 0); 1 = 0; 2 = 0 } };
+
+    fn obey(&self, head: &ChildrenHead) -> Result<(), TableError> {
+        if head.0 != 0 && head.0 != 1 {
+            return Err(TableError::BadChildren(head.0));
+        }
+        Ok(())
+    }
+
+    fn next(&self, head: &ChildrenHead) -> ChildrenNext {
+        Choose(head.0 == 0, 0, 0)
+    }
+}
+
+type ChildrenParts = (ChildrenHead, Choice<Zeros, Zeros>);
+
+type ChildrenCtx = Headed<(), ChildrenNext, ChildrenSays>;
+
+impl Part<(), TableError> for Children {
+    ghost format = { λ _. last (⟦<ChildrenParts as Part<ChildrenCtx, TableError>>⟧.format
+        (record { 0 = tt; 1 = record {}; 2 = record {} }))
+        (elim [
+          | children_is.No ↦ (record { 0 = 0 }, First (record {}))
+          | children_is.Yes ↦ (record { 0 = 1 }, Second (record {}))
+        ]) };
+
+    fn check(&self, order: Endian, _ctx: &()) -> Result<(), TableError> {
+        let ctx = Headed((), ChildrenSays, PhantomData);
+        match self {
+            Children::No => {
+                let value = First(Zeros);
+                let parts: ChildrenParts = (Run(0), value);
+                Part::<ChildrenCtx, TableError>::check(&parts, order, &ctx)
+            }
+            Children::Yes => {
+                let value = Second(Zeros);
+                let parts: ChildrenParts = (Run(1), value);
+                Part::<ChildrenCtx, TableError>::check(&parts, order, &ctx)
+            }
+        }
+    }
+
+    fn size(&self, order: Endian, _ctx: &()) -> usize {
+        let ctx = Headed((), ChildrenSays, PhantomData);
+        match self {
+            Children::No => {
+                let value = First(Zeros);
+                let parts: ChildrenParts = (Run(0), value);
+                Part::<ChildrenCtx, TableError>::size(&parts, order, &ctx)
+            }
+            Children::Yes => {
+                let value = Second(Zeros);
+                let parts: ChildrenParts = (Run(1), value);
+                Part::<ChildrenCtx, TableError>::size(&parts, order, &ctx)
+            }
+        }
+    }
+
+    #[inline(always)]
+    fn put(&self, dst: &mut [u8], order: Endian, _ctx: &()) {
+        let ctx = Headed((), ChildrenSays, PhantomData);
+        match self {
+            Children::No => {
+                let value = First(Zeros);
+                let parts: ChildrenParts = (Run(0), value);
+                Part::<ChildrenCtx, TableError>::put(&parts, dst, order, &ctx)
+            }
+            Children::Yes => {
+                let value = Second(Zeros);
+                let parts: ChildrenParts = (Run(1), value);
+                Part::<ChildrenCtx, TableError>::put(&parts, dst, order, &ctx)
+            }
+        }
+    }
+}
+
+impl<'a> ReadPart<'a, (), TableError> for Children {
+    ghost format = { λ _. last (⟦<ChildrenParts as ReadPart<'a, ChildrenCtx, TableError>>⟧.format
+        (record { 0 = tt; 1 = record {}; 2 = record {} }))
+        (elim [
+          | children_is.No ↦ (record { 0 = 0 }, First (record {}))
+          | children_is.Yes ↦ (record { 0 = 1 }, Second (record {}))
+        ]) };
+
+    #[inline(always)]
+    fn read_at(
+        from: &'a [u8],
+        offset: usize,
+        order: Endian,
+        _ctx: &(),
+    ) -> Result<(Children, usize), TableError> {
+        let ctx = Headed((), ChildrenSays, PhantomData);
+        let (read, end) = <ChildrenParts as ReadPart<'a, ChildrenCtx, TableError>>::read_at(
+            from, offset, order, &ctx,
+        )?;
+        let (Run(tag), value) = read;
+        match (tag, value) {
+            (0, First(_)) => Ok((Children::No, end)),
+            (1, Second(_)) => Ok((Children::Yes, end)),
+            _ => unreachable!(),
+        }
+    }
+}
+
+impl<'a> TryFromCtx<'a, Endian> for Children {
+    type Error = TableError;
+
+    ghost reads = { ReadsExact (⟦<Children as ReadPart<'a, (), TableError>>⟧.format tt) };
+
+    ghost refuses = { λ order s.
+        refuses (⟦<Children as ReadPart<'a, (), TableError>>⟧.format tt) order s 0 };
+
+    ghost reads_bounded = { λ order s x n h. Prim.search rules };
+
+    #[inline(always)]
+    fn try_from_ctx(from: &'a [u8], ctx: Endian) -> Result<(Children, usize), TableError> {
+        read_exact::<(), TableError, Children>(from, ctx, &())
+    }
+}
+
+impl TryIntoCtx<Endian> for Children {
+    type Error = TableError;
+
+    ghost writes = { WritesWhole (⟦<Children as Part<(), TableError>>⟧.format tt) };
+
+    ghost refuses = { KeepsWhole (λ error e. e ≡ table_error_is.Read error)
+        (⟦<Children as Part<(), TableError>>⟧.format tt) };
+
+    ghost writes_bounded = { λ order x old new n h. Prim.search rules };
+
+    ghost writes_keeps = { λ order x old new n h. WritesPrefix-keeps _ old new n h.wrote };
+
+    #[inline(always)]
+    fn try_into_ctx(self, dst: &mut [u8], ctx: Endian) -> Result<usize, TableError> {
+        write_whole::<(), TableError, Children>(&self, dst, ctx, &())
+    }
+}
+
+type DeclarationParts<'a> = (Uleb, (Uleb, (Children, Items<'a, Attributes>)));
+
+type DeclarationCtx = ((), ((), ((), ToMark)));
+
+impl<'a> Shape for Declaration<'a> {
+    type Ctx = ();
+
+    type Inner = DeclarationCtx;
+
+    type Parts = DeclarationParts<'a>;
+
+    ghost parts_of = { λ x. (x.code, (x.tag, (x.children, x.attributes))) };
+
+    ghost inner_of = { λ _. (tt, (tt, (tt, record {}))) };
+
+    fn split(&self) -> DeclarationParts<'a> {
+        (self.code, (self.tag, (self.children, self.attributes)))
+    }
+
+    fn join(parts: DeclarationParts<'a>) -> Declaration<'a> {
+        let (code, (tag, (children, attributes))) = parts;
+        Declaration {
+            code,
+            tag,
+            children,
+            attributes,
+        }
+    }
+
+    fn inner(_ctx: &()) -> DeclarationCtx
+        ensures { result ≡ ⟦<Declaration<'a> as Shape>⟧.inner_of _ctx.now }
+    {
+        ((), ((), ((), ToMark)))
+    }
+}
+
+impl<'a> TryFromCtx<'a, Endian> for Declaration<'a> {
+    type Error = TableError;
+
+    ghost reads = { ReadsExact (⟦<Declaration<'a> as ReadPart<'a, (), TableError>>⟧.format tt) };
+
+    ghost refuses = { λ order s.
+        refuses (⟦<Declaration<'a> as ReadPart<'a, (), TableError>>⟧.format tt) order s 0 };
+
+    ghost reads_bounded = { λ order s x n h. Prim.search rules };
+
+    #[inline(always)]
+    fn try_from_ctx(from: &'a [u8], ctx: Endian) -> Result<(Declaration<'a>, usize), TableError> {
+        read_exact::<(), TableError, Declaration<'a>>(from, ctx, &())
+    }
+}
+
+impl<'a> TryIntoCtx<Endian> for Declaration<'a> {
+    type Error = TableError;
+
+    ghost writes = { WritesWhole (⟦<Declaration<'a> as Part<(), TableError>>⟧.format tt) };
+
+    ghost refuses = { KeepsWhole (λ error e. e ≡ table_error_is.Read error)
+        (⟦<Declaration<'a> as Part<(), TableError>>⟧.format tt) };
+
+    ghost writes_bounded = { λ order x old new n h. Prim.search rules };
+
+    ghost writes_keeps = { λ order x old new n h. WritesPrefix-keeps _ old new n h.wrote };
+
+    #[inline(always)]
+    fn try_into_ctx(self, dst: &mut [u8], ctx: Endian) -> Result<usize, TableError> {
+        write_whole::<(), TableError, Declaration<'a>>(&self, dst, ctx, &())
+    }
+}
+
+impl<'a> Listed<'a> for Declarations {
+    type Item = Declaration<'a>;
+}
+
+impl<'a> Marked<'a> for Declarations {
+    type End = ZeroUleb;
+}

@@ -1,0 +1,354 @@
+// Printed by tools/derive from member.rt.
+ghost use Rattle.std.specs.Prelude.{◌≡◌, ◌≢◌, ◌<◌, ◌≤◌, ◌/◌, ◌%◌, ◌^◌, ◌⊎◌, [], ◌∷◌, drop, codes, nat_eq, option_map};
+ghost use Rattle.std.proofs.Common.{refl, rules};
+ghost use Rattle.scroll.specs.Errors.{IsBadInput};
+ghost use Rattle.scroll.specs.Numbers.{number};
+ghost use Rattle.scroll.specs.lemmas.Frames.{WritesPrefix-keeps};
+ghost use Rattle.scroll_layouts.specs.Formats.{refuses};
+ghost use Rattle.scroll_layouts.specs.OneWay.{one_way};
+ghost use Rattle.scroll_layouts.specs.Wholes.{KeepsWhole, ReadsExact, WritesWhole};
+ghost use Rattle.scroll.specs.declared.endian.Endian.TheVariants as endian_is;
+
+use super::{CStr, Extra, ExtraField, ExtraFields, Header, Trailer};
+use scroll::ctx::{Record, TryFromCtx, TryIntoCtx, Written};
+use scroll::{Endian, Error, LE};
+use scroll_layouts::{
+    Certain, CertainHead, Head, Headed, Items, Listed, Ordered, Part, ReadPart, Run, Shape, When,
+    read_exact, write_whole,
+};
+use std::marker::PhantomData;
+use std::result::Result;
+
+impl Record for Trailer {
+    type Parts = (u32, u32);
+
+    ghost parts_of = { λ x. (x.checksum, x.size) };
+
+    ghost of_parts = { λ p. record { checksum = p.0; size = p.1 } };
+
+    ghost fields_in = { λ order s x.
+        (x.checksum ≡ number order 4 s)
+        × (x.size ≡ number order 4 (drop 4 s)) };
+
+    ghost again = { λ x. refl };
+
+    ghost there = { λ p. refl };
+
+    ghost fields_of_parts = { λ order s x h. (h.0, h.1) };
+
+    ghost parts_of_fields = { λ order s x h. (h.0, h.1) };
+
+    ghost small = { Prim.search rules };
+
+    fn parts(self) -> Self::Parts {
+        (self.checksum, self.size)
+    }
+
+    fn of_parts(parts: Self::Parts) -> Trailer {
+        Trailer {
+            checksum: parts.0,
+            size: parts.1,
+        }
+    }
+}
+
+impl<'a> Written for &'a Trailer {
+    type Value = Trailer;
+
+    ghost value_of = { λ x. x.now };
+
+    #[inline(always)]
+    fn value(self) -> Trailer {
+        *self
+    }
+}
+
+type HeaderHead = Run<(([u8; 2], u8, u8, u32), (u8, u8))>;
+
+type HeaderNext = (When<()>, (When<()>, (When<()>, When<()>)));
+
+#[derive(Drop)]
+pub struct HeaderSays;
+
+impl Head<HeaderHead, Error> for HeaderSays {
+    type Next = HeaderNext;
+
+    ghost holds = { λ _ h. (h.0.0.0 ≡ (31 ∷ 139 ∷ [])) × (h.0.0.2 < 32) };
+
+    ghost fails = { λ _ h e. ((h.0.0.0 ≢ (31 ∷ 139 ∷ [])) × IsBadInput e 0
+        (codes "magic is not [0x1f, 0x8b]")) ⊎ ((h.0.0.0 ≡ (31 ∷ 139 ∷ [])) × ((32 ≤ h.0.0.2)
+        × IsBadInput e h.0.0.2 (codes "it is not so that flags < 32"))) };
+
+    ghost next = { λ _ h. (
+      record { 0 = (nat_eq (h.0.0.2 / 4 % 2) 1); 1 = tt },
+      (
+        record { 0 = (nat_eq (h.0.0.2 / 8 % 2) 1); 1 = tt },
+        (
+          record { 0 = (nat_eq (h.0.0.2 / 16 % 2) 1); 1 = tt },
+          record { 0 = (nat_eq (h.0.0.2 / 2 % 2) 1); 1 = tt },
+        ),
+      ),
+    ) };
+
+    fn obey(&self, head: &HeaderHead) -> Result<(), Error> {
+        if head.0.0.0 != [31, 139] {
+            return Err(Error::BadInput {
+                size: 0,
+                msg: "magic is not [0x1f, 0x8b]",
+            });
+        }
+        if head.0.0.2 > 31 {
+            return Err(Error::BadInput {
+                size: head.0.0.2 as usize,
+                msg: "it is not so that flags < 32",
+            });
+        }
+        Ok(())
+    }
+
+    fn next(&self, head: &HeaderHead) -> HeaderNext {
+        (
+            When(head.0.0.2 / 4 % 2 == 1, ()),
+            (
+                When(head.0.0.2 / 8 % 2 == 1, ()),
+                (
+                    When(head.0.0.2 / 16 % 2 == 1, ()),
+                    When(head.0.0.2 / 2 % 2 == 1, ()),
+                ),
+            ),
+        )
+    }
+}
+
+type HeaderParts<'a> = (
+    HeaderHead,
+    (
+        Option<Extra<'a>>,
+        (Option<CStr<'a>>, (Option<CStr<'a>>, Option<Run<u16>>)),
+    ),
+);
+
+type HeaderCtx = Ordered<Headed<(), HeaderNext, HeaderSays>>;
+
+impl<'a> Shape for Header<'a> {
+    type Ctx = ();
+
+    type Inner = HeaderCtx;
+
+    type Parts = HeaderParts<'a>;
+
+    ghost parts_of = { λ x. (
+      record { 0 = ((x.magic, x.method, x.flags, x.modified), (x.extra_flags, x.system)) },
+      (x.extra, (x.name, (x.comment, option_map (λ v. record { 0 = v }) x.header_checksum))),
+    ) };
+
+    ghost inner_of = { λ _. record {
+      0 = endian_is.Little;
+      1 = record { 0 = tt; 1 = record {}; 2 = record {} };
+    } };
+
+    fn split(&self) -> HeaderParts<'a> {
+        let numbers = (
+            (self.magic, self.method, self.flags, self.modified),
+            (self.extra_flags, self.system),
+        );
+        let header_checksum = match self.header_checksum {
+            Some(it) => Some(Run(it)),
+            None => None,
+        };
+        (
+            Run(numbers),
+            (self.extra, (self.name, (self.comment, header_checksum))),
+        )
+    }
+
+    fn join(parts: HeaderParts<'a>) -> Header<'a> {
+        let (Run(numbers), (extra, (name, (comment, header_checksum)))) = parts;
+        let ((magic, method, flags, modified), (extra_flags, system)) = numbers;
+        let header_checksum = match header_checksum {
+            Some(Run(it)) => Some(it),
+            None => None,
+        };
+        Header {
+            magic,
+            method,
+            flags,
+            modified,
+            extra_flags,
+            system,
+            extra,
+            name,
+            comment,
+            header_checksum,
+        }
+    }
+
+    fn inner(_ctx: &()) -> HeaderCtx
+        ensures { result ≡ ⟦<Header<'a> as Shape>⟧.inner_of _ctx.now }
+    {
+        Ordered(LE, Headed((), HeaderSays, PhantomData))
+    }
+}
+
+impl<'a> TryFromCtx<'a, Endian> for Header<'a> {
+    type Error = Error;
+
+    ghost reads = { ReadsExact (⟦<Header<'a> as ReadPart<'a, (), Error>>⟧.format tt) };
+
+    ghost refuses = { λ order s.
+        refuses (⟦<Header<'a> as ReadPart<'a, (), Error>>⟧.format tt) order s 0 };
+
+    ghost reads_bounded = { λ order s x n h. Prim.search rules };
+
+    #[inline(always)]
+    fn try_from_ctx(from: &'a [u8], ctx: Endian) -> Result<(Header<'a>, usize), Error> {
+        read_exact::<(), Error, Header<'a>>(from, ctx, &())
+    }
+}
+
+impl<'a> TryIntoCtx<Endian> for Header<'a> {
+    type Error = Error;
+
+    ghost writes = { WritesWhole (⟦<Header<'a> as Part<(), Error>>⟧.format tt) };
+
+    ghost refuses = { KeepsWhole (λ e d. d ≡ e)
+        (⟦<Header<'a> as Part<(), Error>>⟧.format tt) };
+
+    ghost writes_bounded = { λ order x old new n h. Prim.search rules };
+
+    ghost writes_keeps = { λ order x old new n h. WritesPrefix-keeps _ old new n h.wrote };
+
+    #[inline(always)]
+    fn try_into_ctx(self, dst: &mut [u8], ctx: Endian) -> Result<usize, Error> {
+        write_whole::<(), Error, Header<'a>>(&self, dst, ctx, &())
+    }
+}
+
+type ExtraHead = Run<u16>;
+
+type ExtraNext = usize;
+
+#[derive(Drop)]
+pub struct ExtraSays;
+
+impl Head<ExtraHead, Error> for ExtraSays {
+    type Next = ExtraNext;
+
+    ghost holds = { λ _ h. Unit {0} };
+
+    ghost fails = { λ _ h e. ⊥ };
+
+    ghost next = { λ _ h. h.0 };
+
+    fn obey(&self, _head: &ExtraHead) -> Result<(), Error> {
+        Ok(())
+    }
+
+    fn next(&self, head: &ExtraHead) -> ExtraNext {
+        head.0 as usize
+    }
+}
+
+type ExtraParts<'a> = (ExtraHead, Items<'a, ExtraFields>);
+
+type ExtraCtx = Headed<(), ExtraNext, ExtraSays>;
+
+impl<'a> Shape for Extra<'a> {
+    type Ctx = ();
+
+    type Inner = ExtraCtx;
+
+    type Parts = ExtraParts<'a>;
+
+    ghost parts_of = { λ x. (record { 0 = x.len }, x.fields) };
+
+    ghost inner_of = { λ _. record { 0 = tt; 1 = record {}; 2 = record {} } };
+
+    fn split(&self) -> ExtraParts<'a> {
+        (Run(self.len), self.fields)
+    }
+
+    fn join(parts: ExtraParts<'a>) -> Extra<'a> {
+        let (Run(len), fields) = parts;
+        Extra { len, fields }
+    }
+
+    fn inner(_ctx: &()) -> ExtraCtx
+        ensures { result ≡ ⟦<Extra<'a> as Shape>⟧.inner_of _ctx.now }
+    {
+        Headed((), ExtraSays, PhantomData)
+    }
+}
+
+impl<'a> Listed<'a> for ExtraFields {
+    type Item = ExtraField<'a>;
+}
+
+type ExtraFieldHead = Run<([u8; 2], u16)>;
+
+type ExtraFieldNext = usize;
+
+#[derive(Drop)]
+pub struct ExtraFieldSays;
+
+impl Head<ExtraFieldHead, Error> for ExtraFieldSays {
+    type Next = ExtraFieldNext;
+
+    ghost holds = { λ _ h. Unit {0} };
+
+    ghost fails = { λ _ h e. ⊥ };
+
+    ghost next = { λ _ h. h.0.1 };
+
+    fn obey(&self, _head: &ExtraFieldHead) -> Result<(), Error> {
+        Ok(())
+    }
+
+    fn next(&self, head: &ExtraFieldHead) -> ExtraFieldNext {
+        head.0.1 as usize
+    }
+}
+
+type ExtraFieldParts<'a> = (ExtraFieldHead, &'a [u8]);
+
+type ExtraFieldCtx = Headed<(), ExtraFieldNext, ExtraFieldSays>;
+
+impl<'a> Shape for ExtraField<'a> {
+    type Ctx = ();
+
+    type Inner = ExtraFieldCtx;
+
+    type Parts = ExtraFieldParts<'a>;
+
+    ghost parts_of = { λ x. (record { 0 = (x.id, x.len) }, x.«data») };
+
+    ghost inner_of = { λ _. record { 0 = tt; 1 = record {}; 2 = record {} } };
+
+    fn split(&self) -> ExtraFieldParts<'a> {
+        (Run((self.id, self.len)), self.data)
+    }
+
+    fn join(parts: ExtraFieldParts<'a>) -> ExtraField<'a> {
+        let (Run((id, len)), data) = parts;
+        ExtraField { id, len, data }
+    }
+
+    fn inner(_ctx: &()) -> ExtraFieldCtx
+        ensures { result ≡ ⟦<ExtraField<'a> as Shape>⟧.inner_of _ctx.now }
+    {
+        Headed((), ExtraFieldSays, PhantomData)
+    }
+}
+
+impl<'a> CertainHead<'a, (), ExtraFieldHead, Error> for ExtraFieldSays {
+    fn certain_next() {}
+}
+
+impl<'a> Certain<'a, (), Error> for ExtraField<'a> {
+    fn certain()
+        ensures { (ctx : Unit {0})
+            → one_way (⟦<ExtraField<'a> as ReadPart<'a, (), Error>>⟧.format ctx) }
+    {
+        <ExtraFieldParts<'a> as Certain<'a, ExtraFieldCtx, Error>>::certain()
+    }
+}

@@ -1,0 +1,72 @@
+//! The first message of a TLS client, the ClientHello (RFC 8446, section 4.1.2), as it stands in a
+//! record of the handshake: read, written, and looked into. [`Handshake`] describes it.
+//!
+//! ```rust
+//! let message = read_hello(bytes)?;
+//! let name = server_name(&message.hello);
+//! let size = write_hello(&mut target, message)?;
+//! ```
+#![tactic(auto)]
+
+ghost use Rattle.std.specs.Prelude.{◌≡◌, drop, IfOk, IfErr, IfSome};
+ghost use Rattle.scroll.specs.Errors.{IsBadOffset};
+ghost use Rattle.scroll.specs.Numbers.{number};
+ghost use Rattle.scroll.specs.Reads.{ReadsSome, RefusesAt};
+ghost use Rattle.scroll.specs.Writes.{WritesAt, RefusesWriteAt};
+ghost use Rattle.scroll.specs.declared.endian.Endian.TheVariants.{Big};
+ghost use Rattle.tls.specs.Hello.{NamesServer};
+
+mod hello;
+#[cfg(test)]
+mod tests;
+
+pub use crate::hello::{
+    ClientHello, Extension, ExtensionBody, ExtensionList, Extensions, Handshake, HostName,
+    LongList, Numbers, Protocol, ProtocolList, Protocols, ServerNames, ShortList,
+};
+use scroll::ctx::{TryFromCtx, TryIntoCtx};
+use scroll::{BE, Endian, Pread, Result, slice};
+
+/// Reads the message at the start of some bytes. These are the bytes by which it is written; what
+/// stands behind them is ignored.
+pub fn read_hello<'a>(bytes: &'a [u8]) -> Result<Handshake<'a>>
+    ensures read { IfOk result (ReadsSome (⟦<Handshake<'a> as TryFromCtx<'a, Endian>>⟧.reads Big)
+        bytes.now 0) }
+    ensures version { IfOk result (λ x. x.hello.version ≡ number Big 2 (drop 4 bytes.now)) }
+    ensures refused { IfErr result (RefusesAt
+        (⟦<Handshake<'a> as TryFromCtx<'a, Endian>>⟧.refuses Big) IsBadOffset bytes.now 0) }
+{
+    let message: Handshake<'a> = bytes.pread_with(0, BE)?;
+    Ok(message)
+}
+
+/// Writes a message to the start of `target`, and returns its size in bytes. It reads back, whatever
+/// stands behind it. A message whose lengths, constants or kinds don't agree is refused, and one that
+/// has no room; then the target is unchanged.
+pub fn write_hello<'a>(target: &mut [u8], message: Handshake<'a>) -> Result<usize>
+    ensures wrote { IfOk result (WritesAt
+        (⟦<Handshake<'a> as TryIntoCtx<Endian>>⟧.writes Big message.entry) target.old 0 target.new) }
+    ensures refused { IfErr result (RefusesWriteAt
+        (⟦<Handshake<'a> as TryIntoCtx<Endian>>⟧.refuses Big message.entry) IsBadOffset target.old 0
+        target.new) }
+{
+    let size = slice::pwrite_with(target, message, 0, BE)?;
+    Ok(size)
+}
+
+/// Returns the name of the server that a ClientHello asks for: that of the first of its extensions
+/// that has one.
+pub fn server_name<'a>(hello: &ClientHello<'a>) -> Option<&'a str>
+    ensures { IfSome result (λ name. NamesServer
+        (⟦<Extension<'a> as TryFromCtx<'a, Endian>>⟧.reads Big) hello.now.extensions name.now) }
+{
+    let list = hello.extensions?.each.0;
+    let mut offset = 0;
+    for _turn in 0..list.len() {
+        let extension: Extension<'a> = list.gread_with(&mut offset, BE).ok()?;
+        if let ExtensionBody::Server(names) = extension.body {
+            return Some(names.host.name);
+        }
+    }
+    None
+}

@@ -1,0 +1,1219 @@
+// Printed by tools/derive from module.rt.
+ghost use Rattle.std.specs.Prelude.{◌≡◌, ◌≢◌, ◌<◌, ◌≤◌, ◌^◌, ◌⊎◌, [], ◌∷◌, codes, nat_eq};
+ghost use Rattle.std.proofs.Common.{rules};
+ghost use Rattle.scroll.specs.Errors.{IsBadInput};
+ghost use Rattle.scroll.specs.lemmas.Frames.{WritesPrefix-keeps};
+ghost use Rattle.scroll_layouts.specs.Errors.{IsNot};
+ghost use Rattle.scroll_layouts.specs.Formats.{last, refuses};
+ghost use Rattle.scroll_layouts.specs.OneWay.{one_way};
+ghost use Rattle.scroll_layouts.specs.Wholes.{KeepsWhole, ReadsExact, WritesWhole};
+ghost use Rattle.scroll_layouts.specs.declared.choice.Choice.TheVariants.{First, Second};
+ghost use Rattle.scroll.specs.declared.endian.Endian.TheVariants as endian_is;
+ghost use Rattle.wasm.specs.declared.module.Contents.TheVariants as contents_is;
+ghost use Rattle.wasm.specs.declared.module.Imported.TheVariants as imported_is;
+
+use super::{
+    Contents, Custom, Export, ExportList, Exports, FunctionType, FunctionTypes, Import, ImportList,
+    Imported, Imports, IndexList, Indices, Limits, Module, Name, Section, Sections, TableType,
+    Types,
+};
+use scroll::ctx::{TryFromCtx, TryIntoCtx};
+use scroll::{Endian, Error, LE};
+use scroll_formats::{Table, Zeros};
+use scroll_layouts::Choice::{First, Second};
+use scroll_layouts::{
+    Behind, Certain, CertainHead, Choice, Choose, Count, Given, Head, Headed, Items, Listed,
+    Ordered, Part, ReadPart, Run, Shape, Uleb, When, Within, is, read_exact, write_whole,
+};
+use std::marker::PhantomData;
+use std::result::Result;
+
+type ModuleHead = Run<([u8; 4], u32)>;
+
+type ModuleNext = usize;
+
+#[derive(Drop)]
+pub struct ModuleSays;
+
+impl Head<ModuleHead, Error> for ModuleSays {
+    type Next = ModuleNext;
+
+    ghost holds = { λ _ h. (h.0.0 ≡ (0 ∷ 97 ∷ 115 ∷ 109 ∷ [])) × (h.0.1 ≡ 1) };
+
+    ghost fails = { λ _ h e. ((h.0.0 ≢ (0 ∷ 97 ∷ 115 ∷ 109 ∷ [])) × IsBadInput e 0
+        (codes "magic is not 0asm")) ⊎ ((h.0.0 ≡ (0 ∷ 97 ∷ 115 ∷ 109 ∷ [])) × (IsNot 1 h.0.1
+        (codes "version is not 1") e)) };
+
+    ghost next = { λ _ h. 0 };
+
+    fn obey(&self, head: &ModuleHead) -> Result<(), Error> {
+        if head.0.0 != [0, 97, 115, 109] {
+            return Err(Error::BadInput {
+                size: 0,
+                msg: "magic is not 0asm",
+            });
+        }
+        is(head.0.1 as usize, 1, "version is not 1")?;
+        Ok(())
+    }
+
+    fn next(&self, _head: &ModuleHead) -> ModuleNext {
+        0
+    }
+}
+
+type ModuleBefore = (ModuleHead, Zeros);
+
+type ModuleParts<'a> = (ModuleBefore, Items<'a, Sections>);
+
+type ModuleCtx = Ordered<Behind<Headed<(), ModuleNext, ModuleSays>>>;
+
+impl<'a> Shape for Module<'a> {
+    type Ctx = usize;
+
+    type Inner = ModuleCtx;
+
+    type Parts = ModuleParts<'a>;
+
+    ghost parts_of = { λ x. ((record { 0 = (x.magic, x.version) }, record {}), x.sections) };
+
+    ghost inner_of = { λ n. record {
+      0 = endian_is.Little;
+      1 = record { 0 = n; 1 = record { 0 = tt; 1 = record {}; 2 = record {} } };
+    } };
+
+    fn split(&self) -> ModuleParts<'a> {
+        ((Run((self.magic, self.version)), Zeros), self.sections)
+    }
+
+    fn join(parts: ModuleParts<'a>) -> Module<'a> {
+        let ((Run((magic, version)), _), sections) = parts;
+        Module {
+            magic,
+            version,
+            sections,
+        }
+    }
+
+    fn inner(ctx: &usize) -> ModuleCtx
+        ensures { result ≡ ⟦<Module<'a> as Shape>⟧.inner_of ctx.now }
+    {
+        Ordered(LE, Behind((*ctx), Headed((), ModuleSays, PhantomData)))
+    }
+}
+
+impl<'a> Listed<'a> for Sections {
+    type Item = Section<'a>;
+}
+
+type SectionHead2 = Uleb;
+
+type SectionNext2 = Given<(u8, usize)>;
+
+#[derive(Drop)]
+pub struct SectionSays2(pub u8);
+
+impl Head<SectionHead2, Error> for SectionSays2 {
+    type Next = SectionNext2;
+
+    ghost holds = { λ c h. Unit {0} };
+
+    ghost fails = { λ c h e. ⊥ };
+
+    ghost next = { λ c h. record { 0 = (c.0, h.value) } };
+
+    fn obey(&self, _head: &SectionHead2) -> Result<(), Error> {
+        Ok(())
+    }
+
+    fn next(&self, head: &SectionHead2) -> SectionNext2 {
+        Given((self.0, head.value as usize))
+    }
+}
+
+type SectionRest2<'a> = (SectionHead2, Contents<'a>);
+
+type SectionHead = Run<u8>;
+
+type SectionNext = Headed<(), SectionNext2, SectionSays2>;
+
+#[derive(Drop)]
+pub struct SectionSays;
+
+impl Head<SectionHead, Error> for SectionSays {
+    type Next = SectionNext;
+
+    ghost holds = { λ _ h. Unit {0} };
+
+    ghost fails = { λ _ h e. ⊥ };
+
+    ghost next = { λ _ h. record { 0 = tt; 1 = record { 0 = h.0 }; 2 = record {} } };
+
+    fn obey(&self, _head: &SectionHead) -> Result<(), Error> {
+        Ok(())
+    }
+
+    fn next(&self, head: &SectionHead) -> SectionNext {
+        Headed((), SectionSays2(head.0), PhantomData)
+    }
+}
+
+type SectionParts<'a> = (SectionHead, SectionRest2<'a>);
+
+type SectionCtx = Headed<(), SectionNext, SectionSays>;
+
+impl<'a> Shape for Section<'a> {
+    type Ctx = ();
+
+    type Inner = SectionCtx;
+
+    type Parts = SectionParts<'a>;
+
+    ghost parts_of = { λ x. (record { 0 = x.id }, (x.size, x.contents)) };
+
+    ghost inner_of = { λ _. record { 0 = tt; 1 = record {}; 2 = record {} } };
+
+    fn split(&self) -> SectionParts<'a> {
+        (Run(self.id), (self.size, self.contents))
+    }
+
+    fn join(parts: SectionParts<'a>) -> Section<'a> {
+        let (Run(id), (size, contents)) = parts;
+        Section { id, size, contents }
+    }
+
+    fn inner(_ctx: &()) -> SectionCtx
+        ensures { result ≡ ⟦<Section<'a> as Shape>⟧.inner_of _ctx.now }
+    {
+        Headed((), SectionSays, PhantomData)
+    }
+}
+
+impl<'a> TryFromCtx<'a, Endian> for Section<'a> {
+    type Error = Error;
+
+    ghost reads = { ReadsExact (⟦<Section<'a> as ReadPart<'a, (), Error>>⟧.format tt) };
+
+    ghost refuses = { λ order s.
+        refuses (⟦<Section<'a> as ReadPart<'a, (), Error>>⟧.format tt) order s 0 };
+
+    ghost reads_bounded = { λ order s x n h. Prim.search rules };
+
+    #[inline(always)]
+    fn try_from_ctx(from: &'a [u8], ctx: Endian) -> Result<(Section<'a>, usize), Error> {
+        read_exact::<(), Error, Section<'a>>(from, ctx, &())
+    }
+}
+
+impl<'a> TryIntoCtx<Endian> for Section<'a> {
+    type Error = Error;
+
+    ghost writes = { WritesWhole (⟦<Section<'a> as Part<(), Error>>⟧.format tt) };
+
+    ghost refuses = { KeepsWhole (λ e d. d ≡ e)
+        (⟦<Section<'a> as Part<(), Error>>⟧.format tt) };
+
+    ghost writes_bounded = { λ order x old new n h. Prim.search rules };
+
+    ghost writes_keeps = { λ order x old new n h. WritesPrefix-keeps _ old new n h.wrote };
+
+    #[inline(always)]
+    fn try_into_ctx(self, dst: &mut [u8], ctx: Endian) -> Result<usize, Error> {
+        write_whole::<(), Error, Section<'a>>(&self, dst, ctx, &())
+    }
+}
+
+type ContentsParts<'a> = Choice<
+    Custom<'a>,
+    Choice<Types<'a>, Choice<Imports<'a>, Choice<Indices<'a>, Choice<Exports<'a>, &'a [u8]>>>>,
+>;
+
+type ContentsCtx = Choose<
+    Given<usize>,
+    Choose<Within<()>, Choose<Within<()>, Choose<Within<()>, Choose<Within<()>, usize>>>>,
+>;
+
+impl<'a> Shape for Contents<'a> {
+    type Ctx = (u8, usize);
+
+    type Inner = ContentsCtx;
+
+    type Parts = ContentsParts<'a>;
+
+    ghost parts_of = { elim [
+      | contents_is.Custom v0 ↦ First v0
+      | contents_is.Types v0 ↦ Second (First v0)
+      | contents_is.Imports v0 ↦ Second (Second (First v0))
+      | contents_is.Functions v0 ↦ Second (Second (Second (First v0)))
+      | contents_is.Exports v0 ↦ Second (Second (Second (Second (First v0))))
+      | contents_is.Other v0 ↦ Second (Second (Second (Second (Second v0))))
+    ] };
+
+    ghost inner_of = { λ t. record {
+      0 = (nat_eq t.0 0);
+      1 = record { 0 = t.1 };
+      2 = record {
+        0 = (nat_eq t.0 1);
+        1 = record { 0 = t.1; 1 = tt };
+        2 = record {
+          0 = (nat_eq t.0 2);
+          1 = record { 0 = t.1; 1 = tt };
+          2 = record {
+            0 = (nat_eq t.0 3);
+            1 = record { 0 = t.1; 1 = tt };
+            2 = record { 0 = (nat_eq t.0 7); 1 = record { 0 = t.1; 1 = tt }; 2 = t.1 };
+          };
+        };
+      };
+    } };
+
+    fn split(&self) -> ContentsParts<'a> {
+        match self {
+            Contents::Custom(v0) => First(*v0),
+            Contents::Types(v0) => Second(First(*v0)),
+            Contents::Imports(v0) => Second(Second(First(*v0))),
+            Contents::Functions(v0) => Second(Second(Second(First(*v0)))),
+            Contents::Exports(v0) => Second(Second(Second(Second(First(*v0))))),
+            Contents::Other(v0) => Second(Second(Second(Second(Second(*v0))))),
+        }
+    }
+
+    fn join(parts: ContentsParts<'a>) -> Contents<'a> {
+        match parts {
+            First(v0) => Contents::Custom(v0),
+            Second(First(v0)) => Contents::Types(v0),
+            Second(Second(First(v0))) => Contents::Imports(v0),
+            Second(Second(Second(First(v0)))) => Contents::Functions(v0),
+            Second(Second(Second(Second(First(v0))))) => Contents::Exports(v0),
+            Second(Second(Second(Second(Second(v0))))) => Contents::Other(v0),
+        }
+    }
+
+    fn inner(ctx: &(u8, usize)) -> ContentsCtx
+        ensures { result ≡ ⟦<Contents<'a> as Shape>⟧.inner_of ctx.now }
+    {
+        Choose(
+            ctx.0 == 0,
+            Given(ctx.1 as usize),
+            Choose(
+                ctx.0 == 1,
+                Within(ctx.1 as usize, ()),
+                Choose(
+                    ctx.0 == 2,
+                    Within(ctx.1 as usize, ()),
+                    Choose(
+                        ctx.0 == 3,
+                        Within(ctx.1 as usize, ()),
+                        Choose(ctx.0 == 7, Within(ctx.1 as usize, ()), ctx.1 as usize),
+                    ),
+                ),
+            ),
+        )
+    }
+}
+
+type NameHead = Uleb;
+
+type NameNext = usize;
+
+#[derive(Drop)]
+pub struct NameSays;
+
+impl Head<NameHead, Error> for NameSays {
+    type Next = NameNext;
+
+    ghost holds = { λ _ h. Unit {0} };
+
+    ghost fails = { λ _ h e. ⊥ };
+
+    ghost next = { λ _ h. h.value };
+
+    fn obey(&self, _head: &NameHead) -> Result<(), Error> {
+        Ok(())
+    }
+
+    fn next(&self, head: &NameHead) -> NameNext {
+        head.value as usize
+    }
+}
+
+type NameParts<'a> = (NameHead, &'a str);
+
+type NameCtx = Headed<(), NameNext, NameSays>;
+
+impl<'a> Shape for Name<'a> {
+    type Ctx = ();
+
+    type Inner = NameCtx;
+
+    type Parts = NameParts<'a>;
+
+    ghost parts_of = { λ x. (x.len, x.text) };
+
+    ghost inner_of = { λ _. record { 0 = tt; 1 = record {}; 2 = record {} } };
+
+    fn split(&self) -> NameParts<'a> {
+        (self.len, self.text)
+    }
+
+    fn join(parts: NameParts<'a>) -> Name<'a> {
+        let (len, text) = parts;
+        Name { len, text }
+    }
+
+    fn inner(_ctx: &()) -> NameCtx
+        ensures { result ≡ ⟦<Name<'a> as Shape>⟧.inner_of _ctx.now }
+    {
+        Headed((), NameSays, PhantomData)
+    }
+}
+
+impl<'a> CertainHead<'a, (), NameHead, Error> for NameSays {
+    fn certain_next() {}
+}
+
+impl<'a> Certain<'a, (), Error> for Name<'a> {
+    fn certain()
+        ensures { (ctx : Unit {0})
+            → one_way (⟦<Name<'a> as ReadPart<'a, (), Error>>⟧.format ctx) }
+    {
+        <NameParts<'a> as Certain<'a, NameCtx, Error>>::certain()
+    }
+}
+
+type CustomBefore<'a> = Name<'a>;
+
+type CustomParts<'a> = (CustomBefore<'a>, &'a [u8]);
+
+type CustomCtx = Behind<()>;
+
+impl<'a> Shape for Custom<'a> {
+    type Ctx = usize;
+
+    type Inner = CustomCtx;
+
+    type Parts = CustomParts<'a>;
+
+    ghost parts_of = { λ x. (x.name, x.bytes) };
+
+    ghost inner_of = { λ n. record { 0 = n; 1 = tt } };
+
+    fn split(&self) -> CustomParts<'a> {
+        (self.name, self.bytes)
+    }
+
+    fn join(parts: CustomParts<'a>) -> Custom<'a> {
+        let (name, bytes) = parts;
+        Custom { name, bytes }
+    }
+
+    fn inner(ctx: &usize) -> CustomCtx
+        ensures { result ≡ ⟦<Custom<'a> as Shape>⟧.inner_of ctx.now }
+    {
+        Behind((*ctx), ())
+    }
+}
+
+type TypesHead = Uleb;
+
+type TypesNext = Count;
+
+#[derive(Drop)]
+pub struct TypesSays;
+
+impl Head<TypesHead, Error> for TypesSays {
+    type Next = TypesNext;
+
+    ghost holds = { λ _ h. Unit {0} };
+
+    ghost fails = { λ _ h e. ⊥ };
+
+    ghost next = { λ _ h. record { 0 = h.value } };
+
+    fn obey(&self, _head: &TypesHead) -> Result<(), Error> {
+        Ok(())
+    }
+
+    fn next(&self, head: &TypesHead) -> TypesNext {
+        Count(head.value as usize)
+    }
+}
+
+type TypesParts<'a> = (TypesHead, Items<'a, FunctionTypes>);
+
+type TypesCtx = Headed<(), TypesNext, TypesSays>;
+
+impl<'a> Shape for Types<'a> {
+    type Ctx = ();
+
+    type Inner = TypesCtx;
+
+    type Parts = TypesParts<'a>;
+
+    ghost parts_of = { λ x. (x.count, x.each) };
+
+    ghost inner_of = { λ _. record { 0 = tt; 1 = record {}; 2 = record {} } };
+
+    fn split(&self) -> TypesParts<'a> {
+        (self.count, self.each)
+    }
+
+    fn join(parts: TypesParts<'a>) -> Types<'a> {
+        let (count, each) = parts;
+        Types { count, each }
+    }
+
+    fn inner(_ctx: &()) -> TypesCtx
+        ensures { result ≡ ⟦<Types<'a> as Shape>⟧.inner_of _ctx.now }
+    {
+        Headed((), TypesSays, PhantomData)
+    }
+}
+
+impl<'a> Listed<'a> for FunctionTypes {
+    type Item = FunctionType<'a>;
+}
+
+type FunctionTypeHead3 = Uleb;
+
+type FunctionTypeNext3 = usize;
+
+#[derive(Drop)]
+pub struct FunctionTypeSays3;
+
+impl Head<FunctionTypeHead3, Error> for FunctionTypeSays3 {
+    type Next = FunctionTypeNext3;
+
+    ghost holds = { λ _ h. Unit {0} };
+
+    ghost fails = { λ _ h e. ⊥ };
+
+    ghost next = { λ _ h. h.value };
+
+    fn obey(&self, _head: &FunctionTypeHead3) -> Result<(), Error> {
+        Ok(())
+    }
+
+    fn next(&self, head: &FunctionTypeHead3) -> FunctionTypeNext3 {
+        head.value as usize
+    }
+}
+
+type FunctionTypeRest3<'a> = (FunctionTypeHead3, &'a [u8]);
+
+type FunctionTypeHead2 = Uleb;
+
+type FunctionTypeNext2 = (usize, Headed<(), FunctionTypeNext3, FunctionTypeSays3>);
+
+#[derive(Drop)]
+pub struct FunctionTypeSays2;
+
+impl Head<FunctionTypeHead2, Error> for FunctionTypeSays2 {
+    type Next = FunctionTypeNext2;
+
+    ghost holds = { λ _ h. Unit {0} };
+
+    ghost fails = { λ _ h e. ⊥ };
+
+    ghost next = { λ _ h. (h.value, record { 0 = tt; 1 = record {}; 2 = record {} }) };
+
+    fn obey(&self, _head: &FunctionTypeHead2) -> Result<(), Error> {
+        Ok(())
+    }
+
+    fn next(&self, head: &FunctionTypeHead2) -> FunctionTypeNext2 {
+        (
+            head.value as usize,
+            Headed((), FunctionTypeSays3, PhantomData),
+        )
+    }
+}
+
+type FunctionTypeRest2<'a> = (FunctionTypeHead2, (&'a [u8], FunctionTypeRest3<'a>));
+
+type FunctionTypeHead = Run<u8>;
+
+type FunctionTypeNext = Headed<(), FunctionTypeNext2, FunctionTypeSays2>;
+
+#[derive(Drop)]
+pub struct FunctionTypeSays;
+
+impl Head<FunctionTypeHead, Error> for FunctionTypeSays {
+    type Next = FunctionTypeNext;
+
+    ghost holds = { λ _ h. (h.0 ≡ 96) };
+
+    ghost fails = { λ _ h e. IsNot 96 h.0 (codes "form is not 0x60") e };
+
+    ghost next = { λ _ h. record { 0 = tt; 1 = record {}; 2 = record {} } };
+
+    fn obey(&self, head: &FunctionTypeHead) -> Result<(), Error> {
+        is(head.0 as usize, 0x60, "form is not 0x60")?;
+        Ok(())
+    }
+
+    fn next(&self, _head: &FunctionTypeHead) -> FunctionTypeNext {
+        Headed((), FunctionTypeSays2, PhantomData)
+    }
+}
+
+type FunctionTypeParts<'a> = (FunctionTypeHead, FunctionTypeRest2<'a>);
+
+type FunctionTypeCtx = Headed<(), FunctionTypeNext, FunctionTypeSays>;
+
+impl<'a> Shape for FunctionType<'a> {
+    type Ctx = ();
+
+    type Inner = FunctionTypeCtx;
+
+    type Parts = FunctionTypeParts<'a>;
+
+    ghost parts_of = { λ x. (
+      record { 0 = x.form },
+      (x.parameter_count, (x.parameters, (x.result_count, x.results))),
+    ) };
+
+    ghost inner_of = { λ _. record { 0 = tt; 1 = record {}; 2 = record {} } };
+
+    fn split(&self) -> FunctionTypeParts<'a> {
+        (
+            Run(self.form),
+            (
+                self.parameter_count,
+                (self.parameters, (self.result_count, self.results)),
+            ),
+        )
+    }
+
+    fn join(parts: FunctionTypeParts<'a>) -> FunctionType<'a> {
+        let (Run(form), (parameter_count, (parameters, (result_count, results)))) = parts;
+        FunctionType {
+            form,
+            parameter_count,
+            parameters,
+            result_count,
+            results,
+        }
+    }
+
+    fn inner(_ctx: &()) -> FunctionTypeCtx
+        ensures { result ≡ ⟦<FunctionType<'a> as Shape>⟧.inner_of _ctx.now }
+    {
+        Headed((), FunctionTypeSays, PhantomData)
+    }
+}
+
+impl<'a> CertainHead<'a, (), FunctionTypeHead3, Error> for FunctionTypeSays3 {
+    fn certain_next() {}
+}
+
+impl<'a> CertainHead<'a, (), FunctionTypeHead2, Error> for FunctionTypeSays2 {
+    fn certain_next() {}
+}
+
+impl<'a> CertainHead<'a, (), FunctionTypeHead, Error> for FunctionTypeSays {
+    fn certain_next() {}
+}
+
+impl<'a> Certain<'a, (), Error> for FunctionType<'a> {
+    fn certain()
+        ensures { (ctx : Unit {0})
+            → one_way (⟦<FunctionType<'a> as ReadPart<'a, (), Error>>⟧.format ctx) }
+    {
+        <FunctionTypeParts<'a> as Certain<'a, FunctionTypeCtx, Error>>::certain()
+    }
+}
+
+type ImportsHead = Uleb;
+
+type ImportsNext = Count;
+
+#[derive(Drop)]
+pub struct ImportsSays;
+
+impl Head<ImportsHead, Error> for ImportsSays {
+    type Next = ImportsNext;
+
+    ghost holds = { λ _ h. Unit {0} };
+
+    ghost fails = { λ _ h e. ⊥ };
+
+    ghost next = { λ _ h. record { 0 = h.value } };
+
+    fn obey(&self, _head: &ImportsHead) -> Result<(), Error> {
+        Ok(())
+    }
+
+    fn next(&self, head: &ImportsHead) -> ImportsNext {
+        Count(head.value as usize)
+    }
+}
+
+type ImportsParts<'a> = (ImportsHead, Items<'a, ImportList>);
+
+type ImportsCtx = Headed<(), ImportsNext, ImportsSays>;
+
+impl<'a> Shape for Imports<'a> {
+    type Ctx = ();
+
+    type Inner = ImportsCtx;
+
+    type Parts = ImportsParts<'a>;
+
+    ghost parts_of = { λ x. (x.count, x.each) };
+
+    ghost inner_of = { λ _. record { 0 = tt; 1 = record {}; 2 = record {} } };
+
+    fn split(&self) -> ImportsParts<'a> {
+        (self.count, self.each)
+    }
+
+    fn join(parts: ImportsParts<'a>) -> Imports<'a> {
+        let (count, each) = parts;
+        Imports { count, each }
+    }
+
+    fn inner(_ctx: &()) -> ImportsCtx
+        ensures { result ≡ ⟦<Imports<'a> as Shape>⟧.inner_of _ctx.now }
+    {
+        Headed((), ImportsSays, PhantomData)
+    }
+}
+
+impl<'a> Listed<'a> for ImportList {
+    type Item = Import<'a>;
+}
+
+type ImportParts<'a> = (Name<'a>, (Name<'a>, Imported));
+
+type ImportCtx = ((), ((), ()));
+
+impl<'a> Shape for Import<'a> {
+    type Ctx = ();
+
+    type Inner = ImportCtx;
+
+    type Parts = ImportParts<'a>;
+
+    ghost parts_of = { λ x. (x.«module», (x.name, x.what)) };
+
+    ghost inner_of = { λ _. (tt, (tt, tt)) };
+
+    fn split(&self) -> ImportParts<'a> {
+        (self.module, (self.name, self.what))
+    }
+
+    fn join(parts: ImportParts<'a>) -> Import<'a> {
+        let (module, (name, what)) = parts;
+        Import { module, name, what }
+    }
+
+    fn inner(_ctx: &()) -> ImportCtx
+        ensures { result ≡ ⟦<Import<'a> as Shape>⟧.inner_of _ctx.now }
+    {
+        ((), ((), ()))
+    }
+}
+
+impl<'a> Certain<'a, (), Error> for Import<'a> {
+    fn certain()
+        ensures { (ctx : Unit {0})
+            → one_way (⟦<Import<'a> as ReadPart<'a, (), Error>>⟧.format ctx) }
+    {
+        <ImportParts<'a> as Certain<'a, ImportCtx, Error>>::certain()
+    }
+}
+
+type ImportedHead = Run<u8>;
+
+type ImportedNext = Choose<(), Choose<(), Choose<(), ()>>>;
+
+#[derive(Drop)]
+pub struct ImportedSays;
+
+impl Head<ImportedHead, Error> for ImportedSays {
+    type Next = ImportedNext;
+
+    ghost holds = { λ _ h. ((h.0 ≡ 0) ⊎ (h.0 ≡ 1) ⊎ (h.0 ≡ 2) ⊎ (h.0 ≡ 3)) };
+
+    ghost fails = { λ _ h e. ((h.0 ≢ 0) × (h.0 ≢ 1) × (h.0 ≢ 2) × (h.0 ≢ 3)) × IsBadInput e h.0
+        (codes "Imported has no such tag") };
+
+    ghost next = { λ _ h. record {
+      0 = (nat_eq h.0 0);
+      1 = tt;
+      2 = record { 0 = (nat_eq h.0 1); 1 = tt; 2 = record { 0 = (nat_eq h.0 2); 1 = tt; 2 = tt } };
+    } };
+
+    fn obey(&self, head: &ImportedHead) -> Result<(), Error> {
+        if head.0 != 0 && head.0 != 1 && head.0 != 2 && head.0 != 3 {
+            return Err(Error::BadInput {
+                size: head.0 as usize,
+                msg: "Imported has no such tag",
+            });
+        }
+        Ok(())
+    }
+
+    fn next(&self, head: &ImportedHead) -> ImportedNext {
+        Choose(
+            head.0 == 0,
+            (),
+            Choose(head.0 == 1, (), Choose(head.0 == 2, (), ())),
+        )
+    }
+}
+
+type ImportedParts = (
+    ImportedHead,
+    Choice<Uleb, Choice<TableType, Choice<Limits, Run<(u8, u8)>>>>,
+);
+
+type ImportedCtx = Headed<(), ImportedNext, ImportedSays>;
+
+impl Part<(), Error> for Imported {
+    ghost format = { λ _. last (⟦<ImportedParts as Part<ImportedCtx, Error>>⟧.format
+        (record { 0 = tt; 1 = record {}; 2 = record {} }))
+        (elim [
+          | imported_is.Function v0 ↦ (record { 0 = 0 }, First v0)
+          | imported_is.Table v0 ↦ (record { 0 = 1 }, Second (First v0))
+          | imported_is.Memory v0 ↦ (record { 0 = 2 }, Second (Second (First v0)))
+          | imported_is.Global v0 v1 ↦ (record { 0 = 3 }, Second (Second (Second (record { 0 = (v0, v1) }))))
+        ]) };
+
+    fn check(&self, order: Endian, _ctx: &()) -> Result<(), Error> {
+        let ctx = Headed((), ImportedSays, PhantomData);
+        match self {
+            Imported::Function(v0) => {
+                let value = First(*v0);
+                let parts: ImportedParts = (Run(0), value);
+                Part::<ImportedCtx, Error>::check(&parts, order, &ctx)
+            }
+            Imported::Table(v0) => {
+                let value = Second(First(*v0));
+                let parts: ImportedParts = (Run(1), value);
+                Part::<ImportedCtx, Error>::check(&parts, order, &ctx)
+            }
+            Imported::Memory(v0) => {
+                let value = Second(Second(First(*v0)));
+                let parts: ImportedParts = (Run(2), value);
+                Part::<ImportedCtx, Error>::check(&parts, order, &ctx)
+            }
+            Imported::Global(v0, v1) => {
+                let value = Second(Second(Second(Run((*v0, *v1)))));
+                let parts: ImportedParts = (Run(3), value);
+                Part::<ImportedCtx, Error>::check(&parts, order, &ctx)
+            }
+        }
+    }
+
+    fn size(&self, order: Endian, _ctx: &()) -> usize {
+        let ctx = Headed((), ImportedSays, PhantomData);
+        match self {
+            Imported::Function(v0) => {
+                let value = First(*v0);
+                let parts: ImportedParts = (Run(0), value);
+                Part::<ImportedCtx, Error>::size(&parts, order, &ctx)
+            }
+            Imported::Table(v0) => {
+                let value = Second(First(*v0));
+                let parts: ImportedParts = (Run(1), value);
+                Part::<ImportedCtx, Error>::size(&parts, order, &ctx)
+            }
+            Imported::Memory(v0) => {
+                let value = Second(Second(First(*v0)));
+                let parts: ImportedParts = (Run(2), value);
+                Part::<ImportedCtx, Error>::size(&parts, order, &ctx)
+            }
+            Imported::Global(v0, v1) => {
+                let value = Second(Second(Second(Run((*v0, *v1)))));
+                let parts: ImportedParts = (Run(3), value);
+                Part::<ImportedCtx, Error>::size(&parts, order, &ctx)
+            }
+        }
+    }
+
+    #[inline(always)]
+    fn put(&self, dst: &mut [u8], order: Endian, _ctx: &()) {
+        let ctx = Headed((), ImportedSays, PhantomData);
+        match self {
+            Imported::Function(v0) => {
+                let value = First(*v0);
+                let parts: ImportedParts = (Run(0), value);
+                Part::<ImportedCtx, Error>::put(&parts, dst, order, &ctx)
+            }
+            Imported::Table(v0) => {
+                let value = Second(First(*v0));
+                let parts: ImportedParts = (Run(1), value);
+                Part::<ImportedCtx, Error>::put(&parts, dst, order, &ctx)
+            }
+            Imported::Memory(v0) => {
+                let value = Second(Second(First(*v0)));
+                let parts: ImportedParts = (Run(2), value);
+                Part::<ImportedCtx, Error>::put(&parts, dst, order, &ctx)
+            }
+            Imported::Global(v0, v1) => {
+                let value = Second(Second(Second(Run((*v0, *v1)))));
+                let parts: ImportedParts = (Run(3), value);
+                Part::<ImportedCtx, Error>::put(&parts, dst, order, &ctx)
+            }
+        }
+    }
+}
+
+impl<'a> ReadPart<'a, (), Error> for Imported {
+    ghost format = { λ _. last (⟦<ImportedParts as ReadPart<'a, ImportedCtx, Error>>⟧.format
+        (record { 0 = tt; 1 = record {}; 2 = record {} }))
+        (elim [
+          | imported_is.Function v0 ↦ (record { 0 = 0 }, First v0)
+          | imported_is.Table v0 ↦ (record { 0 = 1 }, Second (First v0))
+          | imported_is.Memory v0 ↦ (record { 0 = 2 }, Second (Second (First v0)))
+          | imported_is.Global v0 v1 ↦ (record { 0 = 3 }, Second (Second (Second (record { 0 = (v0, v1) }))))
+        ]) };
+
+    #[inline(always)]
+    fn read_at(
+        from: &'a [u8],
+        offset: usize,
+        order: Endian,
+        _ctx: &(),
+    ) -> Result<(Imported, usize), Error> {
+        let ctx = Headed((), ImportedSays, PhantomData);
+        let (read, end) = <ImportedParts as ReadPart<'a, ImportedCtx, Error>>::read_at(
+            from, offset, order, &ctx,
+        )?;
+        let (Run(tag), value) = read;
+        match (tag, value) {
+            (0, First(v0)) => Ok((Imported::Function(v0), end)),
+            (1, Second(First(v0))) => Ok((Imported::Table(v0), end)),
+            (2, Second(Second(First(v0)))) => Ok((Imported::Memory(v0), end)),
+            (3, Second(Second(Second(Run((v0, v1)))))) => Ok((Imported::Global(v0, v1), end)),
+            _ => unreachable!(),
+        }
+    }
+}
+
+impl<'a> CertainHead<'a, (), ImportedHead, Error> for ImportedSays {
+    fn certain_next() {}
+}
+
+impl<'a> Certain<'a, (), Error> for Imported {
+    fn certain()
+        ensures { (ctx : Unit {0})
+            → one_way (⟦<Imported as ReadPart<'a, (), Error>>⟧.format ctx) }
+    {
+        <ImportedParts as Certain<'a, ImportedCtx, Error>>::certain()
+    }
+}
+
+type TableTypeParts = (Run<u8>, Limits);
+
+type TableTypeCtx = ((), ());
+
+impl Shape for TableType {
+    type Ctx = ();
+
+    type Inner = TableTypeCtx;
+
+    type Parts = TableTypeParts;
+
+    ghost parts_of = { λ x. (record { 0 = x.element }, x.limits) };
+
+    ghost inner_of = { λ _. (tt, tt) };
+
+    fn split(&self) -> TableTypeParts {
+        (Run(self.element), self.limits)
+    }
+
+    fn join(parts: TableTypeParts) -> TableType {
+        let (Run(element), limits) = parts;
+        TableType { element, limits }
+    }
+
+    fn inner(_ctx: &()) -> TableTypeCtx
+        ensures { result ≡ ⟦<TableType as Shape>⟧.inner_of _ctx.now }
+    {
+        ((), ())
+    }
+}
+
+impl<'a> Certain<'a, (), Error> for TableType {
+    fn certain()
+        ensures { (ctx : Unit {0})
+            → one_way (⟦<TableType as ReadPart<'a, (), Error>>⟧.format ctx) }
+    {
+        <TableTypeParts as Certain<'a, TableTypeCtx, Error>>::certain()
+    }
+}
+
+type LimitsHead = Run<u8>;
+
+type LimitsNext = ((), When<()>);
+
+#[derive(Drop)]
+pub struct LimitsSays;
+
+impl Head<LimitsHead, Error> for LimitsSays {
+    type Next = LimitsNext;
+
+    ghost holds = { λ _ h. (h.0 ≤ 1) };
+
+    ghost fails = { λ _ h e. (1 < h.0) × IsBadInput e h.0 (codes "it is not so that flags <= 1") };
+
+    ghost next = { λ _ h. (tt, record { 0 = (nat_eq h.0 1); 1 = tt }) };
+
+    fn obey(&self, head: &LimitsHead) -> Result<(), Error> {
+        if head.0 > 1 {
+            return Err(Error::BadInput {
+                size: head.0 as usize,
+                msg: "it is not so that flags <= 1",
+            });
+        }
+        Ok(())
+    }
+
+    fn next(&self, head: &LimitsHead) -> LimitsNext {
+        ((), When(head.0 == 1, ()))
+    }
+}
+
+type LimitsParts = (LimitsHead, (Uleb, Option<Uleb>));
+
+type LimitsCtx = Headed<(), LimitsNext, LimitsSays>;
+
+impl Shape for Limits {
+    type Ctx = ();
+
+    type Inner = LimitsCtx;
+
+    type Parts = LimitsParts;
+
+    ghost parts_of = { λ x. (record { 0 = x.flags }, (x.least, x.most)) };
+
+    ghost inner_of = { λ _. record { 0 = tt; 1 = record {}; 2 = record {} } };
+
+    fn split(&self) -> LimitsParts {
+        (Run(self.flags), (self.least, self.most))
+    }
+
+    fn join(parts: LimitsParts) -> Limits {
+        let (Run(flags), (least, most)) = parts;
+        Limits { flags, least, most }
+    }
+
+    fn inner(_ctx: &()) -> LimitsCtx
+        ensures { result ≡ ⟦<Limits as Shape>⟧.inner_of _ctx.now }
+    {
+        Headed((), LimitsSays, PhantomData)
+    }
+}
+
+impl<'a> CertainHead<'a, (), LimitsHead, Error> for LimitsSays {
+    fn certain_next() {}
+}
+
+impl<'a> Certain<'a, (), Error> for Limits {
+    fn certain()
+        ensures { (ctx : Unit {0})
+            → one_way (⟦<Limits as ReadPart<'a, (), Error>>⟧.format ctx) }
+    {
+        <LimitsParts as Certain<'a, LimitsCtx, Error>>::certain()
+    }
+}
+
+type IndicesHead = Uleb;
+
+type IndicesNext = Count;
+
+#[derive(Drop)]
+pub struct IndicesSays;
+
+impl Head<IndicesHead, Error> for IndicesSays {
+    type Next = IndicesNext;
+
+    ghost holds = { λ _ h. Unit {0} };
+
+    ghost fails = { λ _ h e. ⊥ };
+
+    ghost next = { λ _ h. record { 0 = h.value } };
+
+    fn obey(&self, _head: &IndicesHead) -> Result<(), Error> {
+        Ok(())
+    }
+
+    fn next(&self, head: &IndicesHead) -> IndicesNext {
+        Count(head.value as usize)
+    }
+}
+
+type IndicesParts<'a> = (IndicesHead, Items<'a, IndexList>);
+
+type IndicesCtx = Headed<(), IndicesNext, IndicesSays>;
+
+impl<'a> Shape for Indices<'a> {
+    type Ctx = ();
+
+    type Inner = IndicesCtx;
+
+    type Parts = IndicesParts<'a>;
+
+    ghost parts_of = { λ x. (x.count, x.each) };
+
+    ghost inner_of = { λ _. record { 0 = tt; 1 = record {}; 2 = record {} } };
+
+    fn split(&self) -> IndicesParts<'a> {
+        (self.count, self.each)
+    }
+
+    fn join(parts: IndicesParts<'a>) -> Indices<'a> {
+        let (count, each) = parts;
+        Indices { count, each }
+    }
+
+    fn inner(_ctx: &()) -> IndicesCtx
+        ensures { result ≡ ⟦<Indices<'a> as Shape>⟧.inner_of _ctx.now }
+    {
+        Headed((), IndicesSays, PhantomData)
+    }
+}
+
+impl<'a> Listed<'a> for IndexList {
+    type Item = Uleb;
+}
+
+type ExportsHead = Uleb;
+
+type ExportsNext = Count;
+
+#[derive(Drop)]
+pub struct ExportsSays;
+
+impl Head<ExportsHead, Error> for ExportsSays {
+    type Next = ExportsNext;
+
+    ghost holds = { λ _ h. Unit {0} };
+
+    ghost fails = { λ _ h e. ⊥ };
+
+    ghost next = { λ _ h. record { 0 = h.value } };
+
+    fn obey(&self, _head: &ExportsHead) -> Result<(), Error> {
+        Ok(())
+    }
+
+    fn next(&self, head: &ExportsHead) -> ExportsNext {
+        Count(head.value as usize)
+    }
+}
+
+type ExportsParts<'a> = (ExportsHead, Items<'a, ExportList>);
+
+type ExportsCtx = Headed<(), ExportsNext, ExportsSays>;
+
+impl<'a> Shape for Exports<'a> {
+    type Ctx = ();
+
+    type Inner = ExportsCtx;
+
+    type Parts = ExportsParts<'a>;
+
+    ghost parts_of = { λ x. (x.count, x.each) };
+
+    ghost inner_of = { λ _. record { 0 = tt; 1 = record {}; 2 = record {} } };
+
+    fn split(&self) -> ExportsParts<'a> {
+        (self.count, self.each)
+    }
+
+    fn join(parts: ExportsParts<'a>) -> Exports<'a> {
+        let (count, each) = parts;
+        Exports { count, each }
+    }
+
+    fn inner(_ctx: &()) -> ExportsCtx
+        ensures { result ≡ ⟦<Exports<'a> as Shape>⟧.inner_of _ctx.now }
+    {
+        Headed((), ExportsSays, PhantomData)
+    }
+}
+
+impl<'a> Listed<'a> for ExportList {
+    type Item = Export<'a>;
+}
+
+type ExportHead = Run<u8>;
+
+type ExportNext = ();
+
+#[derive(Drop)]
+pub struct ExportSays;
+
+impl Head<ExportHead, Error> for ExportSays {
+    type Next = ExportNext;
+
+    ghost holds = { λ _ h. (h.0 ≤ 3) };
+
+    ghost fails = { λ _ h e. (3 < h.0) × IsBadInput e h.0 (codes "it is not so that kind <= 3") };
+
+    ghost next = { λ _ h. tt };
+
+    fn obey(&self, head: &ExportHead) -> Result<(), Error> {
+        if head.0 > 3 {
+            return Err(Error::BadInput {
+                size: head.0 as usize,
+                msg: "it is not so that kind <= 3",
+            });
+        }
+        Ok(())
+    }
+
+    fn next(&self, _head: &ExportHead) -> ExportNext {
+        ()
+    }
+}
+
+type ExportRest = (ExportHead, Uleb);
+
+type ExportParts<'a> = (Name<'a>, ExportRest);
+
+type ExportCtx = ((), Headed<(), ExportNext, ExportSays>);
+
+impl<'a> Shape for Export<'a> {
+    type Ctx = ();
+
+    type Inner = ExportCtx;
+
+    type Parts = ExportParts<'a>;
+
+    ghost parts_of = { λ x. (x.name, (record { 0 = x.kind }, x.index)) };
+
+    ghost inner_of = { λ _. (tt, record { 0 = tt; 1 = record {}; 2 = record {} }) };
+
+    fn split(&self) -> ExportParts<'a> {
+        (self.name, (Run(self.kind), self.index))
+    }
+
+    fn join(parts: ExportParts<'a>) -> Export<'a> {
+        let (name, (Run(kind), index)) = parts;
+        Export { name, kind, index }
+    }
+
+    fn inner(_ctx: &()) -> ExportCtx
+        ensures { result ≡ ⟦<Export<'a> as Shape>⟧.inner_of _ctx.now }
+    {
+        ((), Headed((), ExportSays, PhantomData))
+    }
+}
+
+impl<'a> CertainHead<'a, (), ExportHead, Error> for ExportSays {
+    fn certain_next() {}
+}
+
+impl<'a> Certain<'a, (), Error> for Export<'a> {
+    fn certain()
+        ensures { (ctx : Unit {0})
+            → one_way (⟦<Export<'a> as ReadPart<'a, (), Error>>⟧.format ctx) }
+    {
+        <ExportParts<'a> as Certain<'a, ExportCtx, Error>>::certain()
+    }
+}
