@@ -10,18 +10,20 @@ The steps are:
     rt ci           the toolchain's own gate: proves each crate and its tests from nothing, builds them, runs the tests, and the program
                     as two compilers build it
     docs.py         the documents: their code, names and links are those of the sources, and what is made of these is current
-    check.sh        what tools/derive/derive.sh prints is in the files that were proved
-    seeds.py        proves again what misuse.py, embed.py, random_descriptions.py, compare/run.sh and edits.py begin with
+    seeds.py        proves again what misuse.py, embed.py, random_descriptions.py, catalogue.py, compare/run.sh and edits.py begin
+                    with
     misuse.py       what must not compile
     embed.py        the library of embed/ in C and Python, and in Rust where cargo is, on real files and on damaged ones
     depending.py    README's first command, its lines for a repository of one's own, and the documentation's examples
     random_descriptions.py
                     random descriptions are printed, proved with what uses them, and what they read and write is that of another reader
+    catalogue.py    the descriptions of catalogue/ are printed and proved, on bytes that other programs made
+    others.py       the clients that are descriptions, on a hundred files of the programs that these come from, whole, cut and damaged
     sessions.py     the stored sessions, whole and with their buffers cut, by the program that rt ci proved; by random_sessions.py, random ones
     limits.py       long inputs, at which that program must not run out of memory
     faults.py       the sessions and the tests of all libraries where memory is refused and streams fail, by what rt ci proved
     count           the instructions, mispredictions and misses of each workload of bench/, by valgrind, beside those that are stored
-    compare/run.sh  random sessions and calls beside the Rust crate, where cargo finds it
+    compare/run.sh  sessions and calls beside the Rust crate, where cargo finds it
     edits.py        the edits of each crate, many in one check; limits.py --edits, those that only long inputs and tests tell
 
 rt ci runs in a copy without the edits, which edits.py tries faster, and it proves what it hasn't yet passed on this machine. The steps
@@ -53,8 +55,6 @@ WORDS = {"stands": ("stands",), "edits": ("edits",), "all": ("stands", "edits")}
 COUNTS = re.compile(r"(\d+) passed, (\d+) failed(?:, (\d+) skipped)?")
 CI = "rt ci"
 EMBED = "python3 gate/embed.py"
-# Where the program is that rt ci built, from the top of another copy.
-PROGRAM = "../ci/crates/scroll_run/out/scroll_run"
 # A step is a group of processes, which is ended as one.
 GROUP: Dict[str, Any] = {"process_group": 0} if sys.version_info >= (3, 11) else {"start_new_session": True}
 
@@ -167,7 +167,7 @@ def list_steps(groups: Sequence[str], workers: int) -> List[Step]:
     steps = []
     if "stands" in groups:
         steps.append(Step(CI, workers, tree="ci"))
-        steps += [Step(it, 1) for it in ("python3 gate/docs.py", "sh tools/derive/check.sh")]
+        steps.append(Step("python3 gate/docs.py", 1))
     steps.append(Step(seeds, half))
     for at, name in enumerate(edited):
         # (embed.py builds the library whose files edits.py copies; the first crate has most of the edits)
@@ -175,12 +175,13 @@ def list_steps(groups: Sequence[str], workers: int) -> List[Step]:
         steps.append(Step(f"python3 gate/edits.py {name}", half if at else workers, needs))
     if "stands" in groups:
         steps += [Step(it, 1, (seeds,)) for it in (EMBED, "python3 gate/depending.py", "python3 gate/misuse.py")]
-        steps.append(Step("python3 gate/random_descriptions.py", half, (seeds,)))
+        steps += [Step(f"python3 gate/{it}.py", half, (seeds,)) for it in ("random_descriptions", "catalogue")]
+        steps.append(Step("python3 gate/others.py", 1))
     if edited:
         steps.append(Step("python3 gate/limits.py --edits", 1, (seeds,)))
     if "stands" in groups:
         steps += [Step(it, half, (CI,), "ci") for it in ("python3 gate/faults.py", "python3 bench/count check")]
-        steps.append(Step(f"env PROGRAM={PROGRAM} sh compare/run.sh --gate", 1, (CI, seeds)))
+        steps.append(Step("sh compare/run.sh --gate", 1, (seeds,)))
         steps += [Step(f"python3 gate/{it}.py", 1, (CI,), "ci") for it in ("random_sessions", "sessions", "limits")]
     return steps
 

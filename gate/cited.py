@@ -24,7 +24,7 @@ FOREIGN = set("""
 BoxedSlice CowSlice I Self::Units array::try_from_fn array::from_fn cause collect c3 core::mem core::result f64 memchr scroll_derive
 x86-64-v2
 HEX HH ORD SESSION crates/first crates/first/src crates/first/src/lib.rt export description AsRef This RangeFrom memmove Proof Lts Tie
-SCROLL byteorder gimli goblin object zerocopy grind rw debug_line libscroll_ffi in_ok-entry fence
+SCROLL byteorder gimli goblin object zerocopy grind rw debug_line libscroll_ffi in_ok-entry fence binrw deku nom
 """.split())
 # Paths into std begin so.
 STD = re.compile(r"(?:std|core|io|fmt|str|array|ffi|result)::[\w:]+")
@@ -42,6 +42,8 @@ SHAPE = re.compile(r"_|::|[a-z]-[a-z]|[a-z][A-Z]|^[A-Z][a-z]")
 COMMAND = re.compile(r"\(?(?:cd|rt|python3|sh|cargo|git|cc) ")
 # A value with its fields, such as `TooBig { size: 8, len: 4 }`.
 VALUE = re.compile(r"\b([A-Z]\w*) \{\s*([^{}]*)\}")
+# The first two cells of a row of seven: the others say what other tools do.
+OTHERS = re.compile(r"^(\|[^|]*\|[^|]*\|)(?:[^|]*\|){5}$")
 # A path from the top of the repository, which may be that of README's `SCROLL`; a file by its name.
 PATH = re.compile(
     r"(?<![\w/.-])(?:\$SCROLL/|\.\./)*((?:gate|tools|crates|embed|bench|compare|docs|sessions)/[\w./-]*[\w/])"
@@ -70,8 +72,9 @@ def documents() -> List[Path]:
 
 def read_prose(path: Path) -> List[str]:
     """The lines of a document, with an empty one for each line of its code blocks, or of the code of edits."""
-    is_edits = path.suffix in (".edits", ".edit")
-    return CODE.sub("", path.read_text(encoding="utf-8")).split("\n") if is_edits else markdown.read(path).prose
+    if path.suffix in (".edits", ".edit"):
+        return CODE.sub("", path.read_text(encoding="utf-8")).split("\n")
+    return [OTHERS.sub(r"\1", it) for it in markdown.read(path).prose]
 
 
 def names_in(span: str) -> List[str]:

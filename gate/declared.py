@@ -128,8 +128,9 @@ class Declarations:
         own |= {it for path in self.paths(f"{of}::{last}") for it in self.members.get(path, [])}
         found = [(it.file, it.line, set(it.clauses)) for it in self.found(name)]
         found += [(*it, set()) for path in sorted(self.paths(name)) for it in self.members.get(path, [])]
-        # (what a trait declares comes before its implementations)
-        found.sort(key=lambda it: it[:2] not in self.in_traits)
+        # (what has the parameters of the citation comes first, and what a trait declares before its implementations)
+        exact = {(it.file, it.line) for it in self.functions.get(name, [])}
+        found.sort(key=lambda it: (it[:2] not in exact, it[:2] not in self.in_traits))
         return [it for it in found if not of or it[:2] in own]
 
     def found(self, name: str) -> List[Function]:

@@ -12,11 +12,12 @@ Rule = Callable[[Known], None]
 UNSIGNED = {f"u{8 * width}": width for width in (1, 2, 4, 8, 16)}
 SIGNED = {f"i{8 * width}": width for width in (1, 2, 4, 8, 16)}
 FLOATS = {"f32": 4, "f64": 8}
-WIDTHS = {**UNSIGNED, **SIGNED, **FLOATS}
+# (the number of three bytes stands for fields of bits alone)
+WIDTHS = {**UNSIGNED, **SIGNED, **FLOATS, "u24": 3}
 GREATEST = 2**64 - 1
-MARK = "// #[derive(Pread, Pwrite)]\n"
+MARK, KEPT, PART = (f"// #[derive({it})]\n" for it in ("Pread, Pwrite", "Pread, Pwrite, Kept", "Part"))
 # A value that is drawn has at most so many bytes in a field.
-MOST_BYTES = 3000
+MOST_BYTES = 400
 
 
 class Refused(Exception):
@@ -32,9 +33,7 @@ class Misfit(Exception):
 
     def named(self, name: str) -> int:
         """Returns what a number would have to be, or -1."""
-        times = next((times for it, times in self.sum.terms if it == name), 0)
-        more = self.wanted - self.sum.of(self.known)
-        return self.known[name] + more // times if times and more % times == 0 else -1
+        return self.sum.named(name, self.wanted, self.known)
 
 
 class Hopeless(Exception):
@@ -120,6 +119,24 @@ class Sum:
     def want(self, known: Known, wanted: int) -> None:
         if self.of(known) != wanted:
             raise Misfit(self, wanted, known)
+
+    def named(self, name: str, wanted: int, known: Known) -> int:
+        """Returns what a number would have to be, or -1."""
+        times = next((times for it, times in self.terms if it == name), 0)
+        more = wanted - self.of(known)
+        return known[name] + more // times if times and more % times == 0 else -1
+
+    def said(self, number: Callable[[str], str]) -> str:
+        """Returns it in the logic, by what is said of numbers."""
+        terms = [f"{times} * {number(name)}" if times > 1 else number(name) for name, times in self.terms]
+        whole = " + ".join([*terms, *([str(self.number)] if self.number or not terms else [])])
+        less = " + ".join([*map(number, self.less), *([str(self.less_number)] if self.less_number else [])])
+        return f"{bracket(whole)} - {bracket(less)}" if less else whole
+
+
+def bracket(text: str) -> str:
+    is_whole = text.startswith("(") and text.find(")") == len(text) - 1
+    return f"({text})" if " " in text and not is_whole else text
 
 
 def as_usize(name: str) -> str:

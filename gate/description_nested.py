@@ -5,14 +5,24 @@ from dataclasses import dataclass
 from typing import Any, List, NamedTuple, Optional, Tuple
 
 from description_counts import MARK, Known, Misfit, Plain, Refused, Rule, Sum, bad, take_bytes
-from description_kinds import Kind, Leb, Number
+from description_kinds import Kind, Leb, Number, Numeral
 from description_structs import OwnError, Struct
 
 
 class Variant(NamedTuple):
+    """A variant: its tag, the greatest one if it has several, or -1 if it has all others; and its values."""
+
     name: str
     tag: int
     kinds: List[Kind]
+    last: Optional[int] = None
+
+    @property
+    def note(self) -> str:
+        return "_" if self.tag < 0 else str(self.tag) if self.last is None else f"{self.tag}..={self.last}"
+
+    def has(self, tag: int) -> bool:
+        return self.tag < 0 or self.tag <= tag <= (self.tag if self.last is None else self.last)
 
 
 @dataclass
@@ -25,10 +35,16 @@ class Enum:
     variants: List[Variant]
     error: Optional[OwnError] = None
     own: str = ""
+    mark: str = MARK
 
     @property
     def type(self) -> str:
         return self.name + ("<'a>" if any("'a" in kind.type for it in self.variants for kind in it.kinds) else "")
+
+    @property
+    def is_alone(self) -> bool:
+        """Returns whether it can be read and written alone, and not so."""
+        return self.is_own
 
     @property
     def has_length(self) -> bool:
@@ -37,13 +53,13 @@ class Enum:
     def print(self) -> str:
         notes = [f"given = (kind: {self.tag.type}, given: usize)" if self.has_length else f"given = kind: {self.tag.type}"]
         notes = [f"tag = {self.tag.type}"] if self.is_own else notes
-        notes += [f"error = {self.error.name}::Refused"] if self.error else []
+        notes += [self.error.note] if self.error else []
         notes += [f"else = {self.error.name}::{self.own}"] if self.error and self.own else []
         lines = []
         for it in self.variants:
-            said = ", ".join([f"is = {it.tag}", *(note for kind in it.kinds for note in kind.notes())])
+            said = ", ".join([f"is = {it.note}", *(note for kind in it.kinds for note in kind.notes())])
             lines.append(f"    // #[scroll({said})]\n    {it.name}{f'({self.types(it)})' if it.kinds else ''},\n")
-        head = f"{MARK}// #[scroll({', '.join(notes)})]\n#[derive(Clone, Copy)]\n"
+        head = f"{self.mark}// #[scroll({', '.join(notes)})]\n#[derive(Clone, Copy)]\n"
         return f"{head}pub enum {self.type} {{\n{''.join(lines)}}}\n"
 
     @staticmethod
@@ -79,7 +95,7 @@ class Inner(Kind):
         self.struct.check(value, order, self.given(known))
 
     def numbers(self, name: str, value: Any) -> Known:
-        plain = [it for it in self.struct.fields if it.is_plain and isinstance(it.kind, (Number, Leb))]
+        plain = [it for it in self.struct.fields if it.is_plain and isinstance(it.kind, (Number, Leb, Numeral))]
         found = {it.name: it.kind.numbers(it.name, value[it.name]).get(it.name) for it in plain}
         return {f"{name}.{inner}": it for inner, it in found.items() if it is not None}
 
@@ -109,17 +125,18 @@ class Tagged(Kind):
         return {"given": self.count.of(known)} if self.count else {}
 
     def index(self, tag: int) -> int:
-        return [it.tag for it in self.enum.variants].index(tag)
+        return [it.has(tag) for it in self.enum.variants].index(True)
 
     def check_tag(self, known: Known) -> None:
         tag = known[self.tag]
-        if tag not in [it.tag for it in self.enum.variants]:
+        if not any(it.has(tag) for it in self.enum.variants):
             raise Refused(f"{self.enum.own} {tag}") if self.enum.own else bad(tag, f"{self.enum.name} has no such tag")
 
     def draw(self, rng: random.Random, order: str, known: Known) -> Any:
-        tags = [it.tag for it in self.enum.variants]
+        known_ones = [it for it in self.enum.variants if it.tag >= 0]
+        tags = [number for it in known_ones for number in {it.tag, it.tag if it.last is None else it.last}]
         tag = rng.choice(tags) if self.enum.is_own else known[self.tag]
-        if tag not in tags:
+        if not any(it.has(tag) for it in known_ones) and (len(known_ones) == len(self.enum.variants) or rng.random() < 0.7):
             raise Misfit(Sum([(self.tag, 1)]), rng.choice(tags), known)
         if self.count:
             self.count.draw(known)

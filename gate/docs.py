@@ -9,7 +9,7 @@ The code in docs/GUIDE.md is put there from clients and proofs (gate/guide.py). 
 declared, and their links lead somewhere (gate/cited.py). docs/API.md has the library's doc comments (gate/api.py), and
 docs/DEFINITIONS.md what the comments in specs/ say (gate/definitions.py). docs/PROVED.md has the promises of gate/promises.txt, each
 with its clauses and how many edits there are for it (gate/promises.py). crates/README.md has the lines of each client
-and README's numbers (gate/sizes.py). A crate names no proofs of another but those for callers (gate/layers.py). The bench has a row for each public call, and docs/SPEED.md the summary of its times (gate/benched.py).
+and README's numbers (gate/sizes.py). A crate names no proofs of another but those for callers (gate/layers.py). docs/SPEED.md has the summary of the times in bench/results (gate/benched.py).
 """
 
 import sys

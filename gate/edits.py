@@ -17,6 +17,8 @@ function, in a copy of the crate with what the tree's own checks kept. An edit
 - is tried alone if its function is proved, or if the check can't read it. It then passes if another function is refused
   by a proper note, and the edit's line `breaks:` names that function; otherwise it fails.
 
+One edit of each folder must-fail/ is also tried by `rt must-fail`, so that their form stays one that the toolchain reads.
+
 A check has two jobs, and three checks run in parallel on four processors, since parts of a check run on one. Each has 4 GB
 of memory. The variable WORKERS sets another number of processors. `--self-test` tries the script itself
 (gate/edits_test.py).
@@ -108,6 +110,19 @@ def prepare(step: Step, names: Iterable[str], workers: int) -> Optional[Gate]:
     return gate
 
 
+def try_forms(gate: Gate, edits: List[Edit]) -> None:
+    """Tries the first edit of each folder must-fail/ by `rt must-fail`."""
+    for name in sorted({it.crate for it in edits if it.folder == "must-fail"}):
+        edit = next(it for it in edits if it.crate == name and it.folder == "must-fail")
+        tree = gate.step.room / "form" / name
+        crate = copy_crate(name, tree, gate.base / name)
+        (crate / edit.folder).mkdir()
+        shutil.copy(TOP / "crates" / name / edit.folder / f"{edit.name}.edit", crate / edit.folder)
+        status, said = gate.run_rt(tree, "must-fail", name)
+        is_tried = status == 0 and edit.name in said
+        gate.step.count(f"{name}: {edit.name} by rt must-fail", None if is_tried else "".join(f"    {it}\n" for it in said.splitlines()[-8:]))
+
+
 def count_checks() -> int:
     """Returns how many checks run in parallel."""
     return max(1, 3 * count_workers() // 4)
@@ -159,6 +174,7 @@ def work(step: Step, names: List[str]) -> None:
     if gate:
         step.tell(f"the copy and the crates without an edit took {time.time() - start:.0f} s")
         try_all(gate, judges, edits, workers)
+        try_forms(gate, edits)
     for edit in edits:
         judge = judges[edit.crate]
         if edit.name in judge.refused:

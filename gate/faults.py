@@ -15,8 +15,9 @@ and rt test leave them. With names, only these sessions, and the tests of these 
 | each read, or each write, is interrupted       | status 4, and nothing is printed |
 | an allocation of a test fails                  | the test passes, or says that it got this error |
 
-The first allocation fails, then the second, and so on until a run allocates no more; likewise for reads and writes. A session,
-or a test, passes if all its runs are as in this table. Without a C compiler only the folder and the closed and full streams are
+The first allocation fails, then the second, and so on until a run allocates no more; likewise for reads and writes. Of a test that
+allocates in a long loop the later allocations fail at growing distances. A session, or a test, passes if all its runs are as in
+this table. Without a C compiler only the folder and the closed and full streams are
 tried, and the rest is one skipped check.
 """
 
@@ -37,6 +38,8 @@ from step import TOP, Step, Stop, count_workers, read_crates, run_step
 
 # How many of the first calls fail in turn where a read and a write move one byte.
 FIRST_CALLS = 8
+# So many of a test's first allocations fail each in turn.
+EACH = 200
 # A run takes milliseconds. One that a bug keeps from ending is ended after so many seconds.
 LIMIT = 120
 ALWAYS = 10**9
@@ -207,7 +210,7 @@ def try_session(faults: Faults, session: Session) -> None:
 
 
 def try_test(faults: Faults, program: Path, name: str) -> None:
-    """Runs one test with each allocation failing in turn. A test that doesn't allocate passes unchanged. One that fails says at
+    """Runs one test with its allocations failing in turn. A test that doesn't allocate passes unchanged. One that fails says at
     the end of a line which error it got: `Error: NoMemory`, or `expected BadChildren(2), got NoMemory`."""
     number = 1
     while True:
@@ -216,7 +219,7 @@ def try_test(faults: Faults, program: Path, name: str) -> None:
             raise ran.wrong(f"the test ends with status {ran.status}")
         if not ran.is_met:
             return
-        number += 1
+        number += 1 + number // EACH
 
 
 def list_tests(step: Step, program: Path) -> List[str]:

@@ -2,7 +2,8 @@
 
 - A crate names no proofs of another crate but the lemmas for callers, and none of its own that are for callers.
 - A module of the product uses none that uses it, but for the modules below its own path.
-- A lemma is named in another place than its own: in its file, by an import, or by what tools/derive prints.
+- A definition of specs/, and a lemma, is named in another place than its own: in its file, by an import, or by what tools/derive
+  prints.
 
 Each of these is a check of a crate.
 """
@@ -15,11 +16,11 @@ from step import TOP, Step, read_crates
 
 LIBRARIES = ("scroll", "scroll_formats", "scroll_layouts")
 PRODUCT = (*LIBRARIES, "scroll_run")
-FOR_CHECKS = ("shapes", "scroll_ffi", "compare_calls", "workloads")
+FOR_CHECKS = ("scroll_ffi", "compare_calls", "workloads")
 CALLERS = r"(?:\.|::)lemmas(?:\.|::)callers\b"
 USE = re.compile(r"(?ms)^(?:pub )?use (?:crate::)?([\w:]+?)(?:::\{([^}]*)\})?;$")
 IMPORT = re.compile(r"\b(\w+)(?=(?:\.|::)(?:\{([^}]*)\}|([\w-]+)))")
-LEMMA = re.compile(r"(?m)^ *(?:pub |abbrev |record |ruleset )*([^\s(){}:=]+)(?= :| [({]| = \()")
+NAMED = re.compile(r"(?m)^ *(?:pub |abbrev |record |data |ruleset )*([^\s(){}:=]+)(?= :| [({]| = \()")
 
 
 def list_clients() -> List[str]:
@@ -65,13 +66,15 @@ def cycles(crate: str) -> Iterator[str]:
             yield f"{module} uses {', '.join(sorted(it for it in used[module] if module in used[it] | {it}) or sorted(used[module]))}"
 
 
-def uncited_lemmas(crate: str, imported: Dict[str, Set[str]]) -> Iterator[str]:
-    """Returns the lemmas of a crate that are named in no other place."""
-    for file, text in [it for part in ("specs/lemmas", "proofs/lemmas") for it in files_of(crate, part)]:
+def uncited(crate: str, imported: Dict[str, Set[str]]) -> Iterator[str]:
+    """Returns the definitions and the lemmas of a crate that are named in no other place."""
+    for file, text in files_of(crate, "specs", "proofs/lemmas"):
+        # (a definition's fields are no names of it, and a lemma may be the field of a record)
+        inner = "    " if "lemmas" in file.parts else " "
         pieces = re.sub(r"(?m)^ *(?:--|(?:pub )?use ).*", "", text).split("\n\n")
         for piece in pieces:
             here = {*re.findall(r"[^\s(){},.;]+", "\n".join(it for it in pieces if it is not piece))}
-            names = {it[1] for it in LEMMA.finditer(piece) if not it[0].startswith("    ")} - {"let", "in"}
+            names = {it[1] for it in NAMED.finditer(piece) if not it[0].startswith(inner)} - {"let", "in"}
             if names and not names & (here | imported.get(file.stem, set()) | imported[""]):
                 yield f"{file.relative_to(TOP)}: {', '.join(sorted(names))}"
 
@@ -88,7 +91,7 @@ def try_all(step: Step) -> None:
         faults = {
             "names a proof of another crate that is not for callers, or one of its own that is": wrong_proofs(crate, {*crates} - {crate}),
             "has modules that use each other": cycles(crate) if crate in PRODUCT else iter(()),
-            "has lemmas that nothing cites": uncited_lemmas(crate, imported),
+            "has definitions or lemmas that nothing cites": uncited(crate, imported),
         }
         for what, found in faults.items():
             step.count(f"{crate} {what}", "\n".join(f"    {it}" for it in found) or None)

@@ -5,13 +5,14 @@
     python3 gate/limits.py --edits
 
 A function of the library, or of the program's `Memory`, that allocates and says `out of memory` at some input meets its
-contract; the program's other functions don't. So this gives the program inputs of each kind, on both sides of each power of
-two: texts, slices and C strings that are read, written and printed, lines, words, commands, numerals, bad lines and whole
-inputs. The status must be 0 or, of a bad or too long input, 2. PROGRAM is as in gate/sessions.py.
+contract; the program's other functions don't. So this gives the program inputs of each kind, of each length that is short and on
+both sides of each power of two: texts, slices and C strings that are read, written and printed, lines, words, commands, numerals,
+bad lines, whole inputs and a long output. The status must be 0 or, of a bad or too long input, 2. PROGRAM is as in
+gate/sessions.py.
 
-`--edits` plants the bugs of gate/limits/CRATE.edits, which the prover passes, all of a crate in one copy of it, which
-`rt try` builds. Their form is that of CONTRIBUTING, with a line `file:`. The program must then run out of memory at the input
-that `breaks:` names, `KIND, N`, and a test of the library that it names must fail.
+`--edits` plants the bugs of gate/limits/CRATE.edits, which the prover passes: of a crate all that break different inputs or tests
+in one copy of it, which `rt try` builds. Their form is that of CONTRIBUTING, with a line `file:`. The program must then run out
+of memory at the input that `breaks:` names, `KIND, N`; or the tests that it names must fail, and no others.
 
 A kind of input, or an edit, is a check.
 """
@@ -20,15 +21,16 @@ import argparse
 import re
 import shutil
 import sys
+from concurrent.futures import ThreadPoolExecutor
 from pathlib import Path
-from typing import Dict, Iterator, List, Tuple
+from typing import Dict, Iterator, List, Set, Tuple
 
 from edit_files import Bad, Block, Edit, Texts
 from sessions import find_program, run
-from step import TOP, Step, Stop, run_step
+from step import TOP, Step, Stop, count_workers, run_step
 
 LONGEST = 65536
-SIZES = [*range(20), *(2**n + d for n in range(5, 15) for d in (-1, 0, 1)), 30000]
+SIZES = [*range(1101), *(2**n + d for n in range(11, 15) for d in (-1, 0, 1)), 5000, 30000]
 COMMANDS = {
     "answers": "gread uleb",
     "long answers": "pread 0 u128 be",
@@ -75,17 +77,23 @@ def inputs() -> Iterator[Tuple[str, int, bytes, int]]:
             yield from ((kind, n, it, status) for kind, it in given if len(it) <= LONGEST)
     for n in (LONGEST - 1, LONGEST, LONGEST + 1, 2 * LONGEST):
         yield "whole inputs", n, b"0" * n, 2
+    yield "long outputs", 140, with_buffer(30000, "", *["pread 0 bytes 30000"] * 140), 0
 
 
 def try_inputs(step: Step, program: str) -> None:
     """Counts the kinds, each with what is wrong in its first bad run."""
+
+    def fault_of(given: Tuple[str, int, bytes, int]) -> Tuple[str, str]:
+        kind, n, text, status = given
+        found, said, _ = run(program, text)
+        return kind, "" if found == status else f"    at {n} the status is {found}, and {status} is wanted: {said[:60]!r}"
+
     kinds: Dict[str, str] = {}
     count = 0
-    for kind, n, given, status in inputs():
-        found, said, _ = run(program, given)
-        fault = f"    at {n} the status is {found}, and {status} is wanted: {said[:60]!r}"
-        kinds[kind] = kinds.get(kind) or ("" if found == status else fault)
-        count += 1
+    with ThreadPoolExecutor(count_workers()) as pool:
+        for kind, fault in pool.map(fault_of, inputs()):
+            kinds[kind] = kinds.get(kind) or fault
+            count += 1
     for kind, fault in kinds.items():
         step.count(kind, fault or None)
     step.tell(f"{count} inputs of {len(kinds)} kinds")
@@ -97,15 +105,44 @@ def read_edits(path: Path) -> List[Edit]:
     return [Block(str(path), "bugs", title, "", lines).read(path.stem) for title, lines in heads]
 
 
+def is_tested(edit: Edit) -> bool:
+    """Whether tests tell an edit, and not an input."""
+    return "`" in edit.breaks
+
+
+def names_of(edit: Edit) -> Set[str]:
+    """Returns the input, or the tests, that an edit breaks."""
+    return {*re.findall(r"`(.*?)`", edit.breaks)} or {edit.breaks}
+
+
+def batches(edits: List[Edit]) -> List[List[Edit]]:
+    """Returns the edits in batches, in each of which they break different inputs or tests, and change different lines."""
+
+    def parts(edit: Edit) -> Set[str]:
+        return names_of(edit) | {f"{it.file}: {it.old}" for it in edit.pairs}
+
+    def fits(edit: Edit, batch: List[Edit]) -> bool:
+        return is_tested(edit) == is_tested(batch[0]) and not parts(edit) & {part for it in batch for part in parts(it)}
+
+    found: List[List[Edit]] = []
+    for edit in edits:
+        room = next((it for it in found if fits(edit, it)), None)
+        if room is None:
+            found.append([edit])
+        else:
+            room.append(edit)
+    return found
+
+
 def run_broken(step: Step, crate: str, edits: List[Edit]) -> str:
     """Builds a copy of a crate with the edits, and returns what its tests, or the program at their inputs, print."""
-    tree = step.room / crate
+    tree = step.room / f"{crate}-{edits[0].name}"
     shutil.copytree(TOP, tree, symlinks=True, ignore=shutil.ignore_patterns(".git", "out"))
     for file, text in Texts(TOP / "crates" / crate).after(edits)[0].items():
         (tree / "crates" / crate / file).write_text(text, encoding="utf-8")
     words = ["--test"]
-    if crate == "scroll_run":
-        cases = step.room / "cases"
+    if not is_tested(edits[0]):
+        cases = step.room / f"cases-{edits[0].name}"
         cases.mkdir()
         given = {f"{kind}, {n}": it for kind, n, it, _ in inputs()}
         for edit in edits:
@@ -117,17 +154,23 @@ def run_broken(step: Step, crate: str, edits: List[Edit]) -> str:
 
 
 def is_caught(edit: Edit, said: str) -> bool:
-    if edit.crate == "scroll_run":
+    if not is_tested(edit):
         return re.search(rf"^== {edit.name}\b.*\nout of memory$", said, re.M) is not None
-    return f"test {edit.breaks.strip('`')} ... FAILED" in said
+    return names_of(edit) <= failed_tests(said)
+
+
+def failed_tests(said: str) -> Set[str]:
+    return {*re.findall(r"^test (\S+) \.\.\. FAILED", said, re.M)}
 
 
 def try_edits(step: Step) -> None:
     for path in sorted((TOP / "gate" / "limits").glob("*.edits")):
-        edits = read_edits(path)
-        said = run_broken(step, path.stem, edits)
-        for edit in edits:
-            step.count(edit.name, None if is_caught(edit, said) else f"    {edit.breaks} doesn't tell:\n{said[-600:]}")
+        for edits in batches(read_edits(path)):
+            said = run_broken(step, path.stem, edits)
+            for edit in edits:
+                step.count(edit.name, None if is_caught(edit, said) else f"    {edit.breaks} doesn't tell:\n{said[-600:]}")
+            for name in failed_tests(said) - {name for edit in edits for name in names_of(edit)}:
+                step.count(name, f"    it fails too, and none of these names it: {', '.join(it.name for it in edits)}")
 
 
 def work(step: Step, given: argparse.Namespace) -> None:

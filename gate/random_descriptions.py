@@ -1,51 +1,58 @@
 #!/usr/bin/env python3
-"""Draws descriptions of structs, has them printed by tools/derive and proved, and compares what the proved code reads and writes.
+"""Draws descriptions of structs, has them printed by tools/derive and proved, and compares what that code reads and writes.
 
     python3 gate/random_descriptions.py [SEED [COUNT]]
 
-COUNT structs (3) are drawn from SEED (1) by gate/descriptions_drawn.py, of 2 to 14 fields of all kinds that tools/derive takes,
-nested; the first one is nested to depth 10. `python3 tools/derive` prints what they need, in crates of some structs over the
-libraries as `rt lib` proves them in this repository. Each struct has three functions that use it, with no proof by hand: a reader
-that says where fields stand and which error a short source is, a writer that reads a field back, and without floats a copier. `rt
-run` proves and builds each crate, a program that reads and writes values.
+COUNT structs (8) are drawn from SEED (2) by gate/descriptions_drawn.py, of 2 to 14 fields of all kinds that tools/derive
+takes, nested to depth 3; the last of twenty-four is nested to depth 10. `python3 tools/derive` prints what they need, in crates of
+some structs over the libraries as `rt lib` proves them in this repository. Each struct has functions that use it, with no proof
+by hand: a reader that says where fields stand and which error a short source is, a writer that reads a field back, and without
+floats a copier. `rt check` proves each crate.
 
-Then values are drawn, and their bytes made, by gate/description_structs.py, which knows the descriptions alone. The program reads
-them, and them cut, with each number one greater and at its greatest, counts, constants and tags among these, and with bytes that
-are damaged at random; it also changes fields before it writes a value, so that counts disagree, and writes into targets that are
-too small. It prints the error, or the size and a digest of all fields that it read, and what it wrote; each has to be what the
-description says. Where a float is no number, nothing is compared.
+Then values are drawn, and their bytes made, by gate/description_structs.py, which knows the descriptions alone. A program of
+the same text, which promises nothing more and so is built by `rt try`, reads them, and them cut, with each number one greater
+and at its greatest, counts, constants and tags among these, and with bytes that are damaged at random; it also changes fields
+before it writes a value, so that counts disagree, and writes into targets that are too small. It prints the error, or the size
+and a digest of all fields that it read, and what it wrote; each has to be what the description says. Where a float is no
+number, nothing is compared.
 
 Each struct is a check that it is proved, and a check that it agrees. One that isn't proved is named with its functions that
 aren't, and with the prover's reasons; with `--keep FOLDER` the crates stay there. That each kind is in a struct is a check where
-COUNT is at least 16; so is that a false claim of a reader is refused, and that a lie in what is expected is found.
+COUNT is at least 24; so is that a false claim of a reader is refused, and that a lie in what is expected is found.
 """
 
 import argparse
 import contextlib
 import random
 import re
+import subprocess
 import sys
-import tempfile
 import time
+from concurrent.futures import ThreadPoolExecutor
 from pathlib import Path
 from typing import Dict, Iterator, List, NamedTuple, Optional
 
 import descriptions_drawn as drawn
 from description_counts import UNSIGNED, Hopeless, Plain, Refused, Sum
 from description_kinds import Leb, Number, Slice
+from description_program import changes_of, print_main, print_tried
 from description_structs import Field, Struct
-from description_users import changes_of, print_main, print_module, read
+from description_users import print_module, read
 from edit_judge import WAITS
-from step import FOLDERS, TOP, Step, Stop, below, copy_kept, count_workers, read_crates, run_step
+from step import FOLDERS, TOP, Ran, Step, Stop, below, copy_kept, count_workers, read_crates, run_step
 
 LIBRARY = "scroll_layouts"
-SEED, COUNT = 1, 3
-# So many structs have all kinds, for which they are drawn again.
-ALL, AGAIN = 16, 50
+SEED, COUNT = 2, 8
+# How often structs are drawn again, so that they have all kinds.
+AGAIN = 50
 # How many structs are in a crate at most: the more, the more memory a check takes.
-MOST = 3
+MOST = 2
+# The crate of the program.
+TRIED = "tried"
 # How many values of a struct are tried, and how many cuts and damages of each.
 VALUES, CUTS, DAMAGES = 12, 40, 30
+# How many bytes the program may print of a struct. (`rt try` takes 1 MiB.)
+MOST_TOLD = 900_000
 VERDICT = re.compile(r"(?m)^(?:so far: )?((?:fn|impl|struct|enum) (\w+)::(\w+)::\S+): (.*)")
 PRIME = 1_099_511_628_211
 # A struct about which a false claim is made.
@@ -71,7 +78,7 @@ def draw_all(seed: int, count: int) -> List[Module]:
     """Draws structs of all kinds, if they are that many."""
     for again in range(AGAIN):
         modules = draw_modules(f"{seed} {again}", count)
-        if count < ALL or not missing_of(modules):
+        if count < drawn.ALL or not missing_of(modules):
             break
     return modules
 
@@ -88,7 +95,7 @@ def draw_modules(seed: str, count: int) -> List[Module]:
             more = [*drawn.KINDS]
             random.Random(f"{seed} {at}").shuffle(more)
             bag += more
-        crate = f"formats{at // MOST}"
+        crate = f"formats{at % -(-count // MOST)}"
         made = drawn.draw(f"F{at}", f"{seed} {at}", at, bag)
         while not has_values(made.struct):
             again += 1
@@ -157,7 +164,16 @@ def changed(of: Field, value: object) -> object:
 
 
 def cases_of(struct: Struct, seed: str) -> Iterator[Case]:
-    """Returns what the program is asked."""
+    """Returns what the program is asked, as long as its answers have room."""
+    told = 0
+    for it in every_case(struct, seed):
+        told += len(it.wanted) + 1
+        if told > MOST_TOLD:
+            return
+        yield it
+
+
+def every_case(struct: Struct, seed: str) -> Iterator[Case]:
     rng, name = random.Random(seed), struct.name.lower()
     found = 0
     for at in range(20 * VALUES):
@@ -189,7 +205,7 @@ def wrong_numbers(struct: Struct, value: Dict[str, object], order: str) -> Itera
     """Returns the bytes with each number one greater, and at its greatest: counts, constants, tags and conditions among them."""
     for it in struct.fields:
         kind, number = it.kind, value[it.name]
-        if it.condition or not (isinstance(kind, (Leb, Number)) and kind.type in (*UNSIGNED, "Uleb")):
+        if it.condition or not (isinstance(kind, (Leb, Number)) and kind.type in (*UNSIGNED, "Uleb", "Vlq")):
             continue
         if isinstance(kind, Leb):
             assert isinstance(number, tuple)
@@ -210,15 +226,10 @@ def damaged(made: bytes, rng: random.Random) -> bytes:
     return bytes(found)
 
 
-def differences(step: Step, program: Path, cases: List[Case]) -> List[str]:
-    """Returns where the program prints what isn't wanted."""
-    with tempfile.TemporaryFile() as given:
-        given.write("".join(f"{it.line}\n" for it in cases).encode())
-        given.seek(0)
-        status, said = step.call(program, stdin=given, timeout=60)
-    lines = said.decode(errors="replace").splitlines()
-    if status or len(lines) != len(cases):
-        return [f"    status {status}, and {len(lines)} lines for {len(cases)}: {''.join(lines[-1:])[:200]}\n"]
+def differences(cases: List[Case], lines: List[str]) -> List[str]:
+    """Returns where the program printed what isn't wanted."""
+    if len(lines) != len(cases):
+        return [f"    {len(lines)} lines for {len(cases)}: {''.join(lines[-1:])[:200]}\n"]
     others = [(it, line) for it, line in zip(cases, lines) if it.wanted not in (line, NAN)]
     return [f"    {it.line[:300]}\n    wanted {it.wanted[:300]}\n    got    {line[:300]}\n" for it, line in others]
 
@@ -226,36 +237,46 @@ def differences(step: Step, program: Path, cases: List[Case]) -> List[str]:
 # What is proved
 
 
-def claim_falsely() -> Module:
+def claim_falsely(crate: str) -> Module:
     """Returns a module of a small struct, with an error that its reader doesn't return."""
     struct = Struct(LIE, [Field("f0", Number(Plain("u16"))), Field("f1", Slice(Sum([("f0", 1)])))])
     made = drawn.Drawn(struct, [struct], [])
-    return Module("lies", made, print_module(made, "lies").replace("TooBig 2 ", "TooBig 3 "), [f"read_{LIE.lower()}"])
+    return Module(crate, made, print_module(made, crate).replace("TooBig 2 ", "TooBig 3 "), [f"read_{LIE.lower()}"])
 
 
-def write_crates(step: Step, modules: List[Module], top: Path) -> List[str]:
-    """Makes a workspace of the libraries with their builds and of the crates, and returns the names of these."""
-    crates = read_crates()
-    ran = step.run(crates[LIBRARY].folder, "rt", "lib", "--jobs", count_workers())
-    if ran.status:
-        raise Stop(f"{LIBRARY} is not proved\n{ran.end()}")
-    libraries, names = [*below(LIBRARY, crates), LIBRARY], list(dict.fromkeys(it.crate for it in modules))
+def write_crate(step: Step, top: Path, name: str, texts: Dict[str, str]) -> Path:
+    """Writes a crate in a workspace of its own, over the libraries with their builds, and returns its folder."""
+    crates, room = read_crates(), top / name
+    libraries = [*below(LIBRARY, crates), LIBRARY]
     for it in libraries:
-        copy_kept(crates[it].folder, top / "crates" / it, [*FOLDERS, "incremental"])
-    lines = [*(crates[it].line for it in libraries), *(f"{it}: {' '.join(libraries)} hex" for it in names)]
-    (top / "crates.txt").write_text("".join(f"{it}\n" for it in lines), encoding="utf-8")
-    (top / "HANDLES").write_bytes((TOP / "HANDLES").read_bytes())
-    for name in names:
-        folder, own = top / "crates" / name / "src", [it for it in modules if it.crate == name]
-        folder.mkdir(parents=True)
-        for it in own:
-            (folder / f"{it.name}.rt").write_text(it.text, encoding="utf-8")
-        (folder / "told.rt").write_text(read("told"), encoding="utf-8")
-        (folder / "main.rt").write_text(print_main([it.name for it in own]), encoding="utf-8")
-        ran = step.run(top, sys.executable, TOP / "tools" / "derive", folder.parent)
-        if ran.status:
-            raise Stop(f"tools/derive refuses {name}\n{ran.end()}")
-    return names
+        copy_kept(crates[it].folder, room / "crates" / it, [*FOLDERS, "incremental"])
+    lines = [*(crates[it].line for it in libraries), f"{name}: {' '.join(libraries)} hex"]
+    (room / "crates.txt").write_text("".join(f"{it}\n" for it in lines), encoding="utf-8")
+    (room / "HANDLES").write_bytes((TOP / "HANDLES").read_bytes())
+    folder = room / "crates" / name
+    (folder / "src").mkdir(parents=True)
+    for it, text in texts.items():
+        path = folder / "src" / f"{it}.rt"
+        path.parent.mkdir(parents=True, exist_ok=True)
+        path.write_text(text, encoding="utf-8")
+    ran = step.run(top, sys.executable, TOP / "tools" / "derive", folder)
+    if ran.status:
+        raise Stop(f"tools/derive refuses {name}\n{ran.end()}")
+    return folder
+
+
+def write_proved(step: Step, top: Path, name: str, modules: List[Module]) -> Path:
+    """Writes a crate of modules that are to be proved."""
+    texts = {it.name: it.text for it in modules if it.crate == name}
+    head = "//! Structs that were drawn, and what uses them.\n#![tactic(auto)]\n\n"
+    return write_crate(step, top, name, {**texts, "lib": head + "".join(f"pub mod {it};\n" for it in texts)})
+
+
+def write_program(step: Step, top: Path, modules: List[Module]) -> Path:
+    """Writes the program over the same modules."""
+    texts = {it.name: print_module(it.made, TRIED) for it in modules}
+    tried = {f"try_{it.name}": print_tried(it.made) for it in modules}
+    return write_crate(step, top, TRIED, {**texts, **tried, "told": read("told"), "main": print_main([*texts])})
 
 
 def fault_of(module: Module, said: str) -> Optional[str]:
@@ -274,42 +295,70 @@ def fault_of(module: Module, said: str) -> Optional[str]:
     return "".join(f"    {it}"[:400] + "\n" for it in lines)
 
 
-def compare(step: Step, given: argparse.Namespace, top: Path, modules: List[Module]) -> int:
-    """Compares what a crate's program reads and writes, and returns how many lines it was asked."""
-    asked = 0
+def judge(step: Step, modules: List[Module], lie: Module, said: str) -> None:
+    """Counts what is proved of a crate."""
     for it in modules:
-        program = top / "crates" / it.crate / "out" / it.crate
-        cases = list(cases_of(it.made.struct, f"{given.seed} {it.name}"))
-        found = differences(step, program, cases)
-        step.count(f"{it.crate}::{it.name} agrees", "".join([*found[:3], f"    {len(found)} differ\n"]) if found else None)
-        lies = [case._replace(wanted=case.wanted.replace("1", "2", 1)) for case in cases if "1" in case.wanted]
-        step.count(f"a lie about {it.name} is found", None if len(differences(step, program, lies)) == len(lies) else "")
-        asked += len(cases)
-    return asked
+        step.count(f"{it.crate}::{it.name}: {', '.join(dict.fromkeys(it.made.kinds))}", fault_of(it, said))
+    if lie.crate == modules[0].crate:
+        refused = fault_of(lie, said)
+        is_refused = refused and f"fn {lie.crate}::{lie.name}::{lie.users[0]}: no proof" in refused and "-short`" in refused
+        step.count("a false claim is proved", None if is_refused else refused or "")
+
+
+def write_cases(top: Path, cases: Dict[str, List[Case]]) -> Path:
+    """Writes the program's input for each struct, and returns the folder."""
+    given = top / "cases"
+    given.mkdir()
+    for name, asked in cases.items():
+        (given / name).write_text("".join(f"{it.line}\n" for it in asked), encoding="utf-8")
+    return given
+
+
+def compare(step: Step, cases: Dict[str, List[Case]], ran: Ran) -> None:
+    """Compares what the program read and wrote."""
+    if ran.status:
+        raise Stop(f"the program ends with status {ran.status}\n{ran.end()}")
+    # (what it says of each case is on standard error, which comes last)
+    parts = re.split(r"(?m)^== (\w+)\n", re.split(r"(?m)^case=", ran.said)[0])
+    said = {name: text.splitlines() for name, text in zip(parts[1::2], parts[2::2])}
+    for name, asked in cases.items():
+        lines = said.get(name, [])
+        found = differences(asked, lines)
+        step.count(f"{name} agrees", "".join([*found[:3], f"    {len(found)} differ\n"]) if found else None)
+        lies = [it._replace(wanted=it.wanted.replace("1", "2", 1)) for it in asked if "1" in it.wanted]
+        told = [line for it, line in zip(asked, lines) if "1" in it.wanted]
+        step.count(f"a lie about {name} is found", None if len(differences(lies, told)) == len(lies) else "")
 
 
 def work(step: Step, given: argparse.Namespace) -> None:
+    ran = step.run(TOP / "crates" / LIBRARY, "rt", "lib", "--jobs", count_workers())
+    if ran.status:
+        raise Stop(f"{LIBRARY} is not proved\n{ran.end()}")
     modules = draw_all(given.seed, given.count)
-    lie = claim_falsely()
+    lie = claim_falsely(modules[-1].crate)
     top = Path(given.keep) if given.keep else step.room
-    names, asked = write_crates(step, [*modules, lie], top), 0
-    for name in names:
+    names = list(dict.fromkeys(it.crate for it in modules))
+    folders = {it: write_proved(step, top, it, [*modules, lie]) for it in names}
+    program = write_program(step, top, modules)
+    cases = {it.name: [*cases_of(it.made.struct, f"{given.seed} {it.name}")] for it in modules}
+    inputs = write_cases(top, cases)
+
+    def run(name: str, folder: Path, *words: object) -> Ran:
         begun = time.time()
-        ran = step.run(top / "crates" / name, "rt", "run", "--jobs", count_workers())
+        ran = step.run(folder, "rt", *words, stderr=subprocess.PIPE)
         step.tell(f"{name}, {time.time() - begun:.0f} s")
-        if name == lie.crate:
-            refused = fault_of(lie, ran.said)
-            is_refused = refused and f"fn {name}::{lie.name}::{lie.users[0]}: no proof" in refused and "-short`" in refused
-            step.count("a false claim is proved", None if is_refused else refused or "")
-            continue
-        own = [it for it in modules if it.crate == name]
-        for it in own:
-            step.count(f"{name}::{it.name}: {', '.join(dict.fromkeys(it.made.kinds))}", fault_of(it, ran.said))
-        asked += compare(step, given, top, own) if not ran.status else 0
-    if given.count >= ALL:
+        return ran
+
+    with ThreadPoolExecutor(count_workers()) as pool:
+        proofs = {name: pool.submit(run, name, folder, "check", "--jobs", 1) for name, folder in folders.items()}
+        tried = pool.submit(run, TRIED, program, "try", "--steps", 1, "--cases", inputs)
+        for name, proof in proofs.items():
+            judge(step, [it for it in modules if it.crate == name], lie, proof.result().said)
+        compare(step, cases, tried.result())
+    if given.count >= drawn.ALL:
         step.count("kinds that no struct has", f"    {', '.join(missing_of(modules))}\n" if missing_of(modules) else None)
     kinds = ", ".join(f"{sum(kind in it.made.kinds for it in modules)} with {kind}" for kind in (*drawn.KINDS, *drawn.OTHERS))
-    step.tell(f"seed {given.seed}, {len(modules)} structs, {asked} lines compared: {kinds}")
+    step.tell(f"seed {given.seed}, {len(modules)} structs, {sum(map(len, cases.values()))} lines compared: {kinds}")
 
 
 def main() -> int:

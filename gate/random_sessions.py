@@ -4,7 +4,8 @@
     python3 gate/random_sessions.py [--program PROGRAM] [--seed SEED] [--count COUNT] [--lie]
 
 COUNT sessions (20000) are drawn from SEED, which is printed, and without the flag is another one each time. Their sizes grow, up to
-inputs of 65,536 bytes, and they are of the kinds of gate/drawn.py. PROGRAM is as in gate/sessions.py.
+inputs of 65,536 bytes, and they are of the kinds of gate/drawn.py. PROGRAM is as in gate/sessions.py; compare/run.sh gives the Rust
+crate behind compare/src/spoken.rs.
 
 The first session of each kind in which an answer differs is made smaller while one still differs. It is printed as it can be
 stored, with the model's answers, and then what the program answers. With `--lie` the model is wrong at one place, and the run has

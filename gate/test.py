@@ -24,6 +24,8 @@ PROGRAM = "scroll_run"
 # So many builds of the program run the sessions, since each takes a quarter of a second for one.
 SHARES = 2
 RESULT = re.compile(r"(?m)^test result: \w+\. (\d+) passed; (\d+) failed; 0 ignored")
+# What stands in a crate that has files by tools/derive: the line that asks for one, or the first one of such a file.
+DESCRIBED = re.compile(r"(?m)^// (?:#\[derive\(P|Printed by tools/derive )")
 CASE = re.compile(r"(?m)^case=(\S+) run=ended status=(\d+) runners=\d output=expected proved=no$")
 
 
@@ -71,7 +73,11 @@ def run_sessions(step: Step, crate: Crate, share: int) -> Counted:
 
 def check_derived(step: Step, crates: Dict[str, Crate]) -> Counted:
     """The files that tools/derive writes into the crates are those that stand there, and its own tests pass."""
-    described = {name: crate.folder for name, crate in crates.items() if any(crate.folder.glob("src/**/derived.rt"))}
+    described = {
+        name: crate.folder
+        for name, crate in crates.items()
+        if any(DESCRIBED.search(it.read_text(encoding="utf-8")) for it in crate.folder.glob("src/**/*.rt"))
+    }
     commands = {f"{name}: a derived file": ["tools/derive", "--check", folder] for name, folder in described.items()}
     commands["tools/derive"] = ["-m", "unittest", "discover", "tools/derive/tests"]
     told = []
