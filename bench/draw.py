@@ -1,4 +1,4 @@
-"""Makes the table and the summary from the output of the programs of bench/run.sh.
+"""Makes the table and the summary from the output of the programs of bench/beside_rust.sh.
 
     python3 draw.py RAW [TOP]
     python3 draw.py
@@ -47,7 +47,7 @@ def seen(number):
 
 def table(rows):
     """Returns the table of all rows in Markdown, a part for each set."""
-    lines = head(rows)
+    lines = head(rows, machine())
     for name, title in TITLES.items():
         members = [row for row in rows if row.set == name]
         if not members:
@@ -69,31 +69,31 @@ def put_between_marks(path, lines):
         file.write(before + BEGIN + "\n" + "\n".join(lines) + "\n" + END + after)
 
 
-def head(rows):
-    """Returns the lines above the summary."""
-    lines = [machine()]
+def head(rows, taken):
+    """Returns the lines above the summary: on what the times were taken, and how near the run before was."""
+    lines = [taken]
     both, near = results.steady(rows)
     if both:
         lines.append(f"In the run before it, {near} of {both} ratios differ from these by less than a tenth.")
     return lines
 
 
-def head_of(path):
-    """Returns the lines that are above the summary on the page."""
+def taken_of(path):
+    """Returns the line of the page on what the times of its summary were taken."""
     with open(path) as file:
-        lines = file.read().split(BEGIN)[1].split(END)[0].strip().split("\n")
-    return [it for it in lines if it.startswith(("Taken on ", "In the run before "))]
+        return next(it for it in file.read().split(BEGIN)[1].split("\n") if it.startswith("Taken on "))
 
 
-def draw(rows, top, lines):
-    """Writes the page's summary below these lines."""
-    put_between_marks(os.path.join(top, "docs", "SPEED.md"), [*lines, "", *results.summary(rows)])
+def draw(rows, page, taken):
+    """Writes the page's summary."""
+    put_between_marks(page, [*head(rows, taken), "", *results.summary(rows)])
 
 
 def main():
     if len(sys.argv) == 1:
         top = os.path.dirname(os.path.dirname(os.path.abspath(__file__)))
-        draw(results.read_csv(os.path.join(top, "bench", "results", "speed.csv")), top, head_of(os.path.join(top, "docs", "SPEED.md")))
+        page = os.path.join(top, "docs", "SPEED.md")
+        draw(results.read_csv(os.path.join(top, "bench", "results", "speed.csv")), page, taken_of(page))
         return
     raw, top = sys.argv[1], sys.argv[2] if len(sys.argv) > 2 else None
     folder = os.path.join(top, "bench", "results") if top else None
@@ -107,7 +107,7 @@ def main():
     print("\n".join(lines))
     if folder:
         results.write_csv(os.path.join(folder, "speed.csv"), rows)
-        draw(rows, top, head(rows))
+        draw(rows, os.path.join(top, "docs", "SPEED.md"), machine())
     unexplained = [f"{row.set}, {row.name}: {row.ratio:.2f}" for row in rows if row.reason == "?"]
     if unexplained:
         print("bench: over 1.05, and bench/reasons.txt has no line for it:\n    " + "\n    ".join(unexplained), file=sys.stderr)

@@ -1,4 +1,4 @@
-"""Makes the table of jobs from the output of the programs of bench/run.sh jobs.
+"""Makes the table of jobs from the output of the programs of bench/beside_rust.sh jobs.
 
     python3 jobs.py RAW SAID VERSIONS PROGRAM [--keep]
     python3 jobs.py

@@ -1,4 +1,4 @@
-"""The output of the programs of bench/run.sh as rows: a row has the times of both sides in four layouts."""
+"""The output of the programs of bench/beside_rust.sh as rows: a row has the times of both sides in four layouts."""
 
 import csv
 import fnmatch
@@ -12,28 +12,27 @@ TITLES = {
     "cread": "Numbers read where there is room (cread_with)",
     "floats": "Floats",
     "writes": "Numbers written at a cursor (gwrite_with)",
-    "texts": "Texts up to a zero (&str)",
+    "texts": "Texts (&str)",
     "c_strings": "C strings (CStr)",
     "slices": "Byte slices and arrays",
     "leb_reads": "LEB128 read (gread)",
     "leb_writes": "LEB128 written (gwrite)",
     "own": "Functions of one's own that aren't inlined",
-    "errors": "Forms of error handling, and refused calls",
+    "errors": "Error handling, and refused reads",
     "offsets": "Numbers at the offsets of a table (pread_with, pwrite_with)",
     "streams": "Numbers from readers and into writers (ioread_with, iowrite_with)",
     "owned": "C strings that own their memory (CString)",
-    "calls": "Other calls",
+    "calls": "Numbers read into a vector, and appended to one (read_many, append)",
     "files": "An object file with DWARF",
-    "growth": "From 1 KiB to 64 MiB, per byte",
 }
 
 
 # The rows of the summary in docs/SPEED.md: a use, and the sets of its rows with the names of these. The first use that fits a row
-# has it; what comes after them is left to speed.csv.
+# has it.
 USES = (
     ("a header of five fields", "numbers:header of five *", "writes:header of five *"),
     ("a table of numbers, little-endian", "numbers:* LE", "cread:* LE", "writes:* LE"),
-    ("a table of numbers, big-endian", "numbers:* BE", "numbers:* BE *", "cread:* BE", "writes:* BE", "writes:* BE by *"),
+    ("a table of numbers, big-endian", "numbers:* BE", "cread:* BE", "writes:* BE"),
     ("floats that are compared or added up", "floats:*"),
     ("strings with other letters than ASCII", "texts:*ASCII*", "texts:Chinese *"),
     ("strings in ASCII", "texts:*"),
@@ -43,9 +42,10 @@ USES = (
     ("LEB128 of one length", "leb_*:*"),
     ("tables of abbreviations and of sections, in a loop", "files:*"),
     ("functions of one's own that aren't inlined", "own:*"),
-    ("error handling, and refused calls", "errors:*"),
-    ("offsets in a table", "numbers:* at offsets *", "writes:* at offsets", "offsets:*"),
+    ("error handling, and refused reads", "errors:*"),
+    ("offsets in a table", "offsets:*"),
     ("readers and writers", "streams:*"),
+    ("numbers read into a vector, and appended to one", "calls:*"),
 )
 
 

@@ -3,6 +3,7 @@
 
 #[allow(dead_code)]
 mod dwarf;
+mod host;
 #[allow(dead_code)]
 mod inputs;
 mod peers;
@@ -15,20 +16,7 @@ use std::alloc::{GlobalAlloc, Layout, System};
 use std::sync::atomic::{AtomicU64, Ordering};
 use timing::{Bench, Form, Job, ours, reading, writing};
 
-// All code comes after these bytes, so they shift it.
-std::arch::global_asm!(
-    ".pushsection .text.code_shift,\"ax\",@progbits",
-    ".globl code_shift",
-    "code_shift:",
-    concat!(".skip ", env!("SHIFT"), ", 0x90"),
-    ".popsection"
-);
-
 unsafe extern "C" {
-    fn code_shift();
-    fn malloc(size: usize) -> *mut u8;
-    fn realloc(place: *mut u8, size: usize) -> *mut u8;
-    fn free(place: *mut u8);
     fn rt_sections(file: *const u8, len: usize) -> u64;
     fn rt_symbols(file: *const u8, len: usize) -> u64;
     fn rt_abbreviations(bytes: *const u8, len: usize) -> u64;
@@ -68,34 +56,6 @@ unsafe impl GlobalAlloc for Counted {
 
 #[global_allocator]
 static COUNTED: Counted = Counted;
-
-// Whether there is memory, and where.
-#[repr(C)]
-struct Tried {
-    is_there: bool,
-    place: *mut u8,
-}
-
-#[unsafe(no_mangle)]
-extern "C" fn rattle_alloc(size: usize, _align: usize) -> Tried {
-    count(size);
-    tried(unsafe { malloc(size) })
-}
-
-#[unsafe(no_mangle)]
-extern "C" fn rattle_realloc(place: *mut u8, _kept: usize, size: usize, _align: usize) -> Tried {
-    count(size);
-    tried(unsafe { realloc(place, size) })
-}
-
-#[unsafe(no_mangle)]
-extern "C" fn rattle_dealloc(place: *mut u8) {
-    unsafe { free(place) }
-}
-
-fn tried(place: *mut u8) -> Tried {
-    Tried { is_there: !place.is_null(), place }
-}
 
 // An index of git of so many paths.
 fn index(count: u32) -> Vec<u8> {
@@ -154,7 +114,7 @@ fn run(bench: &mut Bench, row: &str, count: u64, job: &mut Job, forms: Vec<Form>
     };
     for form in &forms {
         let (times, bytes) = asked(form, job);
-        let code = (form.run as usize).wrapping_sub(code_shift as *const () as usize) as isize;
+        let code = (form.run as usize).wrapping_sub(host::keep_shift()) as isize;
         eprintln!("COSTS,{row},{},{times},{bytes},{code}", form.name);
     }
     bench.row("jobs", row, count, job, &forms);
@@ -199,8 +159,6 @@ macro_rules! records {
 }
 
 fn main() {
-    // (a linker leaves out what nothing names)
-    std::hint::black_box(code_shift as *const ());
     let bench = &mut Bench::from_env();
     let object = file_of("SECTIONS");
     let sections = u64::from(u16::from_le_bytes([object[0x3c], object[0x3d]]));

@@ -1,15 +1,15 @@
-"""Writes records of 5, 12 and 40 numbers for bench/run.sh jobs: for the library with what tools/derive prints, and in Rust.
+"""Writes records of 5, 12 and 40 numbers for bench/beside_rust.sh jobs: for the library with what tools/derive prints, and in Rust.
 
     python3 records.py OURS RUST
 
-OURS is the folder of the crate's sources, and RUST a file.
+OURS is the folder of a crate's sources, and RUST a file.
 """
 
 import subprocess
 import sys
 from pathlib import Path
 
-DERIVE = Path(__file__).resolve().parents[2] / "tools" / "derive" / "derive.sh"
+DERIVE = Path(__file__).resolve().parents[2] / "tools" / "derive"
 
 # The sizes of the fields in bytes.
 RECORDS = {
@@ -37,17 +37,16 @@ def made(sizes):
 def ours(name, sizes, folder):
     title = name.capitalize()
     fields = "".join(f"    pub f{i}: {kind(size)},\n" for i, size in enumerate(sizes))
-    struct = f"#[derive(Clone, Copy)]\npub struct {title} {{\n{fields}}}\n"
-    path = Path(folder) / f"{name}.rt"
-    path.write_text(struct)
-    printed = subprocess.run(["sh", str(DERIVE), str(path), title], check=True, capture_output=True, text=True).stdout
-    uses, blocks = printed.split("\nimpl", 1)
-    path.write_text(
-        f"""{uses}
+    (Path(folder) / f"{name}.rt").write_text(
+        f"""mod derived;
+
 use scroll::{{LE, Pread, slice}};
 
-{struct}
-impl{blocks}
+// #[derive(Pread, Pwrite)]
+#[derive(Clone, Copy)]
+pub struct {title} {{
+{fields}}}
+
 #[unsafe(no_mangle)]
 pub extern "C" fn rt_read_{name}(source: &[u8]) -> u64 {{
     let mut total: u64 = 0;
@@ -200,6 +199,7 @@ def main():
     folder, path = sys.argv[1:]
     for name, sizes in RECORDS.items():
         ours(name, sizes, folder)
+    subprocess.run([sys.executable, str(DERIVE), str(Path(folder).parent)], check=True)
     text = "//! Records of numbers, as bench/jobs/records.py wrote them.\n" + "".join(rust(*it) for it in RECORDS.items())
     Path(path).write_text(text)
 

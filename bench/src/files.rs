@@ -1,7 +1,7 @@
-//! A file as a C compiler wrote it: its sections, its abbreviations, and its numbers in LEB128, read and written back.
+//! A file as a C compiler wrote it: its sections, its abbreviations, and their numbers in LEB128, read and written back.
 
 use crate::dwarf;
-use crate::gimli_form::{put_sleb, put_sleb_tested, put_uleb, put_uleb_tested};
+use crate::gimli_form::{put_uleb, put_uleb_tested};
 use crate::inputs::SIZE;
 use crate::timing::{Bench, Job, ours, reading, rust};
 use scroll::ctx::StrCtx;
@@ -9,9 +9,7 @@ use scroll::{Endian, LE, Pread, Sleb128, Uleb128};
 
 unsafe extern "C" {
     fn rt_file_ulebs(source: *const u8, len: usize) -> u64;
-    fn rt_file_slebs(source: *const u8, len: usize) -> u64;
     fn rt_copy_ulebs(source: *const u8, len: usize, target: *mut u8, room: usize) -> u64;
-    fn rt_copy_slebs(source: *const u8, len: usize, target: *mut u8, room: usize) -> u64;
     fn rt_abbreviations(source: *const u8, len: usize) -> u64;
     fn rt_sections(file: *const u8, len: usize) -> u64;
 }
@@ -22,23 +20,15 @@ macro_rules! sources {
     };
 }
 
-macro_rules! copies {
-    ($name:ident) => {
-        ours("gread and gwrite", |job| unsafe {
-            $name(job.input.as_ptr(), job.input.len(), job.output.as_mut_ptr(), job.output.len())
-        })
-    };
-}
-
 // Reads with both calls of the crate.
 macro_rules! sums {
-    ($number:ty, $value:ty) => {{
+    () => {{
         #[inline(never)]
         fn by_gread(source: &[u8]) -> u64 {
             let mut offset = 0;
             let mut total: u64 = 0;
-            while let Ok(number) = source.gread::<$number>(&mut offset) {
-                total = total.wrapping_add(<$value>::from(number) as u64);
+            while let Ok(number) = source.gread::<Uleb128>(&mut offset) {
+                total = total.wrapping_add(u64::from(number));
             }
             total
         }
@@ -46,8 +36,8 @@ macro_rules! sums {
         fn by_read(source: &[u8]) -> u64 {
             let mut offset = 0;
             let mut total: u64 = 0;
-            while let Ok(number) = <$number>::read(source, &mut offset) {
-                total = total.wrapping_add(number as u64);
+            while let Ok(number) = Uleb128::read(source, &mut offset) {
+                total = total.wrapping_add(number);
             }
             total
         }
@@ -58,13 +48,13 @@ macro_rules! sums {
 // A read of the crate, and a write by a loop, since the crate has none. The encodings are the shortest, as compilers
 // write them.
 macro_rules! copying {
-    ($form:literal, $number:ty, $value:ty, $put:ident) => {{
+    ($form:literal, $put:ident) => {{
         #[inline(never)]
         fn copy(source: &[u8], target: &mut [u8]) -> u64 {
             let mut from = 0;
             let mut to = 0;
-            while let Ok(number) = source.gread::<$number>(&mut from) {
-                match $put(&mut target[to..], <$value>::from(number)) {
+            while let Ok(number) = source.gread::<Uleb128>(&mut from) {
+                match $put(&mut target[to..], u64::from(number)) {
                     Ok(len) => to += len,
                     Err(_) => break,
                 }
@@ -151,49 +141,21 @@ fn repeated(texts: &[u8]) -> Vec<u8> {
     texts.iter().copied().cycle().take(texts.len() * SIZE.div_ceil(texts.len().max(1))).collect()
 }
 
-fn count(texts: &[u8]) -> u64 {
-    texts.iter().filter(|b| **b < 0x80).count() as u64
-}
-
 pub fn all(bench: &mut Bench) {
     let path = std::env::var("SAMPLE").expect("SAMPLE: an object file with DWARF");
     let file = std::fs::read(&path).expect("SAMPLE can be read");
-    let found = dwarf::numbers(&file);
-    let mut room = vec![0; 2 * SIZE];
-    let unsigned = [
-        (".debug_abbrev", found.abbreviations),
-        (".debug_loclists", found.locations),
-        (".debug_line unsigned", found.lines),
-    ];
-    for (name, texts) in unsigned {
-        eprintln!("files: {name}: {} numbers in {} bytes", count(&texts), texts.len());
-        let texts = repeated(&texts);
-        let steps = count(&texts);
-        let [a, b] = sums!(Uleb128, u64);
-        bench.row("files", &format!("{name} read"), steps, &mut reading(&texts), &[sources!(rt_file_ulebs), a, b]);
-        room.resize(texts.len() + 16, 0);
-        let mut job = Job { output: &mut room, ..reading(&texts) };
-        let forms = [
-            copies!(rt_copy_ulebs),
-            copying!("gimli's", Uleb128, u64, put_uleb),
-            copying!("tested first", Uleb128, u64, put_uleb_tested),
-        ];
-        bench.row("files", &format!("{name} copied"), steps, &mut job, &forms);
-    }
-    let texts = found.line_steps;
-    eprintln!("files: .debug_line signed: {} numbers in {} bytes", count(&texts), texts.len());
-    let texts = repeated(&texts);
-    let steps = count(&texts);
-    let [a, b] = sums!(Sleb128, i64);
-    bench.row("files", ".debug_line signed read", steps, &mut reading(&texts), &[sources!(rt_file_slebs), a, b]);
-    room.resize(texts.len() + 16, 0);
+    let numbers = dwarf::abbreviations(&file);
+    let texts = repeated(&numbers);
+    let steps = texts.iter().filter(|byte| **byte < 0x80).count() as u64;
+    let [a, b] = sums!();
+    bench.row("files", ".debug_abbrev read", steps, &mut reading(&texts), &[sources!(rt_file_ulebs), a, b]);
+    let mut room = vec![0; texts.len() + 16];
     let mut job = Job { output: &mut room, ..reading(&texts) };
-    let forms = [
-        copies!(rt_copy_slebs),
-        copying!("gimli's", Sleb128, i64, put_sleb),
-        copying!("tested first", Sleb128, i64, put_sleb_tested),
-    ];
-    bench.row("files", ".debug_line signed copied", steps, &mut job, &forms);
+    let mine = ours("gread and gwrite", |job| unsafe {
+        rt_copy_ulebs(job.input.as_ptr(), job.input.len(), job.output.as_mut_ptr(), job.output.len())
+    });
+    let forms = [mine, copying!("gimli's", put_uleb), copying!("tested first", put_uleb_tested)];
+    bench.row("files", ".debug_abbrev copied", steps, &mut job, &forms);
 
     let table = dwarf::section(&file, ".debug_abbrev").unwrap_or(&[]);
     let tables = repeated(table);

@@ -6,14 +6,9 @@ use scroll::{BE, LE, Pread, Pwrite};
 
 unsafe extern "C" {
     fn rt_rises_f32_le(source: *const u8, len: usize) -> u64;
-    fn rt_rises_f32_be(source: *const u8, len: usize) -> u64;
     fn rt_rises_f64_le(source: *const u8, len: usize) -> u64;
-    fn rt_rises_f64_be(source: *const u8, len: usize) -> u64;
-    fn rt_scan_f64(source: *const u8, len: usize) -> u64;
-    fn rt_put_f32_le(target: *mut u8, len: usize) -> u64;
     fn rt_put_f32_be(target: *mut u8, len: usize) -> u64;
     fn rt_put_f64_le(target: *mut u8, len: usize) -> u64;
-    fn rt_put_f64_be(target: *mut u8, len: usize) -> u64;
 }
 
 macro_rules! rises {
@@ -84,35 +79,15 @@ macro_rules! puts {
     }};
 }
 
-#[inline(never)]
-fn scan(source: &[u8]) -> u64 {
-    let mut place: u16 = 8;
-    let mut rises: u64 = 0;
-    let mut last = 0.0;
-    for _ in 0..source.len() / 8 {
-        match source.pread_with::<f64>(usize::from(place), LE) {
-            Ok(number) => {
-                rises += u64::from(number > last);
-                last = number;
-            }
-            Err(_) => rises += 7,
-        }
-        place = place.wrapping_mul(5).wrapping_add(88);
-    }
-    rises
-}
-
-// Returns floats between 0 and 1 in either order. None is a NaN, even at offsets in steps of eight.
-fn floats(width: usize, big: bool) -> Vec<u8> {
+// Returns floats between 0 and 1.
+fn floats(width: usize) -> Vec<u8> {
     let mut random = Random::new();
     let mut out = Vec::new();
     while out.len() < SIZE {
         let number = random.below(1 << 20) as f64 / (1 << 20) as f64;
-        match (width, big) {
-            (4, false) => out.extend((number as f32).to_le_bytes()),
-            (4, true) => out.extend((number as f32).to_be_bytes()),
-            (_, false) => out.extend(number.to_le_bytes()),
-            (_, true) => out.extend(number.to_be_bytes()),
+        match width {
+            4 => out.extend((number as f32).to_le_bytes()),
+            _ => out.extend(number.to_le_bytes()),
         }
     }
     out
@@ -120,22 +95,13 @@ fn floats(width: usize, big: bool) -> Vec<u8> {
 
 pub fn all(bench: &mut Bench) {
     let len = SIZE as u64;
-    let mut row = |row: &str, width: usize, big: bool, forms: &[Form]| {
-        bench.row("floats", row, len / width as u64, &mut reading(&floats(width, big)), forms);
+    let mut row = |row: &str, width: usize, forms: &[Form]| {
+        bench.row("floats", row, len / width as u64, &mut reading(&floats(width)), forms);
     };
-    row("read f32 LE", 4, false, &rises!(rt_rises_f32_le, f32, LE));
-    row("read f32 BE", 4, true, &rises!(rt_rises_f32_be, f32, BE));
-    row("read f64 LE", 8, false, &rises!(rt_rises_f64_le, f64, LE));
-    row("read f64 BE", 8, true, &rises!(rt_rises_f64_be, f64, BE));
-    let at_offsets = [
-        ours("for", |job| unsafe { rt_scan_f64(job.input.as_ptr(), job.input.len()) }),
-        rust("for", |job| scan(job.input)),
-    ];
-    row("read f64 at offsets", 8, false, &at_offsets);
+    row("read f32 LE", 4, &rises!(rt_rises_f32_le, f32, LE));
+    row("read f64 LE", 8, &rises!(rt_rises_f64_le, f64, LE));
     let mut target = bytes(SIZE);
     let job = &mut writing(&mut target);
-    bench.row("floats", "write f32 LE", len / 4, job, &puts!(rt_put_f32_le, 1.0f32, 0.5, LE));
     bench.row("floats", "write f32 BE", len / 4, job, &puts!(rt_put_f32_be, 1.0f32, 0.5, BE));
     bench.row("floats", "write f64 LE", len / 8, job, &puts!(rt_put_f64_le, 1.0f64, 0.5, LE));
-    bench.row("floats", "write f64 BE", len / 8, job, &puts!(rt_put_f64_be, 1.0f64, 0.5, BE));
 }

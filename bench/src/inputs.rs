@@ -88,42 +88,14 @@ pub fn push_sleb(out: &mut Vec<u8>, mut number: i64) {
 pub enum Lengths {
     /// All of this length.
     All(u32),
-    /// One to ten, equally often.
-    Mixed,
-    /// Nine out of ten have one byte, and the others three.
-    MostlyOne,
     /// Of a hundred 75 have one byte, 17 two, 5 three, and 3 five.
     Real,
 }
-
-pub const LENGTHS: [(&str, Lengths); 13] = [
-    ("1 byte", Lengths::All(1)),
-    ("2 bytes", Lengths::All(2)),
-    ("3 bytes", Lengths::All(3)),
-    ("4 bytes", Lengths::All(4)),
-    ("5 bytes", Lengths::All(5)),
-    ("6 bytes", Lengths::All(6)),
-    ("7 bytes", Lengths::All(7)),
-    ("8 bytes", Lengths::All(8)),
-    ("9 bytes", Lengths::All(9)),
-    ("10 bytes", Lengths::All(10)),
-    ("mixed 1 to 10 bytes", Lengths::Mixed),
-    ("9 of 10 of 1 byte", Lengths::MostlyOne),
-    ("real mix", Lengths::Real),
-];
 
 impl Lengths {
     fn pick(self, random: &mut Random) -> u32 {
         match self {
             Lengths::All(len) => len,
-            Lengths::Mixed => 1 + random.below(10) as u32,
-            Lengths::MostlyOne => {
-                if random.below(10) == 0 {
-                    3
-                } else {
-                    1
-                }
-            }
             Lengths::Real => match random.below(100) {
                 0..75 => 1,
                 75..92 => 2,

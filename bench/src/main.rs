@@ -3,6 +3,7 @@
 //!
 //! If the forms of a row disagree on what they return or write, it says so, and the exit status is 1.
 
+mod host;
 // (a single set uses only a part of these)
 #[allow(dead_code)]
 mod inputs;
@@ -21,8 +22,6 @@ mod files;
 mod floats;
 #[cfg(any(feature = "files", feature = "leb128"))]
 mod gimli_form;
-#[cfg(feature = "growth")]
-mod growth;
 #[cfg(feature = "leb128")]
 mod leb128;
 #[cfg(feature = "numbers")]
@@ -38,55 +37,11 @@ mod texts;
 #[cfg(feature = "writes")]
 mod writes;
 
-// All code comes after these bytes, so they shift it.
-std::arch::global_asm!(
-    ".pushsection .text.code_shift,\"ax\",@progbits",
-    ".globl code_shift",
-    "code_shift:",
-    concat!(".skip ", env!("SHIFT"), ", 0x90"),
-    ".popsection"
-);
-
-unsafe extern "C" {
-    fn code_shift();
-}
-
-// Whether there is memory, and where.
-#[repr(C)]
-struct Tried {
-    is_there: bool,
-    place: *mut u8,
-}
-
-unsafe extern "C" {
-    fn malloc(size: usize) -> *mut u8;
-    fn realloc(place: *mut u8, size: usize) -> *mut u8;
-    fn free(place: *mut u8);
-}
-
-// The memory of the loops over the library comes from where that of the loops in Rust does.
-#[unsafe(no_mangle)]
-extern "C" fn rattle_alloc(size: usize, _align: usize) -> Tried {
-    tried(unsafe { malloc(size) })
-}
-
-#[unsafe(no_mangle)]
-extern "C" fn rattle_realloc(place: *mut u8, _kept: usize, size: usize, _align: usize) -> Tried {
-    tried(unsafe { realloc(place, size) })
-}
-
-#[unsafe(no_mangle)]
-extern "C" fn rattle_dealloc(place: *mut u8) {
-    unsafe { free(place) }
-}
-
-fn tried(place: *mut u8) -> Tried {
-    Tried { is_there: !place.is_null(), place }
-}
+// The memory of the loops isn't counted.
+fn count(_size: usize) {}
 
 fn main() {
-    // (a linker leaves out what nothing names)
-    std::hint::black_box(code_shift as *const ());
+    host::keep_shift();
     let mut bench = timing::Bench::from_env();
     #[cfg(feature = "numbers")]
     numbers::all(&mut bench);
@@ -102,8 +57,6 @@ fn main() {
     leb128::all(&mut bench);
     #[cfg(feature = "files")]
     files::all(&mut bench);
-    #[cfg(feature = "growth")]
-    growth::all(&mut bench);
     #[cfg(feature = "streams")]
     streams::all(&mut bench);
     #[cfg(feature = "own")]

@@ -1,15 +1,14 @@
 //! Strings, by where they end, of several lengths and alphabets; C strings, by the crate's read of a `CStr` and by std's own
-//! function; C strings read into memory of their own; and sizes of what is there.
+//! function; and C strings read into memory of their own.
 
 use crate::inputs::{Letters, Random, SIZE, push_text};
 use crate::timing::{Bench, Form, ours, reading, rust};
 use scroll::Pread;
-use scroll::ctx::{MeasureWith, StrCtx};
+use scroll::ctx::StrCtx;
 use std::ffi::{CStr, CString};
 
 unsafe extern "C" {
     fn rt_texts(source: *const u8, len: usize) -> u64;
-    fn rt_texts_to(source: *const u8, len: usize, delimiter: u8) -> u64;
     fn rt_texts_required(source: *const u8, len: usize) -> u64;
     fn rt_texts_of_length(source: *const u8, len: usize) -> u64;
 }
@@ -99,10 +98,6 @@ fn nul() -> Form {
     ours("for", |job| unsafe { rt_texts(job.input.as_ptr(), job.input.len()) })
 }
 
-fn to() -> Form {
-    ours("for", |job| unsafe { rt_texts_to(job.input.as_ptr(), job.input.len(), job.delimiter) })
-}
-
 fn required() -> Form {
     ours("for", |job| unsafe { rt_texts_required(job.input.as_ptr(), job.input.len()) })
 }
@@ -119,27 +114,15 @@ fn all_texts(bench: &mut Bench) {
         // With the delimiter known at compile time and at run time: the crate searches byte by byte either way.
         bench.row("texts", row, count, &mut reading(&source), &[form(), a, b, c, d]);
     };
-    row("0 to 7 bytes", 0, 8, Letters::Ascii, nul);
-    row("0 to 15 bytes", 0, 16, Letters::Ascii, nul);
     row("0 to 23 bytes", 0, 24, Letters::Ascii, nul);
-    row("24 to 63 bytes", 24, 40, Letters::Ascii, nul);
     row("64 to 191 bytes", 64, 128, Letters::Ascii, nul);
-    row("1000 bytes", 1000, 1, Letters::Ascii, nul);
-    row("delimiter at run time 0 to 23", 0, 24, Letters::Ascii, to);
-    row("delimiter at run time 64 to 191", 64, 128, Letters::Ascii, to);
     row("required delimiter 0 to 23", 0, 24, Letters::Ascii, required);
-    row("required delimiter 64 to 191", 64, 128, Letters::Ascii, required);
-    row("1 in 30 not ASCII 0 to 23", 0, 24, Letters::Few, nul);
     row("1 in 30 not ASCII 64 to 191", 64, 128, Letters::Few, nul);
     row("1 in 3 not ASCII 0 to 23", 0, 24, Letters::Third, nul);
-    row("1 in 3 not ASCII 64 to 191", 64, 128, Letters::Third, nul);
     row("Chinese 0 to 23", 0, 24, Letters::Chinese, nul);
-    row("Chinese 64 to 191", 64, 128, Letters::Chinese, nul);
-    for (name, low, spread) in [("length first 0 to 23", 0, 24), ("length first 64 to 191", 64, 128)] {
-        let (source, count) = texts(low, spread, Letters::Ascii, true);
-        let forms = [of_length(), rust("while", |job| of_length_while(job.input)), rust("for", |job| of_length_for(job.input))];
-        bench.row("texts", name, count, &mut reading(&source), &forms);
-    }
+    let (source, count) = texts(64, 128, Letters::Ascii, true);
+    let forms = [of_length(), rust("while", |job| of_length_while(job.input)), rust("for", |job| of_length_for(job.input))];
+    bench.row("texts", "length first 64 to 191", count, &mut reading(&source), &forms);
 }
 
 unsafe extern "C" {
@@ -191,23 +174,8 @@ fn by_std(source: &[u8]) -> u64 {
 }
 
 fn all_c_strings(bench: &mut Bench) {
-    for (name, low, spread) in [
-        ("0 to 7 bytes", 0, 8),
-        ("0 to 15 bytes", 0, 16),
-        ("0 to 23 bytes", 0, 24),
-        ("24 to 63 bytes", 24, 40),
-        ("64 to 191 bytes", 64, 128),
-        ("1000 bytes", 1000, 1),
-    ] {
-        let mut random = Random::new();
-        let mut source = Vec::new();
-        let mut count = 0;
-        while source.len() < SIZE {
-            let len = (low + random.below(spread)) as usize;
-            push_text(&mut source, len, Letters::Ascii, &mut random);
-            source.push(0);
-            count += 1;
-        }
+    for (name, spread) in [("0 to 7 bytes", 8), ("0 to 23 bytes", 24)] {
+        let (source, count) = texts(0, spread, Letters::Ascii, false);
         let forms = [
             ours("for", |job| unsafe { rt_c_strings(job.input.as_ptr(), job.input.len()) }),
             rust("while", |job| by_gread(job.input)),
@@ -220,9 +188,6 @@ fn all_c_strings(bench: &mut Bench) {
 
 unsafe extern "C" {
     fn rt_owned(source: *const u8, len: usize) -> u64;
-    fn rt_owned_std(source: *const u8, len: usize) -> u64;
-    fn rt_make_owned(source: *const u8, len: usize) -> u64;
-    fn rt_measure(source: *const u8, len: usize) -> u64;
 }
 
 #[inline(never)]
@@ -237,51 +202,15 @@ fn owned(source: &[u8]) -> u64 {
     total
 }
 
-#[inline(never)]
-fn make_owned(source: &[u8]) -> u64 {
-    let mut total: u64 = 0;
-    for text in source.chunks_exact(7) {
-        match CString::new(text) {
-            Ok(text) => total = total.wrapping_add(std::hint::black_box(text).as_bytes_with_nul().len() as u64),
-            Err(_) => break,
-        }
-    }
-    total
-}
-
-#[inline(never)]
-fn measure(source: &[u8]) -> u64 {
-    let mut total: u64 = 0;
-    for part in source.chunks_exact(8) {
-        total = total.wrapping_add(part.measure_with(&()) as u64);
-    }
-    total
-}
-
-macro_rules! source {
-    ($name:ident) => {
-        ours("for", |job| unsafe { $name(job.input.as_ptr(), job.input.len()) })
-    };
-}
-
 fn all_owned(bench: &mut Bench) {
-    for (row, row_std, low, spread) in [("7 bytes", "7 bytes of std", 7, 1), ("0 to 63 bytes", "0 to 63 bytes of std", 0, 64)] {
-        let mut random = Random::new();
-        let mut source = Vec::new();
-        let mut count = 0;
-        while source.len() < SIZE {
-            push_text(&mut source, (low + random.below(spread)) as usize, Letters::Ascii, &mut random);
-            source.push(0);
-            count += 1;
-        }
-        let mut job = reading(&source);
-        bench.row("owned", row, count, &mut job, &[source!(rt_owned), rust("while", |job| owned(job.input))]);
-        bench.row("owned", row_std, count, &mut job, &[source!(rt_owned_std), rust("while", |job| owned(job.input))]);
+    for (name, low, spread) in [("7 bytes of std", 7, 1), ("0 to 63 bytes of std", 0, 64)] {
+        let (source, count) = texts(low, spread, Letters::Ascii, false);
+        let forms = [
+            ours("for", |job| unsafe { rt_owned(job.input.as_ptr(), job.input.len()) }),
+            rust("while", |job| owned(job.input)),
+        ];
+        bench.row("owned", name, count, &mut reading(&source), &forms);
     }
-    let letters = vec![b'n'; SIZE];
-    let mut job = reading(&letters);
-    bench.row("owned", "made of 7 bytes", SIZE as u64 / 7, &mut job, &[source!(rt_make_owned), rust("for", |job| make_owned(job.input))]);
-    bench.row("owned", "sizes", SIZE as u64 / 8, &mut job, &[source!(rt_measure), rust("for", |job| measure(job.input))]);
 }
 
 pub fn all(bench: &mut Bench) {

@@ -1,10 +1,10 @@
-//! Calls that no session reaches: which there are, random ones, and what both sides answer.
+//! Calls of types, in contexts and of sizes that no session has: which there are, random ones, and what both sides answer.
 
-use crate::cases::{Case, FLOATS, LEB128, Random, TEXTS, Verdict, lower, removals};
+use crate::additions::hex;
+use crate::cases::{FLOATS, LEB128, Random, TEXTS, Verdict, lower, removals};
 #[cfg(feature = "derive")]
 use crate::derived;
 use crate::reply::Reply;
-use crate::spoken::hex;
 use crate::theirs;
 
 /// Which value is read or written, where, by which form of the call, and two numbers that make the context: as in
@@ -171,14 +171,13 @@ impl Call {
         (FAMILIES[self.family].theirs)(&self.asked, &mut bytes, &self.given, &mut reply);
         (reply.bytes, bytes)
     }
-}
 
-impl Case for Call {
-    fn kind(&self) -> String {
-        format!("calls: {}", FAMILIES[self.family].name)
+    /// Which kind of call it is, for the summary.
+    pub fn kind(&self) -> &'static str {
+        FAMILIES[self.family].name
     }
 
-    fn compare(&self) -> Verdict {
+    pub fn compare(&self) -> Verdict {
         let ours = self.ours();
         if ours == self.theirs(false) {
             Verdict::Same
@@ -189,7 +188,8 @@ impl Case for Call {
         }
     }
 
-    fn has_additions(&self) -> bool {
+    /// Whether the crate lacks a part of it, which types of this program stand for.
+    pub fn has_additions(&self) -> bool {
         let family = &FAMILIES[self.family];
         let kind = family.kinds[self.asked.kind as usize];
         match family.name {
@@ -200,7 +200,8 @@ impl Case for Call {
         }
     }
 
-    fn smaller(&self) -> Box<dyn Iterator<Item = Call> + '_> {
+    /// Calls with something left out or simpler, each made as it is wanted, since calls can be large.
+    pub fn smaller(&self) -> Box<dyn Iterator<Item = Call> + '_> {
         let asked = self.asked;
         let put = |asked| Call { asked, ..self.clone() };
         let moved = [asked.place, asked.place / 2, asked.place / 4, 1].into_iter();
@@ -224,7 +225,8 @@ impl Case for Call {
         Box::new(nothing.chain(moved).chain(bytes).chain(given).chain(places.chain(forms).chain(a).chain(b).map(put)))
     }
 
-    fn weight(&self) -> Vec<u64> {
+    /// What shrinks, the most important first.
+    pub fn weight(&self) -> Vec<u64> {
         let sum = |bytes: &[u8]| bytes.iter().map(|byte| u64::from(*byte)).sum::<u64>();
         let Asked { place, form, a, b, .. } = self.asked;
         vec![
@@ -237,7 +239,8 @@ impl Case for Call {
         ]
     }
 
-    fn show(&self) -> String {
+    /// The call, and what both sides answer.
+    pub fn show(&self) -> String {
         let family = &FAMILIES[self.family];
         let Asked { kind, place, form, a, b } = self.asked;
         let (ours, theirs) = (self.ours(), self.theirs(false));

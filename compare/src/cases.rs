@@ -1,10 +1,11 @@
-//! What sessions and calls have in common: they are made from random numbers, all from one seed, compared, and made smaller.
+//! Calls are made from random numbers, all from one seed, compared, and made smaller.
 
+use crate::calls::Call;
 use std::iter::successors;
 use std::ops::Range;
 use std::time::{Duration, Instant};
 
-/// How both sides agree on a case.
+/// How both sides agree on a call.
 #[derive(Clone, Copy, PartialEq)]
 pub enum Verdict {
     Same,
@@ -13,24 +14,10 @@ pub enum Verdict {
     Differs,
 }
 
-pub trait Case: Clone {
-    /// Which kind of case it is, for the summary.
-    fn kind(&self) -> String;
-    fn compare(&self) -> Verdict;
-    /// Whether the crate lacks a part of it, which types of this program stand for.
-    fn has_additions(&self) -> bool;
-    /// Cases with something left out or simpler, each made as it is wanted, since cases can be large.
-    fn smaller(&self) -> Box<dyn Iterator<Item = Self> + '_>;
-    /// What shrinks, the most important first.
-    fn weight(&self) -> Vec<u64>;
-    /// The case, and what both sides answer.
-    fn show(&self) -> String;
-}
-
-/// The smallest case found in some seconds that differs too, and how many were tried.
-pub fn shrink<C: Case>(case: &C) -> (C, usize) {
+/// The smallest call found in some seconds that differs too, and how many were tried.
+pub fn shrink(call: &Call) -> (Call, usize) {
     let until = Instant::now() + Duration::from_secs(10);
-    let mut smallest = case.clone();
+    let mut smallest = call.clone();
     let mut tried = 0;
     loop {
         let weight = smallest.weight();
@@ -42,7 +29,7 @@ pub fn shrink<C: Case>(case: &C) -> (C, usize) {
             it.compare() == Verdict::Differs
         });
         match next {
-            Some(case) => smallest = case,
+            Some(call) => smallest = call,
             None => return (smallest, tried),
         }
     }

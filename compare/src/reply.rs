@@ -1,8 +1,17 @@
 //! What the Rust crate's calls return, encoded as crates/compare_calls/src/call.rt does.
 
-use crate::spoken::{Required, size_of_uleb};
+use crate::additions::Required;
 use scroll::{Error, Result, Sleb128, Uleb128};
 use std::ffi::{CStr, CString};
+use std::sync::atomic::{AtomicBool, Ordering};
+
+/// Whether the crate's answers are to be wrong at one place, to see that a run fails then.
+pub static LIES: AtomicBool = AtomicBool::new(false);
+
+/// The size of a number in LEB128, or the wrong one of two bytes.
+fn size_of_uleb(number: &Uleb128) -> usize {
+    number.size() - usize::from(number.size() == 2 && LIES.load(Ordering::Relaxed))
+}
 
 /// An answer. Where `quiet`, it is given as docs/FROM-RUST.md tells: with one NaN of each width.
 pub struct Reply {

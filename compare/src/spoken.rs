@@ -1,27 +1,18 @@
-//! Sessions, answered by the Rust crate: what crates/scroll_run/README.md says a line means, done by the crate's own calls.
-//!
-//! The crate lacks texts by `required` and writes of numbers in LEB128. These are types of this file, which the crate's
-//! calls read and write.
+//! Answers a session on standard input by the Rust crate: what crates/scroll_run/README.md says a line means, done by the
+//! crate's own calls.
 
-use scroll::ctx::{StrCtx, TryFromCtx, TryIntoCtx};
-use scroll::{BE, Endian, Error, LE, Pread, Pwrite, Result, Sleb128, Uleb128};
+mod additions;
+
+use additions::{Encoded, Required, RequiredBy, hex};
+use scroll::ctx::StrCtx;
+use scroll::{BE, Endian, LE, Pread, Pwrite, Result, Sleb128, Uleb128};
 use std::ffi::{CStr, CString};
-use std::fmt::Write;
-use std::sync::atomic::{AtomicBool, Ordering};
+use std::fmt::Write as _;
+use std::io::{Read, Write};
+use std::process::ExitCode;
 
 /// How many bytes an input may have.
-pub const LIMIT: usize = 65_536;
-
-/// The same of the program that takes longer inputs, and is otherwise the same.
-pub const LONG_LIMIT: usize = 1 << 26;
-
-/// Whether the crate's answers are to be wrong at one place, to see that a run fails then.
-pub static LIES: AtomicBool = AtomicBool::new(false);
-
-/// The size of a number in LEB128, or the wrong one of two bytes.
-pub fn size_of_uleb(number: &Uleb128) -> usize {
-    number.size() - usize::from(number.size() == 2 && LIES.load(Ordering::Relaxed))
-}
+const LIMIT: usize = 65_536;
 
 /// A command, which acts on the buffer and the cursor, and gives its line.
 type Act = Box<dyn Fn(&mut [u8], &mut usize) -> Result<String>>;
@@ -30,34 +21,6 @@ type Act = Box<dyn Fn(&mut [u8], &mut usize) -> Result<String>>;
 enum Place {
     At(usize),
     Cursor,
-}
-
-/// A text that ends before a byte which must be there.
-pub struct Required<'a>(pub &'a str);
-
-#[derive(Clone, Copy)]
-pub struct RequiredBy(pub u8);
-
-impl<'a> TryFromCtx<'a, RequiredBy> for Required<'a> {
-    type Error = Error;
-    fn try_from_ctx(source: &'a [u8], ctx: RequiredBy) -> Result<(Self, usize)> {
-        let refuse = |msg| Error::BadInput { size: source.len(), msg };
-        let end = source.iter().position(|byte| *byte == ctx.0).ok_or_else(|| refuse("missing delimiter"))?;
-        let text = std::str::from_utf8(&source[..end]).map_err(|_| refuse("invalid utf8"))?;
-        Ok((Required(text), end + 1))
-    }
-}
-
-/// Bytes that are written as a whole or not at all.
-pub struct Encoded(pub Vec<u8>);
-
-impl TryIntoCtx for Encoded {
-    type Error = Error;
-    fn try_into_ctx(self, target: &mut [u8], _: ()) -> Result<usize> {
-        let (size, len) = (self.0.len(), target.len());
-        target.get_mut(..size).ok_or(Error::TooBig { size, len })?.copy_from_slice(&self.0);
-        Ok(size)
-    }
 }
 
 /// The shortest encoding of a number; the last group of seven bits has the sign of a signed one.
@@ -73,18 +36,6 @@ fn shortest(number: i128, is_signed: bool) -> Encoded {
             return Encoded(bytes);
         }
     }
-}
-
-pub fn hex(bytes: &[u8]) -> String {
-    if bytes.is_empty() {
-        return "-".into();
-    }
-    let mut text = String::with_capacity(2 * bytes.len());
-    for byte in bytes {
-        text.push(char::from_digit(u32::from(byte >> 4), 16).unwrap());
-        text.push(char::from_digit(u32::from(byte & 15), 16).unwrap());
-    }
-    text
 }
 
 fn one_byte(word: &[u8]) -> Option<u8> {
@@ -237,7 +188,7 @@ fn read(place: Place, words: &[&[u8]]) -> Option<Act> {
         [b"bytes", len] => reads!(place, &[u8], size(len)?, x => format!("bytes {}", hex(x))),
         [b"cstr"] => reads!(place, &CStr, (), x => format!("cstr {}", hex(x.to_bytes()))),
         [b"cstring"] => reads!(place, CString, (), x => format!("cstr {}", hex(x.as_bytes()))),
-        [b"uleb"] => reads!(place, Uleb128, (), x => format!("uleb {} {}", x.as_ref(), size_of_uleb(&x))),
+        [b"uleb"] => reads!(place, Uleb128, (), x => format!("uleb {} {}", x.as_ref(), x.size())),
         [b"sleb"] => reads!(place, Sleb128, (), x => format!("sleb {} {}", x.as_ref(), x.size())),
         [b"u8x0", by] => reads!(place, [u8; 0], order(by)?, _x => "numbers".into()),
         [b"u16x3", by] => reads!(place, [u16; 3], order(by)?, x => format!("numbers {} {} {}", x[0], x[1], x[2])),
@@ -309,13 +260,13 @@ fn parse(input: &[u8]) -> std::result::Result<(Vec<u8>, usize, Vec<Act>), usize>
 }
 
 /// What a session prints, and its exit status.
-pub fn answer(input: &[u8], limit: usize) -> (Vec<u8>, i32) {
-    if input.len() > limit {
-        return (b"input too long\n".to_vec(), 2);
+fn answer(input: &[u8]) -> (String, u8) {
+    if input.len() > LIMIT {
+        return ("input too long\n".into(), 2);
     }
     let (mut buffer, mut cursor, commands) = match parse(input) {
         Ok(session) => session,
-        Err(line) => return (format!("bad line {line}\n").into_bytes(), 2),
+        Err(line) => return (format!("bad line {line}\n"), 2),
     };
     let mut printed = String::new();
     for act in commands {
@@ -326,5 +277,13 @@ pub fn answer(input: &[u8], limit: usize) -> (Vec<u8>, i32) {
         printed.push('\n');
     }
     writeln!(printed, "buffer {}\ncursor {cursor}", hex(&buffer)).unwrap();
-    (printed.into_bytes(), 0)
+    (printed, 0)
+}
+
+fn main() -> ExitCode {
+    let mut input = Vec::new();
+    std::io::stdin().take(LIMIT as u64 + 1).read_to_end(&mut input).expect("the session is read");
+    let (printed, status) = answer(&input);
+    std::io::stdout().write_all(printed.as_bytes()).expect("the answers are written");
+    ExitCode::from(status)
 }

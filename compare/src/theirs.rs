@@ -1,8 +1,8 @@
 //! The same calls of the Rust crate, in the order in which crates/compare_calls numbers them.
 
+use crate::additions::{Encoded, Required, RequiredBy};
 use crate::calls::Asked;
 use crate::reply::{Made, Reply, Show};
-use crate::spoken::{Encoded, Required, RequiredBy};
 use scroll::ctx::{FromCtx, IntoCtx, MeasureWith, SizeWith, StrCtx, TryFromCtx, TryIntoCtx};
 use scroll::{Cread, Cwrite, Endian, Error, IOread, IOwrite, Pread, Pwrite, Result, Sleb128, Uleb128};
 use std::ffi::{CStr, CString};

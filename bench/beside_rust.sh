@@ -2,8 +2,8 @@
 # Times loops over the proved library against the same loops in Rust: over the crate `scroll`, std's `CStr`, and a loop
 # in gimli's form for writes of LEB128.
 #
-#     sh bench/run.sh [SET..]
-#     sh bench/run.sh jobs
+#     sh bench/beside_rust.sh [SET..]
+#     sh bench/beside_rust.sh jobs
 #
 # It proves the library where necessary, and the loops (bench/sets), builds them as a static library, links that with
 # the loops in Rust (bench/src) four times, with all code shifted by 0, 16, 32 and 48 bytes, and runs each program
@@ -15,27 +15,17 @@
 # Debian's packages (librust-NAME-dev), says which are missing, and runs what it can without them. If the results of a
 # job differ, it stops there and names it.
 #
-# It needs cargo, rt, a C compiler and Python 3. Variables:
+# It needs cargo, rt, a C compiler and Python 3. Variables, besides those of bench/rust_side.sh:
 #
-#     CRATE=FOLDER    the source of the Rust crate `scroll` 0.13.0, instead of the one in cargo's registry
 #     ROUNDS=N        how often a program runs each loop; the best time counts (200)
-#     ROOM=FOLDER     a folder that keeps the build for the next run
 #     KEEP=1          `jobs` writes nothing into the repository
 #     ONLY=TEXT       `jobs` runs those whose names have this text; with KEEP=1
-#     JOBS=N          the jobs of each check, instead of rt's own choice
 #
 # The exit status is 0 if everything was built and both sides agree on every sum and on every byte that they write.
-set -u
-export PYTHONDONTWRITEBYTECODE=1
-
+name=bench
 top=$(CDPATH='' cd -- "$(dirname -- "$0")/.." && pwd) || exit 1
-here=$top/bench
-all='numbers floats writes texts slices leb128 own errors streams calls files growth'
-
-fail() {
-    echo "bench: $*" >&2
-    exit 1
-}
+. "$top/bench/rust_side.sh"
+all='numbers floats writes texts slices leb128 own errors streams calls files'
 
 need() {
     command -v "$1" >/dev/null || fail "$1 is not there: $2"
@@ -57,28 +47,19 @@ else
     sets=$all
 fi
 
-if [ -n "${ROOM:-}" ]; then
-    mkdir -p "$ROOM" && room=$(CDPATH='' cd -- "$ROOM" && pwd) || exit 1
+if [ "$sets" = jobs ]; then
+    make_room jobs_side
+    tree=$room/jobs_tree
 else
-    room=$(mktemp -d) || exit 1
-    trap 'rm -rf "$room"' EXIT
-    trap 'exit 1' HUP INT TERM
+    make_room side
+    tree=$room/tree
 fi
-
-# Runs a command, and shows the end of its output if it fails.
-quietly() {
-    "$@" >"$room/said" 2>&1 || {
-        grep -v ': proved' "$room/said" | tail -n 20 | cut -c 1-200 >&2
-        fail "$*"
-    }
-}
 
 # Proves and builds libraries in the tree itself, and copies the crates into a workspace, with one more, `loops`, over these
 # libraries. (rt takes their builds over.)
 make_workspace() {
     for library in "$@"; do
-        cd "$top/crates/$library" || exit 1
-        quietly rt lib ${JOBS:+--jobs "$JOBS"}
+        prove "$top/crates/$library"
     done
     loops=$tree/crates/loops
     mkdir -p "$loops" && cp "$top/HANDLES" "$tree/" || exit 1
@@ -99,30 +80,28 @@ build_loops() {
             cp "$here/sets/$set.rt.txt" "$loops/src/$set.rt" || exit 1
         done
     } >"$loops/src/lib.rt"
-    cd "$loops" || exit 1
-    quietly rt lib ${JOBS:+--jobs "$JOBS"}
+    prove "$loops"
 }
 
-# Builds the program with both sides, once for each layout.
-build_programs() {
-    echo "bench: cargo builds the loops in Rust, in four layouts" >&2
-    mkdir -p "$side/src" && cp "$here"/src/*.rs "$side/src/" && cp "$here/build.rs" "$side/" || exit 1
-    if [ -n "${CRATE:-}" ]; then
-        folder=$(cd "$top" && cd -- "$CRATE" && pwd) || fail "CRATE=$CRATE is no folder"
-        crate="{ path = \"$folder\" }"
-    else
-        crate='"=0.13.0"'
-    fi
-    sed "s|@CRATE@|$crate|" "$here/Cargo.toml.in" >"$side/Cargo.toml" || exit 1
+# Builds a program of cargo with both sides and these features, once for each layout.
+build_layouts() {
+    program=$1
+    shift
     cd "$side" || exit 1
-    features=$(echo "$sets" | tr ' ' ',')
-    export LOOPS="$loops/out" RUSTFLAGS='-C target-cpu=x86-64-v2' CARGO_TARGET_DIR="$side/target"
+    export LOOPS="$loops/out" RUSTFLAGS='-C target-cpu=x86-64-v2'
     for shift in 0 16 32 48; do
         export SHIFT="$shift"
-        quietly cargo build --release --features "$features"
-        cp target/release/side_by_side "side_$shift" || exit 1
+        quietly cargo build --release "$@"
+        cp "target/release/$program" "side_$shift" || exit 1
     done
     ! cmp -s side_0 side_16 || fail 'the code is not shifted'
+}
+
+build_programs() {
+    echo "bench: cargo builds the loops in Rust, in four layouts" >&2
+    make_side "$here"/src/*.rs
+    depend_on_crate
+    build_layouts side_by_side --features "$(echo "$sets" | tr ' ' ',')"
 }
 
 # Makes an object file with debugging information, for the set `files`.
@@ -139,10 +118,9 @@ make_sample() {
 build_jobs() {
     echo "bench: the library, the clients and the jobs are proved and built" >&2
     make_workspace scroll scroll_formats debug_tables object_files git_index packets zip
-    mkdir -p "$side/src" && cp "$here/jobs/jobs.rt.txt" "$loops/src/lib.rt" || exit 1
-    quietly python3 "$here/jobs/records.py" "$loops/src" "$side/src/records.rs"
-    cd "$loops" || exit 1
-    quietly rt lib ${JOBS:+--jobs "$JOBS"}
+    cp "$here/jobs/jobs.rt.txt" "$loops/src/lib.rt" || exit 1
+    quietly python3 "$here/jobs/records.py" "$loops/src" "$room/records.rs"
+    prove "$loops"
 }
 
 # Writes the dependencies on the crates that Debian's packages have, and prints those that are missing.
@@ -194,35 +172,19 @@ build_job_programs() {
     echo "bench: cargo builds the jobs, in four layouts" >&2
     : >"$room/versions"
     find_peers >"$room/peers"
-    cp "$here"/jobs/*.rs "$here/src/timing.rs" "$here/src/inputs.rs" "$here/src/dwarf.rs" "$side/src/" && cp "$here/build.rs" "$side/" || exit 1
+    make_side "$here"/jobs/*.rs "$here/src/host.rs" "$here/src/timing.rs" "$here/src/inputs.rs" "$here/src/dwarf.rs" "$room/records.rs"
+    take_crates_from /usr/share/cargo/registry
     awk -v peers="$room/peers" '/@PEERS@/ { while ((getline line < peers) > 0) print line; next } { print }' "$here/jobs/Cargo.toml.in" >"$side/Cargo.toml" || exit 1
-    mkdir -p "$side/.cargo" || exit 1
-    cat >"$side/.cargo/config.toml" <<'END'
-[source.crates-io]
-replace-with = "debian"
-[source.debian]
-directory = "/usr/share/cargo/registry"
-END
-    cd "$side" || exit 1
     features=$(cut -d ' ' -f 1 "$room/versions" | tr '\n' ',')
-    export LOOPS="$loops/out" RUSTFLAGS='-C target-cpu=x86-64-v2' CARGO_TARGET_DIR="$side/target"
-    for shift in 0 16 32 48; do
-        export SHIFT="$shift"
-        quietly cargo build --release --offline --features "${features%,}"
-        cp target/release/jobs_beside "side_$shift" || exit 1
-    done
+    build_layouts jobs_beside --offline --features "${features%,}"
 }
 
 if [ "$sets" = jobs ]; then
-    side=$room/jobs_side
-    tree=$room/jobs_tree
     build_jobs
     build_job_programs
     make_files
     export SECTIONS="$room/many.o" ARCHIVE="$room/archive.zip"
 else
-    side=$room/side
-    tree=$room/tree
     build_loops
     build_programs
 fi
