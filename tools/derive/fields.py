@@ -172,8 +172,6 @@ class ListOf(Kind):
             part = self.one("Count", around("Count", self.reader.count(self.at, inside)))
         else:
             part = super().make()
-        # (the prover doesn't find it of a struct with a list)
-        part.is_certain = False
         return part
 
 

@@ -64,7 +64,7 @@ class Form:
         return False
 
     def walk(self) -> None:
-        if self.is_certain and not self.is_walked:
+        if not self.is_walked:
             self.is_walked = True
             for it in self.inner:
                 it.walk()

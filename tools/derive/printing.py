@@ -86,8 +86,8 @@ class Printer:
 }}""",
         ]
 
-    def print_shape(self, given: Tuple[str, str], whole: Part, split: str, join: str) -> Tuple[str, str]:
-        """Prints `Shape`, and returns its parts and their context."""
+    def print_shape(self, given: Tuple[str, str], whole: Part, split: str, join: str) -> None:
+        """Prints `Shape`."""
         parts, context = self.alias(f"{self.name}Parts", whole.type), self.alias(f"{self.name}Ctx", whole.context_type)
         ctx = "ctx" if "ctx" in whole.context.code else "_ctx"
         ctx_type, name = given
@@ -116,7 +116,6 @@ class Printer:
     }}
 }}"""
         )
-        return parts, context
 
     def print_struct(self) -> None:
         form: Struct = self.form
@@ -135,8 +134,8 @@ class Printer:
         join += f"\n        {made_of(self.name, names, values)}"
         whole.type, whole.ghost = chain.types[0], f"λ x. {whole.ghost}"
         whole.context = Value(*(resolve(it, {form.given: said}) for it, said in zip(whole.context, ("n", "(*ctx)"))))
-        parts, context = self.print_shape(("usize", "n") if form.given else ("()", "_"), whole, split, join)
-        self.print_certain("Given<usize>" if form.given else "()", parts, context)
+        self.print_shape(("usize", "n") if form.given else ("()", "_"), whole, split, join)
+        self.print_certain_heads()
         if not form.given and not form.item.is_part:
             self.print_calls()
 
@@ -163,27 +162,28 @@ class Printer:
 }}"""
             )
 
-    def print_certain(self, given: str, parts: str, context: str) -> None:
-        """Prints that a source has a value in one way, if it is in a list that can be walked."""
-        if not self.form.is_walked:
-            return
-        for says, head, ctx in self.heads:
+    def print_certain_heads(self) -> None:
+        """Prints that heads which are the same say the same of what follows, if the value is in a list that can be walked."""
+        if self.form.is_walked:
+            self.texts += [
+                f"impl<'a> CertainHead<'a, {ctx}, {head}, {self.error}> for {says} {{\n    fn certain_next() {{}}\n}}"
+                for says, head, ctx in self.heads
+            ]
+
+    def print_certain(self, parts: str, context: str) -> None:
+        """Prints that a source has an enum with its own tag in one way, if it is in such a list."""
+        self.print_certain_heads()
+        if self.form.is_walked and self.form.is_certain:
             self.texts.append(
-                f"""impl<'a> CertainHead<'a, {ctx}, {head}, {self.error}> for {says} {{
-    fn certain_next() {{}}
-}}"""
-            )
-        kind = "Unit {0}" if given == "()" else "_"
-        self.texts.append(
-            f"""impl<'a> Certain<'a, {given}, {self.error}> for {self.type} {{
+                f"""impl<'a> Certain<'a, (), {self.error}> for {self.type} {{
     fn certain()
-        ensures {{ (ctx : {kind})
-            → one_way (⟦<{self.type} as ReadPart<'a, {given}, {self.error}>>⟧.format ctx) }}
+        ensures {{ (ctx : Unit {{0}})
+            → OneWay (⟦<{self.type} as ReadPart<'a, (), {self.error}>>⟧.format ctx) }}
     {{
         <{parts} as Certain<'a, {context}, {self.error}>>::certain()
     }}
 }}"""
-        )
+            )
 
     def print_calls(self) -> None:
         """Prints what the calls that read and write take."""
@@ -262,7 +262,7 @@ class Printer:
             parts = self.alias(f"{self.name}Parts", chain.types[0])
             context = self.alias(f"{self.name}Ctx", chain.whole.context_type)
             self.texts += tagged_texts(form, self.error, parts, context, chain.whole.context)
-            self.print_certain("()", parts, context)
+            self.print_certain(parts, context)
             if not form.item.is_part:
                 self.print_calls()
             return
@@ -272,5 +272,4 @@ class Printer:
             join += it.arm(form.chosen(at, it.pattern), form.pattern(it))
         cases = form.cases([form.ghost(at) for at in range(len(form.variants))], 6)
         whole.ghost = f"elim [{cases}\n    ]"
-        made = self.print_shape((form.context_type, "t"), whole, f"{split}\n        }}", f"{join}\n        }}")
-        self.print_certain(f"Given<{form.context_type}>", *made)
+        self.print_shape((form.context_type, "t"), whole, f"{split}\n        }}", f"{join}\n        }}")

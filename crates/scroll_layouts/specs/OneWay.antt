@@ -71,3 +71,7 @@ one_way {E} {X} (leaf l) =
     → l.leaf_reads order s at x → l.leaf_refuses order s at e → ⊥)
 one_way (choice gives b f g) = one_way f × one_way g
 one_way (when gives b f) = one_way f
+
+-- `f` is read in one way, as one fact that isn't taken apart
+pub record OneWay {E X : Type 0} (f : Format E X) : Type 0 where
+  pub way : one_way f

@@ -8,6 +8,7 @@ pub mod LayoutLaws
 pub mod LeafLemmas
 pub mod LeavesOneWay
 pub mod ListLemmas
+pub mod ListsOneWay
 pub mod MarkLemmas
 pub mod NameMarks
 pub mod NumeralLemmas

@@ -2,7 +2,7 @@
 ghost use Rattle.std.specs.Prelude.{◌≡◌, ◌≤◌, ◌<◌, length};
 ghost use Rattle.std.specs.Iterator.{at_most};
 ghost use Rattle.std.specs.List.{All};
-ghost use Rattle.scroll_layouts.specs.OneWay.{same, one_way};
+ghost use Rattle.scroll_layouts.specs.OneWay.{same, OneWay};
 ghost use Rattle.scroll_layouts.specs.Formats.{reads, refuses, len};
 ghost use Rattle.scroll_layouts.specs.Lists.{SomeItems, YieldsItem};
 
@@ -17,7 +17,7 @@ use std::marker::PhantomData;
 pub trait Certain<'a, Ctx, E>: ReadPart<'a, Ctx, E> {
     /// Does nothing, and says so.
     fn certain()
-        ensures { (ctx : Ctx) → one_way (Self.ReadPart.format ctx) };
+        ensures { (ctx : Ctx) → OneWay (Self.ReadPart.format ctx) };
 }
 
 /// A head that says one thing of what follows it: heads whose parts are the same say the same, and

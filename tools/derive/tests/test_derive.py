@@ -100,7 +100,7 @@ class Derive(unittest.TestCase):
 
     def test_the_imports(self) -> None:
         """A field has a name that another text would import, and a message has a word that is a function's name."""
-        names = ("last", "refuses", "length", "codes", "rules", "one_way", "is", "read_exact")
+        names = ("last", "refuses", "length", "codes", "rules", "is", "read_exact")
         fields = "".join(f"    {it}: u8,\n" for it in names)
         self.file.write_text(f"// #[derive(Pread, Pwrite)]\nstruct Data {{\n{fields}}}\nmod derived;\n", encoding="utf-8")
         self.assertEqual(self.call(str(self.crate)), (0, "", ""))

@@ -3,7 +3,7 @@ ghost use Rattle.std.specs.Prelude.{◌≡◌, ◌≢◌, ◌<◌, ◌^◌, ◌�
 ghost use Rattle.std.proofs.Common.{rules};
 ghost use Rattle.scroll.specs.lemmas.Frames.{WritesPrefix-keeps};
 ghost use Rattle.scroll_layouts.specs.Formats.{last, refuses};
-ghost use Rattle.scroll_layouts.specs.OneWay.{one_way};
+ghost use Rattle.scroll_layouts.specs.OneWay.{OneWay};
 ghost use Rattle.scroll_layouts.specs.Wholes.{KeepsWhole, ReadsExact, WritesWhole};
 ghost use Rattle.scroll_layouts.specs.declared.choice.Choice.TheVariants.{First, Second};
 ghost use Rattle.debug_tables.specs.declared.declaration.TableError.TheVariants as table_error_is;
@@ -85,15 +85,6 @@ impl Shape for Attribute {
 
 impl<'a> CertainHead<'a, (), AttributeHead, TableError> for AttributeSays {
     fn certain_next() {}
-}
-
-impl<'a> Certain<'a, (), TableError> for Attribute {
-    fn certain()
-        ensures { (ctx : Unit {0})
-            → one_way (⟦<Attribute as ReadPart<'a, (), TableError>>⟧.format ctx) }
-    {
-        <AttributeParts as Certain<'a, AttributeCtx, TableError>>::certain()
-    }
 }
 
 impl<'a> TryFromCtx<'a, Endian> for Attribute {
@@ -253,6 +244,19 @@ impl<'a> ReadPart<'a, (), TableError> for Children {
             (1, Second(_)) => Ok((Children::Yes, end)),
             _ => unreachable!(),
         }
+    }
+}
+
+impl<'a> CertainHead<'a, (), ChildrenHead, TableError> for ChildrenSays {
+    fn certain_next() {}
+}
+
+impl<'a> Certain<'a, (), TableError> for Children {
+    fn certain()
+        ensures { (ctx : Unit {0})
+            → OneWay (⟦<Children as ReadPart<'a, (), TableError>>⟧.format ctx) }
+    {
+        <ChildrenParts as Certain<'a, ChildrenCtx, TableError>>::certain()
     }
 }
 

@@ -6,7 +6,6 @@ ghost use Rattle.scroll.specs.Errors.{IsBadInput};
 ghost use Rattle.scroll.specs.Numbers.{number};
 ghost use Rattle.scroll.specs.lemmas.Frames.{WritesPrefix-keeps};
 ghost use Rattle.scroll_layouts.specs.Formats.{refuses};
-ghost use Rattle.scroll_layouts.specs.OneWay.{one_way};
 ghost use Rattle.scroll_layouts.specs.Wholes.{KeepsWhole, ReadsExact, WritesWhole};
 ghost use Rattle.scroll_layouts.specs.declared.choice.Choice.TheVariants.{First, Second};
 ghost use Rattle.scroll.specs.declared.endian.Endian.TheVariants as endian_is;
@@ -20,9 +19,8 @@ use scroll::ctx::{Record, TryFromCtx, TryIntoCtx, Written};
 use scroll::{BE, Endian, Error};
 use scroll_layouts::Choice::{First, Second};
 use scroll_layouts::{
-    Certain, CertainHead, Choice, Choose, Count, Field, Given, Head, Headed, Items, Listed, Low,
-    Marked, NameEnd, Ordered, Packed, Part, ReadPart, Run, Shape, ToMark, Within, read_exact,
-    write_whole,
+    CertainHead, Choice, Choose, Count, Field, Given, Head, Headed, Items, Listed, Low, Marked,
+    NameEnd, Ordered, Packed, Part, ReadPart, Run, Shape, ToMark, Within, read_exact, write_whole,
 };
 use std::marker::PhantomData;
 use std::result::Result;
@@ -386,15 +384,6 @@ impl<'a> CertainHead<'a, (), LabelHead, Error> for LabelSays {
     fn certain_next() {}
 }
 
-impl<'a> Certain<'a, (), Error> for Label<'a> {
-    fn certain()
-        ensures { (ctx : Unit {0})
-            → one_way (⟦<Label<'a> as ReadPart<'a, (), Error>>⟧.format ctx) }
-    {
-        <LabelParts<'a> as Certain<'a, LabelCtx, Error>>::certain()
-    }
-}
-
 impl<'a> Listed<'a> for Questions {
     type Item = Question<'a>;
 }
@@ -534,6 +523,10 @@ impl<'a> Shape for Resource<'a> {
     {
         ((), Headed((), ResourceSays, PhantomData))
     }
+}
+
+impl<'a> CertainHead<'a, (), ResourceHead, Error> for ResourceSays {
+    fn certain_next() {}
 }
 
 impl<'a> TryFromCtx<'a, Endian> for Resource<'a> {
@@ -873,13 +866,4 @@ impl<'a> Shape for Text<'a> {
 
 impl<'a> CertainHead<'a, (), TextHead, Error> for TextSays {
     fn certain_next() {}
-}
-
-impl<'a> Certain<'a, (), Error> for Text<'a> {
-    fn certain()
-        ensures { (ctx : Unit {0})
-            → one_way (⟦<Text<'a> as ReadPart<'a, (), Error>>⟧.format ctx) }
-    {
-        <TextParts<'a> as Certain<'a, TextCtx, Error>>::certain()
-    }
 }

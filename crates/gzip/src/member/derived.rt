@@ -5,7 +5,6 @@ ghost use Rattle.scroll.specs.Errors.{IsBadInput};
 ghost use Rattle.scroll.specs.Numbers.{number};
 ghost use Rattle.scroll.specs.lemmas.Frames.{WritesPrefix-keeps};
 ghost use Rattle.scroll_layouts.specs.Formats.{refuses};
-ghost use Rattle.scroll_layouts.specs.OneWay.{one_way};
 ghost use Rattle.scroll_layouts.specs.Wholes.{KeepsWhole, ReadsExact, WritesWhole};
 ghost use Rattle.scroll.specs.declared.endian.Endian.TheVariants as endian_is;
 
@@ -13,7 +12,7 @@ use super::{CStr, Extra, ExtraField, ExtraFields, Header, Trailer};
 use scroll::ctx::{Record, TryFromCtx, TryIntoCtx, Written};
 use scroll::{Endian, Error, LE};
 use scroll_layouts::{
-    Certain, CertainHead, Head, Headed, Items, Listed, Ordered, Part, ReadPart, Run, Shape, When,
+    CertainHead, Head, Headed, Items, Listed, Ordered, Part, ReadPart, Run, Shape, When,
     read_exact, write_whole,
 };
 use std::marker::PhantomData;
@@ -342,13 +341,4 @@ impl<'a> Shape for ExtraField<'a> {
 
 impl<'a> CertainHead<'a, (), ExtraFieldHead, Error> for ExtraFieldSays {
     fn certain_next() {}
-}
-
-impl<'a> Certain<'a, (), Error> for ExtraField<'a> {
-    fn certain()
-        ensures { (ctx : Unit {0})
-            → one_way (⟦<ExtraField<'a> as ReadPart<'a, (), Error>>⟧.format ctx) }
-    {
-        <ExtraFieldParts<'a> as Certain<'a, ExtraFieldCtx, Error>>::certain()
-    }
 }

@@ -120,7 +120,7 @@ before-one mark f t order s at (x ∷ xs) (y ∷ ys) to stop end last all h m k 
     (subst (λ a. ItemsBefore mark f order s (at + a) ys stop) same k.3) n
 
 -- so is it in a source that begins with it
-marked-there : {E X : Type 0} (mark : Mark) (f : Format E X) (order : Endian) (s x : List ℕ)
+pub marked-there : {E X : Type 0} (mark : Mark) (f : Format E X) (order : Endian) (s x : List ℕ)
     (values : List X) → All (λ b. b < 256) s → length x ≤ length s → x ≡ take (length x) s
     → MarkedList mark f order x values (length x) → MarkedList mark f order s values (length x)
 marked-there mark f order s x values all inside begins h =

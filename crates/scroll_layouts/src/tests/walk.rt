@@ -4,12 +4,9 @@ ghost use Rattle.std.proofs.Common.{rules};
 ghost use Rattle.scroll.specs.Numbers.{number};
 ghost use Rattle.scroll.specs.declared.endian.Endian.TheVariants.{Little};
 ghost use Rattle.scroll_layouts.specs.Formats.{refuses};
-ghost use Rattle.scroll_layouts.specs.OneWay.{one_way};
 ghost use Rattle.scroll_layouts.specs.Wholes.{ReadsExact};
 
-use crate::{
-    Certain, CertainHead, Head, Headed, Items, Listed, ReadPart, Run, Shape, Uleb, read_exact,
-};
+use crate::{CertainHead, Head, Headed, Items, Listed, ReadPart, Run, Shape, Uleb, read_exact};
 use scroll::cstr::CStr;
 use scroll::ctx::TryFromCtx;
 use scroll::{Endian, Error, LE, Pread, Result};
@@ -82,15 +79,6 @@ impl<'a> Shape for Field<'a> {
         ensures { result ≡ ⟦<Field<'a> as Shape>⟧.inner_of _ctx.now }
     {
         Headed(((), ()), FieldLen, PhantomData)
-    }
-}
-
-impl<'a> Certain<'a, (), Error> for Field<'a> {
-    fn certain()
-        ensures { (ctx : Unit {0})
-            → one_way (⟦<Field<'a> as ReadPart<'a, (), Error>>⟧.format ctx) }
-    {
-        <FieldParts<'a> as Certain<'a, FieldCtx, Error>>::certain()
     }
 }
 

@@ -1,12 +1,13 @@
 // Parts that a source has in one way.
 ghost use Rattle.std.specs.Prelude.{◌≡◌, ℕ};
-ghost use Rattle.scroll_layouts.specs.OneWay.{one_way};
+ghost use Rattle.scroll_layouts.specs.OneWay.{OneWay};
 ghost use Rattle.scroll_layouts.specs.Formats.{reads, refuses, len};
 
 use crate::walk::{Certain, CertainHead};
 use crate::{
-    Behind, BitFields, Choice, Choose, Digits, Ends, Filled, FixedLayout, Headed, Items, Listed,
-    Ordered, Packed, Padded, ReadPart, Run, Sleb, Uleb, Vlq, When, Within, Word, Zigzag,
+    Behind, BitFields, Choice, Choose, Count, Digits, Ends, Filled, FixedLayout, Given, Headed,
+    Items, Listed, Marked, Ordered, Packed, Padded, ReadPart, Run, Shape, Sleb, ToMark, Uleb, Vlq,
+    When, Within, Word, Zigzag,
 };
 use scroll::Error;
 use scroll::cstr::CStr;
@@ -19,7 +20,7 @@ impl<'a, E: From<Error>, P: FixedLayout> Certain<'a, (), E> for Run<P> {
 
 impl<'a, E: From<Error>> Certain<'a, usize, E> for &'a [u8] {
     fn certain()
-        ensures { (ctx : ℕ) → one_way (⟦<&'a [u8] as ReadPart<'a, usize, E>>⟧.format ctx) }
+        ensures { (ctx : ℕ) → OneWay (⟦<&'a [u8] as ReadPart<'a, usize, E>>⟧.format ctx) }
     {}
 }
 
@@ -55,34 +56,34 @@ impl<'a, E: From<Error>, const BASE: u64, const N: usize> Certain<'a, (), E> for
 impl<'a, E: From<Error>> Certain<'a, Filled, E> for &'a [u8] {
     #[tactic(auto, using(crate::specs::lemmas::LeavesOneWay::more_leaves_one_way))]
     fn certain()
-        ensures { (ctx : Filled) → one_way (⟦<&'a [u8] as ReadPart<'a, Filled, E>>⟧.format ctx) }
+        ensures { (ctx : Filled) → OneWay (⟦<&'a [u8] as ReadPart<'a, Filled, E>>⟧.format ctx) }
     {}
 }
 
 impl<'a, E: From<Error>> Certain<'a, (), E> for CStr<'a> {
     #[tactic(auto, using(crate::specs::lemmas::OneWayLemmas::leaves_one_way))]
     fn certain()
-        ensures { (ctx : Unit {0}) → one_way (⟦<CStr<'a> as ReadPart<'a, (), E>>⟧.format ctx) }
+        ensures { (ctx : Unit {0}) → OneWay (⟦<CStr<'a> as ReadPart<'a, (), E>>⟧.format ctx) }
     {}
 }
 
 impl<'a, E: From<Error>> Certain<'a, usize, E> for &'a str {
     #[tactic(auto, using(crate::specs::lemmas::OneWayLemmas::leaves_one_way))]
     fn certain()
-        ensures { (ctx : ℕ) → one_way (⟦<&'a str as ReadPart<'a, usize, E>>⟧.format ctx) }
+        ensures { (ctx : ℕ) → OneWay (⟦<&'a str as ReadPart<'a, usize, E>>⟧.format ctx) }
     {}
 }
 
 impl<'a, E: From<Error>> Certain<'a, Ends, E> for &'a str {
     #[tactic(auto, using(crate::specs::lemmas::OneWayLemmas::leaves_one_way))]
     fn certain()
-        ensures { (ctx : Ends) → one_way (⟦<&'a str as ReadPart<'a, Ends, E>>⟧.format ctx) }
+        ensures { (ctx : Ends) → OneWay (⟦<&'a str as ReadPart<'a, Ends, E>>⟧.format ctx) }
     {}
 }
 
 impl<'a, E: From<Error>, T: Plain> Certain<'a, usize, E> for Table<'a, T> {
     fn certain()
-        ensures { (ctx : ℕ) → one_way (⟦<Table<'a, T> as ReadPart<'a, usize, E>>⟧.format ctx) }
+        ensures { (ctx : ℕ) → OneWay (⟦<Table<'a, T> as ReadPart<'a, usize, E>>⟧.format ctx) }
     {}
 }
 
@@ -103,6 +104,24 @@ impl<'a, E: From<Error>, C: Drop, D: Drop, A: Certain<'a, C, E>, B: Certain<'a, 
 }
 
 impl<'a, E: From<Error>, K: Listed<'a>> Certain<'a, usize, E> for Items<'a, K>
+where
+    K::Item: Certain<'a, (), E>,
+{
+    fn certain() {
+        <K::Item as Certain<'a, (), E>>::certain()
+    }
+}
+
+impl<'a, E: From<Error>, K: Listed<'a>> Certain<'a, Count, E> for Items<'a, K>
+where
+    K::Item: Certain<'a, (), E>,
+{
+    fn certain() {
+        <K::Item as Certain<'a, (), E>>::certain()
+    }
+}
+
+impl<'a, E: From<Error>, K: Marked<'a>> Certain<'a, ToMark, E> for Items<'a, K>
 where
     K::Item: Certain<'a, (), E>,
 {
@@ -173,5 +192,23 @@ impl<
         A::certain();
         H::certain_next();
         B::certain();
+    }
+}
+
+impl<'a, E, S: Shape<Ctx = ()>> Certain<'a, (), E> for S
+where
+    S::Parts: Certain<'a, S::Inner, E>,
+{
+    fn certain() {
+        S::Parts::certain()
+    }
+}
+
+impl<'a, E, S: Shape> Certain<'a, Given<S::Ctx>, E> for S
+where
+    S::Parts: Certain<'a, S::Inner, E>,
+{
+    fn certain() {
+        S::Parts::certain()
     }
 }

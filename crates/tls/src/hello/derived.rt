@@ -5,7 +5,6 @@ ghost use Rattle.scroll.specs.Errors.{IsBadInput};
 ghost use Rattle.scroll.specs.lemmas.Frames.{WritesPrefix-keeps};
 ghost use Rattle.scroll_layouts.specs.Errors.{IsNot};
 ghost use Rattle.scroll_layouts.specs.Formats.{refuses};
-ghost use Rattle.scroll_layouts.specs.OneWay.{one_way};
 ghost use Rattle.scroll_layouts.specs.Wholes.{KeepsWhole, ReadsExact, WritesWhole};
 ghost use Rattle.scroll_layouts.specs.declared.choice.Choice.TheVariants.{First, Second};
 ghost use Rattle.scroll.specs.declared.endian.Endian.TheVariants as endian_is;
@@ -19,8 +18,8 @@ use scroll::ctx::{TryFromCtx, TryIntoCtx};
 use scroll::{BE, Endian, Error};
 use scroll_layouts::Choice::{First, Second};
 use scroll_layouts::{
-    Behind, Certain, CertainHead, Choice, Choose, Given, Head, Headed, Items, Listed, Ordered,
-    Packed, Part, ReadPart, Run, Shape, U24, Within, is, read_exact, write_whole,
+    Behind, CertainHead, Choice, Choose, Given, Head, Headed, Items, Listed, Ordered, Packed, Part,
+    ReadPart, Run, Shape, U24, Within, is, read_exact, write_whole,
 };
 use std::marker::PhantomData;
 use std::result::Result;
@@ -429,6 +428,10 @@ impl<'a> Shape for Extension<'a> {
     }
 }
 
+impl<'a> CertainHead<'a, (), ExtensionHead, Error> for ExtensionSays {
+    fn certain_next() {}
+}
+
 impl<'a> TryFromCtx<'a, Endian> for Extension<'a> {
     type Error = Error;
 
@@ -597,6 +600,10 @@ impl<'a> Shape for ServerNames<'a> {
     }
 }
 
+impl<'a> CertainHead<'a, (), ServerNamesHead, Error> for ServerNamesSays {
+    fn certain_next() {}
+}
+
 type HostNameHead = Run<(u8, u16)>;
 
 type HostNameNext = usize;
@@ -652,6 +659,10 @@ impl<'a> Shape for HostName<'a> {
     {
         Headed((), HostNameSays, PhantomData)
     }
+}
+
+impl<'a> CertainHead<'a, (), HostNameHead, Error> for HostNameSays {
+    fn certain_next() {}
 }
 
 type LongListHead = Run<u16>;
@@ -710,6 +721,10 @@ impl<'a> Shape for LongList<'a> {
     }
 }
 
+impl<'a> CertainHead<'a, (), LongListHead, Error> for LongListSays {
+    fn certain_next() {}
+}
+
 type ShortListHead = Run<u8>;
 
 type ShortListNext = usize;
@@ -766,6 +781,10 @@ impl<'a> Shape for ShortList<'a> {
     }
 }
 
+impl<'a> CertainHead<'a, (), ShortListHead, Error> for ShortListSays {
+    fn certain_next() {}
+}
+
 type ProtocolListHead = Run<u16>;
 
 type ProtocolListNext = usize;
@@ -820,6 +839,10 @@ impl<'a> Shape for ProtocolList<'a> {
     {
         Headed((), ProtocolListSays, PhantomData)
     }
+}
+
+impl<'a> CertainHead<'a, (), ProtocolListHead, Error> for ProtocolListSays {
+    fn certain_next() {}
 }
 
 impl<'a> Listed<'a> for Protocols {
@@ -890,13 +913,4 @@ impl<'a> Shape for Protocol<'a> {
 
 impl<'a> CertainHead<'a, (), ProtocolHead, Error> for ProtocolSays {
     fn certain_next() {}
-}
-
-impl<'a> Certain<'a, (), Error> for Protocol<'a> {
-    fn certain()
-        ensures { (ctx : Unit {0})
-            → one_way (⟦<Protocol<'a> as ReadPart<'a, (), Error>>⟧.format ctx) }
-    {
-        <ProtocolParts<'a> as Certain<'a, ProtocolCtx, Error>>::certain()
-    }
 }

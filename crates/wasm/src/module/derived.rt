@@ -5,7 +5,7 @@ ghost use Rattle.scroll.specs.Errors.{IsBadInput};
 ghost use Rattle.scroll.specs.lemmas.Frames.{WritesPrefix-keeps};
 ghost use Rattle.scroll_layouts.specs.Errors.{IsNot};
 ghost use Rattle.scroll_layouts.specs.Formats.{last, refuses};
-ghost use Rattle.scroll_layouts.specs.OneWay.{one_way};
+ghost use Rattle.scroll_layouts.specs.OneWay.{OneWay};
 ghost use Rattle.scroll_layouts.specs.Wholes.{KeepsWhole, ReadsExact, WritesWhole};
 ghost use Rattle.scroll_layouts.specs.declared.choice.Choice.TheVariants.{First, Second};
 ghost use Rattle.scroll.specs.declared.endian.Endian.TheVariants as endian_is;
@@ -187,6 +187,14 @@ impl<'a> Shape for Section<'a> {
     {
         Headed((), SectionSays, PhantomData)
     }
+}
+
+impl<'a> CertainHead<'a, (), SectionHead2, Error> for SectionSays2 {
+    fn certain_next() {}
+}
+
+impl<'a> CertainHead<'a, (), SectionHead, Error> for SectionSays {
+    fn certain_next() {}
 }
 
 impl<'a> TryFromCtx<'a, Endian> for Section<'a> {
@@ -372,15 +380,6 @@ impl<'a> CertainHead<'a, (), NameHead, Error> for NameSays {
     fn certain_next() {}
 }
 
-impl<'a> Certain<'a, (), Error> for Name<'a> {
-    fn certain()
-        ensures { (ctx : Unit {0})
-            → one_way (⟦<Name<'a> as ReadPart<'a, (), Error>>⟧.format ctx) }
-    {
-        <NameParts<'a> as Certain<'a, NameCtx, Error>>::certain()
-    }
-}
-
 type CustomBefore<'a> = Name<'a>;
 
 type CustomParts<'a> = (CustomBefore<'a>, &'a [u8]);
@@ -468,6 +467,10 @@ impl<'a> Shape for Types<'a> {
     {
         Headed((), TypesSays, PhantomData)
     }
+}
+
+impl<'a> CertainHead<'a, (), TypesHead, Error> for TypesSays {
+    fn certain_next() {}
 }
 
 impl<'a> Listed<'a> for FunctionTypes {
@@ -615,15 +618,6 @@ impl<'a> CertainHead<'a, (), FunctionTypeHead, Error> for FunctionTypeSays {
     fn certain_next() {}
 }
 
-impl<'a> Certain<'a, (), Error> for FunctionType<'a> {
-    fn certain()
-        ensures { (ctx : Unit {0})
-            → one_way (⟦<FunctionType<'a> as ReadPart<'a, (), Error>>⟧.format ctx) }
-    {
-        <FunctionTypeParts<'a> as Certain<'a, FunctionTypeCtx, Error>>::certain()
-    }
-}
-
 type ImportsHead = Uleb;
 
 type ImportsNext = Count;
@@ -680,6 +674,10 @@ impl<'a> Shape for Imports<'a> {
     }
 }
 
+impl<'a> CertainHead<'a, (), ImportsHead, Error> for ImportsSays {
+    fn certain_next() {}
+}
+
 impl<'a> Listed<'a> for ImportList {
     type Item = Import<'a>;
 }
@@ -712,15 +710,6 @@ impl<'a> Shape for Import<'a> {
         ensures { result ≡ ⟦<Import<'a> as Shape>⟧.inner_of _ctx.now }
     {
         ((), ((), ()))
-    }
-}
-
-impl<'a> Certain<'a, (), Error> for Import<'a> {
-    fn certain()
-        ensures { (ctx : Unit {0})
-            → one_way (⟦<Import<'a> as ReadPart<'a, (), Error>>⟧.format ctx) }
-    {
-        <ImportParts<'a> as Certain<'a, ImportCtx, Error>>::certain()
     }
 }
 
@@ -900,7 +889,7 @@ impl<'a> CertainHead<'a, (), ImportedHead, Error> for ImportedSays {
 impl<'a> Certain<'a, (), Error> for Imported {
     fn certain()
         ensures { (ctx : Unit {0})
-            → one_way (⟦<Imported as ReadPart<'a, (), Error>>⟧.format ctx) }
+            → OneWay (⟦<Imported as ReadPart<'a, (), Error>>⟧.format ctx) }
     {
         <ImportedParts as Certain<'a, ImportedCtx, Error>>::certain()
     }
@@ -934,15 +923,6 @@ impl Shape for TableType {
         ensures { result ≡ ⟦<TableType as Shape>⟧.inner_of _ctx.now }
     {
         ((), ())
-    }
-}
-
-impl<'a> Certain<'a, (), Error> for TableType {
-    fn certain()
-        ensures { (ctx : Unit {0})
-            → one_way (⟦<TableType as ReadPart<'a, (), Error>>⟧.format ctx) }
-    {
-        <TableTypeParts as Certain<'a, TableTypeCtx, Error>>::certain()
     }
 }
 
@@ -1012,15 +992,6 @@ impl<'a> CertainHead<'a, (), LimitsHead, Error> for LimitsSays {
     fn certain_next() {}
 }
 
-impl<'a> Certain<'a, (), Error> for Limits {
-    fn certain()
-        ensures { (ctx : Unit {0})
-            → one_way (⟦<Limits as ReadPart<'a, (), Error>>⟧.format ctx) }
-    {
-        <LimitsParts as Certain<'a, LimitsCtx, Error>>::certain()
-    }
-}
-
 type IndicesHead = Uleb;
 
 type IndicesNext = Count;
@@ -1075,6 +1046,10 @@ impl<'a> Shape for Indices<'a> {
     {
         Headed((), IndicesSays, PhantomData)
     }
+}
+
+impl<'a> CertainHead<'a, (), IndicesHead, Error> for IndicesSays {
+    fn certain_next() {}
 }
 
 impl<'a> Listed<'a> for IndexList {
@@ -1135,6 +1110,10 @@ impl<'a> Shape for Exports<'a> {
     {
         Headed((), ExportsSays, PhantomData)
     }
+}
+
+impl<'a> CertainHead<'a, (), ExportsHead, Error> for ExportsSays {
+    fn certain_next() {}
 }
 
 impl<'a> Listed<'a> for ExportList {
@@ -1207,13 +1186,4 @@ impl<'a> Shape for Export<'a> {
 
 impl<'a> CertainHead<'a, (), ExportHead, Error> for ExportSays {
     fn certain_next() {}
-}
-
-impl<'a> Certain<'a, (), Error> for Export<'a> {
-    fn certain()
-        ensures { (ctx : Unit {0})
-            → one_way (⟦<Export<'a> as ReadPart<'a, (), Error>>⟧.format ctx) }
-    {
-        <ExportParts<'a> as Certain<'a, ExportCtx, Error>>::certain()
-    }
 }
