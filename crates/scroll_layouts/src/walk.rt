@@ -13,7 +13,7 @@ use scroll::Endian;
 use std::marker::PhantomData;
 
 /// A part that a source has in one way: all values that it has are the same, and it has no value
-/// and an error. A struct whose list is walked says so of its items, in one line.
+/// and an error. A struct is one if its parts are; an enum with its own tag says it in one line.
 pub trait Certain<'a, Ctx, E>: ReadPart<'a, Ctx, E> {
     /// Does nothing, and says so.
     fn certain()

@@ -46,7 +46,11 @@ pub fn check_too_big<T: Drop>(
     wanted_size: usize,
     wanted_len: usize,
 ) {
-    check_error(rt, outcome, ("TooBig", wanted_size, wanted_len));
+    match outcome {
+        Err(Error::TooBig { size, len }) => check_eq(rt, (size, len), (wanted_size, wanted_len)),
+        Err(error) => panic!(rt; "expected TooBig, got {error:?}"),
+        Ok(_) => panic!(rt; "expected TooBig, got a value"),
+    }
 }
 
 // Checks that a call returned this `BadInput`.
