@@ -4,10 +4,10 @@
     python3 gate/depending.py
 
 It runs the program by README's first command, without proof. Then it copies the libraries with their proofs to an empty folder,
-pastes the first file and a format of one's own, and derives and proves that: the commands and the files are README's own blocks, and
-what is printed last must be README's text. The libraries are proved in this repository first, by `rt lib` over what out/ keeps, so
-that they aren't proved twice. The examples of the documentation are the tests of the crate `documented`, which gate/documented.py makes and
-`rt try` runs. Each of these is a check.
+pastes the first file and a format of one's own, and derives and proves that: the commands and the files are README's own blocks,
+and what is printed last must be README's text. The libraries are proved in this repository first, by `rt lib` over what out/
+keeps, so that they aren't proved twice. The examples of the documentation are the tests of the crate `documented`, which
+gate/documented.py makes and `rt try` runs. Each of these is a check.
 """
 
 import os

@@ -1,8 +1,8 @@
-"""Makes the columns of lines in crates/README.md from the files of the clients, and compares them: each client is a check, and so is
-that the page names each crate. README has the lines of code and of proof in its table of formats, with those of the descriptions in
-catalogue/; it also has the version of the kit, which `rt version` prints, and how fast whole jobs are, from the table in
-docs/SPEED.md. The product's contracts, definitions and comments have at most 100 columns; imports, the strings of tests and examples
-in comments may have more.
+"""Makes the columns of lines in crates/README.md from the files of the clients, and compares them: each client is a check, and
+so is that the page names each crate. README has the lines of code and of proof in its table of formats, with those of the
+descriptions in catalogue/; it also has the version of the kit, which `rt version` prints, and how fast whole jobs are, from the
+table in docs/SPEED.md. The product's contracts, definitions and comments have at most 100 columns; imports, the strings of tests
+and examples in comments may have more.
 """
 
 import re
@@ -65,7 +65,7 @@ def formats(clients: List[List[str]]) -> str:
     """Returns the table of the formats, of which the clients have the rows of crates/README.md."""
     found = {it.name.removesuffix(".rt.txt"): count_lines([it]) for it in (TOP / "catalogue").glob("*.rt.txt")}
     made = {it[0].strip("`"): it[2] + f" ({it[4]})" * (it[4] != "0") for it in clients}
-    lines = ["| for | described alone | clients |", "|---|---|---|"]
+    lines = ["| for | catalogue | clients |", "|---|---|---|"]
     for area, names in FORMATS.items():
         cells = [", ".join(f"`{it}` {of[it]}" for it in names.split() if it in of) for of in (found, made)]
         lines.append(f"| {area} | {' | '.join(cells)} |".replace("  ", " "))
