@@ -3,11 +3,11 @@
 
     python3 gate/depending.py
 
-It runs the program by README's first command, without proof. Then it copies the libraries to an empty folder, pastes the first
-file, derives a format, and proves all: the commands and the files are README's own blocks, and what `rt test` prints last must be
-README's text. The libraries are proved in this repository first, by `rt lib` over what out/ keeps, and their builds are copied too,
-so that they aren't proved twice. The examples of the documentation are the tests of the crate `documented`, which gate/documented.py makes and
-`rt try` runs. Each of these is a check.
+It runs the program by README's first command, without proof. Then it copies the libraries with their proofs to an empty folder,
+pastes the first file and a format of one's own, and derives and proves that: the commands and the files are README's own blocks,
+and what is printed last must be README's text. The libraries are proved in this repository first, by `rt lib` over what out/
+keeps, so that they aren't proved twice. The examples of the documentation are the tests of the crate `documented`, which
+gate/documented.py makes and `rt try` runs. Each of these is a check.
 """
 
 import os
@@ -52,15 +52,17 @@ def run_program(step: Step) -> None:
     count(step, "run the first command", is_well, Ran(status, said.decode(errors="replace")))
 
 
-def copy_libraries(step: Step, own: Path, section: str) -> List[str]:
-    """Copies the libraries to a new repository as a section says, and returns the names of the repository's."""
-    ran = step.run(own, "sh", "-euc", blocks_of("sh", section)[0], env={**os.environ, "SCROLL": str(TOP)})
-    names = [it for it in read_crates(own) if it in read_crates()]
-    copied = bool(names) and (own / "HANDLES").is_file()
-    for crate in (own / "crates" / it for it in names):
-        copied = copied and (crate / "src" / "lib.rt").is_file() and not any((crate / it).exists() for it in (*FOLDERS, "out"))
-    count(step, f"copy {' '.join(names)}", not ran.status and copied, ran)
-    return names
+def copy_libraries(step: Step, own: Path) -> None:
+    """Copies the libraries with their proofs to a new repository as README says."""
+    for name in LIBRARIES:
+        ran = step.run(TOP / "crates" / name, "rt", "lib")
+        count(step, f"build {name}", not ran.status, ran)
+    ran = step.run(own, "sh", "-euc", blocks_of("sh", FIRST)[0], env={**os.environ, "SCROLL": str(TOP)})
+    copied = [it for it in read_crates(own) if it in read_crates()] == [*LIBRARIES] and (own / "HANDLES").is_file()
+    for crate in (own / "crates" / it for it in LIBRARIES):
+        there = [(crate / it).exists() for it in ("src/lib.rt", "out")]
+        copied = copied and all(there) and not any((crate / it).exists() for it in (*FOLDERS, "out/incremental"))
+    count(step, f"copy {' '.join(LIBRARIES)}", not ran.status and copied, ran)
 
 
 def run_examples(step: Step) -> None:
@@ -79,24 +81,17 @@ def run_examples(step: Step) -> None:
 
 
 def prove_files(step: Step) -> None:
-    """The first file and the users of its format are proved, and the file's tests pass."""
+    """The first file and the users of a format in it are proved, and the file's tests pass."""
     own = step.room / "own"
-    first = own / "crates" / "first"
+    source = own / "crates" / "first" / "src"
     own.mkdir()
-    copy_libraries(step, own, FIRST)
-    for name in copy_libraries(step, own, OWN):
-        ran = step.run(TOP / "crates" / name, "rt", "lib")
-        if not ran.status:
-            copy_kept(TOP / "crates" / name / "out", own / "crates" / name / "out", ["incremental"])
-        count(step, f"build {name}", not ran.status, ran)
+    copy_libraries(step, own)
     struct, users = blocks_of("rust", OWN)
-    (first / "src" / "sample.rt").write_text(struct)
-    ran = step.run(own, "sh", "-euc", blocks_of("sh", OWN)[1], env={**os.environ, "SCROLL": str(TOP)})
-    count(step, "derive a format", not ran.status, ran)
+    (source / "sample.rt").write_text(struct)
     head, _, rest = blocks_of("rust", FIRST)[0].partition("static BYTES")
-    (first / "src" / "lib.rt").write_text(f"{head}{users}\nstatic BYTES{rest}")
-    ran = step.run(first, "rt", "test")
-    count(step, "prove and run the first file", not ran.status and ran.said.endswith(blocks_of("text", FIRST)[0]), ran)
+    (source / "lib.rt").write_text(f"{head}{users}\nstatic BYTES{rest}")
+    ran = step.run(own, "sh", "-euc", blocks_of("sh", OWN)[0], env={**os.environ, "SCROLL": str(TOP)})
+    count(step, "derive the format, prove and run the file", not ran.status and ran.said.endswith(blocks_of("text", FIRST)[0]), ran)
     for it in USERS:
         count(step, f"prove {it}", not ran.status and f"\nfn first::{it}: proved\n" in ran.said, ran)
 

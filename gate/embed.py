@@ -203,7 +203,7 @@ def try_page(step: Step, library: Any) -> None:
     blocks = re.findall(r"(?ms)^```rust\n(.*?)^```$", (TOP / "embed" / "README.md").read_text(encoding="utf-8"))
     source.write_text("".join(blocks), encoding="utf-8")
     crate = library.read_crate(source.parents[1])
-    step.count("the example of embed/README.md", differ([it.name for it in crate.exports], ["wav_rate"]))
+    step.count("the example of embed/README.md", differ([it.name for it in crate.exports], ["sample_rate"]))
 
 
 def try_rust(step: Step, out: Path) -> None:

@@ -7,7 +7,7 @@ CRATE is the folder of a crate. For each file of its src/ in which a struct or a
 `// #[derive(Pread, Pwrite)]` a file `derived.rt` is written, a module of that file, which says `mod derived;`. docs/GUIDE.md
 has the notes.
 
-A file that no struct asks for any more is removed.
+A file that no struct asks for any more is removed. Where nothing asks for one, a line says so.
 
 The exit status is 0; or 1 if --check finds a file that is stale, missing or left over; or 2 with one line on standard error,
 with the file and the line, where something isn't supported. Then nothing is written.
@@ -20,7 +20,7 @@ from typing import List
 sys.dont_write_bytecode = True
 
 from crate_files import derived_files, is_same, left_over
-from tokens import Refused
+from tokens import MARK, Refused
 
 USAGE = "usage: python3 tools/derive [--check] CRATE"
 
@@ -47,6 +47,8 @@ def main(words: List[str]) -> int:
         path.write_text(files[path], encoding="utf-8")
     for path in left:
         path.unlink()
+    if not files:
+        print(f"{names[0]}: nothing is written, since no struct or enum stands behind the line `// {MARK}`")
     return 0
 
 

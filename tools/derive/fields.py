@@ -7,6 +7,7 @@ from fixed_types import PLAIN, Array, Fixed, Record, is_counter
 from forms import NOTHING, Number, Part, numbers, one, there
 from items import Note, RawField, Type
 from model import Enum, ListType, Struct
+from names import HOMES
 from rules import bytes_rule, constant_rule, guarded, tag_rule
 from sums import Value
 from text import call, record
@@ -14,6 +15,8 @@ from text import call, record
 if TYPE_CHECKING:
     from reader import Reader
 
+# Types that borrow.
+BORROWED = ("&[u8]", "&str", "CStr", "Table", "Items")
 # The notes of any field.
 WRAPPERS = ("if", "within", "padded", "order", "big", "check")
 
@@ -21,6 +24,12 @@ WRAPPERS = ("if", "within", "padded", "order", "big", "check")
 def around(name: str, value: Value) -> Value:
     """Returns a context that holds a value."""
     return Value(record(value.ghost), call(name, value.code))
+
+
+def borrowed(of: Type) -> str:
+    """Returns a type with the lifetime that it lacks."""
+    inside = ", ".join(["'a", *(it.text for it in of.arguments)])
+    return of.text if of.name[0] == "&" else f"{of.name}<{inside}>"
 
 
 class Kind:
@@ -38,6 +47,10 @@ class Kind:
                 at.refuse(f"has the note `{word} = ..`; {of.text} takes {words}", note)
         if of.has_lifetime and not reader.item.lifetime:
             at.refuse(f"borrows, and the {reader.item.word} has no lifetime: `{reader.item.name}<'a>`")
+        if of.name in BORROWED and not of.has_lifetime:
+            at.refuse(f"borrows, and has no lifetime of the {reader.item.word}: write `{borrowed(of)}`")
+        if of.name in HOMES and not {of.name, "*"} & reader.crate.files[reader.item.path].imported:
+            at.refuse(f"is of {of.text}, which this file doesn't import: `use {HOMES[of.name]}::{of.name};`")
 
     @property
     def ctx(self) -> Note:

@@ -2,7 +2,7 @@
 
 import re
 from dataclasses import dataclass, field
-from typing import Dict, List, NamedTuple, NoReturn, Optional, Tuple
+from typing import Dict, List, NamedTuple, NoReturn, Optional, Set, Tuple
 
 from tokens import KEPT, MARK, PART, Refused, Token, Tokens, read_tokens, scan
 
@@ -85,9 +85,11 @@ class Item(Named):
 
 @dataclass
 class SourceFile:
-    """A file: its items, its constants, and whether it has the module that is printed and a C string in it is that of std."""
+    """A file: its items, its constants, what it imports, and whether it has the module that is printed and a C string in it is
+    that of std."""
 
     path: str
+    imported: Set[str]
     has_module: bool
     has_std_c_str: bool
     items: List[Item] = field(default_factory=list)
@@ -96,7 +98,10 @@ class SourceFile:
 
 def read_file(path: str, text: str) -> SourceFile:
     """Returns the structs, the enums and the constants of a file."""
-    file = SourceFile(path, bool(re.search(r"(?m)^\s*mod\s+derived;", text)), bool(re.search(r"\bffi::[^;]*\bCStr\b", text)))
+    uses = re.findall(r"(?m)^\s*(?:pub(?:\([^()]*\))?\s+)?use\b[^;]*;", text)
+    imported = {word for it in uses for word in re.findall(r"\w+|\*", it)}
+    has_module = bool(re.search(r"(?m)^\s*mod\s+derived;", text))
+    file = SourceFile(path, imported, has_module, bool(re.search(r"\bffi::[^;]*\bCStr\b", text)))
     tokens = read_tokens(path, text)
     notes: Notes = {}
     mark: Optional[Token] = None

@@ -331,6 +331,10 @@ class Crate:
             return f"is of {of.name}: take a number"
         if re.search(r"\bstatic\b", of.text):
             return f"is of {of.text}, which isn't read"
+        if re.match(r"&.*\[", of.text):
+            return f"is of {of.text}, whose elements are read where they lie: take `Table<'a, ..>`"
+        if re.fullmatch(r"[ui]\d+", of.name):
+            return f"is of {of.name}, which is no type: take a greater number, as `u32` with `bits = 24`"
         if found:
             return f"is of {of.text}, which has no fixed size"
         return f"is of the type {of.text}, which is none of `scroll_layouts` and no struct or enum of this crate"

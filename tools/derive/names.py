@@ -34,6 +34,8 @@ CODE: Dict[str, Sequence[str]] = {
     "std::marker": ("PhantomData",),
     "std::result": ("Result",),
 }
+# Where a file that describes imports a type of a field from. (Of C strings std has others.)
+HOMES = {"CStr": "scroll::cstr", **{name: it for it in ("scroll_formats", "scroll_layouts") for name in CODE[it]}}
 # What no struct or enum may be named; and what it may not be beside one of a fixed size, and beside an enum.
 RECORDS, CHOICES = ("Record", "Written"), ("First", "Second")
 TAKEN = {"CStr", "Option", "String", "Vec", *(it for names in CODE.values() for it in names)} - {*RECORDS, *CHOICES}

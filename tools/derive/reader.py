@@ -83,6 +83,7 @@ class Reader:
         found = read_sum(note, [it.name for it in self.given])
         if not found:
             said = "which is no sum of fields `as usize`, perhaps times numbers, and numbers"
+            said += f": write `{note.text} as usize`" if re.fullmatch(r"[a-z][\w.]*", note.text) else ""
             at.refuse(f"has the context {note.text}, {said}", note)
         whole = self.fitted(at, note, found.whole)
         less = found.less
@@ -141,6 +142,7 @@ class Reader:
         found = read_condition(note)
         if not found:
             said = "write `kind == 1`, `len < other`, or `flags & 4 != 0` of one bit, perhaps several with `&&` or `||`"
+            said += "; a sum or a product is tested by a function of your own" if re.search(r"[*+]", note.text) else ""
             at.refuse(f"has the condition {note.text}: {said}", note)
         self.check_condition(at, note, found)
         return found

@@ -134,7 +134,7 @@ def read_comment(path: str, comment: str, line: int, is_behind: bool) -> List[To
         raise Refused(path, line, "there is text before the note: write it on a line of its own")
     if text.startswith("#[derive"):
         if text not in (MARK, KEPT, PART):
-            raise Refused(path, line, f"this is not the line `// {MARK}`")
+            raise Refused(path, line, f"this is none of the lines `// {MARK}`, `// {KEPT}` and `// {PART}`")
         return [Token("mark", text, line)]
     if not text.startswith("#[scroll(") or not text.endswith(")]"):
         raise Refused(path, line, "a note is one line, `// #[scroll(..)]`")

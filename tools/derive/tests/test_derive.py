@@ -14,6 +14,8 @@ from pathlib import Path
 from typing import List, Tuple
 
 HERE = Path(__file__).resolve().parent
+# What a case's file has too: its module, and what is imported, which no case is about.
+REST = "mod derived;\nuse scroll_layouts::*;\n"
 sys.path.insert(0, str(HERE.parent))
 found = importlib.util.spec_from_file_location("derive_main", HERE.parent / "__main__.py")
 assert found and found.loader
@@ -44,7 +46,7 @@ class Derive(unittest.TestCase):
         for case in cases("right.txt"):
             text, _, wanted = case.partition("\n=>\n")
             with self.subTest(text):
-                self.file.write_text(f"{text}\nmod derived;\n", encoding="utf-8")
+                self.file.write_text(f"{text}\n{REST}", encoding="utf-8")
                 self.assertEqual(self.call(str(self.crate)), (0, "", ""))
                 printed = self.derived.read_text(encoding="utf-8").split("\n")
                 place = 0
@@ -69,7 +71,7 @@ class Derive(unittest.TestCase):
         for case in cases("wrong.txt"):
             line, message = next((at, it) for at, it in enumerate(case.split("\n"), 1) if it.strip().startswith("//~"))
             with self.subTest(message.strip()):
-                module = "" if "needs `mod" in message else "mod derived;\n"
+                module = "" if "needs `mod" in message else REST
                 self.file.write_text(re.sub(r"//~.*", "//", case) + f"\n{module}", encoding="utf-8")
                 status, out, err = self.call(str(self.crate))
                 said = f"derive: {self.file}:{line + 1}: {message.strip()[4:]}\n"
@@ -115,6 +117,27 @@ class Derive(unittest.TestCase):
             "use scroll::ctx::{Record, Written};",
         ]
         self.assertEqual(head, wanted)
+
+    def test_what_is_not_imported(self) -> None:
+        """A type of a field has to be imported; of C strings that of std will do."""
+        struct = "// #[derive(Pread, Pwrite)]\nstruct Name<'a> {\n    text: CStr<'a>,\n}\nmod derived;\n"
+        said = "is of CStr<'a>, which this file doesn't import: `use scroll::cstr::CStr;`"
+        for line in ("", "use scroll::cstr::CString;\n", "// use scroll::cstr::CStr;\n"):
+            self.file.write_text(struct + line, encoding="utf-8")
+            self.assertEqual(self.call(str(self.crate)), (2, "", f"derive: {self.file}:3: the field text {said}\n"))
+        for line in ("use scroll::cstr::{CStr, CString};\n", "pub(crate) use std::ffi::CStr;\n", "use scroll::cstr::*;\n"):
+            self.file.write_text(struct + line, encoding="utf-8")
+            self.assertEqual(self.call(str(self.crate)), (0, "", ""))
+        text = struct.replace("CStr<'a>", "Table<'a, u16>").replace("    text", "    // #[scroll(ctx = 4)]\n    text")
+        self.file.write_text(text, encoding="utf-8")
+        said = "is of Table<'a, u16>, which this file doesn't import: `use scroll_formats::Table;`"
+        self.assertEqual(self.call(str(self.crate)), (2, "", f"derive: {self.file}:4: the field text {said}\n"))
+
+    def test_nothing_is_asked_for(self) -> None:
+        self.file.write_text("// #[deriv(Pread, Pwrite)]\nstruct Pair {\n    a: u8,\n}\n", encoding="utf-8")
+        said = "nothing is written, since no struct or enum stands behind the line `// #[derive(Pread, Pwrite)]`\n"
+        self.assertEqual(self.call(str(self.crate)), (0, f"{self.crate}: {said}", ""))
+        self.assertEqual(self.call("--check", str(self.crate)), (0, "", ""))
 
     def test_no_text(self) -> None:
         self.file.write_bytes(b"\xff")
