@@ -117,10 +117,7 @@ class Text(Kind):
 
 class CString(Kind):
     def make(self) -> Part:
-        part = self.one("()", NOTHING)
-        # (the library doesn't say of those of std that a source has them in one way)
-        part.is_certain = not self.reader.crate.files[self.reader.item.path].has_std_c_str
-        return part
+        return self.one("()", NOTHING)
 
 
 # The kinds that have an unsigned number as their `value`.
@@ -243,7 +240,7 @@ class Nested(Kind):
             self.at.refuse(f"has the note `ctx = ..`, and {name} is given no number", self.ctx)
         else:
             part = self.one("()", NOTHING)
-        part.is_exact, part.is_certain = form.is_exact, form.is_certain
+        part.is_exact = form.is_exact
         if isinstance(form, Struct):
             kinds = {it.name: it.type.name for it in form.item.fields}
             counting = [(it, kind, "") for it, kind in kinds.items() if kind in PLAIN and is_counter(PLAIN[kind])]

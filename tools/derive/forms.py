@@ -65,8 +65,6 @@ class Part:
     numbers: List[Number] = field(default_factory=list)
     rules: List[Rule] = field(default_factory=list)
     is_exact: bool = True
-    # Whether a source has the part in one way, so that a list of such values can be walked.
-    is_certain: bool = True
     # Fields of a fixed size, which are this part; or the parts that it is, of which there may be several, and types that are
     # printed for it, with their names.
     fields: Sequence[Tuple[str, Fixed]] = ()

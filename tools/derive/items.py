@@ -85,13 +85,11 @@ class Item(Named):
 
 @dataclass
 class SourceFile:
-    """A file: its items, its constants, what it imports, and whether it has the module that is printed and a C string in it is
-    that of std."""
+    """A file: its items, its constants, what it imports, and whether it has the module that is printed."""
 
     path: str
     imported: Set[str]
     has_module: bool
-    has_std_c_str: bool
     items: List[Item] = field(default_factory=list)
     constants: Dict[str, str] = field(default_factory=dict)
 
@@ -101,7 +99,7 @@ def read_file(path: str, text: str) -> SourceFile:
     uses = re.findall(r"(?m)^\s*(?:pub(?:\([^()]*\))?\s+)?use\b[^;]*;", text)
     imported = {word for it in uses for word in re.findall(r"\w+|\*", it)}
     has_module = bool(re.search(r"(?m)^\s*mod\s+derived;", text))
-    file = SourceFile(path, imported, has_module, bool(re.search(r"\bffi::[^;]*\bCStr\b", text)))
+    file = SourceFile(path, imported, has_module)
     tokens = read_tokens(path, text)
     notes: Notes = {}
     mark: Optional[Token] = None

@@ -2,7 +2,7 @@
 
 import ast
 import re
-from dataclasses import dataclass, field
+from dataclasses import dataclass
 from pathlib import Path
 from typing import Any, Callable, Dict, List, Optional, Tuple
 
@@ -40,34 +40,19 @@ class OwnError:
 
 @dataclass
 class Form:
-    """What a struct of any size, an enum or a list is: its error, the structs, enums and lists in it, and the types of the
-    crate that it names."""
+    """What a struct of any size, an enum or a list is: its error, and the types of the crate that it names."""
 
     item: Item
     error: Optional[OwnError]
-    inner: "List[Form]"
     used: List[str]
-    # Whether it is in a list whose values are walked where they lie, by itself or in another.
-    is_walked: bool = field(default=False, init=False)
 
     @property
     def type(self) -> str:
         return self.item.name + ("<'a>" if self.item.lifetime else "")
 
-    # Whether a source has a value in one way.
-    @property
-    def is_certain(self) -> bool:
-        return False
-
     @property
     def has_any_error(self) -> bool:
         return False
-
-    def walk(self) -> None:
-        if not self.is_walked:
-            self.is_walked = True
-            for it in self.inner:
-                it.walk()
 
 
 @dataclass
@@ -85,10 +70,6 @@ class Struct(Form):
     @property
     def is_exact(self) -> bool:
         return all(it.is_exact for it in self.parts)
-
-    @property
-    def is_certain(self) -> bool:
-        return all(it.is_certain for it in self.parts)
 
 
 @dataclass
@@ -178,10 +159,6 @@ class Enum(Form):
     @property
     def is_exact(self) -> bool:
         return all(it.part.is_exact for it in self.variants)
-
-    @property
-    def is_certain(self) -> bool:
-        return all(it.part.is_certain for it in self.variants)
 
 
 @dataclass

@@ -15,7 +15,6 @@ GHOST: Dict[str, Sequence[str]] = {
     "Rattle.scroll_layouts.specs.Errors": ("GivesBadInput", "IsNot"),
     "Rattle.scroll_layouts.specs.Formats": ("last", "refuses"),
     "Rattle.scroll_layouts.specs.ListEnds": ("bytes_mark",),
-    "Rattle.scroll_layouts.specs.OneWay": ("OneWay",),
     "Rattle.scroll_layouts.specs.Wholes": ("KeepsWhole", "ReadsBack", "ReadsExact", "ReadsWhole", "WritesWhole"),
     "Rattle.scroll_layouts.specs.lemmas.WholeLemmas": ("whole-kept",),
     "Rattle.scroll_layouts.specs.declared.choice.Choice.TheVariants": ("First", "Second"),
@@ -27,7 +26,7 @@ CODE: Dict[str, Sequence[str]] = {
     "scroll_formats": ("Kept", "SmallError", "Table", "Zeros"),
     CHOICE: ("First", "Second"),
     "scroll_layouts": tuple(
-        "Behind Certain CertainHead Choice Choose Count Decimal EndMark Ends Field Filled Given Head Headed Hexadecimal Items "
+        "Behind Choice Choose Count Decimal EndMark Ends Field Filled Given Head Headed Hexadecimal Items "
         "Listed Low Marked NameEnd Octal Ordered Packed Padded Part ReadPart Run Shape Sleb ToMark TwoZeroUlebs U24 Uleb Vlq "
         "When Within ZeroUleb Zigzag begins_with is read_exact read_whole shifted write_whole".split()
     ),

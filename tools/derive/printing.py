@@ -20,7 +20,6 @@ class Printer:
         self.error = form.error.name if form.error else "Error"
         self.life = lifetime(form.type)
         self.texts: List[str] = []
-        self.heads: List[Tuple[str, str, str]] = []
         self.names: Set[str] = set()
 
     def print(self) -> List[str]:
@@ -49,7 +48,6 @@ class Printer:
                 head = self.alias(chain.called("Head", at), group.head.type)
                 self.alias(chain.called("Next", at), group.context_type)
                 self.print_head(chain.called("Says", at), head, chain.called("Next", at), group)
-                self.heads.append((chain.called("Says", at), head, group.head.context_type))
             if at > 0:
                 self.alias(chain.called("Rest", at), chain.types[at])
 
@@ -135,7 +133,6 @@ class Printer:
         whole.type, whole.ghost = chain.types[0], f"λ x. {whole.ghost}"
         whole.context = Value(*(resolve(it, {form.given: said}) for it, said in zip(whole.context, ("n", "(*ctx)"))))
         self.print_shape(("usize", "n") if form.given else ("()", "_"), whole, split, join)
-        self.print_certain_heads()
         if not form.given and not form.item.is_part:
             self.print_calls()
 
@@ -158,29 +155,6 @@ class Printer:
         ensures {{ result ≡ ({mark}).size from.now }}
     {{
         begins_with(from, &{form.ends})
-    }}
-}}"""
-            )
-
-    def print_certain_heads(self) -> None:
-        """Prints that heads which are the same say the same of what follows, if the value is in a list that can be walked."""
-        if self.form.is_walked:
-            self.texts += [
-                f"impl<'a> CertainHead<'a, {ctx}, {head}, {self.error}> for {says} {{\n    fn certain_next() {{}}\n}}"
-                for says, head, ctx in self.heads
-            ]
-
-    def print_certain(self, parts: str, context: str) -> None:
-        """Prints that a source has an enum with its own tag in one way, if it is in such a list."""
-        self.print_certain_heads()
-        if self.form.is_walked and self.form.is_certain:
-            self.texts.append(
-                f"""impl<'a> Certain<'a, (), {self.error}> for {self.type} {{
-    fn certain()
-        ensures {{ (ctx : Unit {{0}})
-            → OneWay (⟦<{self.type} as ReadPart<'a, (), {self.error}>>⟧.format ctx) }}
-    {{
-        <{parts} as Certain<'a, {context}, {self.error}>>::certain()
     }}
 }}"""
             )
@@ -262,7 +236,6 @@ class Printer:
             parts = self.alias(f"{self.name}Parts", chain.types[0])
             context = self.alias(f"{self.name}Ctx", chain.whole.context_type)
             self.texts += tagged_texts(form, self.error, parts, context, chain.whole.context)
-            self.print_certain(parts, context)
             if not form.item.is_part:
                 self.print_calls()
             return

@@ -26,9 +26,8 @@ class Reader:
         self.error = crate.error(item)
         self.parts: List[Part] = []
         self.rules: List[Rule] = []
-        # The types of the crate that are named, and the structs, enums and lists among them.
+        # The types of the crate that are named.
         self.used: List[str] = []
-        self.forms: List[Form] = []
         # The number that it is given.
         self.given: List[Number] = []
         for word, note in item.notes.items():
@@ -55,7 +54,6 @@ class Reader:
         form = self.crate.form(found, self.outer)
         self.check_error(at, form)
         self.used.append(found.name)
-        self.forms.append(form)
         return form
 
     def check_error(self, at: RawField, form: Form) -> None:

@@ -44,7 +44,7 @@ class StructReader(Reader):
         self.close_bits()
         self.attach()
         given, multiple = self.given[0].name if self.given else "", self.padding or multiple
-        return Struct(item, self.error, self.forms, self.used, self.parts, multiple, given, self.gaps, self.order(item))
+        return Struct(item, self.error, self.used, self.parts, multiple, given, self.gaps, self.order(item))
 
     def read_field(self, field: RawField) -> None:
         if field.is_ghost:
@@ -187,7 +187,7 @@ class EnumReader(Reader):
             variants.append(self.read_variant(raw, tag, [it.tags for it in variants]))
         note = item.notes.get("else")
         other = own_variant(self, item, note) if note else ""
-        made = Enum(item, self.error, self.forms, self.used, tag, given, variants, other)
+        made = Enum(item, self.error, self.used, tag, given, variants, other)
         if own:
             made.head = numbers([("tag", PLAIN[tag])], "")
             made.head.rules.append(tag_rule(self, item, made, "tag"))
@@ -254,7 +254,6 @@ class ListReader(Reader):
         form = self.inner(at, of)
         if isinstance(form, ListType) or form.given or (isinstance(form, Enum) and not form.is_own):
             item.refuse(f"is a list of {of.text}, which is given a number: put it into a struct with that", note)
-        form.walk()
         self.error = form.error
         return replace(self.list(form.type), form=form)
 
@@ -262,7 +261,7 @@ class ListReader(Reader):
         """(A list has the error of its values.)"""
 
     def list(self, of: str) -> ListType:
-        return ListType(self.item, self.error, self.forms, self.used, of, self.read_ends())
+        return ListType(self.item, self.error, self.used, of, self.read_ends())
 
     def read_ends(self) -> str:
         """Returns what ends a list: the bytes of a mark, or the name of a type that says it."""

@@ -110,7 +110,7 @@ def together(chain: Chain, multiple: int, index: int) -> Part:
     made = chain.whole.around("Padded", name + lifetime(chain.types[0]), str(multiple), str(multiple))
     aliases = ((name, chain.types[0]), (f"{name}Ctx", f"Padded<{chain.whole.context_type}>"))
     made = replace(made, context_type=f"{name}Ctx", before=chain.before, after=chain.after, inside=chain, aliases=aliases)
-    made.is_exact, made.is_certain = (all(it) for it in zip(*((part.is_exact, part.is_certain) for part in chain.parts)))
+    made.is_exact = all(it.is_exact for it in chain.parts)
     return made
 
 
@@ -121,6 +121,6 @@ def leaving(chain: Chain, rest: Part, given: str) -> Part:
     sides = [call("", *it) for it in ((whole.ghost, rest.ghost), (whole.split, rest.split), (whole.join, rest.join))]
     type_ = call("", name + lifetime(chain.types[0]), rest.type)
     made = Part(type_, f"Behind<{whole.context_type}>", context, *sides, chain.before + rest.before, chain.after + rest.after)
-    made.is_exact, made.is_certain = (all(it) for it in zip(*((it.is_exact, it.is_certain) for it in (*chain.parts, rest))))
+    made.is_exact = all(it.is_exact for it in (*chain.parts, rest))
     made.inside, made.aliases = chain, ((name, chain.types[0]),)
     return made

@@ -1,5 +1,5 @@
 -- Fields of some bits in one number of some bytes.
-use Rattle.std.proofs.Common.{refl}
+use Rattle.std.proofs.Common.{refl, arith, length-drop}
 use Rattle.std.specs.Prelude.{◌+◌, ◌<◌, ◌≤◌, ◌⊎◌, ◌^◌, ⊤, ℕ, length, drop, codes}
 use Rattle.scroll.specs.Numbers.{number, number_bytes}
 use Rattle.scroll.specs.declared.error.Error.{Error}
@@ -26,6 +26,7 @@ packed_in gives w f = record {
       × GivesBadInput gives (highest f x) (codes "a field has more bits") e);
   leaf_same = same_bits f;
   leaf_told = ⊤;
+  leaf_certain = ⊤;
   leaf_inside = λ order s at x here h. h.0;
   leaf_made = λ order s at x all h. (
     splits-small f (number order w (drop at s)) x h.1,
@@ -43,4 +44,5 @@ packed_in gives w f = record {
       (packed-splits f (number order w (drop at s)) x h.1);
   leaf_one = λ t order s at x y all h k.
       (refl, splits-one f (number order w (drop at s)) x y h.1 k.1);
+  leaf_clash = λ t order s at x e all h r. omega (arith, h.0, r.short, length-drop at s);
 }

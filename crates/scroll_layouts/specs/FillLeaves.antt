@@ -1,5 +1,5 @@
 -- Texts that are filled up, as parts.
-use Rattle.std.proofs.Common.{refl, ◌≡◌, ℕ, ◌+◌, ◌<◌, ◌≤◌, ◌⊎◌, ◌++◌, List, length, take, sym, ap, subst, ◌∙◌, arith, length-append}
+use Rattle.std.proofs.Common.{refl, ◌≡◌, ℕ, ◌+◌, ◌<◌, ◌≤◌, ◌⊎◌, List, length, take, sym, ap, ◌∙◌, arith, length-append}
 use Rattle.std.proofs.lemmas.List.{take_at}
 use Rattle.std.specs.Prelude.{codes, slice_index}
 use Rattle.scroll.specs.declared.error.Error.{Error}
@@ -36,4 +36,5 @@ fill gives n d = record {
   );
   start_kept = λ s x m all h. h.1 ∙ ap (λ k. take k s) (sym h.3);
   start_one = λ s x y h k. (refl, filled-one n d x y h.2 k.2 (h.1 ∙ sym k.1));
+  start_clash = λ s x e h r. omega (arith, h.0, r.short);
 }

@@ -14,7 +14,8 @@ use Rattle.scroll_layouts.specs.declared.choice.Choice.TheVariants.{First, Secon
 
 -- a kind of value that isn't put together from others, such as a number in LEB128: how many bytes a
 -- value has, which these are, what a read gives and refuses, which values a write refuses, which
--- values are the same, and what has to be so for a source to have one value; with its laws
+-- values are the same, and what has to be so for a source to have one value, and for it to have none
+-- where a read is refused; with its laws
 pub record Leaf (E X : Type 0) : Type 1 where
   pub leaf_len : X → ℕ
   pub leaf_bytes : Endian → X → List ℕ
@@ -24,6 +25,7 @@ pub record Leaf (E X : Type 0) : Type 1 where
   pub leaf_differs : Endian → X → E → Type 0
   pub leaf_same : X → X → Type 0
   pub leaf_told : Type 0
+  pub leaf_certain : Type 0
   pub leaf_inside : (order : Endian) (s : List ℕ) (at : ℕ) (x : X) → at ≤ length s
       → leaf_reads order s at x → at + leaf_len x ≤ length s
   pub leaf_made : (order : Endian) (s : List ℕ) (at : ℕ) (x : X) → All (λ b. b < 256) s
@@ -37,6 +39,8 @@ pub record Leaf (E X : Type 0) : Type 1 where
   pub leaf_one : leaf_told → (order : Endian) (s : List ℕ) (at : ℕ) (x y : X)
       → All (λ b. b < 256) s → leaf_reads order s at x → leaf_reads order s at y
       → (leaf_len x ≡ leaf_len y) × leaf_same x y
+  pub leaf_clash : leaf_certain → (order : Endian) (s : List ℕ) (at : ℕ) (x : X) (e : E)
+      → All (λ b. b < 256) s → leaf_reads order s at x → leaf_refuses order s at e → ⊥
 
 -- `Format E X`: the format of values of `X`, whose errors are of `E`. `gives` says which error of
 -- `E` an `Error` becomes.

@@ -1,11 +1,12 @@
 -- Numbers in LEB128, C strings and texts, as `scroll` reads and writes them.
-use Rattle.std.proofs.Common.{refl, ◌≡◌, ◌≢◌, ℕ, ℤ, ◌+◌, ◌<◌, ◌++◌, List, [], ◌∷◌, length, take, sym, ap, subst, ◌∙◌, arith, IsUtf8, length-append, append_assoc}
+use Rattle.std.proofs.Common.{refl, ◌≡◌, ◌≢◌, ℕ, ℤ, ◌+◌, ◌<◌, ◌^◌, ◌++◌, List, [], ◌∷◌, length, take, sym, ap, subst, ◌∙◌, arith, IsUtf8, length-append, append_assoc}
 use Rattle.std.proofs.lemmas.List.{length-take-le}
 use Rattle.std.proofs.lemmas.List.Elements.{All-from_get_or}
-use Rattle.std.specs.Prelude.{codes, slice_index}
+use Rattle.std.specs.Int.{w64}
+use Rattle.std.specs.Prelude.{codes, slice_index, FitsSigned}
 use Rattle.scroll.specs.CStrings.{ReadsCString, RefusesCString}
 use Rattle.scroll.specs.Encoding.{HasEncoding, HasSignedEncoding, uleb_text, sleb_text, unsigned_form}
-use Rattle.scroll.specs.Leb128.{Counted, ReadsCountedUleb, ReadsCountedSleb, RefusesUleb, RefusesSleb}
+use Rattle.scroll.specs.Leb128.{Counted, unsigned_of, signed_of, ReadsCountedUleb, ReadsCountedSleb, RefusesUleb, RefusesSleb}
 use Rattle.scroll.specs.Texts.{index_of, ReadsText, RefusesText}
 use Rattle.scroll.specs.declared.ctx.str_ctx.StrCtx.TheVariants.{Length, Required}
 use Rattle.scroll.specs.declared.error.Error.{Error}
@@ -16,7 +17,7 @@ use Rattle.scroll_layouts.specs.Errors.{GivesBadInput}
 use Rattle.scroll_layouts.specs.Starts.{Start}
 use Rattle.scroll_layouts.specs.declared.leb128.Sleb.{Sleb}
 use Rattle.scroll_layouts.specs.declared.leb128.Uleb.{Uleb}
-use Rattle.scroll_layouts.specs.lemmas.LeafLemmas.{without, without-before, delimited, zero-there}
+use Rattle.scroll_layouts.specs.lemmas.LeafLemmas.{without, without-before, delimited, zero-there, leb-clash, text-clash}
 
 -- a number and the length of its encoding
 abbrev pub uleb_counted : Uleb → Counted ℕ
@@ -45,6 +46,8 @@ uleb gives = record {
       ∙ sym ((reads_encoding unsigned-form s x.value n all).0 h.0).prefix;
   start_one = λ s x y h k.
       (h.0.size ∙ sym k.0.size, (h.0.value ∙ sym k.0.value, h.0.size ∙ sym k.0.size));
+  start_clash = λ s x e h r.
+      leb-clash unsigned_of (λ v. v < 2 ^ 64) s x.value x.count r.0 h.0 r.1;
 }
 
 -- a signed number in LEB128
@@ -67,6 +70,8 @@ sleb gives = record {
       ∙ sym ((reads_encoding signed-form s x.value n all).0 h.0).prefix;
   start_one = λ s x y h k.
       (h.0.size ∙ sym k.0.size, (h.0.value ∙ sym k.0.value, h.0.size ∙ sym k.0.size));
+  start_clash = λ s x e h r.
+      leb-clash signed_of (FitsSigned w64) s x.value x.count r.0 h.0 r.1;
 }
 
 -- a C string: a text without a zero, and a zero
@@ -85,6 +90,7 @@ c_string gives = record {
   start_back = λ x rest h. c_string-begins x rest (without 0 x h);
   start_kept = λ s x n all h. sym (zero-there s x n h);
   start_one = λ s x y h k. (h.size ∙ sym k.size, h.value ∙ sym k.value);
+  start_clash = λ s x e h r. omega (arith, h.found, r.1.none);
 }
 
 -- a text of `n` bytes. A text of another length is `BadInput` with its length and the message
@@ -105,6 +111,7 @@ text_of gives n = record {
   start_back = λ x rest h. text-begins x n (sym h.0) h.1 rest;
   start_kept = λ s x m all h. h.prefix ∙ ap (λ k. take k s) (omega (arith, h.size));
   start_one = λ s x y h k. (refl, h.prefix ∙ sym k.prefix);
+  start_clash = λ s x e h r. text-clash (Length n) s x n r.0 h r.1;
 }
 
 -- a text without the byte `d`, and that byte. A text that has it is `BadInput` with the offset of
@@ -129,4 +136,5 @@ text_until gives d = record {
       (required-again d x rest (All-from_get_or (λ b. b ≢ d) x 0 h.0) h.1);
   start_kept = λ s x m all h. sym (required-back d s x m h);
   start_one = λ s x y h k. (h.size ∙ sym k.size, h.prefix ∙ sym k.prefix);
+  start_clash = λ s x e h r. text-clash (Required d) s x (length x + 1) r.0 h r.1;
 }

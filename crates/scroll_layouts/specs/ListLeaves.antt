@@ -9,7 +9,8 @@ use Rattle.scroll_layouts.specs.Errors.{NoRoom, GivesBadInput}
 use Rattle.scroll_layouts.specs.Formats.{Format, Leaf}
 use Rattle.scroll_layouts.specs.Lists.{SomeItems, CountedItems, RefusesItems, RefusesCounted}
 use Rattle.scroll_layouts.specs.Marks.{Mark, MarkedItems, RefusesMarked}
-use Rattle.scroll_layouts.specs.OneWay.{told}
+use Rattle.scroll_layouts.specs.OneWay.{told, one_way}
+use Rattle.scroll_layouts.specs.lemmas.ListClashes.{within-clash, counted-clash, marked-clash}
 use Rattle.scroll_layouts.specs.lemmas.ListLemmas.{counted-one}
 use Rattle.scroll_layouts.specs.lemmas.MarkLemmas.{marked-one}
 use Rattle.scroll_layouts.specs.lemmas.Parts.{part-within, slice-back}
@@ -20,21 +21,31 @@ OneEnd T P = T → (order : Endian) (s x y : List ℕ) → All (λ b. b < 256) s
     → length y ≤ length s → x ≡ take (length x) s → y ≡ take (length y) s → P order x → P order y
     → length x ≡ length y
 
--- `held T P ends refused other`: bytes that are borrowed, of which `P` holds, and which `ends` says
--- that a source has in one way where `T` holds; `refused` says the errors of a read, and `other`
--- those of a write of bytes of which `P` doesn't hold
-abbrev pub held : {E : Type 0} → (T : Type 0) → (P : Endian → List ℕ → Type 0) → OneEnd T P
-    → (Endian → List ℕ → ℕ → E → Type 0) → (Endian → List ℕ → E → Type 0) → Leaf E (List ℕ)
-held T P ends refused other = record {
+-- `Clashes C P R`: where `C` holds, a source that begins with bytes that `P` holds of has no error
+-- that `R` holds of
+abbrev pub Clashes : {E : Type 0} → Type 0 → (Endian → List ℕ → Type 0)
+    → (Endian → List ℕ → E → Type 0) → Type 0
+Clashes {E} C P R = C → (order : Endian) (s x : List ℕ) (e : E) → All (λ b. b < 256) s
+    → length x ≤ length s → x ≡ take (length x) s → P order x → R order s e → ⊥
+
+-- `held T C P R ends clash other`: bytes that are borrowed, of which `P` holds, and which `ends` says
+-- that a source has in one way where `T` holds; `R` says the errors of a read, and where `C` holds
+-- `clash` says that a source hasn't both; and `other` says the errors of a write of bytes of which
+-- `P` doesn't hold
+abbrev pub held : {E : Type 0} → (T C : Type 0) → (P : Endian → List ℕ → Type 0)
+    → (R : Endian → List ℕ → E → Type 0) → OneEnd T P → Clashes C P R
+    → (Endian → List ℕ → E → Type 0) → Leaf E (List ℕ)
+held T C P R ends clash other = record {
   leaf_len = λ x. length x;
   leaf_bytes = λ order x. x;
   leaf_reads = λ order s at x.
       (at + length x ≤ length s) × (x ≡ take (length x) (drop at s)) × P order x;
-  leaf_refuses = refused;
+  leaf_refuses = λ order s at e. R order (drop at s) e;
   leaf_agrees = P;
   leaf_differs = other;
   leaf_same = λ x y. x ≡ y;
   leaf_told = T;
+  leaf_certain = C;
   leaf_inside = λ order s at x here h. h.0;
   leaf_made = λ order s at x all h. h.2;
   leaf_bytes-len = λ order x h. refl;
@@ -46,15 +57,20 @@ held T P ends refused other = record {
       (All-drop (λ b. b < 256) at s all) (omega (arith, h.0, length-drop at s))
       (omega (arith, k.0, length-drop at s)) h.1 k.1 h.2 k.2 in
       (size, h.1 ∙ ap (λ n. take n (drop at s)) size ∙ sym k.1);
+  leaf_clash = λ t order s at x e all h r.
+      clash t order (drop at s) x e (All-drop (λ b. b < 256) at s all)
+      (omega (arith, h.0, length-drop at s)) h.1 h.2 r;
 }
 
 -- a list of values that use up `n` bytes. A list of another length is `BadInput` with its length
 -- and the message `another length than its count`
 abbrev pub list_within : {E X : Type 0} → (Error → E → Type 0) → Format E X → ℕ → Leaf E (List ℕ)
-list_within gives f n = held ⊤ (λ order x. (n ≡ length x) × SomeItems f order x 0 (length x))
+list_within gives f n = held ⊤ (one_way f)
+    (λ order x. (n ≡ length x) × SomeItems f order x 0 (length x))
+    (λ order s e. NoRoom gives n s e
+    ⊎ ((n ≤ length s) × RefusesItems gives f order (take n s) e))
     (λ t order s x y all inside within begins starts h k. sym h.0 ∙ k.0)
-    (λ order s at e. NoRoom gives n (drop at s) e
-    ⊎ ((at + n ≤ length s) × RefusesItems gives f order (take n (drop at s)) e))
+    (within-clash gives f n)
     (λ order x e. ((n ≢ length x)
     × GivesBadInput gives (length x) (codes "another length than its count") e)
     ⊎ ((n ≡ length x) × RefusesItems gives f order x e))
@@ -62,9 +78,10 @@ list_within gives f n = held ⊤ (λ order x. (n ≡ length x) × SomeItems f or
 -- a list of `n` values. One that has bytes after them is `BadInput` with the offset where they end
 -- and the message `another length than its values`
 abbrev pub list_of : {E X : Type 0} → (Error → E → Type 0) → Format E X → ℕ → Leaf E (List ℕ)
-list_of gives f n = held (told f) (λ order x. CountedItems f order x 0 (length x) n)
+list_of gives f n = held (told f) (one_way f) (λ order x. CountedItems f order x 0 (length x) n)
+    (λ order s e. RefusesCounted gives f order n s e)
     (λ t order s. counted-one f t order s n)
-    (λ order s at e. RefusesCounted gives f order n (drop at s) e)
+    (counted-clash gives f n)
     (λ order x e. RefusesCounted gives f order n x e
     ⊎ ((to : ℕ) × CountedItems f order x 0 to n × (to ≢ length x)
     × GivesBadInput gives to (codes "another length than its values") e))
@@ -73,9 +90,11 @@ list_of gives f n = held (told f) (λ order x. CountedItems f order x 0 (length 
 -- with the offset where the mark ends and the message `another length than its values`
 abbrev pub list_until : {E X : Type 0} → (Error → E → Type 0) → Mark → Format E X
     → Leaf E (List ℕ)
-list_until gives mark f = held (told f) (λ order x. MarkedItems mark f order x (length x))
+list_until gives mark f = held (told f) (one_way f)
+    (λ order x. MarkedItems mark f order x (length x))
+    (λ order s e. RefusesMarked gives mark f order s e)
     (λ t order s. marked-one mark f t order s)
-    (λ order s at e. RefusesMarked gives mark f order (drop at s) e)
+    (marked-clash gives mark f)
     (λ order x e. RefusesMarked gives mark f order x e
     ⊎ ((end : ℕ) × MarkedItems mark f order x end × (end ≢ length x)
     × GivesBadInput gives end (codes "another length than its values") e))

@@ -4,6 +4,7 @@ use Rattle.scroll.specs.declared.endian.Endian.{Endian}
 use Rattle.scroll.specs.declared.error.Error.{Error}
 use Rattle.scroll_layouts.specs.Errors.{GivesBadInput}
 use Rattle.scroll_layouts.specs.Formats.{Format, reads, refuses, len}
+use Rattle.scroll_layouts.specs.OneWay.{one_way}
 
 -- `Items f order s at xs to`: the values `xs` stand one after another from the offset `at` to the
 -- offset `to`, and each has a byte
@@ -26,15 +27,15 @@ pub record CountedItems {E X : Type 0} (f : Format E X) (order : Endian) (s : Li
   pub count : length values ≡ n
 
 -- `YieldsItem f order s found rest`: of a list whose bytes `s` are left, the value at their start
--- is found, and `rest` is left; or none is. If values use `s` up, others use `rest` up, and none is
--- found only where `s` has no byte
+-- is found, and `rest` is left; or none is. If values that are read in one way use `s` up, others
+-- use `rest` up, and none is found only where `s` has no byte
 abbrev pub YieldsItem : {E X : Type 0} → Format E X → Endian → List ℕ → Option X → List ℕ
     → Type 0
 YieldsItem f order s (Some x) rest =
     reads f order s 0 x × (1 ≤ len f x) × (len f x ≤ length s) × (rest ≡ drop (len f x) s)
-    × (SomeItems f order s 0 (length s) → SomeItems f order rest 0 (length rest))
+    × (one_way f → SomeItems f order s 0 (length s) → SomeItems f order rest 0 (length rest))
 YieldsItem f order s None rest =
-    (rest ≡ s) × (SomeItems f order s 0 (length s) → length s ≡ 0)
+    (rest ≡ s) × (one_way f → SomeItems f order s 0 (length s) → length s ≡ 0)
 
 -- the value at the offset `stop` is refused; or it has no byte, which is `BadInput` with the offset
 -- and the message `a value has no bytes`

@@ -5,6 +5,7 @@ use Rattle.scroll.specs.declared.error.Error.{Error}
 use Rattle.scroll.specs.declared.error.Error.TheVariants.{NoMemory, BadOffset}
 use Rattle.scroll_layouts.specs.Formats.{Format, reads, len}
 use Rattle.scroll_layouts.specs.Lists.{StopsAtItem}
+use Rattle.scroll_layouts.specs.OneWay.{one_way}
 
 -- a kind of mark: the size of the one that some bytes begin with, if they begin with one. It is
 -- within them, and depends on its own bytes alone; and where one stands further on, the bytes up to
@@ -82,13 +83,15 @@ pub record RefusesList {E X : Type 0} (gives : Error → E → Type 0) (mark : M
       × StopsList gives mark f order (drop from s) found stop e)
 
 -- `YieldsMarked mark f order s found rest`: of a list whose bytes `s` are left, the value at their
--- start is found, and `rest` is left; or none is. If `s` is a list up to a mark, so is `rest`, and
--- none is found only where `s` is the mark
+-- start is found, and `rest` is left; or none is. If `s` is a list up to a mark of values that are
+-- read in one way, so is `rest`, and none is found only where `s` is the mark
 abbrev pub YieldsMarked : {E X : Type 0} → Mark → Format E X → Endian → List ℕ → Option X → List ℕ
     → Type 0
 YieldsMarked mark f order s (Some x) rest =
     (mark.size s ≡ None) × reads f order s 0 x × (1 ≤ len f x) × (len f x ≤ length s)
     × (rest ≡ drop (len f x) s)
-    × (MarkedItems mark f order s (length s) → MarkedItems mark f order rest (length rest))
+    × (one_way f → MarkedItems mark f order s (length s)
+    → MarkedItems mark f order rest (length rest))
 YieldsMarked mark f order s None rest =
-    (rest ≡ s) × (MarkedItems mark f order s (length s) → mark.size s ≡ Some (length s))
+    (rest ≡ s)
+    × (one_way f → MarkedItems mark f order s (length s) → mark.size s ≡ Some (length s))

@@ -1,9 +1,7 @@
 -- Formats that read a source in one way. All values that it has are the same, and it has no value
 -- and an error. So what was written and is read again is the same, and lists of such values are
 -- walked where they lie.
-use Rattle.std.specs.List.{All}
-use Rattle.std.specs.Prelude.{◌≡◌, ◌<◌, ◌-◌, ⊤, ℕ, List, Some, None}
-use Rattle.scroll.specs.declared.endian.Endian.{Endian}
+use Rattle.std.specs.Prelude.{◌≡◌, ◌-◌, ⊤, ℕ, Some, None}
 use Rattle.scroll_layouts.specs.Layouts.{same_fields}
 use Rattle.scroll_layouts.specs.Formats.{Format, run, counted, zeros, last, pair, headed, padded, within, behind, ordered, leaf, choice, when, len}
 use Rattle.scroll_layouts.specs.declared.choice.Choice.TheVariants.{First, Second}
@@ -49,7 +47,7 @@ told (choice gives b f g) = told f × told g
 told (when gives b f) = told f
 
 -- `one_way f`: `told f`; and of heads whose parts are the same none obeys the rule where another
--- one breaks it, and a source has no value of a leaf and an error
+-- one breaks it
 abbrev pub one_way : {E X : Type 0} → Format E X → Type 0
 one_way (run gives p) = ⊤
 one_way (counted gives n) = ⊤
@@ -65,13 +63,6 @@ one_way (padded gives m f) = one_way f
 one_way (within gives n f) = one_way f
 one_way (behind gives n f rest) = one_way f × ((k : ℕ) → one_way (rest k))
 one_way (ordered o f) = one_way f
-one_way {E} {X} (leaf l) =
-    l.leaf_told
-    × ((order : Endian) (s : List ℕ) (at : ℕ) (x : X) (e : E) → All (λ b. b < 256) s
-    → l.leaf_reads order s at x → l.leaf_refuses order s at e → ⊥)
+one_way (leaf l) = l.leaf_told × l.leaf_certain
 one_way (choice gives b f g) = one_way f × one_way g
 one_way (when gives b f) = one_way f
-
--- `f` is read in one way, as one fact that isn't taken apart
-pub record OneWay {E X : Type 0} (f : Format E X) : Type 0 where
-  pub way : one_way f

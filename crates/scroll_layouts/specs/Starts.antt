@@ -26,6 +26,8 @@ pub record Start (E X : Type 0) : Type 1 where
       → start_bytes x ≡ take n s
   pub start_one : (s : List ℕ) (x y : X) → start_reads s x (start_len x)
       → start_reads s y (start_len y) → (start_len x ≡ start_len y) × start_same x y
+  pub start_clash : (s : List ℕ) (x : X) (e : E) → start_reads s x (start_len x)
+      → start_refuses s e → ⊥
 
 -- such a kind at an offset: what it reads at the start of the rest there
 abbrev pub start : {E X : Type 0} → Start E X → Leaf E X
@@ -38,6 +40,7 @@ start k = record {
   leaf_differs = λ order x e. k.start_differs x e;
   leaf_same = k.start_same;
   leaf_told = ⊤;
+  leaf_certain = ⊤;
   leaf_inside = λ order s at x here h.
       omega (arith, here, k.start_inside (drop at s) x (k.start_len x) h, length-drop at s);
   leaf_made = λ order s at x all h.
@@ -49,4 +52,5 @@ start k = record {
   leaf_kept = λ order s at x all h.
       k.start_kept (drop at s) x (k.start_len x) (All-drop (λ b. b < 256) at s all) h;
   leaf_one = λ t order s at x y all h r. k.start_one (drop at s) x y h r;
+  leaf_clash = λ t order s at x e all h r. k.start_clash (drop at s) x e h r;
 }

@@ -1,12 +1,13 @@
 -- Numbers of any length besides those in LEB128, as parts.
-use Rattle.std.proofs.Common.{◌≡◌, ℕ, ◌+◌, ◌<◌, ◌^◌, length, take, sym, ap, ◌∙◌, arith}
+use Rattle.std.proofs.Common.{◌≡◌, ℕ, ◌<◌, ◌^◌, take, sym, ap, ◌∙◌, arith}
 use Rattle.scroll.specs.Encoding.{HasEncoding}
-use Rattle.scroll.specs.Leb128.{Counted, count_of}
+use Rattle.scroll.specs.Leb128.{Counted}
 use Rattle.scroll.specs.declared.error.Error.{Error}
 use Rattle.scroll_layouts.specs.Starts.{Start}
 use Rattle.scroll_layouts.specs.Varints.{zigzag, vlq_of, vlq_bytes, ReadsVlq, RefusesVlq}
 use Rattle.scroll_layouts.specs.declared.leb128.Zigzag.{Zigzag}
 use Rattle.scroll_layouts.specs.declared.vlq.Vlq.{Vlq}
+use Rattle.scroll_layouts.specs.lemmas.LeafLemmas.{leb-clash}
 use Rattle.scroll_layouts.specs.lemmas.VlqLemmas.{vlq-len, vlq-back, vlq-kept, vlq-has}
 
 -- the number in LEB128 that a number in zigzag is, and the length of its encoding
@@ -37,4 +38,6 @@ vlq gives = record {
       ∙ vlq-kept s all h.0.complete.0 ∙ ap (λ k. take k s) (sym h.0.size);
   start_one = λ s x y h k.
       (h.0.size ∙ sym k.0.size, (h.0.value ∙ sym k.0.value, h.0.size ∙ sym k.0.size));
+  start_clash = λ s x e h r.
+      leb-clash vlq_of (λ v. v < 2 ^ 64) s x.value x.count r.0 h.0 r.1;
 }

@@ -6,9 +6,8 @@ pub mod FillLemmas
 pub mod FormatLaws
 pub mod LayoutLaws
 pub mod LeafLemmas
-pub mod LeavesOneWay
+pub mod ListClashes
 pub mod ListLemmas
-pub mod ListsOneWay
 pub mod MarkLemmas
 pub mod NameMarks
 pub mod NumeralLemmas

@@ -68,7 +68,7 @@ pub use crate::shape::{Given, Shape};
 pub use crate::shifts::shifted;
 pub use crate::texts::Ends;
 pub use crate::vlq::Vlq;
-pub use crate::walk::{Certain, CertainHead, Values};
+pub use crate::walk::Values;
 pub use crate::whole::{read_exact, read_whole, write_whole};
 pub use crate::within::Within;
 use scroll::Endian;

@@ -2,38 +2,15 @@
 ghost use Rattle.std.specs.Prelude.{◌≡◌, ◌≤◌, ◌<◌, length};
 ghost use Rattle.std.specs.Iterator.{at_most};
 ghost use Rattle.std.specs.List.{All};
-ghost use Rattle.scroll_layouts.specs.OneWay.{same, OneWay};
 ghost use Rattle.scroll_layouts.specs.Formats.{reads, refuses, len};
 ghost use Rattle.scroll_layouts.specs.Lists.{SomeItems, YieldsItem};
 
-mod parts;
-
-use crate::{Head, Items, Listed, ReadPart};
+use crate::{Items, Listed, ReadPart};
 use scroll::Endian;
 use std::marker::PhantomData;
 
-/// A part that a source has in one way: all values that it has are the same, and it has no value
-/// and an error. A struct is one if its parts are; an enum with its own tag says it in one line.
-pub trait Certain<'a, Ctx, E>: ReadPart<'a, Ctx, E> {
-    /// Does nothing, and says so.
-    fn certain()
-        ensures { (ctx : Ctx) → OneWay (Self.ReadPart.format ctx) };
-}
-
-/// A head that says one thing of what follows it: heads whose parts are the same say the same, and
-/// none of them obeys the rule where another one breaks it.
-pub trait CertainHead<'a, C, A: ReadPart<'a, C, E>, E>: Head<A, E> {
-    /// Does nothing, and says so.
-    fn certain_next()
-        ensures next { (rule : Self) (ctx : C) (x y : A) → same (A.ReadPart.format ctx) x y
-            → Self.Head.next rule x ≡ Self.Head.next rule y }
-        ensures rule { (rule : Self) (ctx : C) (x y : A) (e : E)
-            → same (A.ReadPart.format ctx) x y → Self.Head.holds rule x
-            → Self.Head.fails rule y e → ⊥ };
-}
-
-/// The values of a list that are left, in order. Of a list that was read none fails, so they end
-/// where its bytes do.
+/// The values of a list that are left, in order. Of a list that was read none fails if its values
+/// are read in one way (`one_way` of their format), so they end where its bytes do.
 #[derive(Drop)]
 pub struct Values<'a, E, T> {
     /// The bytes that are left.
@@ -64,17 +41,16 @@ impl<'a, K: Listed<'a>> Items<'a, K> {
     }
 }
 
-impl<'a, E: Drop, T: Certain<'a, (), E>> Iterator for Values<'a, E, T> {
+impl<'a, E: Drop, T: ReadPart<'a, (), E>> Iterator for Values<'a, E, T> {
     type Item = T;
 
     ghost next_gives = { λ old found new. (new.order ≡ old.order)
-        × YieldsItem (T.ReadPart.format tt) old.order old.bytes.now found new.bytes.now };
+        × YieldsItem (T.format tt) old.order old.bytes.now found new.bytes.now };
 
     ghost remaining = { λ it. at_most (length it.bytes.now) };
 
     #[inline(always)]
     fn next(&mut self) -> Option<T> {
-        T::certain();
         below(self.bytes);
         match T::read_at(self.bytes, 0, self.order, &()) {
             Ok((value, size)) => {

@@ -3,7 +3,6 @@ ghost use Rattle.std.specs.Prelude.{◌≡◌, ◌≢◌, ◌<◌, ◌^◌, ◌�
 ghost use Rattle.std.proofs.Common.{rules};
 ghost use Rattle.scroll.specs.lemmas.Frames.{WritesPrefix-keeps};
 ghost use Rattle.scroll_layouts.specs.Formats.{last, refuses};
-ghost use Rattle.scroll_layouts.specs.OneWay.{OneWay};
 ghost use Rattle.scroll_layouts.specs.Wholes.{KeepsWhole, ReadsExact, WritesWhole};
 ghost use Rattle.scroll_layouts.specs.declared.choice.Choice.TheVariants.{First, Second};
 ghost use Rattle.debug_tables.specs.declared.declaration.TableError.TheVariants as table_error_is;
@@ -15,8 +14,8 @@ use scroll::{Endian, Error};
 use scroll_formats::Zeros;
 use scroll_layouts::Choice::{First, Second};
 use scroll_layouts::{
-    Certain, CertainHead, Choice, Choose, Head, Headed, Items, Listed, Marked, Part, ReadPart, Run,
-    Shape, Sleb, ToMark, TwoZeroUlebs, Uleb, When, ZeroUleb, read_exact, write_whole,
+    Choice, Choose, Head, Headed, Items, Listed, Marked, Part, ReadPart, Run, Shape, Sleb, ToMark,
+    TwoZeroUlebs, Uleb, When, ZeroUleb, read_exact, write_whole,
 };
 use std::marker::PhantomData;
 use std::result::Result;
@@ -81,10 +80,6 @@ impl Shape for Attribute {
     {
         ((), Headed((), AttributeSays, PhantomData))
     }
-}
-
-impl<'a> CertainHead<'a, (), AttributeHead, TableError> for AttributeSays {
-    fn certain_next() {}
 }
 
 impl<'a> TryFromCtx<'a, Endian> for Attribute {
@@ -244,19 +239,6 @@ impl<'a> ReadPart<'a, (), TableError> for Children {
             (1, Second(_)) => Ok((Children::Yes, end)),
             _ => unreachable!(),
         }
-    }
-}
-
-impl<'a> CertainHead<'a, (), ChildrenHead, TableError> for ChildrenSays {
-    fn certain_next() {}
-}
-
-impl<'a> Certain<'a, (), TableError> for Children {
-    fn certain()
-        ensures { (ctx : Unit {0})
-            → OneWay (⟦<Children as ReadPart<'a, (), TableError>>⟧.format ctx) }
-    {
-        <ChildrenParts as Certain<'a, ChildrenCtx, TableError>>::certain()
     }
 }
 

@@ -19,8 +19,8 @@ use scroll::ctx::{Record, TryFromCtx, TryIntoCtx, Written};
 use scroll::{BE, Endian, Error};
 use scroll_layouts::Choice::{First, Second};
 use scroll_layouts::{
-    CertainHead, Choice, Choose, Count, Field, Given, Head, Headed, Items, Listed, Low, Marked,
-    NameEnd, Ordered, Packed, Part, ReadPart, Run, Shape, ToMark, Within, read_exact, write_whole,
+    Choice, Choose, Count, Field, Given, Head, Headed, Items, Listed, Low, Marked, NameEnd,
+    Ordered, Packed, Part, ReadPart, Run, Shape, ToMark, Within, read_exact, write_whole,
 };
 use std::marker::PhantomData;
 use std::result::Result;
@@ -380,10 +380,6 @@ impl<'a> Shape for Label<'a> {
     }
 }
 
-impl<'a> CertainHead<'a, (), LabelHead, Error> for LabelSays {
-    fn certain_next() {}
-}
-
 impl<'a> Listed<'a> for Questions {
     type Item = Question<'a>;
 }
@@ -523,10 +519,6 @@ impl<'a> Shape for Resource<'a> {
     {
         ((), Headed((), ResourceSays, PhantomData))
     }
-}
-
-impl<'a> CertainHead<'a, (), ResourceHead, Error> for ResourceSays {
-    fn certain_next() {}
 }
 
 impl<'a> TryFromCtx<'a, Endian> for Resource<'a> {
@@ -862,8 +854,4 @@ impl<'a> Shape for Text<'a> {
     {
         Headed((), TextSays, PhantomData)
     }
-}
-
-impl<'a> CertainHead<'a, (), TextHead, Error> for TextSays {
-    fn certain_next() {}
 }

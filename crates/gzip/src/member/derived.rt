@@ -12,8 +12,8 @@ use super::{CStr, Extra, ExtraField, ExtraFields, Header, Trailer};
 use scroll::ctx::{Record, TryFromCtx, TryIntoCtx, Written};
 use scroll::{Endian, Error, LE};
 use scroll_layouts::{
-    CertainHead, Head, Headed, Items, Listed, Ordered, Part, ReadPart, Run, Shape, When,
-    read_exact, write_whole,
+    Head, Headed, Items, Listed, Ordered, Part, ReadPart, Run, Shape, When, read_exact,
+    write_whole,
 };
 use std::marker::PhantomData;
 use std::result::Result;
@@ -337,8 +337,4 @@ impl<'a> Shape for ExtraField<'a> {
     {
         Headed((), ExtraFieldSays, PhantomData)
     }
-}
-
-impl<'a> CertainHead<'a, (), ExtraFieldHead, Error> for ExtraFieldSays {
-    fn certain_next() {}
 }

@@ -1,9 +1,9 @@
 -- What texts that are filled up cite for their laws. The lemmas are proved, and promise nothing.
-use Rattle.std.proofs.Common.{◌≡◌, ◌≢◌, ℕ, zero, suc, ◌+◌, ◌-◌, ◌<◌, ◌≤◌, ◌++◌, List, [], ◌∷◌, length, take, drop, get_or, refl, sym, ap, subst, ◌∙◌, arith, length-append, length-drop, inl, inr, ◌⊎◌}
+use Rattle.std.proofs.Common.{◌≡◌, ℕ, suc, ◌+◌, ◌-◌, ◌<◌, ◌≤◌, List, ◌∷◌, length, take, drop, get_or, refl, sym, ap, ◌∙◌, arith, length-append, inl, inr, ◌⊎◌}
 use Rattle.std.proofs.Math.ListN.{get_or-append}
-use Rattle.std.proofs.Math.Seq.{drop-append_seam, drop-cons, get_or-append_right}
+use Rattle.std.proofs.Math.Seq.{drop-cons, get_or-append_right}
 use Rattle.std.proofs.lemmas.Bool.{cases_order}
-use Rattle.std.proofs.lemmas.List.{length-replicate, length-take-le, take_at, take-append-drop, take-append-le, get_or-replicate, get_or-take, get_or-drop}
+use Rattle.std.proofs.lemmas.List.{length-replicate, take_at, get_or-replicate}
 use Rattle.std.specs.Prelude.{replicate}
 use Rattle.scroll_layouts.specs.Fills.{filled, IsText}
 

@@ -1,5 +1,5 @@
 -- What the leaves cite for their laws. The lemmas are proved, and promise nothing.
-use Rattle.std.proofs.Common.{◌≡◌, ◌≢◌, ℕ, ◌+◌, ◌<◌, ◌≤◌, ◌++◌, ◌==◌, true, false, List, [], ◌∷◌, length, take, drop, get_or, sym, ap, subst, ◌∙◌, arith, length-append, append_assoc}
+use Rattle.std.proofs.Common.{◌≡◌, ◌≢◌, ℕ, ◌+◌, ◌<◌, ◌≤◌, ◌++◌, ◌==◌, true, false, List, [], ◌∷◌, length, take, drop, get_or, sym, ap, subst, ◌∙◌, inl, inr, IsUtf8, arith, length-append, append_assoc}
 use Rattle.std.proofs.lemmas.List.{length-take-le, get_or-take, take_at, take_more, drop-drop, take-append-drop}
 use Rattle.std.proofs.lemmas.List.Elements.{All-from_get_or}
 use Rattle.std.proofs.lemmas.List.Sums.{fails_before_first, passes_at_first, position_or_len_is}
@@ -7,7 +7,9 @@ use Rattle.std.proofs.Math.Seq.{drop-append_seam}
 use Rattle.std.specs.List.{All}
 use Rattle.std.specs.Prelude.{slice_index, replicate, ◌-◌}
 use Rattle.scroll.specs.CStrings.{ReadsCString}
-use Rattle.scroll.specs.Texts.{index_of}
+use Rattle.scroll.specs.Leb128.{ReadsLeb, RefusesLeb}
+use Rattle.scroll.specs.Texts.{index_of, ReadsText, RefusesText}
+use Rattle.scroll.specs.declared.ctx.str_ctx.StrCtx.{StrCtx}
 use Rattle.scroll.specs.declared.error.Error.{Error}
 use Rattle.scroll.specs.lemmas.Frames.{length-encoding}
 use Rattle.scroll_formats.specs.Zeros.{RefusesZeros, padding_len}
@@ -99,3 +101,16 @@ gap-put b z old mid new size is written before after =
     ∙ sym (append_assoc b z (drop (length (b ++ z)) old))
 
 pub ruleset gaps = (gap-refused, gap-read, gap-moves)
+
+-- a number in LEB128 isn't read and refused
+pub leb-clash : {V : Type 0} (value_of : List ℕ → V) (Fits : V → Type 0) (s : List ℕ) (x : V)
+    (n : ℕ) (e : Error) → ReadsLeb value_of Fits s x n → RefusesLeb value_of Fits s e → ⊥
+leb-clash value_of Fits s x n e h (inl r) = omega (arith, h.complete.0, r.cut.0)
+leb-clash value_of Fits s x n e h (inr r) = r.unfit h.complete h.fits
+
+-- nor is a text
+pub text-clash : (ctx : StrCtx) (s text : List ℕ) (n : ℕ) (e : Error) → ReadsText ctx s text n
+    → RefusesText ctx s e → ⊥
+text-clash ctx s text n e h (inl r) = omega (arith, h.room, r.short)
+text-clash ctx s text n e h (inr (inl r)) = r.invalid (subst IsUtf8 h.prefix h.utf8)
+text-clash ctx s text n e h (inr (inr r)) = r.missing h.there

@@ -1,28 +1,16 @@
 -- What follows where a source is read in one way. The lemmas are proved, and promise nothing.
-use Rattle.std.proofs.Common.{IsUtf8, ◌≡◌, ℕ, ◌+◌, ◌<◌, ◌≤◌, ◌-◌, ◌⊎◌, ◌^◌, List, [], ◌∷◌, length, take, drop, sym, ap, subst, ◌∙◌, arith, length-drop, inl, inr}
+use Rattle.std.proofs.Common.{◌≡◌, ℕ, ◌+◌, ◌<◌, ◌≤◌, ◌-◌, List, [], ◌∷◌, length, take, drop, sym, ap, subst, ◌∙◌, arith, length-drop, inl, inr}
 use Rattle.std.proofs.lemmas.List.{get_or-take, get_or-replicate, drop-drop}
 use Rattle.std.specs.List.{All}
-use Rattle.std.specs.Int.{w64}
-use Rattle.std.specs.Prelude.{true, false, Some, None, slice_index, replicate, FitsSigned}
-use Rattle.scroll.specs.Leb128.{unsigned_of, signed_of, ReadsLeb, RefusesLeb}
-use Rattle.scroll.specs.Texts.{ReadsText, RefusesText}
-use Rattle.scroll.specs.declared.ctx.str_ctx.StrCtx.{StrCtx}
-use Rattle.scroll.specs.declared.ctx.str_ctx.StrCtx.TheVariants.{Length, Required}
+use Rattle.std.specs.Prelude.{true, false, Some, None, slice_index, replicate}
 use Rattle.scroll.specs.declared.error.Error.{Error}
 use Rattle.scroll.specs.declared.endian.Endian.{Endian}
 use Rattle.scroll_formats.specs.Zeros.{RefusesZeros, padding_len}
 use Rattle.scroll_layouts.specs.OneWay.{one_way}
 use Rattle.scroll_layouts.specs.Formats.{Format, run, counted, zeros, last, pair, headed, padded, within, behind, ordered, leaf, choice, when, reads, refuses, len}
-use Rattle.scroll_layouts.specs.Bits.{packed_in}
-use Rattle.scroll_layouts.specs.Errors.{NoRoom}
-use Rattle.scroll_layouts.specs.Fields.{Fields}
-use Rattle.scroll_layouts.specs.Leaves.{uleb, sleb, c_string, text_of, text_until}
-use Rattle.scroll_layouts.specs.ListLeaves.{list_within}
-use Rattle.scroll_layouts.specs.Lists.{Items, SomeItems, StopsAtItem, RefusesItems}
-use Rattle.scroll_layouts.specs.Starts.{start}
+use Rattle.scroll_layouts.specs.Lists.{Items, SomeItems}
 use Rattle.scroll_layouts.specs.declared.choice.Choice.TheVariants.{First, Second}
 use Rattle.scroll_layouts.specs.lemmas.FormatLaws.{inside, moved, alone}
-use Rattle.scroll_layouts.specs.lemmas.ListLemmas.{ends}
 use Rattle.scroll_layouts.specs.lemmas.Parts.{bytes-taken}
 use Rattle.scroll_layouts.specs.lemmas.SameLaws.{one-len, one-value, tells}
 
@@ -90,7 +78,7 @@ no-clash (behind gives n f rest) t order s at x e all h (inr (y, k, inr r)) =
     no-clash (rest left) (t.1 left) order s (at + len f x.0) x.1 e all h.1.1
     (subst (λ m. refuses (rest (n - m)) order s (at + m) e) size r.1)
 no-clash (ordered o f) t order s at x e all h r = no-clash f t o s at x e all h r
-no-clash (leaf l) t order s at x e all h r = t.1 order s at x e all h r
+no-clash (leaf l) t order s at x e all h r = l.leaf_clash t.1 order s at x e all h r
 no-clash (choice gives true f g) t order s at (First x) e all h r =
     no-clash f t.0 order s at x e all h r
 no-clash (choice gives true f g) t order s at (Second x) e all h r = absurd h
@@ -159,103 +147,3 @@ list-refused f t order s e all r h = first h.values h.each where
   first : (xs : List _) → Items f order s 0 xs (length s) → length s ≡ 0
   first [] each = sym each
   first (x ∷ xs) each = absurd (no-clash f t order s 0 x e all each.0 r)
-
--- values up to an offset, at which none can be read, aren't followed by more values
-items-clash : {E X : Type 0} (gives : Error → E → Type 0) (f : Format E X) → one_way f
-    → (order : Endian) (s : List ℕ) (at : ℕ) (xs ys : List X) (to stop : ℕ) (e : E)
-    → All (λ b. b < 256) s → Items f order s at xs to → Items f order s at ys stop → stop < to
-    → StopsAtItem gives f order s stop e → ⊥
-items-clash gives f t order s at [] [] to stop e all h k l r = omega (arith, h, k, l)
-items-clash gives f t order s at [] (y ∷ ys) to stop e all h k l r =
-    omega (arith, h, l, ends f order s (at + len f y) ys stop k.2)
-items-clash gives f t order s at (x ∷ xs) [] to stop e all h k l (inl r) =
-    no-clash f t order s stop x e all (subst (λ n. reads f order s n x) k h.0) r
-items-clash gives f t order s at (x ∷ xs) [] to stop e all h k l (inr (y, read, none, g)) =
-    let same : len f x ≡ len f y =
-    one-len f (tells f t) order s stop x y all (subst (λ n. reads f order s n x) k h.0) read in
-    omega (arith, same, none, h.1)
-items-clash gives f t order s at (x ∷ xs) (y ∷ ys) to stop e all h k l r =
-    let same : len f y ≡ len f x = one-len f (tells f t) order s at y x all k.0 h.0 in
-    items-clash gives f t order s (at + len f x) xs ys to stop e all h.2
-    (subst (λ n. Items f order s (at + n) ys stop) same k.2) l r
-
--- a number in LEB128 isn't read and refused
-pub leb-clash : {V : Type 0} (value_of : List ℕ → V) (Fits : V → Type 0) (s : List ℕ) (x : V)
-    (n : ℕ) (e : Error) → ReadsLeb value_of Fits s x n → RefusesLeb value_of Fits s e → ⊥
-leb-clash value_of Fits s x n e h (inl r) = omega (arith, h.complete.0, r.cut.0)
-leb-clash value_of Fits s x n e h (inr r) = r.unfit h.complete h.fits
-
--- nor is a text
-text-clash : (ctx : StrCtx) (s text : List ℕ) (n : ℕ) (e : Error) → ReadsText ctx s text n
-    → RefusesText ctx s e → ⊥
-text-clash ctx s text n e h (inl r) = omega (arith, h.room, r.short)
-text-clash ctx s text n e h (inr (inl r)) = r.invalid (subst IsUtf8 h.prefix h.utf8)
-text-clash ctx s text n e h (inr (inr r)) = r.missing h.there
-
--- nor a list within a length
-within-clash : {E X : Type 0} (gives : Error → E → Type 0) (f : Format E X) (n : ℕ) → one_way f
-    → (order : Endian) (s : List ℕ) (at : ℕ) (x : List ℕ) (e : E) → All (λ b. b < 256) s
-    → (at + length x ≤ length s) × (x ≡ take (length x) (drop at s))
-    × ((n ≡ length x) × SomeItems f order x 0 (length x))
-    → NoRoom gives n (drop at s) e
-    ⊎ ((at + n ≤ length s) × RefusesItems gives f order (take n (drop at s)) e) → ⊥
-within-clash gives f n t order s at x e all h (inl r) =
-    omega (arith, h.0, h.2.0, r.short, length-drop at s)
-within-clash gives f n t order s at x e all h (inr r) =
-    let same : take n (drop at s) ≡ x = ap (λ k. take k (drop at s)) h.2.0 ∙ sym h.1 in
-    let there = subst (λ l. RefusesItems gives f order l e) same r.1 in
-    let below : All (λ b. b < 256) x =
-    subst (λ l. All (λ b. b < 256) l) same (bytes-taken n at s all) in
-    items-clash gives f t order x 0 h.2.1.values there.before.values (length x) there.stop e below
-    h.2.1.each there.before.each there.more there.error
-
--- leaves that read a source in one way
-pub uleb-one-way : {E : Type 0} (gives : Error → E → Type 0) → one_way (leaf (start (uleb gives)))
-uleb-one-way gives = (
-  tt,
-  λ order s at x e all h r.
-      leb-clash unsigned_of (λ v. v < 2 ^ 64) (drop at s) x.value x.count r.0 h.0 r.1,
-)
-
-pub sleb-one-way : {E : Type 0} (gives : Error → E → Type 0) → one_way (leaf (start (sleb gives)))
-sleb-one-way gives = (
-  tt,
-  λ order s at x e all h r.
-      leb-clash signed_of (FitsSigned w64) (drop at s) x.value x.count r.0 h.0 r.1,
-)
-
-pub c_string-one-way : {E : Type 0} (gives : Error → E → Type 0)
-    → one_way (leaf (start (c_string gives)))
-c_string-one-way gives = (tt, λ order s at x e all h r. omega (arith, h.found, r.1.none))
-
-pub text_of-one-way : {E : Type 0} (gives : Error → E → Type 0) (n : ℕ)
-    → one_way (leaf (start (text_of gives n)))
-text_of-one-way gives n =
-    (tt, λ order s at x e all h r. text-clash (Length n) (drop at s) x n r.0 h r.1)
-
-pub text_until-one-way : {E : Type 0} (gives : Error → E → Type 0) (d : ℕ)
-    → one_way (leaf (start (text_until gives d)))
-text_until-one-way gives d = (
-  tt,
-  λ order s at x e all h r.
-      text-clash (Required d) (drop at s) x (length x + 1) r.0 h r.1,
-)
-
-pub packed_in-one-way : {E X : Type 0} (gives : Error → E → Type 0) (w : ℕ) (f : Fields X)
-    → one_way (leaf (packed_in gives w f))
-packed_in-one-way gives w f =
-    (tt, λ order s at x e all h r. omega (arith, h.0, r.short, length-drop at s))
-
-pub list_within-one-way : {E X : Type 0} (gives : Error → E → Type 0) (f : Format E X) (n : ℕ)
-    → one_way f → one_way (leaf (list_within gives f n))
-list_within-one-way gives f n t =
-    (tt, λ order s at x e all h r. within-clash gives f n t order s at x e all h r)
-
-pub ruleset leaves_one_way = (
-  uleb-one-way,
-  sleb-one-way,
-  c_string-one-way,
-  text_of-one-way,
-  text_until-one-way,
-  packed_in-one-way,
-)

@@ -4,16 +4,15 @@ ghost use Rattle.std.specs.Iterator.{at_most};
 ghost use Rattle.std.specs.List.{All};
 ghost use Rattle.scroll_layouts.specs.Formats.{reads, refuses, len};
 ghost use Rattle.scroll_layouts.specs.Marks.{MarkedItems, YieldsMarked};
-ghost use Rattle.scroll_layouts.specs.OneWay.{one_way};
 
 use super::end_at;
 use crate::walk::below;
-use crate::{Certain, Items, Marked, ReadPart};
+use crate::{Items, Marked, ReadPart};
 use scroll::Endian;
 use std::marker::PhantomData;
 
 /// The values of a list that are left, in order, up to its mark. Of a list that was read none
-/// fails.
+/// fails if its values are read in one way (`one_way` of their format).
 #[derive(Drop)]
 pub struct MarkedValues<'a, E, K> {
     /// The bytes that are left, with the mark.
@@ -45,12 +44,12 @@ impl<'a, K: Marked<'a>> Items<'a, K> {
 
 impl<'a, E: Drop, K: Marked<'a>> Iterator for MarkedValues<'a, E, K>
 where
-    K::Item: Certain<'a, (), E>,
+    K::Item: ReadPart<'a, (), E>,
 {
     type Item = K::Item;
 
     ghost next_gives = { λ old found new. (new.order ≡ old.order)
-        × YieldsMarked K.End.mark (K.Item.ReadPart.format tt) old.order old.bytes.now found
+        × YieldsMarked K.End.mark (K.Item.format tt) old.order old.bytes.now found
         new.bytes.now };
 
     ghost remaining = { λ it. at_most (length it.bytes.now) };
@@ -60,7 +59,6 @@ where
         if let Some(_end) = end_at::<K::End>(self.bytes, 0) {
             return None;
         }
-        <K::Item as Certain<'a, (), E>>::certain();
         below(self.bytes);
         match <K::Item as ReadPart<'a, (), E>>::read_at(self.bytes, 0, self.order, &()) {
             Ok((value, size)) => {

@@ -6,7 +6,7 @@ ghost use Rattle.scroll.specs.declared.endian.Endian.TheVariants.{Little};
 ghost use Rattle.scroll_layouts.specs.Formats.{refuses};
 ghost use Rattle.scroll_layouts.specs.Wholes.{ReadsExact};
 
-use crate::{CertainHead, Head, Headed, Items, Listed, ReadPart, Run, Shape, Uleb, read_exact};
+use crate::{Head, Headed, Items, Listed, ReadPart, Run, Shape, Uleb, read_exact};
 use scroll::cstr::CStr;
 use scroll::ctx::TryFromCtx;
 use scroll::{Endian, Error, LE, Pread, Result};
@@ -49,10 +49,6 @@ impl Head<FieldHead, Error> for FieldLen {
     fn next(&self, head: &FieldHead) -> usize {
         head.1.value as usize
     }
-}
-
-impl<'a> CertainHead<'a, ((), ()), FieldHead, Error> for FieldLen {
-    fn certain_next() {}
 }
 
 impl<'a> Shape for Field<'a> {

@@ -18,8 +18,8 @@ use scroll::ctx::{TryFromCtx, TryIntoCtx};
 use scroll::{BE, Endian, Error};
 use scroll_layouts::Choice::{First, Second};
 use scroll_layouts::{
-    Behind, CertainHead, Choice, Choose, Given, Head, Headed, Items, Listed, Ordered, Packed, Part,
-    ReadPart, Run, Shape, U24, Within, is, read_exact, write_whole,
+    Behind, Choice, Choose, Given, Head, Headed, Items, Listed, Ordered, Packed, Part, ReadPart,
+    Run, Shape, U24, Within, is, read_exact, write_whole,
 };
 use std::marker::PhantomData;
 use std::result::Result;
@@ -428,10 +428,6 @@ impl<'a> Shape for Extension<'a> {
     }
 }
 
-impl<'a> CertainHead<'a, (), ExtensionHead, Error> for ExtensionSays {
-    fn certain_next() {}
-}
-
 impl<'a> TryFromCtx<'a, Endian> for Extension<'a> {
     type Error = Error;
 
@@ -600,10 +596,6 @@ impl<'a> Shape for ServerNames<'a> {
     }
 }
 
-impl<'a> CertainHead<'a, (), ServerNamesHead, Error> for ServerNamesSays {
-    fn certain_next() {}
-}
-
 type HostNameHead = Run<(u8, u16)>;
 
 type HostNameNext = usize;
@@ -659,10 +651,6 @@ impl<'a> Shape for HostName<'a> {
     {
         Headed((), HostNameSays, PhantomData)
     }
-}
-
-impl<'a> CertainHead<'a, (), HostNameHead, Error> for HostNameSays {
-    fn certain_next() {}
 }
 
 type LongListHead = Run<u16>;
@@ -721,10 +709,6 @@ impl<'a> Shape for LongList<'a> {
     }
 }
 
-impl<'a> CertainHead<'a, (), LongListHead, Error> for LongListSays {
-    fn certain_next() {}
-}
-
 type ShortListHead = Run<u8>;
 
 type ShortListNext = usize;
@@ -781,10 +765,6 @@ impl<'a> Shape for ShortList<'a> {
     }
 }
 
-impl<'a> CertainHead<'a, (), ShortListHead, Error> for ShortListSays {
-    fn certain_next() {}
-}
-
 type ProtocolListHead = Run<u16>;
 
 type ProtocolListNext = usize;
@@ -839,10 +819,6 @@ impl<'a> Shape for ProtocolList<'a> {
     {
         Headed((), ProtocolListSays, PhantomData)
     }
-}
-
-impl<'a> CertainHead<'a, (), ProtocolListHead, Error> for ProtocolListSays {
-    fn certain_next() {}
 }
 
 impl<'a> Listed<'a> for Protocols {
@@ -909,8 +885,4 @@ impl<'a> Shape for Protocol<'a> {
     {
         Headed((), ProtocolSays, PhantomData)
     }
-}
-
-impl<'a> CertainHead<'a, (), ProtocolHead, Error> for ProtocolSays {
-    fn certain_next() {}
 }

@@ -5,7 +5,6 @@ ghost use Rattle.scroll.specs.Errors.{IsBadInput};
 ghost use Rattle.scroll.specs.lemmas.Frames.{WritesPrefix-keeps};
 ghost use Rattle.scroll_layouts.specs.Errors.{IsNot};
 ghost use Rattle.scroll_layouts.specs.Formats.{last, refuses};
-ghost use Rattle.scroll_layouts.specs.OneWay.{OneWay};
 ghost use Rattle.scroll_layouts.specs.Wholes.{KeepsWhole, ReadsExact, WritesWhole};
 ghost use Rattle.scroll_layouts.specs.declared.choice.Choice.TheVariants.{First, Second};
 ghost use Rattle.scroll.specs.declared.endian.Endian.TheVariants as endian_is;
@@ -22,8 +21,8 @@ use scroll::{Endian, Error, LE};
 use scroll_formats::{Table, Zeros};
 use scroll_layouts::Choice::{First, Second};
 use scroll_layouts::{
-    Behind, Certain, CertainHead, Choice, Choose, Count, Given, Head, Headed, Items, Listed,
-    Ordered, Part, ReadPart, Run, Shape, Uleb, When, Within, is, read_exact, write_whole,
+    Behind, Choice, Choose, Count, Given, Head, Headed, Items, Listed, Ordered, Part, ReadPart,
+    Run, Shape, Uleb, When, Within, is, read_exact, write_whole,
 };
 use std::marker::PhantomData;
 use std::result::Result;
@@ -187,14 +186,6 @@ impl<'a> Shape for Section<'a> {
     {
         Headed((), SectionSays, PhantomData)
     }
-}
-
-impl<'a> CertainHead<'a, (), SectionHead2, Error> for SectionSays2 {
-    fn certain_next() {}
-}
-
-impl<'a> CertainHead<'a, (), SectionHead, Error> for SectionSays {
-    fn certain_next() {}
 }
 
 impl<'a> TryFromCtx<'a, Endian> for Section<'a> {
@@ -376,10 +367,6 @@ impl<'a> Shape for Name<'a> {
     }
 }
 
-impl<'a> CertainHead<'a, (), NameHead, Error> for NameSays {
-    fn certain_next() {}
-}
-
 type CustomBefore<'a> = Name<'a>;
 
 type CustomParts<'a> = (CustomBefore<'a>, &'a [u8]);
@@ -467,10 +454,6 @@ impl<'a> Shape for Types<'a> {
     {
         Headed((), TypesSays, PhantomData)
     }
-}
-
-impl<'a> CertainHead<'a, (), TypesHead, Error> for TypesSays {
-    fn certain_next() {}
 }
 
 impl<'a> Listed<'a> for FunctionTypes {
@@ -606,18 +589,6 @@ impl<'a> Shape for FunctionType<'a> {
     }
 }
 
-impl<'a> CertainHead<'a, (), FunctionTypeHead3, Error> for FunctionTypeSays3 {
-    fn certain_next() {}
-}
-
-impl<'a> CertainHead<'a, (), FunctionTypeHead2, Error> for FunctionTypeSays2 {
-    fn certain_next() {}
-}
-
-impl<'a> CertainHead<'a, (), FunctionTypeHead, Error> for FunctionTypeSays {
-    fn certain_next() {}
-}
-
 type ImportsHead = Uleb;
 
 type ImportsNext = Count;
@@ -672,10 +643,6 @@ impl<'a> Shape for Imports<'a> {
     {
         Headed((), ImportsSays, PhantomData)
     }
-}
-
-impl<'a> CertainHead<'a, (), ImportsHead, Error> for ImportsSays {
-    fn certain_next() {}
 }
 
 impl<'a> Listed<'a> for ImportList {
@@ -882,19 +849,6 @@ impl<'a> ReadPart<'a, (), Error> for Imported {
     }
 }
 
-impl<'a> CertainHead<'a, (), ImportedHead, Error> for ImportedSays {
-    fn certain_next() {}
-}
-
-impl<'a> Certain<'a, (), Error> for Imported {
-    fn certain()
-        ensures { (ctx : Unit {0})
-            → OneWay (⟦<Imported as ReadPart<'a, (), Error>>⟧.format ctx) }
-    {
-        <ImportedParts as Certain<'a, ImportedCtx, Error>>::certain()
-    }
-}
-
 type TableTypeParts = (Run<u8>, Limits);
 
 type TableTypeCtx = ((), ());
@@ -988,10 +942,6 @@ impl Shape for Limits {
     }
 }
 
-impl<'a> CertainHead<'a, (), LimitsHead, Error> for LimitsSays {
-    fn certain_next() {}
-}
-
 type IndicesHead = Uleb;
 
 type IndicesNext = Count;
@@ -1046,10 +996,6 @@ impl<'a> Shape for Indices<'a> {
     {
         Headed((), IndicesSays, PhantomData)
     }
-}
-
-impl<'a> CertainHead<'a, (), IndicesHead, Error> for IndicesSays {
-    fn certain_next() {}
 }
 
 impl<'a> Listed<'a> for IndexList {
@@ -1110,10 +1056,6 @@ impl<'a> Shape for Exports<'a> {
     {
         Headed((), ExportsSays, PhantomData)
     }
-}
-
-impl<'a> CertainHead<'a, (), ExportsHead, Error> for ExportsSays {
-    fn certain_next() {}
 }
 
 impl<'a> Listed<'a> for ExportList {
@@ -1182,8 +1124,4 @@ impl<'a> Shape for Export<'a> {
     {
         ((), Headed((), ExportSays, PhantomData))
     }
-}
-
-impl<'a> CertainHead<'a, (), ExportHead, Error> for ExportSays {
-    fn certain_next() {}
 }

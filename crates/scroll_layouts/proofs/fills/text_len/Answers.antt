@@ -1,5 +1,5 @@
 -- One more byte that fills.
-use Rattle.std.proofs.Common.{◌≡◌, ◌-◌, ◌≤◌, length, get_or, arith, rules, refl}
+use Rattle.std.proofs.Common.{◌≡◌, ◌-◌, get_or, arith, rules, refl}
 use Rattle.scroll_layouts.specs.lemmas.FillLemmas.{fills-more}
 use Rattle.scroll_layouts.proofs.fills.text_len.Goals as goal
 

@@ -1,5 +1,5 @@
 -- The first byte that is no blank.
-use Rattle.std.proofs.Common.{◌≡◌, ◌≤◌, ◌<◌, ◌==◌, ℕ, length, get_or, true, false, arith, rules}
+use Rattle.std.proofs.Common.{◌==◌, get_or, rules}
 use Rattle.scroll_layouts.specs.lemmas.NumeralLemmas.{stops, stops-all, is-other}
 use Rattle.scroll_layouts.proofs.numerals.blanks.Goals as goal
 

@@ -1,5 +1,5 @@
 -- One more digit, and the first byte that is none.
-use Rattle.std.proofs.Common.{◌≡◌, ◌≤◌, ◌<◌, ◌+◌, ℕ, length, get_or, true, false, arith, rules, subst}
+use Rattle.std.proofs.Common.{◌≤◌, ◌<◌, length, get_or, arith, rules}
 use Rattle.std.specs.Char.{digit_value}
 use Rattle.std.specs.Prelude.{nat_lt}
 use Rattle.scroll_layouts.specs.lemmas.NumeralLemmas.{stops, stops-all, passes-more, is-below, is-not-below}

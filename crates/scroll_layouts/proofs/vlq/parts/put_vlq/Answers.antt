@@ -1,7 +1,7 @@
 -- One more group is written, in front of those behind it.
-use Rattle.std.proofs.Common.{rules, ◌≡◌, ◌≤◌, ◌<◌, ◌+◌, ◌-◌, ◌*◌, ◌%◌, ◌/◌, ◌++◌, [], ◌∷◌, ℕ, suc, List, length, drop, sym, ap, subst, ◌∙◌, arith, refl}
+use Rattle.std.proofs.Common.{◌≡◌, arith}
 use Rattle.scroll_layouts.specs.lemmas.VlqLemmas.{all-put, last-put, group-put}
-use Rattle.scroll_layouts.specs.Varints.{high_groups, vlq_bytes}
+use Rattle.scroll_layouts.specs.Varints.{vlq_bytes}
 use Rattle.scroll_layouts.proofs.vlq.parts.put_vlq.Goals as goal
 
 pub loop-at-init : goal.loop-at-init

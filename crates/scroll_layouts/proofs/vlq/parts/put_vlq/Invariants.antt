@@ -1,5 +1,5 @@
 -- The bytes from an offset on are written.
-use Rattle.std.proofs.Common.{◌≡◌, ◌≤◌, ◌<◌, ◌++◌, List, ℕ, length, drop}
+use Rattle.std.proofs.Common.{◌≡◌, ◌<◌, ◌++◌, List, ℕ, length, drop}
 use Rattle.scroll_layouts.specs.Varints.{high_groups, vlq_bytes}
 use Rattle.scroll_layouts.proofs.vlq.parts.put_vlq.Given as goal
 

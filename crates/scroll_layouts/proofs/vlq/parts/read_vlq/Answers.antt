@@ -1,7 +1,6 @@
 -- One more byte was read.
-use Rattle.std.proofs.Common.{rules, ◌≡◌, ◌≤◌, ◌<◌, ◌+◌, ◌^◌, ◌*◌, ◌%◌, ℕ, length, true, false, take, get_or, sym, ap, subst, ◌∙◌, arith, refl, inl, inr}
-use Rattle.std.specs.Prelude.{nat_lt}
-use Rattle.scroll.specs.Leb128.{end_of, count_of}
+use Rattle.std.proofs.Common.{rules, ◌≡◌, ◌≤◌, ◌<◌, ◌+◌, ◌^◌, ◌*◌, ◌%◌, length, take, get_or, sym, ap, subst, ◌∙◌, arith, refl, inl, inr}
+use Rattle.scroll.specs.Leb128.{end_of}
 use Rattle.scroll_layouts.specs.Varints.{vlq_of, groups_number}
 use Rattle.scroll_layouts.specs.lemmas.VlqLemmas.{ends-at, ends-cut, ends-past, too-great, nine-below, next-number, next-on, vlq-has}
 use Rattle.scroll_layouts.proofs.vlq.parts.read_vlq.Goals as goal
