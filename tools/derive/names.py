@@ -17,7 +17,7 @@ GHOST: Dict[str, Sequence[str]] = {
     "Rattle.scroll_layouts.specs.ListEnds": ("bytes_mark",),
     "Rattle.scroll_layouts.specs.OneWay": ("one_way",),
     "Rattle.scroll_layouts.specs.Wholes": ("KeepsWhole", "ReadsBack", "ReadsExact", "ReadsWhole", "WritesWhole"),
-    "Rattle.scroll_layouts.specs.lemmas.WholeLemmas": ("whole-kept",),
+    "Rattle.scroll_layouts.specs.lemmas.WholeLemmas": ("exact-returned", "whole-kept", "whole-returned"),
     "Rattle.scroll_layouts.specs.declared.choice.Choice.TheVariants": ("First", "Second"),
 }
 CHOICE = "scroll_layouts::Choice"
