@@ -220,8 +220,8 @@ pub fn again_{name}{life}(target: &{life[1:3]} mut [u8], value: {struct.name}, o
 """.replace("& mut", "&mut")
     if made.top.mark == KEPT:
         has_life = "'a" in made.top.type
-        life, entry = ("<'a>", ".entry") if has_life else ("", "")
-        reads = f"⟦<{made.top.type} as Kept<Endian>>⟧.reads order"
+        life, entry, named = ("<'a>", ".entry", "'a") if has_life else ("", "", "'static")
+        reads = f"⟦<{made.top.type} as Kept<{named}, Endian>>⟧.reads order"
         text += f"""
 pub fn keep_{name}{life}(to: &mut [u8], value: {made.top.type}, at: usize, order: Endian) -> Result<usize, {error}>
     ensures {{ IfOk result (λ n. ReadsAt ({reads}) to.new at value{entry} n) }}

@@ -16,7 +16,7 @@ GHOST: Dict[str, Sequence[str]] = {
     "Rattle.scroll_layouts.specs.Formats": ("last", "refuses"),
     "Rattle.scroll_layouts.specs.ListEnds": ("bytes_mark",),
     "Rattle.scroll_layouts.specs.Wholes": ("KeepsWhole", "ReadsBack", "ReadsExact", "ReadsWhole", "WritesWhole"),
-    "Rattle.scroll_layouts.specs.lemmas.WholeLemmas": ("whole-kept",),
+    "Rattle.scroll_layouts.specs.lemmas.WholeLemmas": ("exact-returned", "whole-kept", "whole-returned"),
     "Rattle.scroll_layouts.specs.declared.choice.Choice.TheVariants": ("First", "Second"),
 }
 CHOICE = "scroll_layouts::Choice"

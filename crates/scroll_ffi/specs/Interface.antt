@@ -249,6 +249,18 @@ pub record RefusesStored (formats : Formats) (archive : List ℕ) (from : ℕ) (
 abbrev pub IsLong : List ℕ → ℕ → Type 0
 IsLong part most = most < length part
 
+-- the parts of a file have numbers for their lengths, and the archive has room for it
+pub record HasRoom (name extra contents archive : List ℕ) (from : ℕ) : Type 0 where
+  pub name-short : length name ≤ 65535
+  pub extra-short : length extra ≤ 65535
+  pub contents-short : length contents ≤ 4294967295
+  pub room : from + (30 + length name + length extra + length contents) ≤ length archive
+
+-- and those of an end record
+pub record HasRoomForEnd (comment archive : List ℕ) (from : ℕ) : Type 0 where
+  pub comment-short : length comment ≤ 65535
+  pub room : from + (22 + length comment) ≤ length archive
+
 -- the write of a file fails, and the archive is as it was
 pub record FailsPut (formats : Formats) (x : ScrollZipFile) (name extra contents old new : List ℕ)
     (from : ℕ) (e : ScrollError) : Type 0 where

@@ -1,19 +1,17 @@
 // Values that read back as they were written.
-ghost use Rattle.std.specs.Prelude.{ℕ, ◌++◌, List, take};
+ghost use Rattle.std.specs.Prelude.{ℕ, ◌<◌, ◌++◌, List, take};
+ghost use Rattle.std.specs.List.{All};
 
-use scroll::ctx::TryIntoCtx;
+use scroll::ctx::{TryFromCtx, TryIntoCtx};
 
 /// A type whose values read back as they were written, whatever follows them.
 ///
 /// [`write_kept`](crate::write_kept), [`write_many_kept`](crate::write_many_kept) and
 /// [`write_placed`](crate::write_placed) say so of what they write. `tools/derive` prints the
 /// implementation for most structs, as in `crates/zip/src/entry.rt`.
-///
-/// An implementation by hand promises that `reads` is the relation of the type's own reads, or one
-/// that says more: no law ties the two, and of a relation that holds of everything the three calls
-/// promise nothing.
-pub trait Kept<Ctx: Copy>: TryIntoCtx<Ctx> + Copy {
-    // Holds of a context, a source, and each value and size that a read of them may return.
+pub trait Kept<'a, Ctx: Copy>: TryFromCtx<'a, Ctx> + TryIntoCtx<Ctx> + Copy {
+    // Holds of a context, a source, and each value and size that stand at its start. What follows
+    // the value need not be bytes.
     ghost reads: { Ctx → List ℕ → Self → ℕ → Type 0 };
 
     // Holds of each value of the type.
@@ -26,4 +24,8 @@ pub trait Kept<Ctx: Copy>: TryIntoCtx<Ctx> + Copy {
     // What was written reads back.
     ghost back: { (ctx : Ctx) (x : Self) (old new rest : List ℕ) (n : ℕ) → fits x
         → Self.TryIntoCtx.writes ctx x old new n → reads ctx (take n new ++ rest) x n };
+
+    // What stands at the start of bytes is what the type's own read may return of them.
+    ghost returned: { (ctx : Ctx) (source : List ℕ) (x : Self) (n : ℕ) → All (λ b. b < 256) source
+        → reads ctx source x n → Self.TryFromCtx.reads ctx source x n };
 }

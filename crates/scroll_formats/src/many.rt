@@ -201,7 +201,12 @@ pub fn write_many<Ctx: Copy, E: From<Error>, T: TryIntoCtx<Ctx, Error = E> + Cop
 
 /// Writes a value like [`gwrite_with`](slice::gwrite_with). It reads back at its offset, whatever
 /// is written after it.
-pub fn write_kept<Ctx: Copy, E: From<Error>, T: Kept<Ctx> + TryIntoCtx<Ctx, Error = E> + Drop>(
+pub fn write_kept<
+    'a,
+    Ctx: Copy,
+    E: From<Error>,
+    T: Kept<'a, Ctx> + TryIntoCtx<Ctx, Error = E> + Drop,
+>(
     dst: &mut [u8],
     value: T,
     offset: &mut usize,
@@ -227,9 +232,10 @@ pub fn write_kept<Ctx: Copy, E: From<Error>, T: Kept<Ctx> + TryIntoCtx<Ctx, Erro
 /// Writes values like [`write_many`]. They read back, whatever is written after them, and
 /// [`read_to_end`] reads them from the bytes up to the cursor.
 pub fn write_many_kept<
+    'a,
     Ctx: Copy,
     E: From<Error>,
-    T: Kept<Ctx> + TryIntoCtx<Ctx, Error = E> + Copy + Drop,
+    T: Kept<'a, Ctx> + TryIntoCtx<Ctx, Error = E> + Copy + Drop,
 >(dst: &mut [u8], values: &[T], offset: &mut usize, ctx: Ctx) -> Result<(), At<E>>
     ensures wrote { OnOk result
         (WritesAll (T.TryIntoCtx.writes ctx) dst.old offset.old values.now dst.new offset.new) }
@@ -281,9 +287,10 @@ pub trait EntryOf<T>: Sized {
 /// entry, with that offset, and leaves the cursor there; or [`Error::NoMemory`] of the value for
 /// whose entry there was no memory. The values before it are then written.
 pub fn write_placed<
+    'a,
     Ctx: Copy,
     E: From<Error>,
-    T: Kept<Ctx> + TryIntoCtx<Ctx, Error = E> + Copy + Drop,
+    T: Kept<'a, Ctx> + TryIntoCtx<Ctx, Error = E> + Copy + Drop,
     P: EntryOf<T, Error = E> + Drop,
 >(
     alloc: Global,
@@ -323,9 +330,10 @@ pub fn write_placed<
 // Writes a value like `write_kept`, and appends an entry to `entries`, which says where it stands.
 #[inline(always)]
 fn write_entered<
+    'a,
     Ctx: Copy,
     E: From<Error>,
-    T: Kept<Ctx> + TryIntoCtx<Ctx, Error = E> + Drop,
+    T: Kept<'a, Ctx> + TryIntoCtx<Ctx, Error = E> + Drop,
     P: EntryOf<T, Error = E> + Drop,
 >(entries: &mut Vec<P>, dst: &mut [u8], value: T, offset: &mut usize, ctx: Ctx) -> Result<(), E>
     ensures entered { OnOk result ((entry : P)
@@ -351,7 +359,7 @@ fn write_entered<
 }
 
 // Does nothing, and says that each of the values fits.
-fn fit_all<Ctx: Copy, T: Kept<Ctx>>(values: &[T])
+fn fit_all<'a, Ctx: Copy, T: Kept<'a, Ctx>>(values: &[T])
     ensures { All T.Kept.fits values.now }
 {
     for value in values {

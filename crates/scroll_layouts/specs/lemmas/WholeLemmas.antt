@@ -93,6 +93,17 @@ whole-kept f order x old new n h rest =
       back = sym h.written ∙ sym (take_at (take n new) rest n size);
     }
 
+-- and is one that a read of bytes may return
+pub whole-returned : {E X : Type 0} (f : Format E X) (order : Endian) (s : List ℕ) (x : X) (n : ℕ)
+    → told f → All (λ b. b < 256) s → ReadsBack f order s x n → ReadsWhole f order s x n
+whole-returned f order s x n t all h = whole-read f order s x n t all h.value h.size
+
+pub exact-returned : {E X : Type 0} (f : Format E X) (order : Endian) (s : List ℕ) (x : X) (n : ℕ)
+    → exact f → told f → All (λ b. b < 256) s → ReadsBack f order s x n
+    → ReadsExact f order s x n
+exact-returned f order s x n e t all h =
+    exact-read f order s x n e all (whole-returned f order s x n t all h)
+
 -- a value that was appended
 pub whole-appended : {E X : Type 0} (f : Format E X) (order : Endian) (x : X) (old new : List ℕ)
     → agrees f order x → new ≡ old ++ bytes f order x → AppendsWhole f order x old new

@@ -1,11 +1,11 @@
 -- The values read back by their type's law.
-use Rattle.std.proofs.Common.{refl}
+use Rattle.std.proofs.Common.{refl, rules}
 use Rattle.scroll_formats.proofs.lemmas.ManyLemmas.{WritesAll-inside, WritesAll-kept, kept-whole, changes-many}
 use Rattle.scroll_formats.proofs.many.write_many_kept.Goals as goal
 
 pub returns-clause-kept : goal.returns-clause-kept
 returns-clause-kept g c =
-    WritesAll-kept _ _ g.T.Kept.fits (g.met.T.Kept.back c.args.ctx) c.args.values.now _ _ _ _ c.fit_all.ensures c.in_ok-write_many.ensures.wrote
+    WritesAll-kept _ _ g.T.Kept.fits ((g.met.T.Kept c.lifetimes (search rules)).back c.args.ctx) c.args.values.now _ _ _ _ c.fit_all.ensures c.in_ok-write_many.ensures.wrote
 
 pub returns-clause-again : goal.returns-clause-again
 returns-clause-again g c = returns-clause-kept g c _ refl
