@@ -163,10 +163,7 @@ def back_of(of: Field) -> Optional[Back]:
     if isinstance(kind, (Table, Listing)):
         part = ".bytes" if isinstance(kind, Table) else ".0"
         whole = Back("&'a [u8]", path + part, "{}.now")
-        # (a table that may be absent isn't read back as a whole with no word)
-        if of.condition:
-            return whole._replace(path=path, part=part, other="&[]") if isinstance(kind, Listing) else None
-        return whole
+        return whole._replace(path=path, part=part, other="&[]") if of.condition else whole
     if of.condition or isinstance(kind, Tagged):
         return Back(of.type, path, is_rare=True) if is_plain(kind) else None
     if isinstance(kind, Number):
