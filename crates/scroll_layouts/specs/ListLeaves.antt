@@ -28,10 +28,10 @@ abbrev pub Clashes : {E : Type 0} → Type 0 → (Endian → List ℕ → Type 0
 Clashes {E} C P R = C → (order : Endian) (s x : List ℕ) (e : E) → All (λ b. b < 256) s
     → length x ≤ length s → x ≡ take (length x) s → P order x → R order s e → ⊥
 
--- `held T C P R ends clash other`: bytes that are borrowed, of which `P` holds, and which `ends` says
--- that a source has in one way where `T` holds; `R` says the errors of a read, and where `C` holds
--- `clash` says that a source hasn't both; and `other` says the errors of a write of bytes of which
--- `P` doesn't hold
+-- `held T C P R ends clash other`: bytes that are borrowed, of which `P` holds, and which `ends`
+-- says that a source has in one way where `T` holds; `R` says the errors of a read, and where `C`
+-- holds, `clash` says that a source hasn't both; and `other` says the errors of a write of bytes of
+-- which `P` doesn't hold
 abbrev pub held : {E : Type 0} → (T C : Type 0) → (P : Endian → List ℕ → Type 0)
     → (R : Endian → List ℕ → E → Type 0) → OneEnd T P → Clashes C P R
     → (Endian → List ℕ → E → Type 0) → Leaf E (List ℕ)

@@ -2,6 +2,7 @@
 //
 //     made = ssl.MemoryBIO(); context.wrap_bio(ssl.MemoryBIO(), made, server_hostname="localhost")
 use super::*;
+use scroll::Error;
 use std::alloc::Global;
 use std::process::Abort;
 
@@ -61,3 +62,14 @@ static WRONG: [(usize, u8, &str); 5] = [
     (40, 3, "type is too big (2) for 1"),
     (59, 0xff, "bad input invalid utf8 (9)"),
 ];
+
+#[test]
+fn extensions_are_walked(rt: HostRuntime) {
+    let message = read_hello(&HELLO).expect(&rt, "a hello");
+    let list = message.hello.extensions.expect(&rt, "extensions");
+    let mut count: usize = 0;
+    for _ in list.each.values::<Error>(BE) {
+        count = count.saturating_add(1);
+    }
+    assert_eq!(rt; count, 7);
+}
