@@ -72,8 +72,8 @@ counted-cut f order s to n all le h = record {
 
 -- values of the bytes up to an offset are values of the source
 pub items-grown : {E X : Type 0} (f : Format E X) (order : Endian) (s : List ℕ) (at : ℕ)
-    (xs : List X) (to : ℕ) → All (λ b. b < 256) s → to ≤ length s → Items f order (take to s) at xs to
-    → Items f order s at xs to
+    (xs : List X) (to : ℕ) → All (λ b. b < 256) s → to ≤ length s
+    → Items f order (take to s) at xs to → Items f order s at xs to
 items-grown f order s at [] to all le h = h
 items-grown f order s at (x ∷ xs) to all le h =
     let n : ℕ = len f x in
