@@ -5,7 +5,8 @@
 
 The folder has descriptions and tests alone: what `python3 tools/derive` prints for them isn't stored, and so they are no crate, whose
 files `rt ci` would prove, and end in `.rt.txt`. They become one in a copy, over the libraries as `rt lib` proves them in this
-repository; `rt check` proves it, and `rt try --test` runs the tests, whose bytes other programs made. Each format is a check that all of its functions are proved, with no proof by hand; each test is one too.
+repository; `rt check` proves it, and `rt try --test` runs the tests, whose bytes other programs made. Each format is a check that
+all of its functions are proved, with no proof by hand; each test is one too.
 """
 
 import re
@@ -31,6 +32,8 @@ def work(step: Step) -> None:
     verdicts: Dict[str, List[str]] = {}
     for module, function, verdict in VERDICT.findall(ran.said):
         verdicts.setdefault(module, []).append(f"{function}: {verdict}")
+    if not verdicts:
+        raise Stop(f"no function of {NAME} has a verdict\n{ran.end()}")
     formats = [it for it in sorted(texts) if "/" not in it and it not in ("lib", "tests")]
     for it in formats:
         left = [said for said in verdicts.get(it, ["it has no verdict"]) if not said.endswith(": proved")]
