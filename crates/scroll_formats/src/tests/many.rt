@@ -47,7 +47,41 @@ fn fewer_values_than_the_count(rt: HostRuntime) {
     check_eq(&rt, *offset, 7);
 }
 
-// Vectors of each length, and a longer one. An allocation failure ends the test.
+// Each number of values, and a larger one. An allocation failure ends the test.
+#[test]
+fn values_of_each_count(rt: HostRuntime) {
+    for len in 0..1101 {
+        check_count(&rt, rt.alloc(), len);
+    }
+    check_count(&rt, rt.alloc(), 5000);
+}
+
+// Checks that so many values are read.
+fn check_count(rt: &impl Abort, alloc: Global, len: usize)
+    requires { len ≤ 5000 }
+{
+    let bytes = &[7u8; 5000][..len];
+    let many: Result<Vec<u8>> = read_many(alloc, bytes, &mut 0, len, BE).map_err(Error::from);
+    check_eq(rt, expect_value(rt, many).as_slice(), bytes);
+}
+
+#[test]
+fn values_up_to_each_end(rt: HostRuntime) {
+    for len in 0..1101 {
+        check_end(&rt, rt.alloc(), len);
+    }
+    check_end(&rt, rt.alloc(), 5000);
+}
+
+// Checks that the values up to the end of so many bytes are read.
+fn check_end(rt: &impl Abort, alloc: Global, len: usize)
+    requires { len ≤ 5000 }
+{
+    let bytes = &[7u8; 5000][..len];
+    let rest: Result<Vec<u8>> = read_to_end(alloc, bytes, &mut 0, BE).map_err(Error::from);
+    check_eq(rt, expect_value(rt, rest).as_slice(), bytes);
+}
+
 #[test]
 fn vectors_of_each_length(rt: HostRuntime) {
     for len in 0..1101 {
@@ -56,15 +90,11 @@ fn vectors_of_each_length(rt: HostRuntime) {
     check_length(&rt, rt.alloc(), 5000);
 }
 
-// Checks that so many values are read, and appended to a vector with and without values.
+// Checks that so many bytes are appended to a vector with and without values.
 fn check_length(rt: &impl Abort, alloc: Global, len: usize)
     requires { len ≤ 5000 }
 {
     let bytes = &[7u8; 5000][..len];
-    let many: Result<Vec<u8>> = read_many(alloc, bytes, &mut 0, len, BE).map_err(Error::from);
-    check_eq(rt, expect_value(rt, many).as_slice(), bytes);
-    let rest: Result<Vec<u8>> = read_to_end(alloc, bytes, &mut 0, BE).map_err(Error::from);
-    check_eq(rt, expect_value(rt, rest).as_slice(), bytes);
     let mut file: Vec<u8> = Vec::new(alloc);
     check_value(rt, append(&mut file, bytes, LE), ());
     check_eq(rt, file.as_slice(), bytes);
