@@ -16,7 +16,7 @@ GHOST: Dict[str, Sequence[str]] = {
     "Rattle.scroll_layouts.specs.Formats": ("last", "refuses"),
     "Rattle.scroll_layouts.specs.ListEnds": ("bytes_mark",),
     "Rattle.scroll_layouts.specs.Wholes": ("KeepsWhole", "ReadsBack", "ReadsExact", "ReadsWhole", "WritesWhole"),
-    "Rattle.scroll_layouts.specs.lemmas.WholeLemmas": ("exact-returned", "whole-kept", "whole-returned"),
+    "Rattle.scroll_layouts.specs.lemmas.WholeLemmas": ("whole-kept",),
     "Rattle.scroll_layouts.specs.declared.choice.Choice.TheVariants": ("First", "Second"),
 }
 CHOICE = "scroll_layouts::Choice"
@@ -28,7 +28,7 @@ CODE: Dict[str, Sequence[str]] = {
     "scroll_layouts": tuple(
         "Behind Choice Choose Count Decimal EndMark Ends Field Filled Given Head Headed Hexadecimal Items "
         "Listed Low Marked NameEnd Octal Ordered Packed Padded Part ReadPart Run Shape Sleb ToMark TwoZeroUlebs U24 Uleb Vlq "
-        "When Within ZeroUleb Zigzag begins_with is read_exact read_whole shifted write_whole".split()
+        "When Within ZeroUleb Zigzag begins_with is kept_exact kept_whole read_exact read_whole shifted write_whole".split()
     ),
     "std::marker": ("PhantomData",),
     "std::result": ("Result",),

@@ -200,9 +200,6 @@ class Printer:
 }}""",
         ]
         if self.form.item.is_kept:
-            found = "(Prim.search rules)"
-            exact = f"exact-returned _ order s x n {found}" if self.form.is_exact else "whole-returned _ order s x n"
-            returned = f"{exact} {found}"
             self.texts.append(
                 f"""impl<'a> Kept<'a, Endian> for {self.type} {{
     ghost reads = {{ ReadsBack {read_format} }};
@@ -213,7 +210,9 @@ class Printer:
 
     ghost back = {{ λ order x old new rest n fits h. whole-kept _ order x old new n h rest }};
 
-    ghost returned = {{ λ order s x n all h. {returned} all h }};
+    fn returned() {{
+        kept_{"exact" if self.form.is_exact else "whole"}::<(), {self.error}, {self.type}>(&())
+    }}
 }}"""
             )
 

@@ -69,7 +69,7 @@ pub use crate::shifts::shifted;
 pub use crate::texts::Ends;
 pub use crate::vlq::Vlq;
 pub use crate::walk::Values;
-pub use crate::whole::{read_exact, read_whole, write_whole};
+pub use crate::whole::{kept_exact, kept_whole, read_exact, read_whole, write_whole};
 pub use crate::within::Within;
 use scroll::Endian;
 use std::result::Result;

@@ -5,13 +5,15 @@ ghost use Rattle.scroll.specs.Errors.{IsBadInput};
 ghost use Rattle.scroll.specs.lemmas.Frames.{WritesPrefix-keeps};
 ghost use Rattle.scroll_layouts.specs.Formats.{refuses};
 ghost use Rattle.scroll_layouts.specs.Wholes.{KeepsWhole, ReadsBack, ReadsExact, WritesWhole};
-ghost use Rattle.scroll_layouts.specs.lemmas.WholeLemmas.{exact-returned, whole-kept};
+ghost use Rattle.scroll_layouts.specs.lemmas.WholeLemmas.{whole-kept};
 
 use super::Record;
 use scroll::ctx::{TryFromCtx, TryIntoCtx};
 use scroll::{Endian, Error};
 use scroll_formats::Kept;
-use scroll_layouts::{Ends, Head, Headed, Part, ReadPart, Run, Shape, read_exact, write_whole};
+use scroll_layouts::{
+    Ends, Head, Headed, Part, ReadPart, Run, Shape, kept_exact, read_exact, write_whole,
+};
 use std::marker::PhantomData;
 use std::result::Result;
 
@@ -150,6 +152,7 @@ impl<'a> Kept<'a, Endian> for Record<'a> {
 
     ghost back = { λ order x old new rest n fits h. whole-kept _ order x old new n h rest };
 
-    ghost returned = { λ order s x n all h.
-        exact-returned _ order s x n (Prim.search rules) (Prim.search rules) all h };
+    fn returned() {
+        kept_exact::<(), Error, Record<'a>>(&())
+    }
 }
