@@ -6,7 +6,7 @@ fields; the number and the size of a number in LEB128; `None`, or an optional va
 """
 
 import random
-from typing import Any, List, Optional, Tuple
+from typing import Any, List, Tuple
 
 from description_counts import FLOATS, GREATEST, MARK, Fixed, Group, Hopeless, Known, Refused, Rule, Sum, bad, is_count, lines_of
 from description_counts import padding, take_bytes, take_zeros, too_big

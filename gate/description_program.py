@@ -1,11 +1,11 @@
 """Prints the program that reads and writes values of described structs."""
 
-from typing import List, Optional, Sequence, Tuple, Union
+from typing import List, Sequence, Tuple, Union
 
 from description_kinds import Ended, Filled, Number, Slice
 from description_counts import UNSIGNED
 from description_nested import Enum
-from description_structs import Field, OwnError, Struct
+from description_structs import Field, Struct
 from description_users import read
 from descriptions_drawn import Drawn
 

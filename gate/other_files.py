@@ -12,7 +12,7 @@ import subprocess
 import tarfile
 import zlib
 from pathlib import Path
-from typing import Callable, Dict, List, NamedTuple
+from typing import Callable, Dict, NamedTuple
 
 from other_readers import read_tls, read_wasm
 
