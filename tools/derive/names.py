@@ -6,6 +6,7 @@ PRELUDE = ("◌≡◌", "◌≢◌", "◌<◌", "◌≤◌", "◌+◌", "◌-◌
 GHOST: Dict[str, Sequence[str]] = {
     "Rattle.std.specs.Prelude": (*PRELUDE, "length", "drop", "min", "codes", "nat_eq", "nat_lt", "not", "option_map", "if◌then◌else◌"),
     "Rattle.std.specs.Float": ("binary32", "binary64"),
+    "Rattle.std.specs.List": ("All",),
     "Rattle.std.proofs.Common": ("refl", "rules"),
     "Rattle.scroll.specs.Arrays": ("MakesArray",),
     "Rattle.scroll.specs.Errors": ("IsBadInput",),

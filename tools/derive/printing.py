@@ -210,7 +210,11 @@ class Printer:
 
     ghost back = {{ λ order x old new rest n fits h. whole-kept _ order x old new n h rest }};
 
-    fn returned() {{
+    fn returned()
+        ensures {{ (order : _) (s : _) (x : _) (n : _) → All (λ b. b < 256) s
+            → ReadsBack {read_format} order s x n
+            → {reads} {read_format} order s x n }}
+    {{
         kept_{"exact" if self.form.is_exact else "whole"}::<(), {self.error}, {self.type}>(&())
     }}
 }}"""

@@ -178,7 +178,7 @@ def lay_out_list(head: str, items: str, tail: str, indent: int) -> List[str]:
 def lay_out_use(head: str, names: str, tail: str, indent: int) -> List[str]:
     line = f"{head}{names}{tail}"
     words = [f"{it}," for it in split_top(names, ",")]
-    return [line] if len(line) <= WIDTH else [head, *filled("   ", words, "   ", WIDTH - 1), tail]
+    return [line] if len(line) < WIDTH else [head, *filled("   ", words, "   ", WIDTH - 1), tail]
 
 
 def lay_out_type(head: str, text: str, tail: str, indent: int) -> List[str]:

@@ -1,5 +1,6 @@
 // Printed by tools/derive from log.rt.
 ghost use Rattle.std.specs.Prelude.{◌≡◌, ◌<◌, ◌≤◌, ◌+◌, ◌-◌, ◌^◌, length, codes};
+ghost use Rattle.std.specs.List.{All};
 ghost use Rattle.std.proofs.Common.{rules};
 ghost use Rattle.scroll.specs.Errors.{IsBadInput};
 ghost use Rattle.scroll.specs.lemmas.Frames.{WritesPrefix-keeps};
@@ -152,7 +153,11 @@ impl<'a> Kept<'a, Endian> for Record<'a> {
 
     ghost back = { λ order x old new rest n fits h. whole-kept _ order x old new n h rest };
 
-    fn returned() {
+    fn returned()
+        ensures { (order : _) (s : _) (x : _) (n : _) → All (λ b. b < 256) s
+            → ReadsBack (⟦<Record<'a> as ReadPart<'a, (), Error>>⟧.format tt) order s x n
+            → ReadsExact (⟦<Record<'a> as ReadPart<'a, (), Error>>⟧.format tt) order s x n }
+    {
         kept_exact::<(), Error, Record<'a>>(&())
     }
 }
