@@ -177,8 +177,13 @@ def lay_out_list(head: str, items: str, tail: str, indent: int) -> List[str]:
 
 def lay_out_use(head: str, names: str, tail: str, indent: int) -> List[str]:
     line = f"{head}{names}{tail}"
-    words = [f"{it}," for it in split_top(names, ",")]
-    return [line] if len(line) < WIDTH else [head, *filled("   ", words, "   ", WIDTH - 1), tail]
+    if len(line) < WIDTH:
+        return [line]
+    # (a space behind a comma counts, and behind the last one there is none)
+    rows = filled("   ", [f"{it}," for it in split_top(names, ",")], "   ", WIDTH - 1)
+    if len(rows) > 1 and len(f"{rows[-2]}{rows[-1][3:]}") <= WIDTH:
+        rows[-2:] = [f"{rows[-2]}{rows[-1][3:]}"]
+    return [head, *rows, tail]
 
 
 def lay_out_type(head: str, text: str, tail: str, indent: int) -> List[str]:

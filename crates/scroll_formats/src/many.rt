@@ -206,12 +206,7 @@ pub fn write_kept<
     Ctx: Copy,
     E: From<Error>,
     T: Kept<'a, Ctx> + TryIntoCtx<Ctx, Error = E> + Drop,
->(
-    dst: &mut [u8],
-    value: T,
-    offset: &mut usize,
-    ctx: Ctx,
-) -> Result<usize, E>
+>(dst: &mut [u8], value: T, offset: &mut usize, ctx: Ctx) -> Result<usize, E>
     ensures wrote { IfOk result
         (WritesAt (T.TryIntoCtx.writes ctx value) dst.old offset.old dst.new) }
     ensures again { OnOk result

@@ -12,8 +12,7 @@ use super::{CStr, Extra, ExtraField, ExtraFields, Header, Trailer};
 use scroll::ctx::{Record, TryFromCtx, TryIntoCtx, Written};
 use scroll::{Endian, Error, LE};
 use scroll_layouts::{
-    Head, Headed, Items, Listed, Ordered, Part, ReadPart, Run, Shape, When, read_exact,
-    write_whole,
+    Head, Headed, Items, Listed, Ordered, Part, ReadPart, Run, Shape, When, read_exact, write_whole,
 };
 use std::marker::PhantomData;
 use std::result::Result;
