@@ -189,7 +189,7 @@ def draw_whole(made: Drawn) -> Optional[Back]:
 
 
 def print_users(made: Drawn) -> str:
-    """Prints a reader, a writer, and without floats a copier."""
+    """Prints a reader, a writer, a walk over a list, and without floats a copier."""
     struct, of = made.struct, made.struct.error
     error = of.name if of else "Error"
     name, facts, least, back = struct.name.lower(), facts_of(struct), least_of(struct), draw_whole(made)
@@ -226,6 +226,18 @@ pub fn keep_{name}{life}(to: &mut [u8], value: {made.top.type}, at: usize, order
     let mut offset = at;
     let size = write_kept(to, value, &mut offset, order)?;
     Ok(size)
+}}
+"""
+    walked = next((it for it in struct.fields if isinstance(it.kind, Listing) and not it.condition), None)
+    if walked:
+        values = "values_to_mark" if walked.kind.how == "mark" else "values"
+        text += f"""
+pub fn count_{name}(value: {struct.name}, order: Endian) -> usize {{
+    let mut count: usize = 0;
+    for _ in value.{walked.name}.{values}::<{error}>(order) {{
+        count = count.saturating_add(1);
+    }}
+    count
 }}
 """
     if struct.is_exact:

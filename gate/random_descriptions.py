@@ -6,8 +6,8 @@
 COUNT structs (8) are drawn from SEED (2) by gate/descriptions_drawn.py, of 2 to 14 fields of all kinds that tools/derive
 takes, nested to depth 3; the last of twenty-four is nested to depth 10. `python3 tools/derive` prints what they need, in crates of
 some structs over the libraries as `rt lib` proves them in this repository. Each struct has functions that use it, with no proof
-by hand: a reader that says where fields stand and which error a short source is, a writer that reads a field back, and without
-floats a copier. `rt check` proves each crate.
+by hand: a reader that says where fields stand and which error a short source is, a writer that reads a field back, a walk
+over a list, and without floats a copier. `rt check` proves each crate.
 
 Then values are drawn, and their bytes made, by gate/description_structs.py, which knows the descriptions alone. A program of
 the same text, which promises nothing more and so is built by `rt try`, reads them, and them cut, with each number one greater
