@@ -1,6 +1,6 @@
 // Numbers in LEB128. (The types of `scroll` can't be named in a bound yet.)
 ghost use Rattle.std.specs.Prelude.{◌≡◌};
-ghost use Rattle.scroll.specs.Encoding.{HasEncoding, HasSignedEncoding};
+ghost use Rattle.scroll.specs.Encoding.{HasEncoding, HasSignedEncoding, IsLeast};
 ghost use Rattle.scroll_layouts.specs.Varints.{zigzag};
 
 mod parts;
@@ -27,7 +27,8 @@ pub struct Uleb {
 impl Uleb {
     /// Returns the number with the length of its shortest encoding.
     pub fn shortest(value: u64) -> Uleb
-        ensures { result.value ≡ value }
+        ensures value { result.value ≡ value }
+        ensures least { IsLeast (HasEncoding value) result.count }
     {
         let number = Uleb128::shortest(value);
         Uleb {
@@ -55,7 +56,8 @@ pub struct Sleb {
 impl Sleb {
     /// Returns the number with the length of its shortest encoding.
     pub fn shortest(value: i64) -> Sleb
-        ensures { result.value ≡ value }
+        ensures value { result.value ≡ value }
+        ensures least { IsLeast (HasSignedEncoding value) result.count }
     {
         let number = Sleb128::shortest(value);
         Sleb {
@@ -85,7 +87,8 @@ pub struct Zigzag {
 impl Zigzag {
     /// Returns the number with the length of its shortest encoding.
     pub fn shortest(value: i64) -> Zigzag
-        ensures { result.value ≡ value }
+        ensures value { result.value ≡ value }
+        ensures least { IsLeast (HasEncoding (zigzag value)) result.count }
     {
         let number = Uleb128::shortest(to_zigzag(value));
         Zigzag {

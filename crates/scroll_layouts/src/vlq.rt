@@ -1,6 +1,6 @@
 // Numbers with their high groups first.
 ghost use Rattle.std.specs.Prelude.{◌≡◌};
-ghost use Rattle.scroll.specs.Encoding.{HasEncoding};
+ghost use Rattle.scroll.specs.Encoding.{HasEncoding, IsLeast};
 
 mod parts;
 
@@ -26,7 +26,8 @@ pub struct Vlq {
 impl Vlq {
     /// Returns the number with the length of its shortest encoding.
     pub fn shortest(value: u64) -> Vlq
-        ensures { result.value ≡ value }
+        ensures value { result.value ≡ value }
+        ensures least { IsLeast (HasEncoding value) result.count }
     {
         // (an encoding has as many bytes in LEB128)
         let number = Uleb128::shortest(value);
