@@ -79,12 +79,12 @@ pub fn read_module<'a>(file: &'a [u8]) -> Result<Module<'a>>
 /// Writes a module to the start of `target`, and returns its size in bytes. It reads back. Sections
 /// with lengths, counts or kinds that don't agree are refused, and a module that has no room; then
 /// the target is unchanged.
-pub fn write_module<'a>(target: &mut [u8], module: Module<'a>) -> Result<usize>
+pub fn write_module<'a>(target: &mut [u8], value: Module<'a>) -> Result<usize>
     ensures wrote { IfOk result (WritesAt
-        (⟦<Module<'a> as TryIntoCtx<()>>⟧.writes tt module.entry) target.old 0 target.new) }
+        (⟦<Module<'a> as TryIntoCtx<()>>⟧.writes tt value.entry) target.old 0 target.new) }
     ensures refused { IfErr result (RefusesWriteAt
-        (⟦<Module<'a> as TryIntoCtx<()>>⟧.refuses tt module.entry) IsBadOffset target.old 0
+        (⟦<Module<'a> as TryIntoCtx<()>>⟧.refuses tt value.entry) IsBadOffset target.old 0
         target.new) }
 {
-    slice::pwrite_with(target, module, 0, ())
+    slice::pwrite_with(target, value, 0, ())
 }
