@@ -117,8 +117,8 @@ make_sample() {
 # Builds the jobs over the clients as a static library, and the records that bench/jobs/records.py writes.
 build_jobs() {
     echo "bench: the library, the clients and the jobs are proved and built" >&2
-    make_workspace scroll scroll_formats debug_tables object_files git_index packets zip
-    cp "$here/jobs/jobs.rt.txt" "$loops/src/lib.rt" || exit 1
+    make_workspace scroll scroll_formats scroll_layouts debug_tables object_files git_index packets zip tls dns wasm gzip tar
+    cp "$here/jobs/jobs.rt.txt" "$loops/src/lib.rt" && cp "$here/jobs/formats.rt.txt" "$loops/src/formats.rt" || exit 1
     quietly python3 "$here/jobs/records.py" "$loops/src" "$room/records.rs"
     prove "$loops"
 }
@@ -165,6 +165,7 @@ with zipfile.ZipFile(f"{sys.argv[1]}/archive.zip", "w") as archive:
         archive.writestr(zipfile.ZipInfo(f"folder{i // 100}/file{i}.txt"), b"contents " * (i % 7))
 END
     (cd "$room" && quietly cc -O1 -ffunction-sections -fno-asynchronous-unwind-tables -c many.c -o many.o) || exit 1
+    quietly python3 "$here/jobs/formats.py" "$room"
 }
 
 # Builds the programs with the jobs, once for each layout, with the crates of Debian's packages.
@@ -184,6 +185,7 @@ if [ "$sets" = jobs ]; then
     build_job_programs
     make_files
     export SECTIONS="$room/many.o" ARCHIVE="$room/archive.zip"
+    export HELLOS="$room/hellos" ANSWERS="$room/answers" MODULE="$room/module" MEMBERS="$room/members" ENTRIES="$room/entries"
 else
     build_loops
     build_programs

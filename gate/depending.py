@@ -63,6 +63,9 @@ def copy_libraries(step: Step, own: Path) -> None:
         there = [(crate / it).exists() for it in ("src/lib.rt", "out")]
         copied = copied and all(there) and not any((crate / it).exists() for it in (*FOLDERS, "out/incremental"))
     count(step, f"copy {' '.join(LIBRARIES)}", not ran.status and copied, ran)
+    for words, why in ((["first"], "there is a crates.txt already"), (["--help"], "usage: python3 tools/begin NAME")):
+        ran = step.run(own, sys.executable, TOP / "tools" / "begin", *words)
+        count(step, f"refuse {' '.join(words)}", ran.status == 2 and why in ran.said, ran)
 
 
 def run_examples(step: Step) -> None:
