@@ -65,8 +65,12 @@ def said_sum(struct: Struct, of: Sum) -> str:
     return bracket(of.said(lambda name: said_number(struct, name)))
 
 
+def table_size(struct: Struct, kind: Table) -> str:
+    return f"(min ({said_sum(struct, kind.count)} * {kind.element.width}) (2 ^ 64 - 1))"
+
+
 def size_of(struct: Struct, of: Field) -> Optional[str]:
-    """Returns how many bytes a field has, if that is simple."""
+    """Returns how many bytes a field has, with the zeros to which it is padded, if that is simple."""
     kind, path, size = of.kind, f"x.{of.name}", None
     if of.condition:
         return None
@@ -75,7 +79,7 @@ def size_of(struct: Struct, of: Field) -> Optional[str]:
     elif isinstance(kind, (Slice, Gap)):
         size = said_sum(struct, kind.count)
     elif isinstance(kind, Table):
-        size = f"(min ({said_sum(struct, kind.count)} * {kind.element.width}) (2 ^ 64 - 1))"
+        size = table_size(struct, kind)
     elif isinstance(kind, Ended):
         size = f"(length {path}.now + 1)" if kind.byte >= 0 else f"(length (c_str_text {path}) + 1)"
     elif isinstance(kind, Leb):
@@ -99,7 +103,7 @@ def fact_of(struct: Struct, of: Field, place: str) -> Optional[str]:
         return f"{where} ≡ {said} {source}" if "[" not in where else None
     if isinstance(kind, Slice):
         return f"{path}.now ≡ take {said_sum(struct, kind.count)} {source}"
-    return f"{path}.bytes.now ≡ take {size_of(struct, of)} {source}" if isinstance(kind, Table) else None
+    return f"{path}.bytes.now ≡ take {table_size(struct, kind)} {source}" if isinstance(kind, Table) else None
 
 
 def sum_of(sizes: Sequence[str]) -> str:

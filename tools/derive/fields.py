@@ -240,7 +240,7 @@ class Nested(Kind):
             self.at.refuse(f"has the note `ctx = ..`, and {name} is given no number", self.ctx)
         else:
             part = self.one("()", NOTHING)
-        part.is_exact = form.is_exact
+        part.is_exact, part.has_enum = form.is_exact, form.has_enum
         if isinstance(form, Struct):
             kinds = {it.name: it.type.name for it in form.item.fields}
             counting = [(it, kind, "") for it, kind in kinds.items() if kind in PLAIN and is_counter(PLAIN[kind])]

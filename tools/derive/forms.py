@@ -65,6 +65,8 @@ class Part:
     numbers: List[Number] = field(default_factory=list)
     rules: List[Rule] = field(default_factory=list)
     is_exact: bool = True
+    # Whether it is an enum, or has one.
+    has_enum: bool = False
     # Fields of a fixed size, which are this part; or the parts that it is, of which there may be several, and types that are
     # printed for it, with their names.
     fields: Sequence[Tuple[str, Fixed]] = ()

@@ -71,6 +71,10 @@ class Struct(Form):
     def is_exact(self) -> bool:
         return all(it.is_exact for it in self.parts)
 
+    @property
+    def has_enum(self) -> bool:
+        return any(it.has_enum for it in self.parts)
+
 
 @dataclass
 class Variant:
@@ -114,6 +118,12 @@ class Variant:
             }}"""
 
 
+def inner_match(pattern: str, arms: str) -> str:
+    """Returns the arm of a match whose pattern has a rest that is matched too."""
+    inside = arms.replace("\n", "\n    ")
+    return f"\n            {pattern} => match rest {{{inside}\n            }},"
+
+
 @dataclass
 class Enum(Form):
     """An enum by a tag of this type, which it is given, perhaps with a number, or which is its own `head`; and the variant of
@@ -144,6 +154,33 @@ class Enum(Form):
             said = made(way, said)
         return said
 
+    @property
+    def is_flat(self) -> bool:
+        """Whether a pattern may reach into a choice's second value. (Where a variant has an enum, the borrow checker's part of a
+        proof doesn't cover that.)"""
+        return len(self.variants) == 2 or not any(it.part.has_enum for it in self.variants)
+
+    def arms(self, at: int = 0) -> str:
+        """Returns the arms of a match that makes the enum of a choice between the variants from one on."""
+        it, *others = self.variants[at:]
+        if self.is_flat:
+            return "".join(it.arm(self.chosen(at, it.pattern), self.pattern(it)) for at, it in enumerate(self.variants))
+        first = it.arm(call("First", it.pattern), self.pattern(it))
+        if len(others) == 1:
+            return first + others[0].arm(call("Second", others[0].pattern), self.pattern(others[0]))
+        return f"{first}{inner_match('Second(rest)', self.arms(at + 1))}"
+
+    def arm(self, at: int, tag: str, made: str) -> str:
+        """Returns the arm of a match on a tag and a choice that makes what is said of a variant."""
+        it, last = self.variants[at], len(self.variants) - 1
+        if self.is_flat or not at:
+            return it.arm(f"({tag}, {self.chosen(at, it.pattern)})", made)
+        other = "\n            _ => unreachable!(),"
+        inside = it.arm(call("First" if at < last else "Second", it.pattern), made) + other
+        for _ in range(min(at, last - 1) - 1):
+            inside = inner_match("Second(rest)", inside) + other
+        return inner_match(f"({tag}, Second(rest))", inside)
+
     def ghost(self, at: int) -> str:
         """Returns a variant's choice in the logic."""
         return self.chosen(at, self.variants[at].part.ghost.replace("x.v", "v"), lambda way, it: f"{way} {bracketed(it)}")
@@ -159,6 +196,10 @@ class Enum(Form):
     @property
     def is_exact(self) -> bool:
         return all(it.part.is_exact for it in self.variants)
+
+    @property
+    def has_enum(self) -> bool:
+        return True
 
 
 @dataclass

@@ -6,7 +6,6 @@ PRELUDE = ("◌≡◌", "◌≢◌", "◌<◌", "◌≤◌", "◌+◌", "◌-◌
 GHOST: Dict[str, Sequence[str]] = {
     "Rattle.std.specs.Prelude": (*PRELUDE, "length", "drop", "min", "codes", "nat_eq", "nat_lt", "not", "option_map", "if◌then◌else◌"),
     "Rattle.std.specs.Float": ("binary32", "binary64"),
-    "Rattle.std.specs.List": ("All",),
     "Rattle.std.proofs.Common": ("refl", "rules"),
     "Rattle.scroll.specs.Arrays": ("MakesArray",),
     "Rattle.scroll.specs.Errors": ("IsBadInput",),
@@ -16,7 +15,7 @@ GHOST: Dict[str, Sequence[str]] = {
     "Rattle.scroll_layouts.specs.Errors": ("GivesBadInput", "IsNot"),
     "Rattle.scroll_layouts.specs.Formats": ("last", "refuses"),
     "Rattle.scroll_layouts.specs.ListEnds": ("bytes_mark",),
-    "Rattle.scroll_layouts.specs.Wholes": ("KeepsWhole", "ReadsBack", "ReadsExact", "ReadsWhole", "WritesWhole"),
+    "Rattle.scroll_layouts.specs.Wholes": ("BackIsExact", "BackIsWhole", "KeepsWhole", "ReadsBack", "ReadsExact", "ReadsWhole", "WritesWhole"),
     "Rattle.scroll_layouts.specs.lemmas.WholeLemmas": ("whole-kept",),
     "Rattle.scroll_layouts.specs.declared.choice.Choice.TheVariants": ("First", "Second"),
 }

@@ -211,9 +211,7 @@ class Printer:
     ghost back = {{ λ order x old new rest n fits h. whole-kept _ order x old new n h rest }};
 
     fn returned()
-        ensures {{ (order : _) (s : _) (x : _) (n : _) → All (λ b. b < 256) s
-            → ReadsBack {read_format} order s x n
-            → {reads} {read_format} order s x n }}
+        ensures {{ {"BackIsExact" if self.form.is_exact else "BackIsWhole"} {read_format} }}
     {{
         kept_{"exact" if self.form.is_exact else "whole"}::<(), {self.error}, {self.type}>(&())
     }}
@@ -247,10 +245,9 @@ class Printer:
             if not form.item.is_part:
                 self.print_calls()
             return
-        split, join = "\n        match self {", "\n        match parts {"
+        split, join = "\n        match self {", f"\n        match parts {{{form.arms()}"
         for at, it in enumerate(form.variants):
             split += f"\n            {form.pattern(it)} => {form.chosen(at, it.code)},"
-            join += it.arm(form.chosen(at, it.pattern), form.pattern(it))
         cases = form.cases([form.ghost(at) for at in range(len(form.variants))], 6)
         whole.ghost = f"elim [{cases}\n    ]"
         self.print_shape((form.context_type, "t"), whole, f"{split}\n        }}", f"{join}\n        }}")

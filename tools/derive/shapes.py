@@ -110,7 +110,7 @@ def together(chain: Chain, multiple: int, index: int) -> Part:
     made = chain.whole.around("Padded", name + lifetime(chain.types[0]), str(multiple), str(multiple))
     aliases = ((name, chain.types[0]), (f"{name}Ctx", f"Padded<{chain.whole.context_type}>"))
     made = replace(made, context_type=f"{name}Ctx", before=chain.before, after=chain.after, inside=chain, aliases=aliases)
-    made.is_exact = all(it.is_exact for it in chain.parts)
+    made.is_exact, made.has_enum = all(it.is_exact for it in chain.parts), any(it.has_enum for it in chain.parts)
     return made
 
 
@@ -122,5 +122,6 @@ def leaving(chain: Chain, rest: Part, given: str) -> Part:
     type_ = call("", name + lifetime(chain.types[0]), rest.type)
     made = Part(type_, f"Behind<{whole.context_type}>", context, *sides, chain.before + rest.before, chain.after + rest.after)
     made.is_exact = all(it.is_exact for it in (*chain.parts, rest))
+    made.has_enum = any(it.has_enum for it in (*chain.parts, rest))
     made.inside, made.aliases = chain, ((name, chain.types[0]),)
     return made

@@ -31,10 +31,7 @@ def tagged_texts(form: Enum, error: str, parts: str, context: str, said: Value) 
     read = f"let (read, end) = <{parts} as ReadPart<'a, {context}, {error}>>::read_at"
     line = f"        {read}(from, offset, order, &ctx)?;"
     line = line if len(line) <= WIDTH else f"        {read}(\n            from, offset, order, &ctx,\n        )?;"
-    arms = [
-        it.arm(f"({it.tags[0]}, {form.chosen(at, it.pattern)})", f"Ok(({form.pattern(it)}, end))")
-        for at, it in enumerate(form.variants)
-    ]
+    arms = [form.arm(at, str(it.tags[0]), f"Ok(({form.pattern(it)}, end))") for at, it in enumerate(form.variants)]
     return [
         f"""impl{lifetime(form.type)} Part<(), {error}> for {form.type} {{
 {format_of("Part<")}
