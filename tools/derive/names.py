@@ -15,7 +15,7 @@ GHOST: Dict[str, Sequence[str]] = {
     "Rattle.scroll_layouts.specs.Errors": ("GivesBadInput", "IsNot"),
     "Rattle.scroll_layouts.specs.Formats": ("last", "refuses"),
     "Rattle.scroll_layouts.specs.ListEnds": ("bytes_mark",),
-    "Rattle.scroll_layouts.specs.Wholes": ("BackIsExact", "BackIsWhole", "KeepsWhole", "ReadsBack", "ReadsExact", "ReadsWhole", "WritesWhole"),
+    "Rattle.scroll_layouts.specs.Wholes": ("KeepsWhole", "ReadsBack", "ReadsExact", "ReadsWhole", "WritesWhole"),
     "Rattle.scroll_layouts.specs.lemmas.WholeLemmas": ("whole-kept",),
     "Rattle.scroll_layouts.specs.declared.choice.Choice.TheVariants": ("First", "Second"),
 }

@@ -21,11 +21,11 @@ pub trait Kept<'a, Ctx: Copy>: TryFromCtx<'a, Ctx> + TryIntoCtx<Ctx> + Copy {
     fn fit(self)
         ensures { fits self };
 
-    /// Does nothing, and says that what stands at the start of bytes is what the type's own read
-    /// may return of them.
-    fn returned()
-        ensures { (ctx : Ctx) (source : List ℕ) (x : Self) (n : ℕ) → All (λ b. b < 256) source
-            → reads ctx source x n → Self.TryFromCtx.reads ctx source x n };
+    /// Does nothing, and says that where the value stands at the start of bytes, the type's own read
+    /// may return it.
+    fn returned(self)
+        ensures { (ctx : Ctx) (source : List ℕ) (n : ℕ) → All (λ b. b < 256) source
+            → reads ctx source self n → Self.TryFromCtx.reads ctx source self n };
 
     // What was written reads back.
     ghost back: { (ctx : Ctx) (x : Self) (old new rest : List ℕ) (n : ℕ) → fits x
