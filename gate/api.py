@@ -15,8 +15,8 @@ PAGE = TOP / "docs" / "API.md"
 HEAD = """# API
 
 Each public item of the libraries `scroll`, `scroll_formats` and `scroll_layouts`, from its doc comments. Offsets and sizes are in bytes. A call whose name ends in `_with` takes a context; the one without takes the default of the context's type, which
-for numbers is the machine's byte order. The gate runs the examples. The names of the contracts' clauses are in [PROVED.md](PROVED.md),
-and those of the calls in [GUIDE.md](GUIDE.md#the-clauses-of-each-call).
+for numbers is the machine's byte order. The gate runs the examples. [PROVED.md](PROVED.md) links to the clauses of its promises,
+and [GUIDE.md](GUIDE.md#the-clauses-of-each-call) names those of the calls.
 """
 # The sections: what each is, and its files; those of the other libraries begin with their names.
 FORMATS, LAYOUTS = LIBRARIES[1:]
