@@ -5,11 +5,11 @@
 #     sh compare/run.sh --gate
 #
 # The stored sessions and COUNT random ones (10000) go to the Rust crate, which answers them as crates/scroll_run/README.md says
-# (compare/src/spoken.rs), and its answers are compared with those that are stored and with gate/model.py: gate/sessions.py and
-# gate/random_sessions.py take it in place of the proved program. Forty times as many calls go through the library
-# (crates/compare_calls) and through the crate, with types, contexts and sizes that no session has, on up to a megabyte. SEED (1)
-# is what all of them are made from. At the end the crate's answers are made wrong at one place, which has to be found. With
-# --gate, half as many are run.
+# (compare/src/spoken.rs), and its answers are compared with those that are stored and with gate/sessions/model.py:
+# gate/sessions/stored.py and gate/sessions/random_sessions.py take it in place of the proved program. Forty times as many calls go
+# through the library (crates/compare_calls) and through the crate, with types, contexts and sizes that no session has, on up to a
+# megabyte. SEED (1) is what all of them are made from. At the end the crate's answers are made wrong at one place, which has to be
+# found. With --gate, half as many are run.
 #
 # It prints how many of each kind were tried, and how many differ. What differs is made smaller while it still differs, and
 # printed with both answers; a session can be stored as it is printed. What differs as docs/FROM-RUST.md tells is counted by itself.
@@ -96,8 +96,8 @@ find_crate
 build
 workers=${WORKERS:-$(getconf _NPROCESSORS_ONLN)}
 passed=0 failed=0 skipped=0
-run_part python3 "$top/gate/sessions.py" --program "$side/target/release/spoken"
-run_part python3 "$top/gate/random_sessions.py" --program "$side/target/release/spoken" --seed "$seed" --count "$count"
+run_part python3 "$top/gate/sessions/stored.py" --program "$side/target/release/spoken"
+run_part python3 "$top/gate/sessions/random_sessions.py" --program "$side/target/release/spoken" --seed "$seed" --count "$count"
 run_part "$side/target/release/compare" "$seed" $((40 * count)) "$workers"
 run_lie
 [ "$skipped" -eq 0 ] && skipped= || skipped=", $skipped skipped"

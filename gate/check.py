@@ -9,26 +9,36 @@ The steps are:
 
     rt ci           the toolchain's own gate: proves each crate and its tests from nothing, builds them, runs the tests, and the program
                     as two compilers build it
-    docs.py         the documents: their code, names and links are those of the sources, and what is made of these is current
-    seeds.py        proves again what misuse.py, embed.py, random_descriptions.py, catalogue.py, compare/run.sh and edits.py begin
-                    with
-    misuse.py       what must not compile
+    documents/compare.py
+                    the documents: their code, names and links are those of the sources, and what is made of these is current
+    prove.py        proves again what edits/misuse.py, embed.py, documents/readme.py, descriptions/random_descriptions.py,
+                    descriptions/catalogue.py, compare/run.sh and edits/refused.py begin with
+    edits/misuse.py
+                    what must not compile
     embed.py        the library of embed/ in C and Python, and in Rust where cargo is, on real files and on damaged ones
-    depending.py    README's first command, its lines for a repository of one's own, and the documentation's examples
-    random_descriptions.py
+    documents/readme.py
+                    README's first command, its lines for a repository of one's own, and the documentation's examples
+    descriptions/random_descriptions.py
                     random descriptions are printed, proved with what uses them, and what they read and write is that of another reader
-    catalogue.py    the descriptions of catalogue/ are printed and proved, on bytes that other programs made
-    others.py       the clients that are descriptions, on a hundred files of the programs that these come from, whole, cut and damaged
-    sessions.py     the stored sessions, whole and with their buffers cut, by the program that rt ci proved; by random_sessions.py, random ones
-    limits.py       long inputs, at which that program must not run out of memory
-    faults.py       the sessions and the tests of all libraries where memory is refused and streams fail, by what rt ci proved
-    count           the instructions, mispredictions and misses of each workload of bench/, by valgrind, beside those that are stored
+    descriptions/catalogue.py
+                    the descriptions of catalogue/ are printed and proved, on bytes that other programs made
+    descriptions/clients.py
+                    the clients that are descriptions, on a hundred files of the programs that these come from, whole, cut and damaged
+    sessions/stored.py
+                    the stored sessions, whole and with their buffers cut, by the program that rt ci proved; by
+                    sessions/random_sessions.py, random ones
+    sessions/limits.py
+                    long inputs, at which that program must not run out of memory
+    sessions/faults.py
+                    the sessions and the tests of all libraries where memory is refused and streams fail, by what rt ci proved
+    bench/count     the instructions, mispredictions and misses of each workload of bench/, by valgrind, beside those that are stored
     compare/run.sh  sessions and calls beside the Rust crate, where cargo finds it
-    edits.py        the edits of each crate, many in one check; limits.py --edits, those that only long inputs and tests tell
+    edits/refused.py
+                    the edits of each crate, many in one check; sessions/limits.py --edits, those that only long inputs and tests tell
 
-rt ci runs in a copy without the edits, which edits.py tries faster, and it proves what it hasn't yet passed on this machine. The steps
-that need its program and its tests run in that copy too. Steps run side by side, and a step starts when those that it needs have
-ended. In all they have two jobs more than there are workers (gate/step.py), since parts of a check run on one processor.
+rt ci runs in a copy without the edits, which edits/refused.py tries faster, and it proves what it hasn't yet passed on this machine.
+The steps that need its program and its tests run in that copy too. Steps run side by side, and a step starts when those that it needs
+have ended. In all they have two jobs more than there are workers (gate/step.py), since parts of a check run on one processor.
 
 A step's time and the processor time that it took are printed at its end, and again in a table at the end of all. The last line
 is `N passed, M failed`, the sums of the counts, with `, K skipped` after it where something was left out. A step that ends
@@ -163,26 +173,26 @@ def list_steps(groups: Sequence[str], workers: int) -> List[Step]:
     half, crates = max(1, workers // 2), read_crates()
     edited = [name for name, it in crates.items() if it.is_edited and "edits" in groups]
     begun_with = ["scroll", "scroll_layouts", *(name for name, it in crates.items() if it.is_static)] if "stands" in groups else []
-    seeds = f"python3 gate/seeds.py {' '.join(dict.fromkeys([*edited, *begun_with]))}"
+    proofs = f"python3 gate/prove.py {' '.join(dict.fromkeys([*edited, *begun_with]))}"
     steps = []
     if "stands" in groups:
         steps.append(Step(CI, workers, tree="ci"))
-        steps.append(Step("python3 gate/docs.py", 1))
-    steps.append(Step(seeds, half))
+        steps.append(Step("python3 gate/documents/compare.py", 1))
+    steps.append(Step(proofs, half))
     for at, name in enumerate(edited):
-        # (embed.py builds the library whose files edits.py copies; the first crate has most of the edits)
-        needs = (seeds, EMBED) if crates[name].is_static and "stands" in groups else (seeds,)
-        steps.append(Step(f"python3 gate/edits.py {name}", half if at else workers, needs))
+        # (embed.py builds the library whose files edits/refused.py copies; the first crate has most of the edits)
+        needs = (proofs, EMBED) if crates[name].is_static and "stands" in groups else (proofs,)
+        steps.append(Step(f"python3 gate/edits/refused.py {name}", half if at else workers, needs))
     if "stands" in groups:
-        steps += [Step(it, 1, (seeds,)) for it in (EMBED, "python3 gate/depending.py", "python3 gate/misuse.py")]
-        steps += [Step(f"python3 gate/{it}.py", half, (seeds,)) for it in ("random_descriptions", "catalogue")]
-        steps.append(Step("python3 gate/others.py", 1))
+        steps += [Step(it, 1, (proofs,)) for it in (EMBED, "python3 gate/documents/readme.py", "python3 gate/edits/misuse.py")]
+        steps += [Step(f"python3 gate/descriptions/{it}.py", half, (proofs,)) for it in ("random_descriptions", "catalogue")]
+        steps.append(Step("python3 gate/descriptions/clients.py", 1))
     if edited:
-        steps.append(Step("python3 gate/limits.py --edits", 1, (seeds,)))
+        steps.append(Step("python3 gate/sessions/limits.py --edits", 1, (proofs,)))
     if "stands" in groups:
-        steps += [Step(it, half, (CI,), "ci") for it in ("python3 gate/faults.py", "python3 bench/count check")]
-        steps.append(Step("sh compare/run.sh --gate", 1, (seeds,)))
-        steps += [Step(f"python3 gate/{it}.py", 1, (CI,), "ci") for it in ("random_sessions", "sessions", "limits")]
+        steps += [Step(it, half, (CI,), "ci") for it in ("python3 gate/sessions/faults.py", "python3 bench/count check")]
+        steps.append(Step("sh compare/run.sh --gate", 1, (proofs,)))
+        steps += [Step(f"python3 gate/sessions/{it}.py", 1, (CI,), "ci") for it in ("random_sessions", "stored", "limits")]
     return steps
 
 

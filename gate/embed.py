@@ -9,7 +9,7 @@ was. embed/damage.c, with sanitizers, compares the answers for COUNT files that 
 tries the arguments that the border refuses and memory that is refused; a few files are read under the sanitizer of threads. cargo
 runs the Rust crate's documentation tests, one of which must not compile. `nm` finds no names in the libraries but those of the
 header, and nothing that is written there. The command refuses the exports that make no library, and there is an edit for each
-function (gate/edits.py tries them).
+function (gate/edits/refused.py tries them).
 
 Without a C compiler all is skipped; without `readelf`, `zipinfo` or cargo, what needs it.
 """
@@ -23,7 +23,7 @@ import zipfile
 from pathlib import Path
 from typing import Any, Callable, List, Optional, Tuple
 
-from edit_files import read_edits
+from edits.files import read_edits
 from step import TOP, Step, Stop, count_workers, run_step
 
 sys.path.insert(0, str(TOP / "embed"))

@@ -1,5 +1,8 @@
 """What the steps of the gate share: the crates, a folder that goes, the commands that they run, their counts and their last line.
 
+What the folders share is in gate/ itself, which a script in a folder puts first on Python's path. Each module is imported from
+there: `step`, `documents.cited`.
+
 The last line of a step is `N passed, M failed`, and `, K skipped` follows where something was left out. The exit status is 0
 where M is 0, and N is not or all was left out.
 """
@@ -17,7 +20,7 @@ from pathlib import Path
 from typing import Any, Callable, Dict, Iterable, List, NamedTuple, Optional, Set, Tuple
 
 TOP = Path(__file__).resolve().parents[1]
-# Where a crate has its edits (gate/edit_files.py).
+# Where a crate has its edits (gate/edits/files.py).
 FOLDERS = ("must-fail", "bugs")
 
 

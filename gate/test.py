@@ -4,8 +4,8 @@
     python3 gate/test.py [CRATE..]
 
 Without names all are run, as many side by side as there are workers (gate/step.py), those that take longest first; with names, the
-tests of these crates, and the sessions if scroll_run is among them. gate/sessions.py runs the sessions' cuts too, by the proved
-program. A crate is printed as it ends. A test is a check, and so is a session, and so are a crate's files that tools/derive writes,
+tests of these crates, and the sessions if scroll_run is among them. gate/sessions/stored.py runs the sessions' cuts too, by the
+proved program. A crate is printed as it ends. A test is a check, and so is a session, and so are a crate's files that tools/derive writes,
 which must not be stale, and its own tests. A crate whose tests don't compile is one failure; where no crate has tests, that is skipped.
 """
 
@@ -17,7 +17,7 @@ from concurrent.futures import ThreadPoolExecutor
 from pathlib import Path
 from typing import Callable, Dict, List, NamedTuple
 
-from sessions import Session, read_sessions
+from sessions.stored import Session, read_sessions
 from step import TOP, Crate, Ran, Step, count_workers, read_crates, run_step
 
 PROGRAM = "scroll_run"

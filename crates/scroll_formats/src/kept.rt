@@ -21,8 +21,8 @@ pub trait Kept<'a, Ctx: Copy>: TryFromCtx<'a, Ctx> + TryIntoCtx<Ctx> + Copy {
     fn fit(self)
         ensures { fits self };
 
-    /// Does nothing, and says that where the value stands at the start of bytes, the type's own read
-    /// may return it.
+    /// Does nothing, and says that where the value stands at the start of bytes, the type's own
+    /// read may return it.
     fn returned(self)
         ensures { (ctx : Ctx) (source : List ℕ) (n : ℕ) → All (λ b. b < 256) source
             → reads ctx source self n → Self.TryFromCtx.reads ctx source self n };

@@ -1,0 +1,123 @@
+"""Makes the columns of lines in crates/README.md from the files of the clients, and compares them: each client is a check, and
+so is that the page names each crate. README has the lines of code and of proof in its table of formats, with those of the
+descriptions in catalogue/; it also has the version of the kit, which `rt version` prints, and how fast whole jobs are, from the
+table in docs/SPEED.md. The product's contracts, definitions and comments have at most 100 columns; imports, the strings of tests
+and examples in comments may have more.
+"""
+
+import re
+from pathlib import Path
+from typing import Iterable, List
+
+import markdown
+from documents.layers import PRODUCT, list_clients
+from step import TOP, Step, read_crates
+
+PAGE = TOP / "crates" / "README.md"
+COLUMNS = 5
+README, SPEED = TOP / "README.md", TOP / "docs" / "SPEED.md"
+# The formats of README's table by what they are for.
+FORMATS = {
+    "archives": "ar cpio gzip tar zip",
+    "programs": "aranges coff debug_tables elf macho object_files wasm",
+    "network": "dhcp dns ipv4 mqtt packets pcap pcapng tls",
+    "pictures": "bmp gif ico jpeg png tga",
+    "sound, film": "flac id3 midi mp4 ogg wav",
+    "data": "bson fat git_index pack_index sqlite",
+}
+# What is no format, of the clients and of the catalogue.
+OTHERS = {"examples", "lib", "shapes", "tests"}
+# Where README has the version of the kit, and what is made of rows; the columns of SPEED's jobs; and what a job's name has besides.
+KIT = re.compile(r"(?<=\*\*Rattle kit )\d+(?=\*\*)")
+MADE = r"(?s)(?<=<!-- {0}: begin -->\n).*(?=\n<!-- {0}: end -->)"
+JOB, MORE = 11, re.compile(r" \(per byte\)")
+WIDTH = 100
+MAY_BE_WIDE = re.compile(r"(?:ghost )?use |//[/!]     |#\[")
+
+
+def count_parts(crate: Path) -> List[str]:
+    """Returns the lines that aren't empty of code without the tests, of definitions and of proof."""
+    code = [it for it in crate.glob("src/**/*.rt") if "tests" not in it.parts and it.name != "tests.rt"]
+    return [count_lines(code), *(count_lines(antt_files(crate / it)) for it in ("specs", "proofs"))]
+
+
+def antt_files(folder: Path) -> List[Path]:
+    return [it for it in folder.glob("**/*.antt") if it.name != "Lib.antt"]
+
+
+def try_widths(step: Step) -> None:
+    files = [it for crate in PRODUCT for part in ("src/**/*.rt", "specs/**/*.antt") for it in (TOP / "crates" / crate).glob(part)]
+    for path in files:
+        if path.relative_to(TOP).parts[3] == "tests":
+            continue
+        for index, line in enumerate(path.read_text(encoding="utf-8").split("\n")):
+            if len(line) > WIDTH and not MAY_BE_WIDE.match(line):
+                step.count(f"{path.relative_to(TOP)}:{index + 1} has more than {WIDTH} columns", "")
+    step.count("lines of at most 100 columns", None)
+
+
+def count_lines(files: Iterable[Path]) -> str:
+    """Returns the lines that aren't empty."""
+    return str(sum(bool(line) for it in files for line in it.read_text(encoding="utf-8").split("\n")))
+
+
+def formats(clients: List[List[str]]) -> str:
+    """Returns the table of the formats, of which the clients have the rows of crates/README.md."""
+    found = {it.name.removesuffix(".rt.txt"): count_lines([it]) for it in (TOP / "catalogue").glob("*.rt.txt")}
+    made = {it[0].strip("`"): it[2] + f" ({it[4]})" * (it[4] != "0") for it in clients}
+    lines = ["| for | catalogue | clients |", "|---|---|---|"]
+    for area, names in FORMATS.items():
+        cells = [", ".join(f"`{it}` {of[it]}" for it in names.split() if it in of) for of in (found, made)]
+        lines.append(f"| {area} | {' | '.join(cells)} |".replace("  ", " "))
+    left = {*found, *made} - OTHERS - {*" ".join(FORMATS.values()).split()}
+    return "\n".join([*lines, *(f"| no area for {it} |" for it in sorted(left))])
+
+
+def jobs() -> str:
+    """Returns what is said of the fastest job and of the slowest."""
+    found = [(float(it[4]), MORE.sub("", it[0])) for _, it in markdown.read(SPEED).rows() if len(it) == JOB and it[0] != "job"]
+    low, high = (f"{ratio:.2f} ({job})" for ratio, job in (min(found), max(found)))
+    return f"A whole job takes {low} to {high} times as long as with the fastest peer, which [SPEED](docs/SPEED.md) names."
+
+
+def try_readme(step: Step, is_writing: bool) -> None:
+    version = re.match(r"rattle-kit-(\d+)", step.run(TOP, "rt", "version").said)
+    rows = [cells for _, cells in markdown.read(PAGE).rows() if len(cells) == COLUMNS and cells[0] != "client"]
+    made = {
+        KIT: version[1] if version else "",
+        re.compile(MADE.format("formats")): formats(rows),
+        re.compile(MADE.format("jobs")): jobs(),
+    }
+    text = README.read_text(encoding="utf-8")
+    for place, wanted in made.items():
+        found = place.findall(text)
+        is_there = found == [wanted] or is_writing and len(found) == 1
+        step.count(f"README has {found}", None if is_there else f"    it must be {wanted}")
+        text = place.sub(lambda _: wanted, text)
+    if is_writing:
+        README.write_text(text, encoding="utf-8")
+
+
+def try_all(step: Step, is_writing: bool) -> None:
+    text = PAGE.read_text(encoding="utf-8")
+    lines = text.split("\n")
+    names = []
+    for index, cells in markdown.read(PAGE).rows():
+        if len(cells) != COLUMNS or cells[0] == "client":
+            continue
+        name = cells[0].strip("`")
+        names.append(name)
+        wanted = count_parts(PAGE.parent / name)
+        if is_writing:
+            cells[2:] = wanted
+            lines[index] = f"| {' | '.join(cells)} |"
+        step.count(f"crates/README.md:{index + 1}: {name} has {wanted} lines", None if cells[2:] == wanted else "")
+    for it in {*list_clients()} ^ {*names}:
+        step.count(f"crates/README.md: {it} has a row and is no client, or is one and has no row", "")
+    left = [it for it in read_crates() if f"`{it}`" not in text]
+    step.count("the crates that crates/README.md names", f"    not {' '.join(left)}" if left else None)
+    if is_writing:
+        PAGE.write_text("\n".join(lines), encoding="utf-8")
+    try_readme(step, is_writing)
+    try_widths(step)
+    step.tell(f"{len(names)} clients have their lines in crates/README.md")
