@@ -211,7 +211,7 @@ class Printer:
     ghost back = {{ λ order x old new rest n fits h. whole-kept _ order x old new n h rest }};
 
     fn returned(self) {{
-        kept_{"exact" if self.form.is_exact else "whole"}::<(), {self.error}, {self.type}>(&())
+        kept_{"exact" if self.form.is_exact else "whole"}::<(), {self.error}, {self.type}>(&self, &())
     }}
 }}"""
             )

@@ -1,6 +1,5 @@
 -- Values that are read from the start of a source, written to the start of a target, and appended.
-use Rattle.std.specs.Prelude.{◌≡◌, ◌≤◌, ◌<◌, ◌-◌, ◌^◌, ◌+◌, ◌⊎◌, ◌++◌, ℕ, List, [], ◌∷◌, length, take, drop, min}
-use Rattle.std.specs.List.{All}
+use Rattle.std.specs.Prelude.{◌≡◌, ◌≤◌, ◌-◌, ◌^◌, ◌+◌, ◌⊎◌, ◌++◌, ℕ, List, [], ◌∷◌, length, take, drop, min}
 use Rattle.scroll.specs.Bytes.{WritesPrefix, FailsShort}
 use Rattle.scroll.specs.declared.endian.Endian.{Endian}
 use Rattle.scroll.specs.declared.error.Error.{Error}
@@ -49,16 +48,6 @@ pub record ReadsBack {E X : Type 0} (f : Format E X) (order : Endian) (s : List 
   pub inside : n ≤ length s
   pub count : length (bytes f order x) ≡ n
   pub back : bytes f order x ≡ take n s
-
--- what reads back from bytes is what an exact read may return of them
-abbrev pub BackIsExact : {E X : Type 0} → Format E X → Type 0
-BackIsExact {E} {X} f = (order : Endian) (s : List ℕ) (x : X) (n : ℕ) → All (λ b. b < 256) s
-    → ReadsBack f order s x n → ReadsExact f order s x n
-
--- it is what a read of the whole may return
-abbrev pub BackIsWhole : {E X : Type 0} → Format E X → Type 0
-BackIsWhole {E} {X} f = (order : Endian) (s : List ℕ) (x : X) (n : ℕ) → All (λ b. b < 256) s
-    → ReadsBack f order s x n → ReadsWhole f order s x n
 
 -- a value that agrees is written over the start of a target, in `n` bytes. It reads back, whatever
 -- is written after it

@@ -1,9 +1,10 @@
 // Parts that are read from the start of a source, and written to the start of a target.
-ghost use Rattle.std.specs.Prelude.{◌≡◌, ◌≤◌, ◌<◌, ◌+◌, ◌-◌, ◌^◌, ◌++◌, length, take, drop, min, IfOk, IfErr};
+ghost use Rattle.std.specs.List.{All};
+ghost use Rattle.std.specs.Prelude.{◌≡◌, ◌≤◌, ◌<◌, ◌+◌, ◌-◌, ◌^◌, ◌++◌, ℕ, List, length, take, drop, min, IfOk, IfErr};
 ghost use Rattle.scroll.specs.declared.endian.Endian.{Endian};
 ghost use Rattle.scroll_layouts.specs.Formats.{exact, len, bytes, reads, refuses, agrees, differs};
 ghost use Rattle.scroll_layouts.specs.OneWay.{told};
-ghost use Rattle.scroll_layouts.specs.Wholes.{BackIsExact, BackIsWhole, ReadsWhole, ReadsExact, WritesWhole, KeepsWhole};
+ghost use Rattle.scroll_layouts.specs.Wholes.{ReadsBack, ReadsWhole, ReadsExact, WritesWhole, KeepsWhole};
 
 use crate::{Part, ReadPart};
 use scroll::{Endian, Error, check_room};
@@ -60,18 +61,22 @@ pub fn read_exact<'a, C, E, L: ReadPart<'a, C, E>>(
     Ok((value, end))
 }
 
-/// Does nothing, and says that a value which stands at the start of bytes, whatever follows it, is
-/// one that [`read_whole`] may return of them.
-pub fn kept_whole<'a, C, E, L: ReadPart<'a, C, E>>(ctx: &C)
+/// Does nothing, and says that where the value stands at the start of bytes, whatever follows it,
+/// [`read_whole`] may return it.
+pub fn kept_whole<'a, C, E, L: ReadPart<'a, C, E>>(value: &L, ctx: &C)
     requires { told (L.format ctx.now) }
-    ensures { BackIsWhole (L.format ctx.now) }
+    ensures { (order : Endian) (s : List ℕ) (n : ℕ) → All (λ b. b < 256) s
+        → ReadsBack (L.format ctx.now) order s value.now n
+        → ReadsWhole (L.format ctx.now) order s value.now n }
 {}
 
 /// The same of [`read_exact`].
-pub fn kept_exact<'a, C, E, L: ReadPart<'a, C, E>>(ctx: &C)
+pub fn kept_exact<'a, C, E, L: ReadPart<'a, C, E>>(value: &L, ctx: &C)
     requires exact { exact (L.format ctx.now) }
     requires told { told (L.format ctx.now) }
-    ensures { BackIsExact (L.format ctx.now) }
+    ensures { (order : Endian) (s : List ℕ) (n : ℕ) → All (λ b. b < 256) s
+        → ReadsBack (L.format ctx.now) order s value.now n
+        → ReadsExact (L.format ctx.now) order s value.now n }
 {}
 
 /// Writes a part to the start of `dst` if its counts, constants, tags and conditions agree, and

@@ -153,6 +153,6 @@ impl<'a> Kept<'a, Endian> for Record<'a> {
     ghost back = { λ order x old new rest n fits h. whole-kept _ order x old new n h rest };
 
     fn returned(self) {
-        kept_exact::<(), Error, Record<'a>>(&())
+        kept_exact::<(), Error, Record<'a>>(&self, &())
     }
 }
