@@ -11,11 +11,11 @@
 # it runs these, prints their rows, and writes nothing into the repository.
 #
 # `jobs` times whole jobs by the clients beside `object`, `goblin`, `gimli`, `zip`, `scroll_derive`, `zerocopy` and
-# `byteorder`, and writes bench/results/jobs.csv and the table of jobs in docs/SPEED.md. It takes these crates from
+# `byteorder`, or loops by hand, and writes bench/results/jobs.csv and the table of jobs in docs/SPEED.md. It takes these crates from
 # Debian's packages (librust-NAME-dev), says which are missing, and runs what it can without them. If the results of a
 # job differ, it stops there and names it.
 #
-# It needs cargo, rt, a C compiler and Python 3. Variables, besides those of bench/rust_side.sh:
+# It needs cargo, rt, a C compiler and Python 3, and `jobs` wat2wasm. Variables, besides those of bench/rust_side.sh:
 #
 #     ROUNDS=N        how often a program runs each loop; the best time counts (200)
 #     KEEP=1          `jobs` writes nothing into the repository
@@ -37,6 +37,7 @@ need cc "the files that the set files reads are made by a C compiler"
 need python3 "the table and the charts are made by a script in Python"
 
 if [ "$*" = jobs ]; then
+    need wat2wasm "it makes the module of WebAssembly (apt-get install wabt)"
     sets=jobs
 elif [ $# -gt 0 ]; then
     sets=$*

@@ -9,7 +9,6 @@ mod commands;
 mod indexes;
 mod inputs;
 mod lines;
-mod messages;
 mod objects;
 mod own;
 mod records;
@@ -21,8 +20,8 @@ use std::alloc::{AllocError, Global};
 use std::env;
 use std::process::ExitCode;
 
-const JOBS: [&str; 8] = [
-    "tables", "objects", "records", "streams", "archives", "messages", "commands", "own",
+const JOBS: [&str; 7] = [
+    "tables", "objects", "records", "streams", "archives", "commands", "own",
 ];
 
 // Runs a job, and returns the digest of its results, or `None` where there is no such job.
@@ -40,7 +39,6 @@ fn run_job(alloc: Global, job: &str, seed: u64, rounds: u64) -> Result<Option<Di
             indexes::run(alloc, seed, rounds, &mut digest)?;
             archives::run(alloc, seed, rounds, &mut digest)?;
         }
-        "messages" => messages::run(alloc, seed, rounds, &mut digest)?,
         "commands" => commands::run(alloc, seed, rounds, &mut digest)?,
         "own" => own::run(alloc, seed, rounds, &mut digest)?,
         _ => match job.strip_prefix("own.") {
