@@ -170,17 +170,6 @@ class Enum(Form):
             return first + others[0].arm(call("Second", others[0].pattern), self.pattern(others[0]))
         return f"{first}{inner_match('Second(rest)', self.arms(at + 1))}"
 
-    def arm(self, at: int, tag: str, made: str) -> str:
-        """Returns the arm of a match on a tag and a choice that makes what is said of a variant."""
-        it, last = self.variants[at], len(self.variants) - 1
-        if self.is_flat or not at:
-            return it.arm(f"({tag}, {self.chosen(at, it.pattern)})", made)
-        other = "\n            _ => unreachable!(),"
-        inside = it.arm(call("First" if at < last else "Second", it.pattern), made) + other
-        for _ in range(min(at, last - 1) - 1):
-            inside = inner_match("Second(rest)", inside) + other
-        return inner_match(f"({tag}, Second(rest))", inside)
-
     def ghost(self, at: int) -> str:
         """Returns a variant's choice in the logic."""
         return self.chosen(at, self.variants[at].part.ghost.replace("x.v", "v"), lambda way, it: f"{way} {bracketed(it)}")

@@ -27,7 +27,7 @@ CODE: Dict[str, Sequence[str]] = {
     CHOICE: ("First", "Second"),
     "scroll_layouts": tuple(
         "Behind Choice Choose Count Decimal EndMark Ends Field Filled Given Head Headed Hexadecimal Items "
-        "Listed Low Marked NameEnd Octal Ordered Packed Padded Part ReadPart Run Shape Sleb ToMark TwoZeroUlebs U24 Uleb Vlq "
+        "Listed Low Marked NameEnd Octal Ordered Packed Padded Part ReadPart Run Shape Sleb Split ToMark TwoZeroUlebs U24 Uleb Vlq "
         "When Within ZeroUleb Zigzag begins_with is kept_exact kept_whole read_exact read_whole shifted write_whole".split()
     ),
     "std::marker": ("PhantomData",),

@@ -213,6 +213,8 @@ class EnumReader(Reader):
             part: Part = self.part(replace(raw, word=f"variant {raw.name}'s value", name=names[0]), raw.types[0], notes)
         elif notes:
             raw.refuse(f"has the note `{[*notes][0]} = ..`, which a variant of one value takes", note)
+        elif any_size := next((it for it in raw.types if not self.crate.is_fixed_type(self.item, it)), None):
+            raw.refuse(f"has several values, and {any_size.text} has no fixed size: put them into a struct")
         else:
             values = [replace(raw, name=name, types=[of], notes={}) for name, of in zip(names, raw.types)]
             part = numbers([(it.name, FixedSize(self, it, it.type).fixed()) for it in values], "") if values else nothing()

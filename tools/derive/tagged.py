@@ -8,45 +8,46 @@ from text import WIDTH, lifetime
 
 
 def tagged_texts(form: Enum, error: str, parts: str, context: str, said: Value) -> List[str]:
-    """Returns the implementations of `Part` and `ReadPart`. The parts are a pair in a context."""
-    cases = form.cases([f"(record {{ 0 = {it.tags[0]} }}, {form.ghost(at)})" for at, it in enumerate(form.variants)], 10)
+    """Returns the implementations of `Split`, `Part` and `ReadPart`. The parts are a pair in a context."""
+    cases = [f"(record {{ 0 = {it.tags[0]} }}, {form.ghost(at)})" for at, it in enumerate(form.variants)]
+    arms = [f"{form.pattern(it)} => (Run({it.tags[0]}), {form.chosen(at, it.code)})," for at, it in enumerate(form.variants)]
 
     def format_of(part: str) -> str:
         return f"""    ghost format = {{ λ _. last (⟦<{parts} as {part}{context}, {error}>>⟧.format
-        ({said.ghost}))
-        (elim [{cases}
-        ]) }};"""
+        ({said.ghost})) ⟦<{form.type} as Split>⟧.parts_of }};"""
 
-    def calls(name: str, arguments: str) -> str:
-        text = f"        let ctx = {said.code};\n        match self {{"
-        for at, it in enumerate(form.variants):
-            text += f"""
-            {form.pattern(it)} => {{
-                let value = {form.chosen(at, it.code)};
-                let parts: {parts} = (Run({it.tags[0]}), value);
-                Part::<{context}, {error}>::{name}(&parts, {arguments}, &ctx)
-            }}"""
-        return f"{text}\n        }}"
+    def call(name: str, arguments: str) -> str:
+        return f"        let parts = self.split();\n        Part::<{context}, {error}>::{name}(&parts, {arguments}, &{said.code})"
 
     read = f"let (read, end) = <{parts} as ReadPart<'a, {context}, {error}>>::read_at"
     line = f"        {read}(from, offset, order, &ctx)?;"
     line = line if len(line) <= WIDTH else f"        {read}(\n            from, offset, order, &ctx,\n        )?;"
-    arms = [form.arm(at, str(it.tags[0]), f"Ok(({form.pattern(it)}, end))") for at, it in enumerate(form.variants)]
     return [
+        f"""impl{lifetime(form.type)} Split for {form.type} {{
+    type Parts = {parts};
+
+    ghost parts_of = {{ elim [{form.cases(cases, 6)}
+    ] }};
+
+    fn split(&self) -> {parts} {{
+        match self {{{"".join(f"{chr(10)}            {it}" for it in arms)}
+        }}
+    }}
+}}""",
         f"""impl{lifetime(form.type)} Part<(), {error}> for {form.type} {{
 {format_of("Part<")}
 
     fn check(&self, order: Endian, _ctx: &()) -> Result<(), {error}> {{
-{calls("check", "order")}
+{call("check", "order")}
     }}
 
     fn size(&self, order: Endian, _ctx: &()) -> usize {{
-{calls("size", "order")}
+{call("size", "order")}
     }}
 
     #[inline(always)]
     fn put(&self, dst: &mut [u8], order: Endian, _ctx: &()) {{
-{calls("put", "dst, order")}
+{call("put", "dst, order")}
     }}
 }}""",
         f"""impl<'a> ReadPart<'a, (), {error}> for {form.type} {{
@@ -56,10 +57,10 @@ def tagged_texts(form: Enum, error: str, parts: str, context: str, said: Value) 
     fn read_at(from: &'a [u8], offset: usize, order: Endian, _ctx: &()) -> Result<({form.type}, usize), {error}> {{
         let ctx = {said.code};
 {line}
-        let (Run(tag), value) = read;
-        match (tag, value) {{{"".join(arms)}
-            _ => unreachable!(),
-        }}
+        let (_tag, value) = read;
+        let made = match value {{{form.arms()}
+        }};
+        Ok((made, end))
     }}
 }}""",
     ]

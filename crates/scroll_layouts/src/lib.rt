@@ -64,7 +64,7 @@ pub use crate::optional::When;
 pub use crate::ordered::Ordered;
 pub use crate::padding::Padded;
 pub use crate::run::Run;
-pub use crate::shape::{Given, Shape};
+pub use crate::shape::{Given, Shape, Split};
 pub use crate::shifts::shifted;
 pub use crate::texts::Ends;
 pub use crate::vlq::Vlq;

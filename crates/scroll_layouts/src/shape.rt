@@ -70,6 +70,20 @@ pub trait Shape: Drop {
         ensures { result ≡ inner_of ctx.now };
 }
 
+/// An enum that begins with its own tag: its parts are the tag and what is behind it. (It is no
+/// [`Shape`], since not all such parts are those of a value.)
+pub trait Split: Drop {
+    /// The parts.
+    type Parts: Drop;
+
+    // The parts of a value.
+    ghost parts_of: { Self → Self.Parts };
+
+    /// Returns the parts.
+    fn split(&self) -> Self::Parts
+        ensures { result ≡ parts_of self.now };
+}
+
 /// The context of a struct or an enum that is its parts in the context `C`.
 #[derive(Drop)]
 pub struct Given<C>(pub C);

@@ -14,8 +14,8 @@ use scroll::{Endian, Error};
 use scroll_formats::Zeros;
 use scroll_layouts::Choice::{First, Second};
 use scroll_layouts::{
-    Choice, Choose, Head, Headed, Items, Listed, Marked, Part, ReadPart, Run, Shape, Sleb, ToMark,
-    TwoZeroUlebs, Uleb, When, ZeroUleb, read_exact, write_whole,
+    Choice, Choose, Head, Headed, Items, Listed, Marked, Part, ReadPart, Run, Shape, Sleb, Split,
+    ToMark, TwoZeroUlebs, Uleb, When, ZeroUleb, read_exact, write_whole,
 };
 use std::marker::PhantomData;
 use std::result::Result;
@@ -156,71 +156,46 @@ type ChildrenParts = (ChildrenHead, Choice<Zeros, Zeros>);
 
 type ChildrenCtx = Headed<(), ChildrenNext, ChildrenSays>;
 
+impl Split for Children {
+    type Parts = ChildrenParts;
+
+    ghost parts_of = { elim [
+      | children_is.No ↦ (record { 0 = 0 }, First (record {}))
+      | children_is.Yes ↦ (record { 0 = 1 }, Second (record {}))
+    ] };
+
+    fn split(&self) -> ChildrenParts {
+        match self {
+            Children::No => (Run(0), First(Zeros)),
+            Children::Yes => (Run(1), Second(Zeros)),
+        }
+    }
+}
+
 impl Part<(), TableError> for Children {
     ghost format = { λ _. last (⟦<ChildrenParts as Part<ChildrenCtx, TableError>>⟧.format
-        (record { 0 = tt; 1 = record {}; 2 = record {} }))
-        (elim [
-          | children_is.No ↦ (record { 0 = 0 }, First (record {}))
-          | children_is.Yes ↦ (record { 0 = 1 }, Second (record {}))
-        ]) };
+        (record { 0 = tt; 1 = record {}; 2 = record {} })) ⟦<Children as Split>⟧.parts_of };
 
     fn check(&self, order: Endian, _ctx: &()) -> Result<(), TableError> {
-        let ctx = Headed((), ChildrenSays, PhantomData);
-        match self {
-            Children::No => {
-                let value = First(Zeros);
-                let parts: ChildrenParts = (Run(0), value);
-                Part::<ChildrenCtx, TableError>::check(&parts, order, &ctx)
-            }
-            Children::Yes => {
-                let value = Second(Zeros);
-                let parts: ChildrenParts = (Run(1), value);
-                Part::<ChildrenCtx, TableError>::check(&parts, order, &ctx)
-            }
-        }
+        let parts = self.split();
+        Part::<ChildrenCtx, TableError>::check(&parts, order, &Headed((), ChildrenSays, PhantomData))
     }
 
     fn size(&self, order: Endian, _ctx: &()) -> usize {
-        let ctx = Headed((), ChildrenSays, PhantomData);
-        match self {
-            Children::No => {
-                let value = First(Zeros);
-                let parts: ChildrenParts = (Run(0), value);
-                Part::<ChildrenCtx, TableError>::size(&parts, order, &ctx)
-            }
-            Children::Yes => {
-                let value = Second(Zeros);
-                let parts: ChildrenParts = (Run(1), value);
-                Part::<ChildrenCtx, TableError>::size(&parts, order, &ctx)
-            }
-        }
+        let parts = self.split();
+        Part::<ChildrenCtx, TableError>::size(&parts, order, &Headed((), ChildrenSays, PhantomData))
     }
 
     #[inline(always)]
     fn put(&self, dst: &mut [u8], order: Endian, _ctx: &()) {
-        let ctx = Headed((), ChildrenSays, PhantomData);
-        match self {
-            Children::No => {
-                let value = First(Zeros);
-                let parts: ChildrenParts = (Run(0), value);
-                Part::<ChildrenCtx, TableError>::put(&parts, dst, order, &ctx)
-            }
-            Children::Yes => {
-                let value = Second(Zeros);
-                let parts: ChildrenParts = (Run(1), value);
-                Part::<ChildrenCtx, TableError>::put(&parts, dst, order, &ctx)
-            }
-        }
+        let parts = self.split();
+        Part::<ChildrenCtx, TableError>::put(&parts, dst, order, &Headed((), ChildrenSays, PhantomData))
     }
 }
 
 impl<'a> ReadPart<'a, (), TableError> for Children {
     ghost format = { λ _. last (⟦<ChildrenParts as ReadPart<'a, ChildrenCtx, TableError>>⟧.format
-        (record { 0 = tt; 1 = record {}; 2 = record {} }))
-        (elim [
-          | children_is.No ↦ (record { 0 = 0 }, First (record {}))
-          | children_is.Yes ↦ (record { 0 = 1 }, Second (record {}))
-        ]) };
+        (record { 0 = tt; 1 = record {}; 2 = record {} })) ⟦<Children as Split>⟧.parts_of };
 
     #[inline(always)]
     fn read_at(
@@ -233,12 +208,12 @@ impl<'a> ReadPart<'a, (), TableError> for Children {
         let (read, end) = <ChildrenParts as ReadPart<'a, ChildrenCtx, TableError>>::read_at(
             from, offset, order, &ctx,
         )?;
-        let (Run(tag), value) = read;
-        match (tag, value) {
-            (0, First(_)) => Ok((Children::No, end)),
-            (1, Second(_)) => Ok((Children::Yes, end)),
-            _ => unreachable!(),
-        }
+        let (_tag, value) = read;
+        let made = match value {
+            First(_) => Children::No,
+            Second(_) => Children::Yes,
+        };
+        Ok((made, end))
     }
 }
 

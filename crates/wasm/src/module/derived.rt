@@ -22,7 +22,7 @@ use scroll_formats::{Table, Zeros};
 use scroll_layouts::Choice::{First, Second};
 use scroll_layouts::{
     Behind, Choice, Choose, Count, Given, Head, Headed, Items, Listed, Ordered, Part, ReadPart,
-    Run, Shape, Uleb, When, Within, is, read_exact, write_whole,
+    Run, Shape, Split, Uleb, When, Within, is, read_exact, write_whole,
 };
 use std::marker::PhantomData;
 use std::result::Result;
@@ -727,105 +727,50 @@ type ImportedParts = (
 
 type ImportedCtx = Headed<(), ImportedNext, ImportedSays>;
 
+impl Split for Imported {
+    type Parts = ImportedParts;
+
+    ghost parts_of = { elim [
+      | imported_is.Function v0 ↦ (record { 0 = 0 }, First v0)
+      | imported_is.Table v0 ↦ (record { 0 = 1 }, Second (First v0))
+      | imported_is.Memory v0 ↦ (record { 0 = 2 }, Second (Second (First v0)))
+      | imported_is.Global v0 v1 ↦ (record { 0 = 3 }, Second (Second (Second (record { 0 = (v0, v1) }))))
+    ] };
+
+    fn split(&self) -> ImportedParts {
+        match self {
+            Imported::Function(v0) => (Run(0), First(*v0)),
+            Imported::Table(v0) => (Run(1), Second(First(*v0))),
+            Imported::Memory(v0) => (Run(2), Second(Second(First(*v0)))),
+            Imported::Global(v0, v1) => (Run(3), Second(Second(Second(Run((*v0, *v1)))))),
+        }
+    }
+}
+
 impl Part<(), Error> for Imported {
     ghost format = { λ _. last (⟦<ImportedParts as Part<ImportedCtx, Error>>⟧.format
-        (record { 0 = tt; 1 = record {}; 2 = record {} }))
-        (elim [
-          | imported_is.Function v0 ↦ (record { 0 = 0 }, First v0)
-          | imported_is.Table v0 ↦ (record { 0 = 1 }, Second (First v0))
-          | imported_is.Memory v0 ↦ (record { 0 = 2 }, Second (Second (First v0)))
-          | imported_is.Global v0 v1 ↦ (record { 0 = 3 }, Second (Second (Second (record { 0 = (v0, v1) }))))
-        ]) };
+        (record { 0 = tt; 1 = record {}; 2 = record {} })) ⟦<Imported as Split>⟧.parts_of };
 
     fn check(&self, order: Endian, _ctx: &()) -> Result<(), Error> {
-        let ctx = Headed((), ImportedSays, PhantomData);
-        match self {
-            Imported::Function(v0) => {
-                let value = First(*v0);
-                let parts: ImportedParts = (Run(0), value);
-                Part::<ImportedCtx, Error>::check(&parts, order, &ctx)
-            }
-            Imported::Table(v0) => {
-                let value = Second(First(*v0));
-                let parts: ImportedParts = (Run(1), value);
-                Part::<ImportedCtx, Error>::check(&parts, order, &ctx)
-            }
-            Imported::Memory(v0) => {
-                let value = Second(Second(First(*v0)));
-                let parts: ImportedParts = (Run(2), value);
-                Part::<ImportedCtx, Error>::check(&parts, order, &ctx)
-            }
-            Imported::Global(v0, v1) => {
-                let value = Second(Second(Second(Run((*v0, *v1)))));
-                let parts: ImportedParts = (Run(3), value);
-                Part::<ImportedCtx, Error>::check(&parts, order, &ctx)
-            }
-        }
+        let parts = self.split();
+        Part::<ImportedCtx, Error>::check(&parts, order, &Headed((), ImportedSays, PhantomData))
     }
 
     fn size(&self, order: Endian, _ctx: &()) -> usize {
-        let ctx = Headed((), ImportedSays, PhantomData);
-        match self {
-            Imported::Function(v0) => {
-                let value = First(*v0);
-                let parts: ImportedParts = (Run(0), value);
-                Part::<ImportedCtx, Error>::size(&parts, order, &ctx)
-            }
-            Imported::Table(v0) => {
-                let value = Second(First(*v0));
-                let parts: ImportedParts = (Run(1), value);
-                Part::<ImportedCtx, Error>::size(&parts, order, &ctx)
-            }
-            Imported::Memory(v0) => {
-                let value = Second(Second(First(*v0)));
-                let parts: ImportedParts = (Run(2), value);
-                Part::<ImportedCtx, Error>::size(&parts, order, &ctx)
-            }
-            Imported::Global(v0, v1) => {
-                let value = Second(Second(Second(Run((*v0, *v1)))));
-                let parts: ImportedParts = (Run(3), value);
-                Part::<ImportedCtx, Error>::size(&parts, order, &ctx)
-            }
-        }
+        let parts = self.split();
+        Part::<ImportedCtx, Error>::size(&parts, order, &Headed((), ImportedSays, PhantomData))
     }
 
     #[inline(always)]
     fn put(&self, dst: &mut [u8], order: Endian, _ctx: &()) {
-        let ctx = Headed((), ImportedSays, PhantomData);
-        match self {
-            Imported::Function(v0) => {
-                let value = First(*v0);
-                let parts: ImportedParts = (Run(0), value);
-                Part::<ImportedCtx, Error>::put(&parts, dst, order, &ctx)
-            }
-            Imported::Table(v0) => {
-                let value = Second(First(*v0));
-                let parts: ImportedParts = (Run(1), value);
-                Part::<ImportedCtx, Error>::put(&parts, dst, order, &ctx)
-            }
-            Imported::Memory(v0) => {
-                let value = Second(Second(First(*v0)));
-                let parts: ImportedParts = (Run(2), value);
-                Part::<ImportedCtx, Error>::put(&parts, dst, order, &ctx)
-            }
-            Imported::Global(v0, v1) => {
-                let value = Second(Second(Second(Run((*v0, *v1)))));
-                let parts: ImportedParts = (Run(3), value);
-                Part::<ImportedCtx, Error>::put(&parts, dst, order, &ctx)
-            }
-        }
+        let parts = self.split();
+        Part::<ImportedCtx, Error>::put(&parts, dst, order, &Headed((), ImportedSays, PhantomData))
     }
 }
 
 impl<'a> ReadPart<'a, (), Error> for Imported {
     ghost format = { λ _. last (⟦<ImportedParts as ReadPart<'a, ImportedCtx, Error>>⟧.format
-        (record { 0 = tt; 1 = record {}; 2 = record {} }))
-        (elim [
-          | imported_is.Function v0 ↦ (record { 0 = 0 }, First v0)
-          | imported_is.Table v0 ↦ (record { 0 = 1 }, Second (First v0))
-          | imported_is.Memory v0 ↦ (record { 0 = 2 }, Second (Second (First v0)))
-          | imported_is.Global v0 v1 ↦ (record { 0 = 3 }, Second (Second (Second (record { 0 = (v0, v1) }))))
-        ]) };
+        (record { 0 = tt; 1 = record {}; 2 = record {} })) ⟦<Imported as Split>⟧.parts_of };
 
     #[inline(always)]
     fn read_at(
@@ -838,14 +783,14 @@ impl<'a> ReadPart<'a, (), Error> for Imported {
         let (read, end) = <ImportedParts as ReadPart<'a, ImportedCtx, Error>>::read_at(
             from, offset, order, &ctx,
         )?;
-        let (Run(tag), value) = read;
-        match (tag, value) {
-            (0, First(v0)) => Ok((Imported::Function(v0), end)),
-            (1, Second(First(v0))) => Ok((Imported::Table(v0), end)),
-            (2, Second(Second(First(v0)))) => Ok((Imported::Memory(v0), end)),
-            (3, Second(Second(Second(Run((v0, v1)))))) => Ok((Imported::Global(v0, v1), end)),
-            _ => unreachable!(),
-        }
+        let (_tag, value) = read;
+        let made = match value {
+            First(v0) => Imported::Function(v0),
+            Second(First(v0)) => Imported::Table(v0),
+            Second(Second(First(v0))) => Imported::Memory(v0),
+            Second(Second(Second(Run((v0, v1))))) => Imported::Global(v0, v1),
+        };
+        Ok((made, end))
     }
 }
 
