@@ -1,7 +1,7 @@
 -- Numbers, floats and their bytes: reads that depend only on the bytes that they take, and that
 -- take no more than there are; the sixteen bytes of a number as two halves of eight; numbers of
 -- reversed bytes; and reads of what begins with a number's bytes.
-use Rattle.std.proofs.Common.{◌≡◌, ℕ, ◌+◌, ◌≤◌, List, [], ◌∷◌, length, take, drop, arith, sym, ◌∙◌, ap, length-drop, ◌/◌, ◌%◌, ◌<◌, ◌++◌, get_or, reverse, refl, inl, inr, append_assoc, subst, below_none, below_more, ◌-◌, ◌*◌, ◌^◌, ℤ, pos, neg_ℤ, nat_abs, ◌+ℤ◌, ◌-ℤ◌, ◌*ℤ◌, ◌≤ℤ◌, ◌<ℤ◌, length-take, slice_index, Fits, w8}
+use Rattle.std.proofs.Common.{◌≡◌, ℕ, suc, ◌+◌, ◌≤◌, List, [], ◌∷◌, length, take, drop, arith, sym, ◌∙◌, ap, length-drop, ◌/◌, ◌%◌, ◌<◌, ◌++◌, get_or, reverse, refl, inl, inr, append_assoc, subst, below_none, below_more, ◌-◌, ◌*◌, ◌^◌, ℤ, pos, neg_ℤ, nat_abs, ◌+ℤ◌, ◌-ℤ◌, ◌*ℤ◌, ◌≤ℤ◌, ◌<ℤ◌, length-take, slice_index, Fits, w8}
 use Rattle.std.proofs.lemmas.List.{take-take, drop-take, drop-drop, append-nil, get_or_past, get_or-reverse, take-append-drop}
 use Rattle.scroll.specs.Arrays.{ReadsArray}
 use Rattle.scroll.specs.Bytes.{ReadsFixed}
@@ -10,6 +10,7 @@ use Rattle.scroll.specs.Reads.{ReadsAll}
 use Rattle.std.proofs.lemmas.Bool.{cases_lt}
 use Rattle.std.proofs.lemmas.Nat.{be_bytes_8}
 use Rattle.std.specs.Int.{w64, to_le_bytes, to_be_bytes, swap_bytes}
+use Rattle.std.specs.List.{flat_map}
 use Rattle.scroll.specs.Numbers.{number_bytes, number, signed_number, signed_bytes, ReadsNumber, ReadsSigned, float_width, float, float_bytes}
 use Rattle.scroll.specs.declared.endian.Endian.TheVariants.{Little, Big}
 use Rattle.scroll.specs.lemmas.NumberLemmas.{sum_below-same, sum_below-backwards, complement-back}
@@ -168,3 +169,15 @@ float-back f order index s h room real =
     let bound : number order (float_width f) (drop index s) < 2 * top f = omega (arith, number-bound order (float_width f) index s h, all-bits f) in
     ap (number_bytes order (float_width f)) (to_bits-of_bits f (number order (float_width f) (drop index s)) bound real)
     ∙ number-back order (float_width f) index s h room
+
+-- a byte is the one byte of its number
+byte-same : (order : Endian) (x : ℕ) → x < 256 → number_bytes order 1 x ≡ x ∷ []
+byte-same Little x h = let same : x / 256 ^ 0 % 256 ≡ x = omega (arith, h) in ap (λ b. b ∷ []) same
+byte-same Big x h = let same : x / 256 ^ (1 - 1 - 0) % 256 ≡ x = omega (arith, h) in ap (λ b. b ∷ []) same
+
+-- so are bytes
+pub bytes-same : (order : Endian) (xs : List ℕ) → ((i : ℕ) → Fits w8 (slice_index xs i)) → flat_map (number_bytes order 1) xs ≡ xs
+bytes-same order [] fit = refl
+bytes-same order (x ∷ xs) fit =
+    ap (λ l. l ++ flat_map (number_bytes order 1) xs) (byte-same order x (fit 0).fits)
+    ∙ ap (λ l. x ∷ l) (bytes-same order xs (λ i. fit (suc i)))

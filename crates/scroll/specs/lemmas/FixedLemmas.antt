@@ -26,19 +26,26 @@ pub length-exactly : (n : ℕ) (bytes : List ℕ) → length (exactly n bytes) �
 length-exactly n bytes = length-map-range_with_len (slice_index bytes) 0 n
 
 -- as many bytes as there are
-pub exactly-all : (n : ℕ) (bytes : List ℕ) → length bytes ≡ n → exactly n bytes ≡ bytes
+exactly-all : (n : ℕ) (bytes : List ℕ) → length bytes ≡ n → exactly n bytes ≡ bytes
 exactly-all n bytes len =
     same_number_lists (exactly n bytes) bytes (length-exactly n bytes ∙ sym len) (λ i l.
     get_or-map-range_with_len (slice_index bytes) 0 n i i 0
     (omega (arith, l, length-exactly n bytes)) (omega arith))
 
 -- the elements have as many bytes as one has, times their number
-pub length-elements : {V : Type 0} (w : ℕ) (bytes : V → List ℕ) → ((x : V) → length (bytes x) ≡ w)
+length-elements : {V : Type 0} (w : ℕ) (bytes : V → List ℕ) → ((x : V) → length (bytes x) ≡ w)
     → (xs : List V) → length (flat_map bytes xs) ≡ w * length xs
 length-elements w bytes len [] = omega arith
 length-elements w bytes len (x ∷ xs) =
     let rest = length-elements w bytes len xs in
     omega (arith, length-append (bytes x) (flat_map bytes xs), len x, rest, mul-suc w (length xs))
+
+-- so nothing is missing of the bytes of an array
+pub exactly-elements : {V : Type 0} (w n : ℕ) (bytes : V → List ℕ)
+    → ((x : V) → length (bytes x) ≡ w) → (xs : List V) → length xs ≡ n
+    → exactly (w * n) (flat_map bytes xs) ≡ flat_map bytes xs
+exactly-elements w n bytes len xs size = exactly-all (w * n) (flat_map bytes xs)
+    (length-elements w bytes len xs ∙ ap (λ k. w * k) size)
 
 -- each element is made of its bytes
 elements-back : {V : Type 0} (w : ℕ) (bytes : V → List ℕ) (makes : List ℕ → V → Type 0)
@@ -71,8 +78,8 @@ pub array-back : {V : Type 0} (w n : ℕ) (bytes : V → List ℕ) (makes : List
     → length xs ≡ n → All fits xs → MakesArray w (λ s x. makes s 0 x) n
     (drop (length prefix) (prefix ++ (exactly (w * n) (flat_map bytes xs) ++ rest))) xs
 array-back w n bytes makes fits len back xs prefix rest size all =
-    let whole : exactly (w * n) (flat_map bytes xs) ≡ flat_map bytes xs = exactly-all (w * n)
-    (flat_map bytes xs) (length-elements w bytes len xs ∙ ap (λ k. w * k) size) in
+    let whole : exactly (w * n) (flat_map bytes xs) ≡ flat_map bytes xs =
+    exactly-elements w n bytes len xs size in
     let source : drop (length prefix)
     (prefix ++ (exactly (w * n) (flat_map bytes xs) ++ rest)) ≡ flat_map bytes xs ++ rest =
     drop-append_seam prefix (exactly (w * n) (flat_map bytes xs) ++ rest)
@@ -167,7 +174,7 @@ pub array-kept : {V : Type 0} (w n : ℕ) (bytes : V → List ℕ) (makes : List
     → (s : List ℕ) (xs : List V) → ((k : ℕ) → All (λ b. b < 256) (drop k s)) → w * n ≤ length s
     → MakesArray w makes n s xs → exactly (w * n) (flat_map bytes xs) ≡ take (w * n) s
 array-kept w n bytes makes len kept s xs all room h =
-    exactly-all (w * n) (flat_map bytes xs) (length-elements w bytes len xs ∙ ap (λ k. w * k) h.len)
+    exactly-elements w n bytes len xs h.len
     ∙ elements-kept w bytes xs s (λ i d l.
     let inside = element-inside w i n (omega (arith, l, h.len)) in
     kept (drop (w * i) s) (slice_index_or xs i d) (all (w * i))

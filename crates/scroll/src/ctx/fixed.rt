@@ -1,9 +1,10 @@
 // Types of a fixed size. A type describes itself once, by [`Fixed`] or by [`Record`], and the
 // traits of contexts follow.
-ghost use Rattle.std.specs.Prelude.{◌≡◌, ◌≤◌, ◌<◌, ◌+◌, ◌^◌, ◌++◌, ℕ, List, length, take, drop, refl};
+ghost use Rattle.std.specs.Prelude.{◌≡◌, ◌≤◌, ◌<◌, ◌+◌, ◌*◌, ◌^◌, ◌++◌, ℕ, List, IfSome, length, take, drop, refl};
 ghost use Rattle.std.proofs.Common.{rules, arith, length-drop};
 ghost use Rattle.std.proofs.lemmas.List.Elements.{All-drop};
-ghost use Rattle.std.specs.List.{All};
+ghost use Rattle.std.specs.List.{All, flat_map};
+ghost use Rattle.scroll.specs.Arrays.{MakesArray};
 ghost use Rattle.scroll.specs.Bytes.{ReadsFixed, RefusesShort, WritesPrefix, FailsShort};
 ghost use Rattle.scroll.specs.Fixed.{One, SameAt};
 ghost use Rattle.scroll.specs.lemmas.FixedLemmas.{record-one};
@@ -49,6 +50,24 @@ pub trait Fixed: Copy {
     fn write_prefix(self, dst: &mut [u8], order: Endian)
         requires { width ≤ length dst.old }
         ensures { dst.new ≡ bytes order self ++ drop width dst.old };
+
+    /// Returns the `count` values at the start of `from` where they lie, or `None`: then an array
+    /// of them is read value by value, and otherwise by one copy, as of `u8`.
+    fn as_values(from: &[u8], count: usize, order: Endian) -> Option<&[Self]>
+        requires { width * count ≤ length from.now }
+        ensures { IfSome result (λ values.
+            MakesArray width (λ s x. makes order s 0 x) count from.now values.now) }
+    {
+        None
+    }
+
+    /// Returns the bytes of the values, one after another, where the values lie, or `None`: then an
+    /// array of them is written value by value, and otherwise by one copy, as of `u8`.
+    fn as_bytes(values: &[Self], order: Endian) -> Option<&[u8]>
+        ensures { IfSome result (λ all. all.now ≡ flat_map (bytes order) values.now) }
+    {
+        None
+    }
 
     // There are as many bytes as the width says.
     ghost bytes_len: { (order : Endian) (x : Self) → length (bytes order x) ≡ width };

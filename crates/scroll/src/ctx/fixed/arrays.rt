@@ -1,6 +1,6 @@
 // Arrays of a type of a fixed size, as parts of a struct. (By themselves they have the
 // implementations of every array.)
-ghost use Rattle.std.specs.Prelude.{◌≡◌, ◌≤◌, ◌+◌, ◌*◌, List, length, drop};
+ghost use Rattle.std.specs.Prelude.{◌≡◌, ◌≤◌, ◌+◌, ◌*◌, ◌++◌, List, length, drop};
 ghost use Rattle.std.specs.List.{All, flat_map};
 ghost use Rattle.scroll.specs.Arrays.{MakesArray};
 ghost use Rattle.scroll.specs.Fixed.{exactly};
@@ -47,13 +47,18 @@ impl<T: Fixed, const N: usize> Fixed for [T; N] {
 
     #[inline(always)]
     fn read_at(from: &[u8], offset: usize, order: Endian) -> [T; N] {
-        elements(&from[offset..], order)
+        let source = &from[offset..];
+        match T::as_values(source, N, order) {
+            Some(values) => *values.first_chunk().unwrap(),
+            None => elements(source, order),
+        }
     }
 
     #[inline(always)]
     fn write_prefix(self, dst: &mut [u8], order: Endian) {
-        for i in 0..N {
-            write_behind(self[i], dst, T::width() * i, order);
+        match T::as_bytes(&self, order) {
+            Some(bytes) => put_bytes(bytes, dst),
+            None => put_elements(self, dst, order),
         }
     }
 }
@@ -86,4 +91,24 @@ fn element<T: Fixed>(from: &[u8], index: usize, order: Endian) -> T
     ensures { T.makes order (drop (T.width * index) from.now) 0 result }
 {
     T::read_at(from, T::width() * index, order)
+}
+
+// Writes the elements to the start of `dst`.
+#[inline(always)]
+fn put_elements<T: Fixed, const N: usize>(values: [T; N], dst: &mut [u8], order: Endian)
+    requires { T.width * N ≤ length dst.old }
+    ensures { dst.new ≡ flat_map (T.bytes order) values ++ drop (T.width * N) dst.old }
+{
+    for i in 0..N {
+        write_behind(values[i], dst, T::width() * i, order);
+    }
+}
+
+// Writes the bytes to the start of `dst`.
+#[inline(always)]
+fn put_bytes(bytes: &[u8], dst: &mut [u8])
+    requires { length bytes.now ≤ length dst.old }
+    ensures { dst.new ≡ bytes.now ++ drop (length bytes.now) dst.old }
+{
+    dst[..bytes.len()].copy_from_slice(bytes);
 }

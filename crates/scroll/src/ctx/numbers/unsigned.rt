@@ -45,6 +45,16 @@ impl Fixed for u8 {
             Endian::Big => put_prefix(dst, self.to_be_bytes()),
         }
     }
+
+    #[inline(always)]
+    fn as_values(from: &[u8], count: usize, _order: Endian) -> Option<&[u8]> {
+        Some(&from[..count])
+    }
+
+    #[inline(always)]
+    fn as_bytes(values: &[u8], _order: Endian) -> Option<&[u8]> {
+        Some(values)
+    }
 }
 
 impl RoundTrip for u8 {

@@ -1,44 +1,31 @@
-use Rattle.std.proofs.Common.{rules, ◌≡◌, ◌+◌, ◌*◌, ◌<◌, ◌++◌, length, take, drop, get_or, sym, ap, subst, ◌∙◌, arith}
-use Rattle.std.proofs.Math.Nat.{mul-add}
-use Rattle.std.proofs.lemmas.List.{take_all}
+-- The elements have as many bytes as an array has.
+use Rattle.std.proofs.Common.{◌≡◌, ◌*◌, ◌++◌, length, drop, sym, ap, ◌∙◌, arith}
 use Rattle.std.specs.List.{flat_map}
-use Rattle.scroll.proofs.lemmas.Buffers.{Begins}
-use Rattle.scroll.proofs.lemmas.Buffers.{grow-next}
 use Rattle.scroll.specs.Fixed.{exactly}
-use Rattle.scroll.specs.lemmas.FixedLemmas.{exactly-all, length-elements}
+use Rattle.scroll.specs.lemmas.FixedLemmas.{exactly-elements, length-exactly}
 use Rattle.scroll.proofs.ctx.fixed.arrays.ArrayFixed.write_prefix.Goals as goal
 
-pub loop-i-preserved : goal.loop-i-preserved
-loop-i-preserved g c =
+pub put_bytes-requires : goal.put_bytes-requires
+put_bytes-requires g c =
     let w = g.T.Fixed.width in
-    let i = c.loop-i.i in
-    let xs = c.args.self in
-    let d = c.index-self-i.result in
     let bytes = g.T.Fixed.bytes c.args.order in
-    let offset : c.width.result * i ≡ w * i = ap (λ n. n * i) c.width.ensures in
-    let next : w * i + w ≡ w * (i + 1) = omega (arith, mul-add w i 1) in
-    let before : take (w * i) c.write_behind.new.dst ≡ take (w * i) c.loop-i.dst =
-    subst (λ p. take p c.write_behind.new.dst ≡ take p c.loop-i.dst) offset c.write_behind.ensures.before in
-    let after : drop (w * i) c.write_behind.new.dst ≡ bytes (get_or xs i d) ++ drop w (drop (w * i) c.loop-i.dst) =
-    subst (λ p. drop p c.write_behind.new.dst ≡ bytes (get_or xs i d) ++ drop w (drop p c.loop-i.dst)) offset c.write_behind.ensures.after in
-    let inside : i < length xs = omega arith in
-    record {
-      put = subst (λ p. Begins p (flat_map bytes (take (i + 1) xs)) c.args.dst.now c.write_behind.new.dst) next
-          (grow-next bytes xs i d c.loop-i.invariant.put inside (g.met.T.Fixed.bytes_len c.args.order (get_or xs i d)) before after);
-      len = search rules;
-    }
+    let size : length c.args.self ≡ g.row.N = omega arith in
+    let whole = exactly-elements w g.row.N bytes (g.met.T.Fixed.bytes_len c.args.order) c.args.self size in
+    let long = ap length (c.in-Some.ensures ∙ sym whole) ∙ length-exactly (w * g.row.N) (flat_map bytes c.args.self) in
+    omega (arith, long)
 
-pub returns : goal.returns
-returns g c =
+pub returns-in-Some : goal.returns-in-Some
+returns-in-Some g c =
     let w = g.T.Fixed.width in
-    let xs = c.args.self in
-    let old = c.args.dst.now in
     let bytes = g.T.Fixed.bytes c.args.order in
-    let end : c.loop-i.i ≡ g.row.N = omega arith in
-    let size : length xs ≡ g.row.N = omega arith in
-    let whole : exactly (w * g.row.N) (flat_map bytes xs) ≡ flat_map bytes xs =
-    exactly-all (w * g.row.N) (flat_map bytes xs) (length-elements w bytes (g.met.T.Fixed.bytes_len c.args.order) xs ∙ ap (λ n. w * n) size) in
-    c.loop-i.invariant.put.is
-    ∙ ap (λ l. flat_map bytes l ++ drop (w * c.loop-i.i) old) (take_all c.loop-i.i xs (omega arith))
-    ∙ ap (λ n. flat_map bytes xs ++ drop (w * n) old) end
-    ∙ ap (λ l. l ++ drop (w * g.row.N) old) (sym whole)
+    let size : length c.args.self ≡ g.row.N = omega arith in
+    let whole = exactly-elements w g.row.N bytes (g.met.T.Fixed.bytes_len c.args.order) c.args.self size in
+    let same : c.in-Some.bytes.now ≡ exactly (w * g.row.N) (flat_map bytes c.args.self) = c.in-Some.ensures ∙ sym whole in
+    rw (same, length-exactly (w * g.row.N) (flat_map bytes c.args.self)) at c.put_bytes.ensures
+
+pub returns-in-None : goal.returns-in-None
+returns-in-None g c =
+    let w = g.T.Fixed.width in
+    let size : length c.args.self ≡ g.row.N = omega arith in
+    let whole = exactly-elements w g.row.N (g.T.Fixed.bytes c.args.order) (g.met.T.Fixed.bytes_len c.args.order) c.args.self size in
+    c.put_elements.ensures ∙ ap (λ l. l ++ drop (w * g.row.N) c.args.dst.now) (sym whole)
