@@ -38,7 +38,7 @@ ReadsTableBytes format buffer from to bytes =
 abbrev pub RefusesTable : Format TableError Declaration → List ℕ → ℕ → TableError → Type 0
 RefusesTable format buffer from e =
     (found : List Declaration) × (stop : ℕ)
-    × RefusesList (λ error e. e ≡ Read error) zero_mark format Little buffer from found stop e
+    × RefusesList (λ error e. e ≡ Read error) 0 zero_mark format Little buffer from found stop e
 
 -- the offset is past the end, or there is no room for the bytes
 abbrev pub FailsPut : List ℕ → List ℕ → ℕ → Error → Type 0

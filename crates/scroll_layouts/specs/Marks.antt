@@ -66,21 +66,22 @@ AppendsList {E} {X} mark f order bytes old new =
     × (new ≡ old ++ values)
 
 -- after the values `found`, no mark stands, and the next one is refused or has no byte, or there is
--- no memory for it
-pub record StopsList {E X : Type 0} (gives : Error → E → Type 0) (mark : Mark) (f : Format E X)
-    (order : Endian) (s : List ℕ) (found : List X) (stop : ℕ) (e : E) : Type 0 where
+-- no memory for it, and the vector had room for `room` values at most
+pub record StopsList {E X : Type 0} (gives : Error → E → Type 0) (room : ℕ) (mark : Mark)
+    (f : Format E X) (order : Endian) (s : List ℕ) (found : List X) (stop : ℕ) (e : E)
+    : Type 0 where
   pub each : ItemsBefore mark f order s 0 found stop
   pub other : mark.size (drop stop s) ≡ None
   pub error : StopsAtItem gives f order s stop e
-      ⊎ ((x : X) × reads f order s stop x × gives NoMemory e)
+      ⊎ ((x : X) × reads f order s stop x × (room ≤ length found) × gives NoMemory e)
 
 -- a list from the offset `from` on stops so at the offset `at`; or `from` is past the end
-pub record RefusesList {E X : Type 0} (gives : Error → E → Type 0) (mark : Mark)
+pub record RefusesList {E X : Type 0} (gives : Error → E → Type 0) (room : ℕ) (mark : Mark)
     (f : Format E X) (order : Endian) (s : List ℕ) (from : ℕ) (found : List X) (at : ℕ)
     (e : E) : Type 0 where
   pub why : ((length s < from) × (found ≡ []) × (at ≡ from) × gives (BadOffset from) e)
       ⊎ ((stop : ℕ) × (at ≡ from + stop)
-      × StopsList gives mark f order (drop from s) found stop e)
+      × StopsList gives room mark f order (drop from s) found stop e)
 
 -- `YieldsMarked mark f order s found rest`: of a list whose bytes `s` are left, the value at their
 -- start is found, and `rest` is left; or none is. If `s` is a list up to a mark of values that are

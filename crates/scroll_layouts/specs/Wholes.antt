@@ -1,5 +1,5 @@
 -- Values that are read from the start of a source, written to the start of a target, and appended.
-use Rattle.std.specs.Prelude.{◌≡◌, ◌≤◌, ◌-◌, ◌^◌, ◌+◌, ◌⊎◌, ◌++◌, ℕ, List, [], ◌∷◌, length, take, drop, min}
+use Rattle.std.specs.Prelude.{◌≡◌, ◌≤◌, ◌<◌, ◌-◌, ◌^◌, ◌+◌, ◌⊎◌, ◌++◌, ℕ, List, [], ◌∷◌, length, take, drop, min}
 use Rattle.scroll.specs.Bytes.{WritesPrefix, FailsShort}
 use Rattle.scroll.specs.declared.endian.Endian.{Endian}
 use Rattle.scroll.specs.declared.error.Error.{Error}
@@ -92,12 +92,13 @@ AppendsEach f order old (x ∷ xs) new =
     × ((mid : List ℕ) × AppendsWhole f order x old mid × AppendsEach f order mid xs new)
 
 -- the values of `all` before some value are appended, and that one doesn't agree, or there is no
--- memory for it
-pub record FailsEach {E X : Type 0} (gives : Error → E → Type 0) (f : Format E X) (order : Endian)
+-- memory for it, and no room in a vector of the capacity `room`
+pub record FailsEach {E X : Type 0} (gives : Error → E → Type 0) (room : ℕ) (f : Format E X)
+    (order : Endian)
     (old : List ℕ) (all : List X) (new : List ℕ) (e : E) : Type 0 where
   pub values : List X
   pub value : X
   pub others : List X
   pub split : all ≡ values ++ value ∷ others
   pub each : AppendsEach f order old values new
-  pub error : differs f order value e ⊎ gives NoMemory e
+  pub error : differs f order value e ⊎ ((room < length new + len f value) × gives NoMemory e)

@@ -1,5 +1,5 @@
 // Parts that are appended to a vector.
-ghost use Rattle.std.specs.Prelude.{◌≡◌, ◌≤◌, ◌+◌, ◌-◌, ◌^◌, ◌++◌, ◌⊎◌, length, drop, min, IfErr, OnOk, OnErr};
+ghost use Rattle.std.specs.Prelude.{◌≡◌, ◌≤◌, ◌+◌, ◌-◌, ◌^◌, ◌++◌, ◌<◌, ◌⊎◌, length, vec_capacity, drop, min, IfErr, OnOk, OnErr};
 ghost use Rattle.scroll.specs.declared.error.Error.TheVariants.{NoMemory};
 ghost use Rattle.scroll_layouts.specs.Formats.{len, bytes, agrees, differs};
 ghost use Rattle.scroll_layouts.specs.Wholes.{AppendsWhole, AppendsEach, FailsEach};
@@ -11,7 +11,8 @@ use std::result::Result;
 /// Appends the bytes of a part to a vector if its counts, constants, tags and conditions agree.
 ///
 /// Returns the part's own error if they don't, and that of [`Error::NoMemory`] on an allocation
-/// failure. The vector is then unchanged.
+/// failure, which a vector whose capacity has room doesn't meet. The vector's bytes are then
+/// unchanged.
 ///
 /// ```rust
 /// let mut out: Vec<u8> = Vec::new(rt.alloc());
@@ -29,7 +30,9 @@ pub fn append_whole<C, E: From<Error>, L: Part<C, E>>(
         target.old.items target.new.items) }
     ensures unchanged { OnErr result (target.new.items ≡ target.old.items) }
     ensures refused { IfErr result (λ e. differs (L.format ctx.now) order value.now e
-        ⊎ E.from_gives NoMemory e) }
+        ⊎ ((vec_capacity target.old < length target.old.items + len (L.format ctx.now) value.now)
+        × E.from_gives NoMemory e)) }
+    ensures capacity { vec_capacity target.old ≤ vec_capacity target.new }
 {
     value.check(order, ctx)?;
     let start = target.len();
@@ -61,8 +64,8 @@ pub fn append_each<C, E: From<Error>, L: Part<C, E>>(
 ) -> Result<(), E>
     ensures appended { OnOk result (AppendsEach (L.format ctx.now) order target.old.items
         values.now target.new.items) }
-    ensures refused { IfErr result (FailsEach E.from_gives (L.format ctx.now) order
-        target.old.items values.now target.new.items) }
+    ensures refused { IfErr result (FailsEach E.from_gives (vec_capacity target.old)
+        (L.format ctx.now) order target.old.items values.now target.new.items) }
 {
     for i in 0..values.len() {
         match append_whole(target, &values[i], order, ctx) {

@@ -1,5 +1,5 @@
 -- What a read and a write of a whole value cite. The lemmas are proved, and promise nothing.
-use Rattle.std.proofs.Common.{◌≡◌, ℕ, ◌+◌, ◌<◌, ◌⊎◌, ◌++◌, List, [], ◌∷◌, length, take, drop, refl, sym, ap, subst, ◌∙◌, arith, Fits, w8, slice_index, append_assoc, length-append}
+use Rattle.std.proofs.Common.{◌≡◌, ℕ, ◌+◌, ◌<◌, ◌≤◌, ◌⊎◌, inl, inr, ◌++◌, List, [], ◌∷◌, length, take, drop, refl, sym, ap, subst, ◌∙◌, arith, Fits, w8, slice_index, append_assoc, length-append}
 use Rattle.std.proofs.Math.Seq.{drop-append_seam}
 use Rattle.std.proofs.lemmas.List.{drop-drop, append-nil, take_at, take_more, take-append-drop, get_or_default}
 use Rattle.std.specs.List.{All, slice_index_or}
@@ -169,12 +169,23 @@ each-next f order old xs i x mid new inside is h last =
     subst (λ l. AppendsEach f order old l new) (sym (more xs i x inside is))
     (each-push f order old (take i xs) x mid new h last)
 
+-- there is no room in a vector that had less
+less-room : {E X : Type 0} (gives : Error → E → Type 0) (room now : ℕ) (f : Format E X)
+    (order : Endian) (x : X) (mid new : List ℕ) (e : E) → new ≡ mid → room ≤ now
+    → differs f order x e ⊎ ((now < length mid + len f x) × gives NoMemory e)
+    → differs f order x e ⊎ ((room < length new + len f x) × gives NoMemory e)
+less-room gives room now f order x mid new e same more (inl d) = inl d
+less-room gives room now f order x mid new e same more (inr h) =
+    inr (omega (arith, more, h.0, ap length same), h.1)
+
 -- one of them fails
-pub each-fails : {E X : Type 0} (gives : Error → E → Type 0) (f : Format E X) (order : Endian)
-    (old : List ℕ) (xs : List X) (i : ℕ) (x : X) (mid new : List ℕ) (e : E) → i < length xs
-    → x ≡ slice_index_or xs i x → AppendsEach f order old (take i xs) mid → new ≡ mid
-    → differs f order x e ⊎ gives NoMemory e → FailsEach gives f order old xs new e
-each-fails gives f order old xs i x mid new e inside is h same error = record {
+pub each-fails : {E X : Type 0} (gives : Error → E → Type 0) (room now : ℕ) (f : Format E X)
+    (order : Endian) (old : List ℕ) (xs : List X) (i : ℕ) (x : X) (mid new : List ℕ) (e : E)
+    → i < length xs → x ≡ slice_index_or xs i x → AppendsEach f order old (take i xs) mid
+    → new ≡ mid → room ≤ now
+    → differs f order x e ⊎ ((now < length mid + len f x) × gives NoMemory e)
+    → FailsEach gives room f order old xs new e
+each-fails gives room now f order old xs i x mid new e inside is h same more-room error = record {
   values = take i xs;
   value = x;
   others = drop (i + 1) xs;
@@ -182,7 +193,7 @@ each-fails gives f order old xs i x mid new e inside is h same error = record {
       ∙ ap (λ l. l ++ drop (i + 1) xs) (more xs i x inside is)
       ∙ append_assoc (take i xs) (x ∷ []) (drop (i + 1) xs);
   each = subst (λ l. AppendsEach f order old (take i xs) l) (sym same) h;
-  error = error;
+  error = less-room gives room now f order x mid new e same more-room error;
 }
 
 pub ruleset sizes = (layout-len, bytes-len)

@@ -1,5 +1,5 @@
 // Lists that are read into a vector.
-ghost use Rattle.std.specs.Prelude.{◌≡◌, ◌≤◌, ◌<◌, ◌+◌, ◌++◌, ◌∷◌, ◌⊎◌, [], List, length, take, drop, IfOk, IfErr, OnErr};
+ghost use Rattle.std.specs.Prelude.{◌≡◌, ◌≤◌, ◌<◌, ◌+◌, ◌-◌, ◌++◌, ◌∷◌, ◌⊎◌, [], List, length, vec_capacity, take, drop, IfOk, IfErr, OnErr};
 ghost use Rattle.scroll.specs.declared.error.Error.TheVariants.{NoMemory};
 ghost use Rattle.scroll_formats.specs.Spans.{Stands};
 ghost use Rattle.scroll_layouts.specs.Formats.{reads, len};
@@ -19,7 +19,8 @@ use std::result::Result;
 /// Returns the error of the first value that can't be read, with the offset at which it starts, and
 /// leaves the cursor there; the values before it are then appended. An offset past the end is
 /// [`Error::BadOffset`], a value without bytes [`Error::BadInput`] with its offset in the list and
-/// the message `a value has no bytes`, and an allocation failure [`Error::NoMemory`].
+/// the message `a value has no bytes`, and an allocation failure [`Error::NoMemory`], which a value
+/// for which `values` has room doesn't meet.
 pub fn append_until<'a, E: From<Error>, K: Marked<'a>>(
     values: &mut Vec<K::Item>,
     from: &'a [u8],
@@ -34,8 +35,9 @@ where
         list.0.now values.old.items values.new.items) }
     ensures refused { IfErr result (λ located. (found : List K.Item)
         × (values.new.items ≡ values.old.items ++ found)
-        × RefusesList E.from_gives K.End.mark (K.Item.format tt) order from.now offset.old found
-        located.offset located.error) }
+        × RefusesList E.from_gives (vec_capacity values.old - length values.old.items)
+        K.End.mark (K.Item.format tt) order from.now offset.old found located.offset
+        located.error) }
     ensures stays { IfErr result (λ located. offset.new ≡ located.offset) }
 {
     let start = *offset;
@@ -79,8 +81,10 @@ fn push_next<'a, E: From<Error>, T: ReadPart<'a, (), E>>(
         × (values.new.items ≡ values.old.items ++ x ∷ [])) }
     ensures forward { IfOk result (λ next. (at < next) × (next ≤ length from.now)) }
     ensures refused { IfErr result (λ e. StopsAtItem E.from_gives (T.format tt) order from.now at e
-        ⊎ ((x : T) × reads (T.format tt) order from.now at x × E.from_gives NoMemory e)) }
+        ⊎ ((x : T) × reads (T.format tt) order from.now at x
+        × (vec_capacity values.old ≤ length values.old.items) × E.from_gives NoMemory e)) }
     ensures same { OnErr result (values.new.items ≡ values.old.items) }
+    ensures capacity { vec_capacity values.old ≤ vec_capacity values.new }
 {
     let (value, next) = T::read_at(from, at, order, &())?;
     if next == at {

@@ -1,12 +1,19 @@
 -- One more value was read and appended.
-use Rattle.std.proofs.Common.{◌-◌, ◌≤◌, ◌++◌, ◌∷◌, [], length, take, drop, refl, sym, ap, subst, ◌∙◌, arith, inl, inr, rules, append-nil, append_assoc, length-drop}
+use Rattle.std.proofs.Common.{◌-◌, ◌≤◌, ◌⊎◌, length-append, ◌++◌, ◌∷◌, [], length, take, drop, refl, sym, ap, subst, ◌∙◌, arith, inl, inr, rules, append-nil, append_assoc, length-drop}
 use Rattle.std.proofs.lemmas.List.{take_all}
 use Rattle.scroll_formats.proofs.lemmas.callers.Written.{prefix-stands}
+use Rattle.std.specs.Prelude.{vec_capacity}
 use Rattle.scroll_layouts.specs.Marks.{ItemsBefore, StopsList}
 use Rattle.scroll_layouts.specs.lemmas.MarkLemmas.{marked-cut, push}
 use Rattle.scroll_layouts.specs.lemmas.Parts.{bytes-taken}
 use Rattle.scroll_layouts.specs.lemmas.WholeLemmas.{bytes-below}
 use Rattle.scroll_layouts.proofs.marked.until.append_until.Goals as goal
+
+-- there is no memory only where a vector is full
+or_full : {P X : Type 0} {Q M : X → Type 0} {F G : Type 0} → (F → G)
+    → P ⊎ ((x : X) × Q x × F × M x) → P ⊎ ((x : X) × Q x × G × M x)
+or_full full (inl p) = inl p
+or_full full (inr h) = inr (h.0, h.1, full h.2, h.3)
 
 pub returns-in-Some-clause-values : goal.returns-in-Some-clause-values
 returns-in-Some-clause-values g c =
@@ -46,6 +53,7 @@ loop-end-preserved g c =
       next.4 ∙ ap (λ l. l ++ next.0 ∷ []) h.2
           ∙ append_assoc c.args.values.now.items h.0 (next.0 ∷ []),
       c.in-Ok.ensures.forward.1,
+      omega (arith, h.4, c.in-Ok.ensures.capacity),
     )
 
 pub returns-in-Err-clause-refused : goal.returns-in-Err-clause-refused
@@ -55,11 +63,16 @@ returns-in-Err-clause-refused g c =
     let h = c.loop-end.invariant in
     let whole = take_all (length s - o) (drop o s) (omega (arith, length-drop o s)) in
     let at = c.loop-end.at in
-    let stops : StopsList g.E.From.from_gives g.K.End.EndMark.mark (g.K.Item.ReadPart.format (tt))
-    c.args.order (take (length s - o) (drop o s)) h.0 at c.in-Err.error = record {
+    let room = vec_capacity c.args.values.now - length c.args.values.now.items in
+    let filled : vec_capacity c.loop-end.values ≤ length c.loop-end.values.items
+    → room ≤ length h.0 =
+    λ full. omega (arith, full, h.4, ap length h.2, length-append c.args.values.now.items h.0) in
+    let stops : StopsList g.E.From.from_gives room g.K.End.EndMark.mark
+    (g.K.Item.ReadPart.format (tt)) c.args.order (take (length s - o) (drop o s)) h.0 at
+    c.in-Err.error = record {
       each = h.1;
       other = c.in_default.ensures.none;
-      error = c.in-Err.ensures.refused;
+      error = or_full filled c.in-Err.ensures.refused;
     } in (
       h.0,
       c.in-Err.ensures.same ∙ h.2,
@@ -67,7 +80,7 @@ returns-in-Err-clause-refused g c =
         why = inr (
           at,
           refl,
-          subst (λ l. StopsList g.E.From.from_gives g.K.End.EndMark.mark
+          subst (λ l. StopsList g.E.From.from_gives room g.K.End.EndMark.mark
               (g.K.Item.ReadPart.format (tt)) c.args.order l h.0 at c.in-Err.error) whole stops,
         );
       },
