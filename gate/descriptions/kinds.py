@@ -322,13 +322,19 @@ class Gap(Kind):
         super().__init__("Zeros", [note], *([] if multiple else [count]))
         self.count, self.multiple = count, multiple
 
-    def draw(self, rng: random.Random, order: str, known: Known) -> bytes:
-        return bytes(padding(known["offset"], self.multiple) if self.multiple else self.count.draw(known))
+    def size(self, known: Known) -> int:
+        return padding(known["offset"], self.multiple) if self.multiple else self.count.of(known)
 
-    def take(self, source: bytes, at: int, order: str, known: Known) -> Tuple[bytes, int]:
-        size = padding(known["offset"], self.multiple) if self.multiple else self.count.of(known)
-        end = take_zeros(source, at, size)
-        return bytes(size), end
+    def draw(self, rng: random.Random, order: str, known: Known) -> bytearray:
+        return bytearray(self.size(known) if self.multiple else self.count.draw(known))
+
+    def take(self, source: bytes, at: int, order: str, known: Known) -> Tuple[bytearray, int]:
+        size = self.size(known)
+        return bytearray(size), take_zeros(source, at, size)
+
+    def check(self, value: bytearray, order: str, known: Known) -> None:
+        # (A value says nothing of how many there are: so many are written as what is before them says.)
+        value[:] = bytes(self.size(known))
 
     def lines(self, path: str) -> List[str]:
         return []

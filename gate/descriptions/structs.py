@@ -385,12 +385,13 @@ class Struct:
         known, order = {"given": given}, self.order or order
         size = 0
         for part in self.parts:
+            known["offset"] = size
             if part.is_rest:
                 if given == GREATEST or size > given:
                     raise bad(given, "more bytes than its part")
                 known["rest"] = given - size
             part.check(value, order, known)
-            size += len(part.put(value, order)) if self.is_given else 0
+            size += len(part.put(value, order))
             known.update(self.numbers(part, value))
             for rule in part.rules:
                 rule(known)
