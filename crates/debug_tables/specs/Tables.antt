@@ -34,11 +34,11 @@ ReadsTableBytes format buffer from to bytes =
     × ReadsTable format buffer from to (record { declarations = found; bytes = bytes })
 
 -- the read of a table fails: after some declarations, the next one, at the offset `stop`, is
--- refused, or there is no memory for it
+-- refused, or there is no memory for it (a new vector has no room)
 abbrev pub RefusesTable : Format TableError Declaration → List ℕ → ℕ → TableError → Type 0
 RefusesTable format buffer from e =
-    (found : List Declaration) × (stop : ℕ)
-    × RefusesList (λ error e. e ≡ Read error) 0 zero_mark format Little buffer from found stop e
+    (found : List Declaration) × (stop : ℕ) × (room : ℕ)
+    × RefusesList (λ error e. e ≡ Read error) room zero_mark format Little buffer from found stop e
 
 -- the offset is past the end, or there is no room for the bytes
 abbrev pub FailsPut : List ℕ → List ℕ → ℕ → Error → Type 0
