@@ -7,17 +7,26 @@ from sums import Value
 from text import WIDTH, lifetime
 
 
+def parted(pattern: str, tag: int, value: str) -> str:
+    """Returns the arm of a match that makes the parts of a variant."""
+    line = f"            {pattern} => (Run({tag}), {value}),"
+    if len(line) > WIDTH:
+        line = f"            {pattern} => {{\n                let value = {value};\n                (Run({tag}), value)\n            }}"
+    return f"\n{line}"
+
+
 def tagged_texts(form: Enum, error: str, parts: str, context: str, said: Value) -> List[str]:
     """Returns the implementations of `Split`, `Part` and `ReadPart`. The parts are a pair in a context."""
     cases = [f"(record {{ 0 = {it.tags[0]} }}, {form.ghost(at)})" for at, it in enumerate(form.variants)]
-    arms = [f"{form.pattern(it)} => (Run({it.tags[0]}), {form.chosen(at, it.code)})," for at, it in enumerate(form.variants)]
+    arms = "".join(parted(form.pattern(it), it.tags[0], form.chosen(at, it.code)) for at, it in enumerate(form.variants))
 
     def format_of(part: str) -> str:
         return f"""    ghost format = {{ λ _. last (⟦<{parts} as {part}{context}, {error}>>⟧.format
         ({said.ghost})) ⟦<{form.type} as Split>⟧.parts_of }};"""
 
     def call(name: str, arguments: str) -> str:
-        return f"        let parts = self.split();\n        Part::<{context}, {error}>::{name}(&parts, {arguments}, &{said.code})"
+        call = f"Part::<{context}, {error}>::{name}(&parts, {arguments}, &ctx)"
+        return f"        let parts = self.split();\n        let ctx = {said.code};\n        {call}"
 
     read = f"let (read, end) = <{parts} as ReadPart<'a, {context}, {error}>>::read_at"
     line = f"        {read}(from, offset, order, &ctx)?;"
@@ -30,7 +39,7 @@ def tagged_texts(form: Enum, error: str, parts: str, context: str, said: Value) 
     ] }};
 
     fn split(&self) -> {parts} {{
-        match self {{{"".join(f"{chr(10)}            {it}" for it in arms)}
+        match self {{{arms}
         }}
     }}
 }}""",

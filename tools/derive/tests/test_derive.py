@@ -56,7 +56,7 @@ class Derive(unittest.TestCase):
                         continue
                     self.assertIn(line, printed[place:])
                     place = printed.index(line, place) + 1
-                self.assertTrue(all(len(line) <= 100 for line in printed if not line.lstrip().startswith(("ghost use", "×"))))
+                self.assertTrue(all(len(line) <= 100 for line in printed if not line.lstrip().startswith(("ghost use", "×", "|"))))
 
     def test_what_only_stands_in_others(self) -> None:
         for mark, count in (("Pread, Pwrite", 2), ("Part", 0)):

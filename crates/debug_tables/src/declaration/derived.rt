@@ -178,18 +178,21 @@ impl Part<(), TableError> for Children {
 
     fn check(&self, order: Endian, _ctx: &()) -> Result<(), TableError> {
         let parts = self.split();
-        Part::<ChildrenCtx, TableError>::check(&parts, order, &Headed((), ChildrenSays, PhantomData))
+        let ctx = Headed((), ChildrenSays, PhantomData);
+        Part::<ChildrenCtx, TableError>::check(&parts, order, &ctx)
     }
 
     fn size(&self, order: Endian, _ctx: &()) -> usize {
         let parts = self.split();
-        Part::<ChildrenCtx, TableError>::size(&parts, order, &Headed((), ChildrenSays, PhantomData))
+        let ctx = Headed((), ChildrenSays, PhantomData);
+        Part::<ChildrenCtx, TableError>::size(&parts, order, &ctx)
     }
 
     #[inline(always)]
     fn put(&self, dst: &mut [u8], order: Endian, _ctx: &()) {
         let parts = self.split();
-        Part::<ChildrenCtx, TableError>::put(&parts, dst, order, &Headed((), ChildrenSays, PhantomData))
+        let ctx = Headed((), ChildrenSays, PhantomData);
+        Part::<ChildrenCtx, TableError>::put(&parts, dst, order, &ctx)
     }
 }
 

@@ -753,18 +753,21 @@ impl Part<(), Error> for Imported {
 
     fn check(&self, order: Endian, _ctx: &()) -> Result<(), Error> {
         let parts = self.split();
-        Part::<ImportedCtx, Error>::check(&parts, order, &Headed((), ImportedSays, PhantomData))
+        let ctx = Headed((), ImportedSays, PhantomData);
+        Part::<ImportedCtx, Error>::check(&parts, order, &ctx)
     }
 
     fn size(&self, order: Endian, _ctx: &()) -> usize {
         let parts = self.split();
-        Part::<ImportedCtx, Error>::size(&parts, order, &Headed((), ImportedSays, PhantomData))
+        let ctx = Headed((), ImportedSays, PhantomData);
+        Part::<ImportedCtx, Error>::size(&parts, order, &ctx)
     }
 
     #[inline(always)]
     fn put(&self, dst: &mut [u8], order: Endian, _ctx: &()) {
         let parts = self.split();
-        Part::<ImportedCtx, Error>::put(&parts, dst, order, &Headed((), ImportedSays, PhantomData))
+        let ctx = Headed((), ImportedSays, PhantomData);
+        Part::<ImportedCtx, Error>::put(&parts, dst, order, &ctx)
     }
 }
 
