@@ -25,8 +25,8 @@ def tagged_texts(form: Enum, error: str, parts: str, context: str, said: Value) 
         ({said.ghost})) ⟦<{form.type} as Split>⟧.parts_of }};"""
 
     def call(name: str, arguments: str) -> str:
-        call = f"Part::<{context}, {error}>::{name}(&parts, {arguments}, &ctx)"
-        return f"        let parts = self.split();\n        let ctx = {said.code};\n        {call}"
+        lines = ("let parts = self.split();", f"let ctx = {said.code};", f"Part::<{context}, {error}>::{name}(&parts, {arguments}, &ctx)")
+        return "\n".join(f"        {it}" for it in lines)
 
     read = f"let (read, end) = <{parts} as ReadPart<'a, {context}, {error}>>::read_at"
     line = f"        {read}(from, offset, order, &ctx)?;"
