@@ -94,8 +94,7 @@ AppendsEach f order old (x ∷ xs) new =
 -- the values of `all` before some value are appended, and that one doesn't agree, or there is no
 -- memory for it, and no room in a vector of the capacity `room`
 pub record FailsEach {E X : Type 0} (gives : Error → E → Type 0) (room : ℕ) (f : Format E X)
-    (order : Endian)
-    (old : List ℕ) (all : List X) (new : List ℕ) (e : E) : Type 0 where
+    (order : Endian) (old : List ℕ) (all : List X) (new : List ℕ) (e : E) : Type 0 where
   pub values : List X
   pub value : X
   pub others : List X

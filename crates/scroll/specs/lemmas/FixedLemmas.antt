@@ -25,13 +25,6 @@ use Rattle.scroll.specs.lemmas.Frames.{length-number_bytes}
 pub length-exactly : (n : ℕ) (bytes : List ℕ) → length (exactly n bytes) ≡ n
 length-exactly n bytes = length-map-range_with_len (slice_index bytes) 0 n
 
--- as many bytes as there are
-exactly-all : (n : ℕ) (bytes : List ℕ) → length bytes ≡ n → exactly n bytes ≡ bytes
-exactly-all n bytes len =
-    same_number_lists (exactly n bytes) bytes (length-exactly n bytes ∙ sym len) (λ i l.
-    get_or-map-range_with_len (slice_index bytes) 0 n i i 0
-    (omega (arith, l, length-exactly n bytes)) (omega arith))
-
 -- the elements have as many bytes as one has, times their number
 length-elements : {V : Type 0} (w : ℕ) (bytes : V → List ℕ) → ((x : V) → length (bytes x) ≡ w)
     → (xs : List V) → length (flat_map bytes xs) ≡ w * length xs
@@ -44,8 +37,12 @@ length-elements w bytes len (x ∷ xs) =
 pub exactly-elements : {V : Type 0} (w n : ℕ) (bytes : V → List ℕ)
     → ((x : V) → length (bytes x) ≡ w) → (xs : List V) → length xs ≡ n
     → exactly (w * n) (flat_map bytes xs) ≡ flat_map bytes xs
-exactly-elements w n bytes len xs size = exactly-all (w * n) (flat_map bytes xs)
-    (length-elements w bytes len xs ∙ ap (λ k. w * k) size)
+exactly-elements w n bytes len xs size =
+    let whole = length-exactly (w * n) (flat_map bytes xs) in
+    same_number_lists (exactly (w * n) (flat_map bytes xs)) (flat_map bytes xs)
+    (whole ∙ sym (length-elements w bytes len xs ∙ ap (λ k. w * k) size)) (λ i l.
+    get_or-map-range_with_len (slice_index (flat_map bytes xs)) 0 (w * n) i i 0
+    (omega (arith, l, whole)) (omega arith))
 
 -- each element is made of its bytes
 elements-back : {V : Type 0} (w : ℕ) (bytes : V → List ℕ) (makes : List ℕ → V → Type 0)
@@ -78,12 +75,10 @@ pub array-back : {V : Type 0} (w n : ℕ) (bytes : V → List ℕ) (makes : List
     → length xs ≡ n → All fits xs → MakesArray w (λ s x. makes s 0 x) n
     (drop (length prefix) (prefix ++ (exactly (w * n) (flat_map bytes xs) ++ rest))) xs
 array-back w n bytes makes fits len back xs prefix rest size all =
-    let whole : exactly (w * n) (flat_map bytes xs) ≡ flat_map bytes xs =
-    exactly-elements w n bytes len xs size in
     let source : drop (length prefix)
     (prefix ++ (exactly (w * n) (flat_map bytes xs) ++ rest)) ≡ flat_map bytes xs ++ rest =
     drop-append_seam prefix (exactly (w * n) (flat_map bytes xs) ++ rest)
-    ∙ ap (λ l. l ++ rest) whole in
+    ∙ ap (λ l. l ++ rest) (exactly-elements w n bytes len xs size) in
     record {
       len = size;
       each = λ i d l. subst (λ s. makes (drop (w * i) s) 0 (slice_index_or xs i d)) (sym source)

@@ -51,8 +51,8 @@ pub trait Fixed: Copy {
         requires { width ≤ length dst.old }
         ensures { dst.new ≡ bytes order self ++ drop width dst.old };
 
-    /// Returns the `count` values at the start of `from` where they lie, or `None`: then an array
-    /// of them is read value by value, and otherwise by one copy, as of `u8`.
+    /// Returns the `count` values at the start of `from`, which has their bytes, where they lie, or
+    /// `None`: then an array of them is read value by value, and otherwise by one copy, as of `u8`.
     fn as_values(from: &[u8], count: usize, order: Endian) -> Option<&[Self]>
         requires { width * count ≤ length from.now }
         ensures { IfSome result (λ values.
