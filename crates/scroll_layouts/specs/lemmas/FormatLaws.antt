@@ -12,6 +12,7 @@ use Rattle.scroll_formats.specs.Zeros.{padding_len}
 use Rattle.scroll_layouts.specs.Layouts.{width, laid_bytes}
 use Rattle.scroll_layouts.specs.lemmas.LayoutLaws.{layout-len, layout-back, layout-fits, layout-moved, layout-kept}
 use Rattle.scroll_layouts.specs.lemmas.Parts.{part-within, slice-agrees, slice-back, bytes-taken, pair-within, first-within, second-within}
+use Rattle.scroll_layouts.specs.lemmas.OptionLemmas.{some-one, none-some}
 use Rattle.scroll_layouts.specs.declared.choice.Choice.TheVariants.{First, Second}
 
 -- a value that was read is within its source
@@ -41,10 +42,8 @@ inside (choice gives true f g) order s at (First x) here h = inside f order s at
 inside (choice gives true f g) order s at (Second x) here h = absurd h
 inside (choice gives false f g) order s at (First x) here h = absurd h
 inside (choice gives false f g) order s at (Second x) here h = inside g order s at x here h
-inside (when gives true f) order s at (Some x) here h = inside f order s at x here h
-inside (when gives true f) order s at None here h = absurd h
-inside (when gives false f) order s at (Some x) here h = absurd h
-inside (when gives false f) order s at None here h = omega (arith, here)
+inside (when gives b f) order s at (Some x) here h = inside f order s at x here (h.1 x refl)
+inside (when gives b f) order s at None here h = omega (arith, here)
 
 -- a value that was read agrees
 pub made-agrees : {E X : Type 0} (f : Format E X) (order : Endian) (s : List ℕ) (at : ℕ) (x : X)
@@ -74,10 +73,8 @@ made-agrees (choice gives true f g) order s at (First x) all h = made-agrees f o
 made-agrees (choice gives true f g) order s at (Second x) all h = absurd h
 made-agrees (choice gives false f g) order s at (First x) all h = absurd h
 made-agrees (choice gives false f g) order s at (Second x) all h = made-agrees g order s at x all h
-made-agrees (when gives true f) order s at (Some x) all h = made-agrees f order s at x all h
-made-agrees (when gives true f) order s at None all h = absurd h
-made-agrees (when gives false f) order s at (Some x) all h = absurd h
-made-agrees (when gives false f) order s at None all h = h
+made-agrees (when gives b f) order s at x all h =
+    (h.0, λ y is. made-agrees f order s at y all (h.1 y is))
 
 -- a value that agrees has as many bytes as its length says
 pub bytes-len : {E X : Type 0} (f : Format E X) (order : Endian) (x : X) → agrees f order x
@@ -105,10 +102,8 @@ bytes-len (choice gives true f g) order (First x) h = bytes-len f order x h
 bytes-len (choice gives true f g) order (Second x) h = absurd h
 bytes-len (choice gives false f g) order (First x) h = absurd h
 bytes-len (choice gives false f g) order (Second x) h = bytes-len g order x h
-bytes-len (when gives true f) order (Some x) h = bytes-len f order x h
-bytes-len (when gives true f) order None h = absurd h
-bytes-len (when gives false f) order (Some x) h = absurd h
-bytes-len (when gives false f) order None h = refl
+bytes-len (when gives b f) order (Some x) h = bytes-len f order x (h.1 x refl)
+bytes-len (when gives b f) order None h = refl
 
 -- zeros that were written are there
 abbrev zeros-at : ℕ → List ℕ → ℕ → Type 0
@@ -166,10 +161,12 @@ back (choice gives true f g) order (First x) prefix rest h = back f order x pref
 back (choice gives true f g) order (Second x) prefix rest h = absurd h
 back (choice gives false f g) order (First x) prefix rest h = absurd h
 back (choice gives false f g) order (Second x) prefix rest h = back g order x prefix rest h
-back (when gives true f) order (Some x) prefix rest h = back f order x prefix rest h
-back (when gives true f) order None prefix rest h = absurd h
-back (when gives false f) order (Some x) prefix rest h = absurd h
-back (when gives false f) order None prefix rest h = h
+back (when gives b f) order (Some x) prefix rest h = (
+  h.0,
+  λ y is. some-one (reads f order (prefix ++ (bytes f order x ++ rest)) (length prefix)) x y is
+      (back f order x prefix rest (h.1 x refl)),
+)
+back (when gives b f) order None prefix rest h = (h.0, λ y is. absurd (none-some y is))
 
 -- the bytes of a value are those of which it was read
 pub kept : {E X : Type 0} (f : Format E X) (order : Endian) (s : List ℕ) (at : ℕ) (x : X)
@@ -200,10 +197,8 @@ kept (choice gives true f g) order s at (First x) e all h = kept f order s at x 
 kept (choice gives true f g) order s at (Second x) e all h = absurd h
 kept (choice gives false f g) order s at (First x) e all h = absurd h
 kept (choice gives false f g) order s at (Second x) e all h = kept g order s at x e.1 all h
-kept (when gives true f) order s at (Some x) e all h = kept f order s at x e all h
-kept (when gives true f) order s at None e all h = absurd h
-kept (when gives false f) order s at (Some x) e all h = absurd h
-kept (when gives false f) order s at None e all h = refl
+kept (when gives b f) order s at (Some x) e all h = kept f order s at x e all (h.1 x refl)
+kept (when gives b f) order s at None e all h = refl
 
 -- a leaf is read wherever its bytes stand, since it is written back as it was read
 leaf-moved : {E X : Type 0} (l : Leaf E X) (order : Endian) (s : List ℕ) (at : ℕ) (t : List ℕ)
@@ -280,11 +275,13 @@ moved (choice gives true f g) order s at t to (Second x) all there same h = absu
 moved (choice gives false f g) order s at t to (First x) all there same h = absurd h
 moved (choice gives false f g) order s at t to (Second x) all there same h =
     moved g order s at t to x all there same h
-moved (when gives true f) order s at t to (Some x) all there same h =
-    moved f order s at t to x all there same h
-moved (when gives true f) order s at t to None all there same h = absurd h
-moved (when gives false f) order s at t to (Some x) all there same h = absurd h
-moved (when gives false f) order s at t to None all there same h = h
+moved (when gives b f) order s at t to (Some x) all there same h = (
+  h.0,
+  λ y is. some-one (reads f order t to) x y is
+      (moved f order s at t to x all there same (h.1 x refl)),
+)
+moved (when gives b f) order s at t to None all there same h =
+    (h.0, λ y is. absurd (none-some y is))
 
 -- a value of `n` bytes is read from these alone
 pub alone : {E X : Type 0} (f : Format E X) (order : Endian) (s : List ℕ) (at n : ℕ) (x : X)

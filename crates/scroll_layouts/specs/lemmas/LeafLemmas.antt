@@ -5,7 +5,7 @@ use Rattle.std.proofs.lemmas.List.Elements.{All-from_get_or}
 use Rattle.std.proofs.lemmas.List.Sums.{fails_before_first, passes_at_first, position_or_len_is}
 use Rattle.std.proofs.Math.Seq.{drop-append_seam}
 use Rattle.std.specs.List.{All}
-use Rattle.std.specs.Prelude.{slice_index, replicate, ◌-◌}
+use Rattle.std.specs.Prelude.{slice_index, replicate, ◌-◌, ℤ, pos, negsuc}
 use Rattle.scroll.specs.CStrings.{ReadsCString}
 use Rattle.scroll.specs.Leb128.{ReadsLeb, RefusesLeb}
 use Rattle.scroll.specs.Texts.{index_of, ReadsText, RefusesText}
@@ -13,6 +13,7 @@ use Rattle.scroll.specs.declared.ctx.str_ctx.StrCtx.{StrCtx}
 use Rattle.scroll.specs.declared.error.Error.{Error}
 use Rattle.scroll.specs.lemmas.Frames.{length-encoding}
 use Rattle.scroll_formats.specs.Zeros.{RefusesZeros, padding_len}
+use Rattle.scroll_layouts.specs.Varints.{zigzag}
 
 -- a byte that a search for `d` passes is another one
 other-byte : (b d : ℕ) → (b == d) ≡ false → b ≢ d
@@ -114,3 +115,10 @@ pub text-clash : (ctx : StrCtx) (s text : List ℕ) (n : ℕ) (e : Error) → Re
 text-clash ctx s text n e h (inl r) = omega (arith, h.room, r.short)
 text-clash ctx s text n e h (inr (inl r)) = r.invalid (subst IsUtf8 h.prefix h.utf8)
 text-clash ctx s text n e h (inr (inr r)) = r.missing h.there
+
+-- two numbers that are one in zigzag are one
+pub zigzag-one : (v w : ℤ) → zigzag v ≡ zigzag w → v ≡ w
+zigzag-one (pos v) (pos w) h = ap pos (omega (arith, h))
+zigzag-one (pos v) (negsuc w) h = absurd (omega (arith, h))
+zigzag-one (negsuc v) (pos w) h = absurd (omega (arith, h))
+zigzag-one (negsuc v) (negsuc w) h = ap negsuc (omega (arith, h))

@@ -9,6 +9,7 @@ use Rattle.scroll_layouts.specs.Formats.{Format, run, counted, zeros, last, pair
 use Rattle.scroll_layouts.specs.OneWay.{same, told, one_way}
 use Rattle.scroll_layouts.specs.declared.choice.Choice.TheVariants.{First, Second}
 use Rattle.scroll_layouts.specs.lemmas.LayoutLaws.{layout-one}
+use Rattle.scroll_layouts.specs.lemmas.OptionLemmas.{not-both}
 
 -- a source has one length at an offset, and its values are the same
 one : {E X : Type 0} (f : Format E X) → told f → (order : Endian) (s : List ℕ) (at : ℕ) (x y : X)
@@ -65,12 +66,11 @@ one (choice gives false f g) t order s at (Second x) (Second y) all h k =
     one g t.1 order s at x y all h k
 one (choice gives false f g) t order s at (Second x) (First y) all h k = absurd k
 one (choice gives false f g) t order s at (First x) y all h k = absurd h
-one (when gives true f) t order s at (Some x) (Some y) all h k = one f t order s at x y all h k
-one (when gives true f) t order s at (Some x) None all h k = absurd k
-one (when gives true f) t order s at None y all h k = absurd h
-one (when gives false f) t order s at None None all h k = (refl, tt)
-one (when gives false f) t order s at None (Some y) all h k = absurd k
-one (when gives false f) t order s at (Some x) y all h k = absurd h
+one (when gives b f) t order s at (Some x) (Some y) all h k =
+    one f t order s at x y all (h.1 x refl) (k.1 y refl)
+one (when gives b f) t order s at (Some x) None all h k = absurd (not-both b x h.0 k.0)
+one (when gives b f) t order s at None (Some y) all h k = absurd (not-both b y k.0 h.0)
+one (when gives b f) t order s at None None all h k = (refl, tt)
 
 pub one-len : {E X : Type 0} (f : Format E X) → told f → (order : Endian) (s : List ℕ) (at : ℕ)
     (x y : X) → All (λ b. b < 256) s → reads f order s at x → reads f order s at y

@@ -25,8 +25,8 @@ places s o w t is =
     ap (λ k. drop k t) (omega arith) ∙ sym (drop-drop w o t) ∙ ap (drop w) (sym is)
 
 -- what stands at the start is read there
-stood : {E X : Type 0} (f : Format E X) (order : Endian) (s : List ℕ) (x : X) → AtStart f order s x
-    → reads f order s 0 x
+stood : {E X : Type 0} (f : Format E X) (order : Endian) (s : List ℕ) (x : X)
+    → AtStart f order s x → reads f order s 0 x
 stood f order s _ (at_start x h) = h
 
 -- a value that was read at the start
@@ -40,7 +40,6 @@ whole-read f order s x n t all h size =
       agreed = agreed;
       size = size;
       inside = omega (arith, size, inside f order s 0 x (omega arith) h);
-      count = bytes-len f order x agreed ∙ sym size;
       only = λ y k. one-value f t order s 0 x y all h (stood f order s y k);
       one = λ y k. one-value f t order s 0 x y all h k;
       places = places s;
@@ -53,7 +52,6 @@ exact-read f order s x n e all h = record {
   agreed = h.agreed;
   size = h.size;
   inside = h.inside;
-  count = h.count;
   back = kept f order s 0 x e all h.value ∙ ap (λ k. take k s) (sym h.size);
   only = h.only;
   one = h.one;
@@ -89,7 +87,6 @@ whole-kept f order x old new n h rest =
       agreed = h.agreed;
       size = h.size;
       inside = omega (arith, size, length-append (take n new) rest);
-      count = sym h.wrote.size;
       back = sym h.written ∙ sym (take_at (take n new) rest n size);
     }
 

@@ -14,7 +14,8 @@ impl Record for Plane {
 
     ghost of_parts = { λ p. record { cells = p } };
 
-    ghost fields_in = { λ order s x. (MakesArray 2 (λ s x. (MakesArray 1 (λ s x. (x ≡ number order 1 s)) 2 s x)) 2 s x.cells) };
+    ghost fields_in = { λ order s x.
+        (MakesArray 2 (λ s x. (MakesArray 1 (λ s x. (x ≡ number order 1 s)) 2 s x)) 2 s x.cells) };
 
     ghost again = { λ x. refl };
 
