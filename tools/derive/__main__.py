@@ -4,8 +4,8 @@
     python3 tools/derive --check CRATE     says which files aren't what would be written, and writes nothing
 
 CRATE is the folder of a crate. For each file of its src/ in which a struct or an enum stands behind the line
-`// #[derive(Pread, Pwrite)]` a file `derived.rt` is written, a module of that file, which says `mod derived;`. docs/GUIDE.md
-has the notes.
+`// #[derive(Pread, Pwrite)]` a file `derived.rt` is written, a module of that file, which says `mod derived;`. `rt fmt` lays it
+out. docs/GUIDE.md has the notes.
 
 A file that no struct asks for any more is removed. Where nothing asks for one, a line says so.
 

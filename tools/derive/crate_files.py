@@ -10,7 +10,7 @@ from names import CHOICE, CODE, GHOST
 from printing import Printer
 from readers import read_form
 from records import record_text
-from text import alias_of, lay_out
+from text import alias_of, formatted, lay_out
 
 HEAD = "// Printed by tools/derive from "
 
@@ -31,7 +31,7 @@ def derived_files(folder: Path) -> Dict[Path, str]:
         items = crate.marked(file)
         if items:
             files[derived_path(file.path)] = print_file(crate, file, [(it, forms[id(it)]) for it in items])
-    return files
+    return dict(zip(files, formatted([*files.values()])))
 
 
 def is_same(text: str, other: str) -> bool:
@@ -88,11 +88,9 @@ def imports(crate: Crate, own: Set[str], modules: Dict[str, str], body: str) -> 
         yield from use_lines(re.sub(rf"^{crate.name}\b", "crate", module), found - own)
 
 
-def use_lines(module: str, names: Set[str]) -> List[str]:
-    if not names:
-        return []
-    said = sorted(names)
-    return lay_out(f"use {module}::{{{', '.join(said)}}};" if len(said) > 1 else f"use {module}::{said[0]};")
+def use_lines(module: str, names: Set[str]) -> Iterator[str]:
+    if names:
+        yield f"use {module}::{{{', '.join(sorted(names))}}};"
 
 
 def is_said(name: str, ghost: str) -> bool:

@@ -4,21 +4,13 @@ from typing import List
 
 from model import Enum
 from sums import Value
-from text import WIDTH, lifetime
-
-
-def parted(pattern: str, tag: int, value: str) -> str:
-    """Returns the arm of a match that makes the parts of a variant."""
-    line = f"            {pattern} => (Run({tag}), {value}),"
-    if len(line) > WIDTH:
-        line = f"            {pattern} => {{\n                let value = {value};\n                (Run({tag}), value)\n            }}"
-    return f"\n{line}"
+from text import lifetime
 
 
 def tagged_texts(form: Enum, error: str, parts: str, context: str, said: Value) -> List[str]:
     """Returns the implementations of `Split`, `Part` and `ReadPart`. The parts are a pair in a context."""
     cases = [f"(record {{ 0 = {it.tags[0]} }}, {form.ghost(at)})" for at, it in enumerate(form.variants)]
-    arms = "".join(parted(form.pattern(it), it.tags[0], form.chosen(at, it.code)) for at, it in enumerate(form.variants))
+    arms = "".join(f"\n{form.pattern(it)} => (Run({it.tags[0]}), {form.chosen(at, it.code)})," for at, it in enumerate(form.variants))
 
     def format_of(part: str) -> str:
         return f"""    ghost format = {{ λ _. last (⟦<{parts} as {part}{context}, {error}>>⟧.format
@@ -28,9 +20,6 @@ def tagged_texts(form: Enum, error: str, parts: str, context: str, said: Value) 
         lines = ("let parts = self.split();", f"let ctx = {said.code};", f"Part::<{context}, {error}>::{name}(&parts, {arguments}, &ctx)")
         return "\n".join(f"        {it}" for it in lines)
 
-    read = f"let (read, end) = <{parts} as ReadPart<'a, {context}, {error}>>::read_at"
-    line = f"        {read}(from, offset, order, &ctx)?;"
-    line = line if len(line) <= WIDTH else f"        {read}(\n            from, offset, order, &ctx,\n        )?;"
     return [
         f"""impl{lifetime(form.type)} Split for {form.type} {{
     type Parts = {parts};
@@ -65,7 +54,7 @@ def tagged_texts(form: Enum, error: str, parts: str, context: str, said: Value) 
     #[inline(always)]
     fn read_at(from: &'a [u8], offset: usize, order: Endian, _ctx: &()) -> Result<({form.type}, usize), {error}> {{
         let ctx = {said.code};
-{line}
+        let (read, end) = <{parts} as ReadPart<'a, {context}, {error}>>::read_at(from, offset, order, &ctx)?;
         let (_tag, value) = read;
         let made = match value {{{form.arms()}
         }};

@@ -1,16 +1,20 @@
-"""Text: tuples and calls, and the layout of `rt fmt`.
+"""Text: tuples and calls, and their layout.
 
-What is printed is made on lines of any length; `lay_out` breaks those that `rt fmt` would.
+What is printed is made on lines of any length. `lay_out` breaks clauses, and `rt fmt` the rest.
 """
 
+import contextlib
 import re
+import subprocess
+import tempfile
+from pathlib import Path
 from typing import Callable, Iterator, List, Sequence, Tuple
 
 # A tuple has at most so many parts.
 MOST = 4
 
-# The longest line; and the longest inside of a tuple or a call, and of a struct's expression, that stands on one.
-WIDTH, INSIDE, SHORT = 100, 60, 18
+# The longest line.
+WIDTH = 100
 
 # The words that antt reserves and that can be the name of a field here.
 RESERVED = {
@@ -108,22 +112,6 @@ def is_whole(text: str, opening: str) -> bool:
     return text.startswith(opening) and next((at for at, char in outside(text) if char in ")}]"), -1) == len(text) - 1
 
 
-def broken(head: str, text: str, tail: str, indent: int, inside: int = INSIDE) -> List[str]:
-    """Returns a tuple or a call on one line, if its inside has at most so many letters, or part by part."""
-    line = f"{' ' * indent}{head}{text}{tail}"
-    opening = re.match(r"[\w:]*\(", text)
-    if not opening or not is_whole(text, opening[0]):
-        return [line]
-    within = text[opening.end() : -1]
-    if len(within) <= inside and len(line) <= WIDTH:
-        return [line]
-    parts = split_top(within, ",")
-    if len(parts) == 1 and (opening[0] == "(" or (len(line) <= WIDTH and not within.endswith(")"))):
-        return [line]
-    lines = [row for part in parts for row in broken("", part, ",", indent + 4, inside)]
-    return [f"{' ' * indent}{head}{opening[0]}", *lines, f"{' ' * indent}){tail}"]
-
-
 def lay_out_ghost(head: str, text: str, tail: str, indent: int) -> List[str]:
     """Returns a clause. A long one is broken in its brackets, or before its signs."""
     space = " " * indent
@@ -140,107 +128,31 @@ def lay_out_ghost(head: str, text: str, tail: str, indent: int) -> List[str]:
     return filled(f"{space}{head}".rstrip(), re.split(r" (?=[×⊎] |\(codes )", text + tail), " " * (indent + 3))
 
 
-def filled(row: str, words: Sequence[str], space: str, width: int = WIDTH) -> List[str]:
+def filled(row: str, words: Sequence[str], space: str) -> List[str]:
     """Returns words behind the first row in rows of the full width."""
     lines = []
     for word in words:
-        if len(row) + 1 + len(word) > width and row.strip():
+        if len(row) + 1 + len(word) > WIDTH and row.strip():
             lines.append(row)
             row = space
         row += f" {word}"
     return [*lines, row]
 
 
-def lay_out_struct(head: str, inside: str, tail: str, indent: int) -> List[str]:
-    """Returns the expression that makes a struct of its fields."""
-    if len(inside) <= SHORT:
-        return [f"{' ' * indent}{head} {{ {inside} }}{tail}"]
-    space = " " * indent
-    return [f"{space}{head} {{", *(f"{space}    {it}," for it in split_top(inside, ",")), f"{space}}}{tail}"]
-
-
-def lay_out_pattern(head: str, pattern: str, value: str, indent: int) -> List[str]:
-    """Returns a pattern, which is on one line where that has room, and then perhaps what is taken apart on the next one."""
-    line = f"{' ' * indent}{head}{pattern} ="
-    if len(line) <= WIDTH < len(line) + 1 + len(value):
-        return [line, f"{' ' * (indent + 4)}{value}"]
-    return broken(head, pattern, f" = {value}", indent, WIDTH)
-
-
-def lay_out_list(head: str, items: str, tail: str, indent: int) -> List[str]:
-    """Returns the arguments of a function or of a trait: on separate lines where one line has no room."""
-    line = f"{' ' * indent}{head}{items}{tail}"
-    if len(line) <= WIDTH:
-        return [line]
-    return [f"{' ' * indent}{head}", *(f"{' ' * indent}    {it}," for it in split_top(items, ",")), f"{' ' * indent}{tail}"]
-
-
-def lay_out_use(head: str, names: str, tail: str, indent: int) -> List[str]:
-    line = f"{head}{names}{tail}"
-    if len(line) < WIDTH:
-        return [line]
-    # (a space behind a comma counts, and behind the last one there is none)
-    rows = filled("   ", [f"{it}," for it in split_top(names, ",")], "   ", WIDTH - 1)
-    if len(rows) > 1 and len(f"{rows[-2]}{rows[-1][3:]}") <= WIDTH:
-        rows[-2:] = [f"{rows[-2]}{rows[-1][3:]}"]
-    return [head, *rows, tail]
-
-
-def lay_out_type(head: str, text: str, tail: str, indent: int) -> List[str]:
-    """Returns a type, of which a long one is broken in its angle brackets."""
-    line = f"{' ' * indent}{head}{text}{tail}"
-    if len(line) <= WIDTH or not text.endswith(">"):
-        return [line]
-    name, _, inside = text[:-1].partition("<")
-    places, depth = [], 0
-    for at, char in enumerate(inside):
-        depth += (char in "<([") - (char in ">)]")
-        places += [at] if char == "," and not depth else []
-    parts = [inside[start:end].strip() for start, end in zip([0, *(it + 1 for it in places)], [*places, len(inside)])]
-    rows = [row for part in parts for row in lay_out_type("", part, ",", indent + 4)]
-    return [f"{' ' * indent}{head}{name}<", *rows, f"{' ' * indent}>{tail}"]
-
-
-def lay_out_chain(root: str, calls: str, tail: str, indent: int) -> List[str]:
-    """Returns subtractions behind one another, on lines of their own if they are long."""
-    if len(root + calls) <= INSIDE:
-        return [f"{' ' * indent}{root}{calls}{tail}"]
-    rows = re.split(r"(?=\.saturating_sub\()", calls)[1:]
-    return [f"{' ' * indent}{root}", *(f"{' ' * indent}    {it}" for it in rows[:-1]), f"{' ' * indent}    {rows[-1]}{tail}"]
-
-
-def lay_out_arm(pattern: str, value: str, indent: int) -> List[str]:
-    """Returns the arm of a match, whose value may be one call in another."""
-    line, space = f"{' ' * indent}{pattern} => {value},", " " * indent
-    calls = re.fullmatch(r"((?:[\w:]+\()+)([^(]*?)(\)+)", value)
-    if len(line) <= WIDTH or not calls:
-        return [line]
-    if len(value) - len(value.partition("(")[0]) - 2 <= INSIDE:
-        return [f"{space}{pattern} =>", f"{space}    {value},"]
-    return [f"{space}{pattern} => {calls[1]}", f"{space}    {calls[2]},", f"{space}{calls[3]},"]
-
-
-# How a line is laid out that is written so.
-LAYOUTS: Sequence[Tuple[str, Callable[..., List[str]]]] = (
-    (r"(ghost \w+ = \{ (?:λ [^.]*\. )?)(.*)( \};)", lay_out_ghost),
-    (r"(use [\w:]+::\{)(.*)(\};)", lay_out_use),
-    (r"(impl\S* \w+<)(.*)(> for .* \{)", lay_out_list),
-    (r"(fn \w+\()(.*)(\)(?: -> .*)?(?: \{)?)", lay_out_list),
-    (r"(let )([A-Z]?\w*\(.*\)) = (.*;)", lay_out_pattern),
-    (r"([A-Z]\w*) \{ (.*) \}(.*)", lay_out_struct),
-    (r"(type [^=]*= )(\w+<.*>)(;)", lay_out_type),
-    (r"(\([^()]*\))((?:\.saturating_sub\([^()]*(?:\(\))?\))+)([;,]?)", lay_out_chain),
-    (r"((?:type [^=]*= |let \w+ = )?)(.*?)(\??[;,]?)", broken),
-)
-
-
 def lay_out(line: str) -> List[str]:
-    """Returns a line as `rt fmt` breaks it."""
+    """Returns a line, in more lines if it is a long clause."""
     said = line.lstrip(" ")
-    pattern, arrow, value = said.partition(" => ")
-    if arrow and value.endswith(","):
-        return lay_out_arm(pattern, value[:-1], len(line) - len(said))
-    if said.startswith("×") or arrow:
-        return [line]
-    found = next((match, made) for form, made in LAYOUTS for match in [re.fullmatch(form, said)] if match)
-    return found[1](*found[0].groups(), len(line) - len(said))
+    found = re.fullmatch(r"(ghost \w+ = \{ (?:λ [^.]*\. )?)(.*)( \};)", said)
+    return lay_out_ghost(found[1], found[2], found[3], len(line) - len(said)) if found else [line]
+
+
+def formatted(texts: Sequence[str]) -> List[str]:
+    """Returns files as `rt fmt` lays them out, which leaves clauses as they are; or as they are where there is no `rt`."""
+    with tempfile.TemporaryDirectory() as room:
+        paths = [Path(room) / "src" / f"file{at}.rt" for at in range(len(texts))]
+        (Path(room) / "src").mkdir()
+        for path, text in zip(paths, texts):
+            path.write_text(text, encoding="utf-8")
+        with contextlib.suppress(FileNotFoundError):
+            subprocess.run(["rt", "fmt"], cwd=room, stdout=subprocess.DEVNULL, check=False)
+        return [path.read_text(encoding="utf-8") for path in paths]
