@@ -55,7 +55,7 @@ STRING = re.compile(r'b?"(?:[^"\\\n]|\\.)*"')
 # parts; and what it imports.
 DEFINED = re.compile(
     r"(?m)^ *(?:pub )?(?:fn|struct|enum|trait|const|mod) (\w+)|^([A-Z_]+)\b|\$\{?([A-Z_]+)\b|^(\w+)\(\)"
-    r"|^(?:abbrev )?(?:pub )?(?:record )?([^\s:({=-][^\s:({=]*)(?= *[:({])|^  (?:pub )?([^\s:({=]+) :|^use [\w.]+\.\{(.*)\}"
+    r"|^(?:abbrev |unfoldable )?(?:pub )?(?:record )?([^\s:({=-][^\s:({=]*)(?= *[:({])|^  (?:pub )?([^\s:({=]+) :|^use [\w.]+\.\{(.*)\}"
 )
 # A function and the clauses after it; clauses, and the function after them.
 AFTER = re.compile(rf"`({NAME})`(?:\]\([^()\s]+\))?(?: of (?:`[^`]+`|\w+))?,? (`[a-z_]+`(?:(?:, | and )`[a-z_]+`)*)")

@@ -20,7 +20,7 @@ FOR_CHECKS = ("scroll_ffi", "compare_calls", "workloads")
 CALLERS = r"(?:\.|::)lemmas(?:\.|::)callers\b"
 USE = re.compile(r"(?ms)^(?:pub )?use (?:crate::)?([\w:]+?)(?:::\{([^}]*)\})?;$")
 IMPORT = re.compile(r"\b(\w+)(?=(?:\.|::)(?:\{([^}]*)\}|([\w-]+)))")
-NAMED = re.compile(r"(?m)^ *(?:pub |abbrev |record |data |ruleset )*([^\s(){}:=]+)(?= :| [({]| = \()")
+NAMED = re.compile(r"(?m)^ *(?:pub |abbrev |unfoldable |record |data |ruleset )*([^\s(){}:=]+)(?= :| [({]| = \()")
 
 
 def list_clients() -> List[str]:

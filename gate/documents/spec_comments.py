@@ -30,7 +30,7 @@ The words that the contracts cite, from the comments in `specs/`. `rt lemma WORD
 # The files of which only the laws' contracts speak: their names alone are on the page.
 FOR_LAWS = ("Laws",)
 
-START = re.compile(r"(?:abbrev pub|pub record) ([^\s:({]+)(.*)")
+START = re.compile(r"(?:abbrev pub|unfoldable pub|pub record) ([^\s:({]+)(.*)")
 FORMS = re.compile(r"((?:`[^`]+`(?:, )?)+): ")
 PARAMETERS = re.compile(r"\(([^:()]+) :")
 PART = re.compile(r"  pub (\w+) :")
