@@ -21,6 +21,7 @@ pub record ReadsWhole {E X : Type 0} (f : Format E X) (order : Endian) (s : List
   pub agreed : agrees f order x
   pub size : n ≡ len f x
   pub inside : n ≤ length s
+  pub count : length (bytes f order x) ≡ n
   pub only : (y : X) → AtStart f order s y → same f x y
   pub one : (y : X) → reads f order s 0 y → same f x y
   pub places : (o w : ℕ) (t : List ℕ) → s ≡ drop o t → drop (o + w) t ≡ drop w s
@@ -32,6 +33,7 @@ pub record ReadsExact {E X : Type 0} (f : Format E X) (order : Endian) (s : List
   pub agreed : agrees f order x
   pub size : n ≡ len f x
   pub inside : n ≤ length s
+  pub count : length (bytes f order x) ≡ n
   pub back : bytes f order x ≡ take n s
   pub only : (y : X) → AtStart f order s y → same f x y
   pub one : (y : X) → reads f order s 0 y → same f x y
@@ -44,6 +46,7 @@ pub record ReadsBack {E X : Type 0} (f : Format E X) (order : Endian) (s : List 
   pub agreed : agrees f order x
   pub size : n ≡ len f x
   pub inside : n ≤ length s
+  pub count : length (bytes f order x) ≡ n
   pub back : bytes f order x ≡ take n s
 
 -- a value that agrees is written over the start of a target, in `n` bytes. It reads back, whatever

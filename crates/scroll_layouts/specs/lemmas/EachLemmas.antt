@@ -21,6 +21,7 @@ exact-back f order x agreed rest = record {
   agreed = agreed;
   size = bytes-len f order x agreed;
   inside = omega (arith, length-append (bytes f order x) rest);
+  count = refl;
   back = sym (take_at (bytes f order x) rest (length (bytes f order x)) refl);
 }
 
@@ -102,6 +103,7 @@ list_read_back f order s at (x ∷ xs) to h =
           agreed = read.agreed;
           size = read.size;
           inside = read.inside;
+          count = read.count;
           back = read.back;
         };
       },

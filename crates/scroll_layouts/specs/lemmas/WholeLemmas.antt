@@ -40,6 +40,7 @@ whole-read f order s x n t all h size =
       agreed = agreed;
       size = size;
       inside = omega (arith, size, inside f order s 0 x (omega arith) h);
+      count = bytes-len f order x agreed ∙ sym size;
       only = λ y k. one-value f t order s 0 x y all h (stood f order s y k);
       one = λ y k. one-value f t order s 0 x y all h k;
       places = places s;
@@ -52,6 +53,7 @@ exact-read f order s x n e all h = record {
   agreed = h.agreed;
   size = h.size;
   inside = h.inside;
+  count = h.count;
   back = kept f order s 0 x e all h.value ∙ ap (λ k. take k s) (sym h.size);
   only = h.only;
   one = h.one;
@@ -87,6 +89,7 @@ whole-kept f order x old new n h rest =
       agreed = h.agreed;
       size = h.size;
       inside = omega (arith, size, length-append (take n new) rest);
+      count = sym h.wrote.size;
       back = sym h.written ∙ sym (take_at (take n new) rest n size);
     }
 
