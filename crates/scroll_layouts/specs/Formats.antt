@@ -116,12 +116,6 @@ bytes (choice gives b f g) order (Second x) = bytes g order x
 bytes (when gives b f) order (Some x) = bytes f order x
 bytes (when gives b f) order None = []
 
--- `IsThere b x`: an optional value is there where `b` says so. (It is a type, and no test of `b`
--- and `x`, so that the search of a proof takes neither apart for another fact)
-pub data IsThere {X : Type 0} : Bool → Option X → Type 0 where
-  there : (x : X) → IsThere true (Some x)
-  absent : IsThere false None
-
 -- `reads f order s at x`: the value `x` stands in `s` at the offset `at`. Each part stands
 -- behind those before it, and a value within `n` bytes has so many
 abbrev pub reads : {E X : Type 0} → Format E X → Endian → List ℕ → ℕ → X → Type 0
@@ -150,8 +144,8 @@ reads (choice gives true f g) order s at (First x) = reads f order s at x
 reads (choice gives true f g) order s at (Second x) = ⊥
 reads (choice gives false f g) order s at (First x) = ⊥
 reads (choice gives false f g) order s at (Second x) = reads g order s at x
-reads (when {X} gives b f) order s at x =
-    IsThere b x × ((y : X) → x ≡ Some y → reads f order s at y)
+reads (when gives b f) order s at (Some x) = (b ≡ true) × reads f order s at x
+reads (when gives b f) order s at None = b ≡ false
 
 -- `refuses f order s at e`: the error of the first part that isn't there. Without its bytes it
 -- is `TooBig` with their number, at most the greatest `usize`, and the number of bytes there; a
@@ -212,8 +206,8 @@ agrees (choice gives true f g) order (First x) = agrees f order x
 agrees (choice gives true f g) order (Second x) = ⊥
 agrees (choice gives false f g) order (First x) = ⊥
 agrees (choice gives false f g) order (Second x) = agrees g order x
-agrees (when {X} gives b f) order x =
-    IsThere b x × ((y : X) → x ≡ Some y → agrees f order y)
+agrees (when gives b f) order (Some x) = (b ≡ true) × agrees f order x
+agrees (when gives b f) order None = b ≡ false
 
 -- `differs f order x e`: the error of the first part that doesn't agree, or of a rule or a leaf. It
 -- is `BadInput` with the length of the bytes and the message `another length than its count`; the

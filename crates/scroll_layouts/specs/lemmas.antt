@@ -11,7 +11,6 @@ pub mod ListLemmas
 pub mod MarkLemmas
 pub mod NameMarks
 pub mod NumeralLemmas
-pub mod OptionLemmas
 pub mod OneWayLemmas
 pub mod Parts
 pub mod SameLaws

@@ -12,7 +12,6 @@ use Rattle.scroll_formats.specs.Zeros.{padding_len}
 use Rattle.scroll_layouts.specs.Layouts.{width, laid_bytes}
 use Rattle.scroll_layouts.specs.lemmas.LayoutLaws.{layout-len, layout-back, layout-fits, layout-moved, layout-kept}
 use Rattle.scroll_layouts.specs.lemmas.Parts.{part-within, slice-agrees, slice-back, bytes-taken, pair-within, first-within, second-within}
-use Rattle.scroll_layouts.specs.lemmas.OptionLemmas.{some-one, none-some}
 use Rattle.scroll_layouts.specs.declared.choice.Choice.TheVariants.{First, Second}
 
 -- a value that was read is within its source
@@ -42,7 +41,7 @@ inside (choice gives true f g) order s at (First x) here h = inside f order s at
 inside (choice gives true f g) order s at (Second x) here h = absurd h
 inside (choice gives false f g) order s at (First x) here h = absurd h
 inside (choice gives false f g) order s at (Second x) here h = inside g order s at x here h
-inside (when gives b f) order s at (Some x) here h = inside f order s at x here (h.1 x refl)
+inside (when gives b f) order s at (Some x) here h = inside f order s at x here h.1
 inside (when gives b f) order s at None here h = omega (arith, here)
 
 -- a value that was read agrees
@@ -73,8 +72,9 @@ made-agrees (choice gives true f g) order s at (First x) all h = made-agrees f o
 made-agrees (choice gives true f g) order s at (Second x) all h = absurd h
 made-agrees (choice gives false f g) order s at (First x) all h = absurd h
 made-agrees (choice gives false f g) order s at (Second x) all h = made-agrees g order s at x all h
-made-agrees (when gives b f) order s at x all h =
-    (h.0, λ y is. made-agrees f order s at y all (h.1 y is))
+made-agrees (when gives b f) order s at (Some x) all h =
+    (h.0, made-agrees f order s at x all h.1)
+made-agrees (when gives b f) order s at None all h = h
 
 -- a value that agrees has as many bytes as its length says
 pub bytes-len : {E X : Type 0} (f : Format E X) (order : Endian) (x : X) → agrees f order x
@@ -102,7 +102,7 @@ bytes-len (choice gives true f g) order (First x) h = bytes-len f order x h
 bytes-len (choice gives true f g) order (Second x) h = absurd h
 bytes-len (choice gives false f g) order (First x) h = absurd h
 bytes-len (choice gives false f g) order (Second x) h = bytes-len g order x h
-bytes-len (when gives b f) order (Some x) h = bytes-len f order x (h.1 x refl)
+bytes-len (when gives b f) order (Some x) h = bytes-len f order x h.1
 bytes-len (when gives b f) order None h = refl
 
 -- zeros that were written are there
@@ -161,12 +161,8 @@ back (choice gives true f g) order (First x) prefix rest h = back f order x pref
 back (choice gives true f g) order (Second x) prefix rest h = absurd h
 back (choice gives false f g) order (First x) prefix rest h = absurd h
 back (choice gives false f g) order (Second x) prefix rest h = back g order x prefix rest h
-back (when gives b f) order (Some x) prefix rest h = (
-  h.0,
-  λ y is. some-one (reads f order (prefix ++ (bytes f order x ++ rest)) (length prefix)) x y is
-      (back f order x prefix rest (h.1 x refl)),
-)
-back (when gives b f) order None prefix rest h = (h.0, λ y is. absurd (none-some y is))
+back (when gives b f) order (Some x) prefix rest h = (h.0, back f order x prefix rest h.1)
+back (when gives b f) order None prefix rest h = h
 
 -- the bytes of a value are those of which it was read
 pub kept : {E X : Type 0} (f : Format E X) (order : Endian) (s : List ℕ) (at : ℕ) (x : X)
@@ -197,7 +193,7 @@ kept (choice gives true f g) order s at (First x) e all h = kept f order s at x 
 kept (choice gives true f g) order s at (Second x) e all h = absurd h
 kept (choice gives false f g) order s at (First x) e all h = absurd h
 kept (choice gives false f g) order s at (Second x) e all h = kept g order s at x e.1 all h
-kept (when gives b f) order s at (Some x) e all h = kept f order s at x e all (h.1 x refl)
+kept (when gives b f) order s at (Some x) e all h = kept f order s at x e all h.1
 kept (when gives b f) order s at None e all h = refl
 
 -- a leaf is read wherever its bytes stand, since it is written back as it was read
@@ -275,13 +271,9 @@ moved (choice gives true f g) order s at t to (Second x) all there same h = absu
 moved (choice gives false f g) order s at t to (First x) all there same h = absurd h
 moved (choice gives false f g) order s at t to (Second x) all there same h =
     moved g order s at t to x all there same h
-moved (when gives b f) order s at t to (Some x) all there same h = (
-  h.0,
-  λ y is. some-one (reads f order t to) x y is
-      (moved f order s at t to x all there same (h.1 x refl)),
-)
-moved (when gives b f) order s at t to None all there same h =
-    (h.0, λ y is. absurd (none-some y is))
+moved (when gives b f) order s at t to (Some x) all there same h =
+    (h.0, moved f order s at t to x all there same h.1)
+moved (when gives b f) order s at t to None all there same h = h
 
 -- a value of `n` bytes is read from these alone
 pub alone : {E X : Type 0} (f : Format E X) (order : Endian) (s : List ℕ) (at n : ℕ) (x : X)

@@ -1,5 +1,6 @@
 -- What follows where a source is read in one way. The lemmas are proved, and promise nothing.
-use Rattle.std.proofs.Common.{◌≡◌, ℕ, ◌+◌, ◌<◌, ◌≤◌, ◌-◌, List, [], ◌∷◌, length, take, drop, refl, sym, ap, subst, ◌∙◌, arith, length-drop, inl, inr}
+use Rattle.std.proofs.Common.{◌≡◌, ℕ, ◌+◌, ◌<◌, ◌≤◌, ◌-◌, List, [], ◌∷◌, length, take, drop, sym, ap, subst, ◌∙◌, arith, length-drop, inl, inr}
+use Rattle.std.proofs.lemmas.Bool.{true≢false}
 use Rattle.std.proofs.lemmas.List.{get_or-take, get_or-replicate, drop-drop}
 use Rattle.std.specs.List.{All}
 use Rattle.std.specs.Prelude.{true, false, Some, None, slice_index, replicate}
@@ -11,7 +12,6 @@ use Rattle.scroll_layouts.specs.Formats.{Format, run, counted, zeros, last, pair
 use Rattle.scroll_layouts.specs.Lists.{Items, SomeItems}
 use Rattle.scroll_layouts.specs.declared.choice.Choice.TheVariants.{First, Second}
 use Rattle.scroll_layouts.specs.lemmas.FormatLaws.{inside, moved, alone}
-use Rattle.scroll_layouts.specs.lemmas.OptionLemmas.{missing}
 use Rattle.scroll_layouts.specs.lemmas.Parts.{bytes-taken}
 use Rattle.scroll_layouts.specs.lemmas.SameLaws.{one-len, one-value, tells}
 
@@ -87,8 +87,8 @@ no-clash (choice gives false f g) t order s at (First x) e all h r = absurd h
 no-clash (choice gives false f g) t order s at (Second x) e all h r =
     no-clash g t.1 order s at x e all h r
 no-clash (when gives true f) t order s at (Some x) e all h r =
-    no-clash f t order s at x e all (h.1 x refl) r
-no-clash (when gives true f) t order s at None e all h r = absurd (missing h.0)
+    no-clash f t order s at x e all h.1 r
+no-clash (when gives true f) t order s at None e all h r = absurd (true≢false h)
 no-clash (when gives false f) t order s at x e all h r = absurd r
 
 -- the rest of a list after its first value, as a list of its own

@@ -1,6 +1,7 @@
 -- The values of a source are the same, by recursion: a line or two for each form. The lemmas are
 -- proved, and promise nothing.
 use Rattle.std.proofs.Common.{◌≡◌, ℕ, ◌+◌, ◌-◌, ◌<◌, List, refl, sym, ap, subst, ◌∙◌, arith}
+use Rattle.std.proofs.lemmas.Bool.{true≢false}
 use Rattle.std.specs.List.{All}
 use Rattle.std.specs.Prelude.{true, false, Some, None}
 use Rattle.scroll.specs.declared.endian.Endian.{Endian}
@@ -9,7 +10,6 @@ use Rattle.scroll_layouts.specs.Formats.{Format, run, counted, zeros, last, pair
 use Rattle.scroll_layouts.specs.OneWay.{same, told, one_way}
 use Rattle.scroll_layouts.specs.declared.choice.Choice.TheVariants.{First, Second}
 use Rattle.scroll_layouts.specs.lemmas.LayoutLaws.{layout-one}
-use Rattle.scroll_layouts.specs.lemmas.OptionLemmas.{not-both}
 
 -- a source has one length at an offset, and its values are the same
 one : {E X : Type 0} (f : Format E X) → told f → (order : Endian) (s : List ℕ) (at : ℕ) (x y : X)
@@ -67,9 +67,9 @@ one (choice gives false f g) t order s at (Second x) (Second y) all h k =
 one (choice gives false f g) t order s at (Second x) (First y) all h k = absurd k
 one (choice gives false f g) t order s at (First x) y all h k = absurd h
 one (when gives b f) t order s at (Some x) (Some y) all h k =
-    one f t order s at x y all (h.1 x refl) (k.1 y refl)
-one (when gives b f) t order s at (Some x) None all h k = absurd (not-both b x h.0 k.0)
-one (when gives b f) t order s at None (Some y) all h k = absurd (not-both b y k.0 h.0)
+    one f t order s at x y all h.1 k.1
+one (when gives b f) t order s at (Some x) None all h k = absurd (true≢false (sym h.0 ∙ k))
+one (when gives b f) t order s at None (Some y) all h k = absurd (true≢false (sym k.0 ∙ h))
 one (when gives b f) t order s at None None all h k = (refl, tt)
 
 pub one-len : {E X : Type 0} (f : Format E X) → told f → (order : Endian) (s : List ℕ) (at : ℕ)

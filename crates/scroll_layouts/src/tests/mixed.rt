@@ -1,6 +1,6 @@
 // Twelve fields: numbers, a counted slice, an optional number by a bit of a flag, a struct of any
 // size within a length, a second head, and a slice.
-ghost use Rattle.std.specs.Prelude.{◌≡◌, ◌<◌, ◌≤◌, ◌+◌, ◌%◌, ◌/◌, ◌⊎◌, ℕ, List, length, take, drop, codes, IfOk, IfErr, nat_eq, option_map};
+ghost use Rattle.std.specs.Prelude.{◌≡◌, ◌<◌, ◌≤◌, ◌+◌, ◌%◌, ◌/◌, ◌⊎◌, ℕ, List, length, take, drop, codes, IfOk, IfErr, Some, None, nat_eq, option_map};
 ghost use Rattle.std.proofs.Common.{rules};
 ghost use Rattle.scroll.specs.Errors.{IsBadInput};
 ghost use Rattle.scroll.specs.Numbers.{number};
@@ -272,6 +272,10 @@ pub fn read_mixed(from: &[u8], order: Endian) -> Result<Mixed>
     ensures time { IfOk result (λ x. x.time ≡ number order 8 (drop (12 + x.len) from.now)) }
     ensures short { length from.now < 12 → IfErr result (λ e. e ≡ TooBig 12 (length from.now)) }
     ensures body { IfOk result (λ x. x.size ≡ 4 + x.body.len) }
+    ensures absent { IfOk result (λ x. x.flags / 4 % 2 ≡ 0 → x.owner ≡ None) }
+    ensures there { IfOk result (λ x. x.flags / 4 % 2 ≡ 1 → x.owner ≡ None → ⊥) }
+    ensures owner { IfOk result (λ x. (w : ℕ) → x.owner ≡ Some w
+        → w ≡ number order 4 (drop (20 + x.len) from.now)) }
 {
     from.pread_with(0, order)
 }
