@@ -148,11 +148,13 @@ def lay_out(line: str) -> List[str]:
 
 def formatted(texts: Sequence[str]) -> List[str]:
     """Returns files as `rt fmt` lays them out, which leaves clauses as they are; or as they are where there is no `rt`."""
+    if not texts:
+        return []
     with tempfile.TemporaryDirectory() as room:
         paths = [Path(room) / "src" / f"file{at}.rt" for at in range(len(texts))]
         (Path(room) / "src").mkdir()
         for path, text in zip(paths, texts):
             path.write_text(text, encoding="utf-8")
         with contextlib.suppress(FileNotFoundError):
-            subprocess.run(["rt", "fmt"], cwd=room, stdout=subprocess.DEVNULL, check=False)
+            subprocess.run(["rt", "fmt"], cwd=room, stdout=subprocess.DEVNULL, check=True)
         return [path.read_text(encoding="utf-8") for path in paths]
