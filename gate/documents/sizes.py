@@ -19,11 +19,11 @@ README, SPEED = TOP / "README.md", TOP / "docs" / "SPEED.md"
 # The formats of README's table by what they are for.
 FORMATS = {
     "archives": "ar cpio gzip tar zip",
-    "programs": "aranges coff debug_tables elf macho object_files wasm",
-    "network": "dhcp dns ipv4 mqtt packets pcap pcapng tls",
+    "programs": "aranges coff debug_tables elf java macho object_files wasm",
+    "network": "dhcp dns ethernet ipv4 mqtt packets pcap pcapng tcp tls",
     "pictures": "bmp gif ico jpeg png tga",
     "sound, film": "flac id3 midi mp4 ogg wav",
-    "data": "bson fat git_index pack_index sqlite",
+    "data": "bson fat git_index lnk pack_index protobuf sqlite",
 }
 # What is no format, of the clients and of the catalogue.
 OTHERS = {"examples", "lib", "shapes", "tests"}

@@ -72,7 +72,6 @@ class Kind:
         """A slice or a text, which says its length."""
         return self.one(context_type, context, Number(f"{self.at.name}.len()", "usize"))
 
-
     def byte(self, note: Note, said: str) -> Value:
         """Returns a literal of a byte, perhaps of a letter."""
         letter = re.fullmatch(r"b'(.)'", note.text)
