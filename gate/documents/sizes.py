@@ -19,7 +19,7 @@ README, SPEED = TOP / "README.md", TOP / "docs" / "SPEED.md"
 # The formats of README's table by what they are for.
 FORMATS = {
     "archives": "ar cpio gzip tar zip",
-    "programs": "aranges coff debug_tables elf java macho object_files wasm",
+    "programs": "aranges coff debug_tables elf java macho object_files pe wasm",
     "network": "dhcp dns ethernet ipv4 mqtt packets pcap pcapng tcp tls",
     "pictures": "bmp gif ico jpeg png tga",
     "sound, film": "flac id3 midi mp4 ogg wav",
