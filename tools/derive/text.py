@@ -10,6 +10,8 @@ import tempfile
 from pathlib import Path
 from typing import Callable, Iterator, List, Sequence, Tuple
 
+from tokens import Refused
+
 # A tuple has at most so many parts.
 MOST = 4
 
@@ -156,5 +158,7 @@ def formatted(texts: Sequence[str]) -> List[str]:
         for path, text in zip(paths, texts):
             path.write_text(text, encoding="utf-8")
         with contextlib.suppress(FileNotFoundError):
-            subprocess.run(["rt", "fmt"], cwd=room, stdout=subprocess.DEVNULL, check=True)
+            ran = subprocess.run(["rt", "fmt"], cwd=room, stdout=subprocess.PIPE, stderr=subprocess.STDOUT, text=True, check=False)
+            if ran.returncode:
+                raise Refused("rt fmt", 0, f"what is printed isn't read: {ran.stdout.strip()}")
         return [path.read_text(encoding="utf-8") for path in paths]

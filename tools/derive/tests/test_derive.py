@@ -5,6 +5,7 @@
 
 import importlib.util
 import re
+import shutil
 import sys
 import tempfile
 import unittest
@@ -17,6 +18,9 @@ HERE = Path(__file__).resolve().parent
 # What a case's file has too: its module, and what is imported, which no case is about.
 REST = "mod derived;\nuse scroll_layouts::*;\n"
 sys.path.insert(0, str(HERE.parent))
+from text import formatted
+from tokens import Refused
+
 found = importlib.util.spec_from_file_location("derive_main", HERE.parent / "__main__.py")
 assert found and found.loader
 command = importlib.util.module_from_spec(found)
@@ -144,6 +148,11 @@ class Derive(unittest.TestCase):
         status, out, err = self.call(str(self.crate))
         self.assertEqual((status, out), (2, ""))
         self.assertIn(f"derive: {self.file}: 'utf-8'", err)
+
+    @unittest.skipUnless(shutil.which("rt"), "there is no rt")
+    def test_what_is_no_code(self) -> None:
+        with self.assertRaisesRegex(Refused, "^rt fmt: what is printed isn't read: .*file1.rt: it does not parse"):
+            formatted(["fn main() {}\n", "fn main( {\n"])
 
     def test_wrong_calls(self) -> None:
         for words in ((), ("--chek", "a"), ("a", "b")):
