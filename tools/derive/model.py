@@ -9,6 +9,7 @@ from typing import Any, Callable, Dict, List, Optional, Tuple
 from conditions import Both, Comparison, Condition
 from fixed_types import PLAIN, Array, Fixed, Record, width_of
 from forms import Part
+from inverses import variant_again
 from items import Item, RawField, SourceFile, Type, read_file
 from names import CHOICES, RECORDS, TAKEN
 from sums import bracketed, number_of
@@ -118,6 +119,10 @@ class Variant:
             }}"""
 
 
+def spaced(way: str, said: str) -> str:
+    return f"{way} {bracketed(said)}"
+
+
 def inner_match(pattern: str, arms: str) -> str:
     """Returns the arm of a match whose pattern has a rest that is matched too."""
     inside = arms.replace("\n", "\n    ")
@@ -172,12 +177,20 @@ class Enum(Form):
 
     def ghost(self, at: int) -> str:
         """Returns a variant's choice in the logic."""
-        return self.chosen(at, self.variants[at].part.ghost.replace("x.v", "v"), lambda way, it: f"{way} {bracketed(it)}")
+        return self.chosen(at, self.variants[at].part.ghost.replace("x.v", "v"), spaced)
 
     def cases(self, values: List[str], indent: int) -> str:
         """Returns the lines of what is said of each variant in the logic."""
         heads = [" ".join([f"{alias_of(self.item.name)}.{it.name}", *it.fields]) for it in self.variants]
         return "".join(f"\n{' ' * indent}| {head} ↦ {value}" for head, value in zip(heads, values))
+
+    def again(self) -> Tuple[str, str]:
+        """Returns in the logic what makes the enum of a choice, and the proof that it has nothing else."""
+        alias, patterns = alias_of(self.item.name), [self.chosen(at, "p", spaced) for at in range(len(self.variants))]
+        said = [it.part.ghost.replace("x.v", "v") for it in self.variants]
+        made = [variant_again(it, f"{alias}.{variant.name}", variant.fields) for it, variant in zip(said, self.variants)]
+        cases = "".join(f"\n      | {pattern} ↦ {value}" for pattern, (value, _) in zip(patterns, made))
+        return f"{'λ p. elim p.1' if self.is_own else 'elim'} [{cases}\n    ]", f"elim [{self.cases([proof for _, proof in made], 6)}\n    ]"
 
     def pattern(self, variant: Variant) -> str:
         return f"{self.item.name}::{variant.name}" + (call("", *variant.fields) if variant.fields else "")

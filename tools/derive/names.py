@@ -13,9 +13,10 @@ GHOST: Dict[str, Sequence[str]] = {
     "Rattle.scroll.specs.lemmas.Frames": ("WritesPrefix-keeps",),
     "Rattle.scroll_formats.specs.SmallErrors": ("small_error",),
     "Rattle.scroll_layouts.specs.Errors": ("GivesBadInput", "IsNot"),
-    "Rattle.scroll_layouts.specs.Formats": ("last", "refuses"),
+    "Rattle.scroll_layouts.specs.Formats": ("refuses", "shape"),
     "Rattle.scroll_layouts.specs.ListEnds": ("bytes_mark",),
     "Rattle.scroll_layouts.specs.Wholes": ("KeepsWhole", "ReadsBack", "ReadsExact", "ReadsWhole", "WritesWhole"),
+    "Rattle.scroll_layouts.specs.lemmas.EqualLemmas": ("number-again", "parts-unique", "record-again"),
     "Rattle.scroll_layouts.specs.lemmas.WholeLemmas": ("whole-kept",),
     "Rattle.scroll_layouts.specs.declared.choice.Choice.TheVariants": ("First", "Second"),
 }

@@ -4,6 +4,7 @@ import re
 from typing import Any, Dict, List, Set, Tuple
 
 from forms import Part, fixed_type, local
+from inverses import struct_again
 from model import Enum, ListType, Struct
 from records import made_of
 from shapes import Chain, Group, resolve
@@ -84,8 +85,8 @@ class Printer:
 }}""",
         ]
 
-    def print_shape(self, given: Tuple[str, str], whole: Part, split: str, join: str) -> None:
-        """Prints `Shape`."""
+    def print_shape(self, given: Tuple[str, str], whole: Part, split: str, join: str, again: Tuple[str, str]) -> None:
+        """Prints `Shape`. `again` is what makes a value of its parts in the logic, and the proof."""
         parts, context = self.alias(f"{self.name}Parts", whole.type), self.alias(f"{self.name}Ctx", whole.context_type)
         ctx = "ctx" if "ctx" in whole.context.code else "_ctx"
         ctx_type, name = given
@@ -98,6 +99,10 @@ class Printer:
     type Parts = {parts};
 
     ghost parts_of = {{ {whole.ghost} }};
+
+    ghost of_parts = {{ {again[0]} }};
+
+    ghost again = {{ {again[1]} }};
 
     ghost inner_of = {{ λ {name}. {whole.context.ghost} }};
 
@@ -130,9 +135,10 @@ class Printer:
         names = [it.name for it in form.item.fields]
         values = ["Zeros" if it in form.gaps else local(it) for it in names]
         join += f"\n        {made_of(self.name, names, values)}"
+        again = struct_again(whole.ghost, names)
         whole.type, whole.ghost = chain.types[0], f"λ x. {whole.ghost}"
         whole.context = Value(*(resolve(it, {form.given: said}) for it, said in zip(whole.context, ("n", "(*ctx)"))))
-        self.print_shape(("usize", "n") if form.given else ("()", "_"), whole, split, join)
+        self.print_shape(("usize", "n") if form.given else ("()", "_"), whole, split, join, again)
         if not form.given and not form.item.is_part:
             self.print_calls()
 
@@ -248,4 +254,4 @@ class Printer:
             split += f"\n            {form.pattern(it)} => {form.chosen(at, it.code)},"
         cases = form.cases([form.ghost(at) for at in range(len(form.variants))], 6)
         whole.ghost = f"elim [{cases}\n    ]"
-        self.print_shape((form.context_type, "t"), whole, f"{split}\n        }}", f"{join}\n        }}")
+        self.print_shape((form.context_type, "t"), whole, f"{split}\n        }}", f"{join}\n        }}", form.again())

@@ -10,11 +10,16 @@ from text import lifetime
 def tagged_texts(form: Enum, error: str, parts: str, context: str, said: Value) -> List[str]:
     """Returns the implementations of `Split`, `Part` and `ReadPart`. The parts are a pair in a context."""
     cases = [f"(record {{ 0 = {it.tags[0]} }}, {form.ghost(at)})" for at, it in enumerate(form.variants)]
+    made, proof = form.again()
+    whole = f"⟦<{form.type} as Split>⟧"
     arms = "".join(f"\n{form.pattern(it)} => (Run({it.tags[0]}), {form.chosen(at, it.code)})," for at, it in enumerate(form.variants))
 
     def format_of(part: str) -> str:
-        return f"""    ghost format = {{ λ _. last (⟦<{parts} as {part}{context}, {error}>>⟧.format
-        ({said.ghost})) ⟦<{form.type} as Split>⟧.parts_of }};"""
+        return f"""    ghost format = {{ λ _. shape (⟦<{parts} as {part}{context}, {error}>>⟧.format
+        ({said.ghost})) {whole}.parts_of
+        (parts-unique {whole}.parts_of
+        {whole}.of_parts
+        {whole}.again) }};"""
 
     def call(name: str, arguments: str) -> str:
         lines = ("let parts = self.split();", f"let ctx = {said.code};", f"Part::<{context}, {error}>::{name}(&parts, {arguments}, &ctx)")
@@ -26,6 +31,10 @@ def tagged_texts(form: Enum, error: str, parts: str, context: str, said: Value) 
 
     ghost parts_of = {{ elim [{form.cases(cases, 6)}
     ] }};
+
+    ghost of_parts = {{ {made} }};
+
+    ghost again = {{ {proof} }};
 
     fn split(&self) -> {parts} {{
         match self {{{arms}

@@ -9,7 +9,7 @@ use Rattle.scroll.specs.lemmas.NumberLemmas.{bytes-fit}
 use Rattle.scroll_layouts.specs.Errors.{NoRoom, GivesBadInput}
 use Rattle.scroll_layouts.specs.Fields.{Fields, packed, splits, small, highest, same_bits, TooLarge}
 use Rattle.scroll_layouts.specs.Formats.{Leaf}
-use Rattle.scroll_layouts.specs.lemmas.BitLemmas.{splits-packed, packed-splits, splits-small, splits-bound, splits-one}
+use Rattle.scroll_layouts.specs.lemmas.BitLemmas.{splits-packed, packed-splits, splits-small, splits-bound, splits-one, bits-is}
 use Rattle.scroll_layouts.specs.lemmas.Parts.{part-within}
 
 -- fields in a number of `w` bytes. A highest field that has no room is `BadInput` with the field
@@ -44,5 +44,6 @@ packed_in gives w f = record {
       (packed-splits f (number order w (drop at s)) x h.1);
   leaf_one = λ t order s at x y all h k.
       (refl, splits-one f (number order w (drop at s)) x y h.1 k.1);
+  leaf_equal = bits-is f;
   leaf_clash = λ t order s at x e all h r. omega (arith, h.0, r.short, length-drop at s);
 }

@@ -24,7 +24,6 @@ fill gives n d = record {
       × GivesBadInput gives (length text) (codes "more bytes than its field") e)
       ⊎ ((length text ≤ n) × ((i : ℕ) × (i + 1 ≡ length text) × (slice_index text i ≡ d)
       × GivesBadInput gives i (codes "a text ends with what fills its field") e));
-  start_same = λ x y. x ≡ y;
   start_inside = λ s x m h. omega (arith, h.0, h.3);
   start_made = λ s x m all h. h.2;
   start_bytes-len = λ x h. filled-len n d x h.room;

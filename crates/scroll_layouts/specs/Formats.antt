@@ -13,8 +13,8 @@ use Rattle.scroll_layouts.specs.declared.choice.Choice.{Choice}
 use Rattle.scroll_layouts.specs.declared.choice.Choice.TheVariants.{First, Second}
 
 -- a kind of value that isn't put together from others, such as a number in LEB128: how many bytes a
--- value has, which these are, what a read gives and refuses, which values a write refuses, which
--- values are the same, and what has to be so for a source to have one value, and for it to have
+-- value has, which these are, what a read gives and refuses, which values a write refuses, what is
+-- said of equal values, and what has to be so for a source to have one value, and for it to have
 -- none where a read is refused; with its laws
 pub record Leaf (E X : Type 0) : Type 1 where
   pub leaf_len : X → ℕ
@@ -39,6 +39,7 @@ pub record Leaf (E X : Type 0) : Type 1 where
   pub leaf_one : leaf_told → (order : Endian) (s : List ℕ) (at : ℕ) (x y : X)
       → All (λ b. b < 256) s → leaf_reads order s at x → leaf_reads order s at y
       → (leaf_len x ≡ leaf_len y) × leaf_same x y
+  pub leaf_equal : (x y : X) → leaf_same x y → x ≡ y
   pub leaf_clash : leaf_certain → (order : Endian) (s : List ℕ) (at : ℕ) (x : X) (e : E)
       → All (λ b. b < 256) s → leaf_reads order s at x → leaf_refuses order s at e → ⊥
 
@@ -46,8 +47,10 @@ pub record Leaf (E X : Type 0) : Type 1 where
 -- `E` an `Error` becomes.
 -- `run gives p`: a value with the layout `p`
 -- `counted gives n`: `n` bytes
--- `zeros gives n`: `n` zero bytes, which are no part of the value
--- `last f get`: the one part that `get` takes out of the value, in the format `f`
+-- `zeros gives n unique`: `n` zero bytes, of a type that has one value
+-- `last f get`: what `get` takes out of a value, in the format `f`, as the bytes that it borrows
+-- `shape f get unique`: a value that is its parts, in the format `f`: `get` takes them out of it,
+-- and `unique` says that no other value has them
 -- `pair f g`: a value, and the one after it
 -- `headed f holds fails next rest`: a head that `holds` is true of, or `fails` says the error; and
 -- the value after it, in the format that `rest` gives for what `next` says of the head
@@ -62,8 +65,10 @@ pub record Leaf (E X : Type 0) : Type 1 where
 pub data Format (E : Type 0) : Type 0 → Type 1 where
   run : {P : Type 0} → (Error → E → Type 0) → Layout P → Format E P
   counted : (Error → E → Type 0) → ℕ → Format E (List ℕ)
-  zeros : {X : Type 0} → (Error → E → Type 0) → ℕ → Format E X
+  zeros : {X : Type 0} → (Error → E → Type 0) → ℕ → ((x y : X) → x ≡ y) → Format E X
   last : {X Y : Type 0} → Format E Y → (X → Y) → Format E X
+  shape : {X Y : Type 0} → Format E Y → (get : X → Y) → ((x y : X) → get x ≡ get y → x ≡ y)
+      → Format E X
   pair : {A B : Type 0} → Format E A → Format E B → Format E (A × B)
   headed : {A B D : Type 0} → Format E A → (A → Type 0) → (A → E → Type 0) → (A → D)
       → (D → Format E B) → Format E (A × B)
@@ -81,8 +86,9 @@ pub data Format (E : Type 0) : Type 0 → Type 1 where
 abbrev pub len : {E X : Type 0} → Format E X → X → ℕ
 len (run gives p) x = width p
 len (counted gives n) x = n
-len (zeros gives n) x = n
+len (zeros gives n unique) x = n
 len (last f get) x = len f (get x)
+len (shape f get unique) x = len f (get x)
 len (pair f g) x = len f x.0 + len g x.1
 len (headed f holds fails next rest) x = len f x.0 + len (rest (next x.0)) x.1
 len (padded gives m f) x = len f x + padding_len (len f x) m
@@ -99,8 +105,9 @@ len (when gives b f) None = 0
 abbrev pub bytes : {E X : Type 0} → Format E X → Endian → X → List ℕ
 bytes (run gives p) order x = laid_bytes p order x
 bytes (counted gives n) order x = x
-bytes (zeros gives n) order x = replicate n 0
+bytes (zeros gives n unique) order x = replicate n 0
 bytes (last f get) order x = bytes f order (get x)
+bytes (shape f get unique) order x = bytes f order (get x)
 bytes (pair f g) order x = bytes f order x.0 ++ bytes g order x.1
 bytes (headed f holds fails next rest) order x =
     bytes f order x.0 ++ bytes (rest (next x.0)) order x.1
@@ -121,8 +128,10 @@ bytes (when gives b f) order None = []
 abbrev pub reads : {E X : Type 0} → Format E X → Endian → List ℕ → ℕ → X → Type 0
 reads (run gives p) order s at x = (at + width p ≤ length s) × makes p order s at x
 reads (counted gives n) order s at x = (at + n ≤ length s) × (x ≡ take n (drop at s))
-reads (zeros gives n) order s at x = (at + n ≤ length s) × (take n (drop at s) ≡ replicate n 0)
+reads (zeros gives n unique) order s at x =
+    (at + n ≤ length s) × (take n (drop at s) ≡ replicate n 0)
 reads (last f get) order s at x = reads f order s at (get x)
+reads (shape f get unique) order s at x = reads f order s at (get x)
 reads (pair f g) order s at x =
     reads f order s at x.0 × reads g order s (at + len f x.0) x.1
 reads (headed f holds fails next rest) order s at x =
@@ -140,10 +149,8 @@ reads (behind gives n f rest) order s at x =
     × ((len f x.0 ≤ n) × reads (rest (n - len f x.0)) order s (at + len f x.0) x.1)
 reads (ordered o f) order s at x = reads f o s at x
 reads (leaf l) order s at x = l.leaf_reads order s at x
-reads (choice gives true f g) order s at (First x) = reads f order s at x
-reads (choice gives true f g) order s at (Second x) = ⊥
-reads (choice gives false f g) order s at (First x) = ⊥
-reads (choice gives false f g) order s at (Second x) = reads g order s at x
+reads (choice gives b f g) order s at (First x) = (b ≡ true) × reads f order s at x
+reads (choice gives b f g) order s at (Second x) = (b ≡ false) × reads g order s at x
 reads (when gives b f) order s at (Some x) = (b ≡ true) × reads f order s at x
 reads (when gives b f) order s at None = b ≡ false
 
@@ -155,9 +162,10 @@ reads (when gives b f) order s at None = b ≡ false
 abbrev pub refuses : {E X : Type 0} → Format E X → Endian → List ℕ → ℕ → E → Type 0
 refuses (run gives p) order s at e = NoRoom gives (min (width p) (2 ^ 64 - 1)) (drop at s) e
 refuses (counted gives n) order s at e = NoRoom gives n (drop at s) e
-refuses (zeros gives n) order s at e =
+refuses (zeros gives n unique) order s at e =
     (inner : Error) × RefusesZeros n (drop at s) inner × gives inner e
 refuses (last f get) order s at e = refuses f order s at e
+refuses (shape f get unique) order s at e = refuses f order s at e
 refuses (pair {A} {B} f g) order s at e =
     refuses f order s at e
     ⊎ ((y : A) × reads f order s at y × refuses g order s (at + len f y) e)
@@ -191,8 +199,9 @@ refuses (when gives false f) order s at e = ⊥
 abbrev pub agrees : {E X : Type 0} → Format E X → Endian → X → Type 0
 agrees (run gives p) order x = fits p x
 agrees (counted gives n) order x = n ≡ length x
-agrees (zeros gives n) order x = ⊤
+agrees (zeros gives n unique) order x = ⊤
 agrees (last f get) order x = agrees f order (get x)
+agrees (shape f get unique) order x = agrees f order (get x)
 agrees (pair f g) order x = agrees f order x.0 × agrees g order x.1
 agrees (headed f holds fails next rest) order x =
     agrees f order x.0 × (holds x.0 × agrees (rest (next x.0)) order x.1)
@@ -202,10 +211,8 @@ agrees (behind gives n f rest) order x =
     agrees f order x.0 × ((len f x.0 ≤ n) × agrees (rest (n - len f x.0)) order x.1)
 agrees (ordered o f) order x = agrees f o x
 agrees (leaf l) order x = l.leaf_agrees order x
-agrees (choice gives true f g) order (First x) = agrees f order x
-agrees (choice gives true f g) order (Second x) = ⊥
-agrees (choice gives false f g) order (First x) = ⊥
-agrees (choice gives false f g) order (Second x) = agrees g order x
+agrees (choice gives b f g) order (First x) = (b ≡ true) × agrees f order x
+agrees (choice gives b f g) order (Second x) = (b ≡ false) × agrees g order x
 agrees (when gives b f) order (Some x) = (b ≡ true) × agrees f order x
 agrees (when gives b f) order None = b ≡ false
 
@@ -219,8 +226,9 @@ abbrev pub differs : {E X : Type 0} → Format E X → Endian → X → E → Ty
 differs (run gives p) order x e = ⊥
 differs (counted gives n) order x e =
     (n ≢ length x) × GivesBadInput gives (length x) (codes "another length than its count") e
-differs (zeros gives n) order x e = ⊥
+differs (zeros gives n unique) order x e = ⊥
 differs (last f get) order x e = differs f order (get x) e
+differs (shape f get unique) order x e = differs f order (get x) e
 differs (pair f g) order x e =
     differs f order x.0 e ⊎ (agrees f order x.0 × differs g order x.1 e)
 differs (headed f holds fails next rest) order x e =
@@ -257,8 +265,9 @@ differs (when gives false f) order None e = ⊥
 abbrev pub exact : {E X : Type 0} → Format E X → Type 0
 exact (run gives p) = exact_layout p
 exact (counted gives n) = ⊤
-exact (zeros gives n) = ⊤
+exact (zeros gives n unique) = ⊤
 exact (last f get) = exact f
+exact (shape f get unique) = exact f
 exact (pair f g) = exact f × exact g
 exact (headed {A} {B} {D} f holds fails next rest) = exact f × ((d : D) → exact (rest d))
 exact (padded gives m f) = exact f

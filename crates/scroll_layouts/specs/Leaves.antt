@@ -17,6 +17,7 @@ use Rattle.scroll_layouts.specs.Errors.{GivesBadInput}
 use Rattle.scroll_layouts.specs.Starts.{Start}
 use Rattle.scroll_layouts.specs.declared.leb128.Sleb.{Sleb}
 use Rattle.scroll_layouts.specs.declared.leb128.Uleb.{Uleb}
+use Rattle.scroll_layouts.specs.lemmas.EqualLemmas.{counted-is}
 use Rattle.scroll_layouts.specs.lemmas.LeafLemmas.{without, without-before, delimited, zero-there, leb-clash, text-clash}
 
 -- a number and the length of its encoding
@@ -35,7 +36,6 @@ uleb gives = record {
   start_refuses = λ s e. (inner : Error) × RefusesUleb s inner × gives inner e;
   start_agrees = λ x. HasEncoding x.value x.count;
   start_differs = λ x e. ⊥;
-  start_same = λ x y. (x.value ≡ y.value) × (x.count ≡ y.count);
   start_inside = uleb-inside;
   start_made = λ s x n all h. subst (HasEncoding x.value) (sym h.1)
       ((reads_encoding unsigned-form s x.value n all).0 h.0).has;
@@ -44,8 +44,11 @@ uleb gives = record {
   start_kept = λ s x n all h.
       ap (λ k. uleb_text (record { value = x.value; count = k })) h.1
       ∙ sym ((reads_encoding unsigned-form s x.value n all).0 h.0).prefix;
-  start_one = λ s x y h k.
-      (h.0.size ∙ sym k.0.size, (h.0.value ∙ sym k.0.value, h.0.size ∙ sym k.0.size));
+  start_one = λ s x y h k. (
+    h.0.size ∙ sym k.0.size,
+    counted-is x y (h.0.value ∙ sym k.0.value)
+        (h.0.size ∙ sym k.0.size),
+  );
   start_clash = λ s x e h r.
       leb-clash unsigned_of (λ v. v < 2 ^ 64) s x.value x.count r.0 h.0 r.1;
 }
@@ -59,7 +62,6 @@ sleb gives = record {
   start_refuses = λ s e. (inner : Error) × RefusesSleb s inner × gives inner e;
   start_agrees = λ x. HasSignedEncoding x.value x.count;
   start_differs = λ x e. ⊥;
-  start_same = λ x y. (x.value ≡ y.value) × (x.count ≡ y.count);
   start_inside = sleb-inside;
   start_made = λ s x n all h. subst (HasSignedEncoding x.value) (sym h.1)
       ((reads_encoding signed-form s x.value n all).0 h.0).has;
@@ -68,8 +70,11 @@ sleb gives = record {
   start_kept = λ s x n all h.
       ap (λ k. sleb_text (record { value = x.value; count = k })) h.1
       ∙ sym ((reads_encoding signed-form s x.value n all).0 h.0).prefix;
-  start_one = λ s x y h k.
-      (h.0.size ∙ sym k.0.size, (h.0.value ∙ sym k.0.value, h.0.size ∙ sym k.0.size));
+  start_one = λ s x y h k. (
+    h.0.size ∙ sym k.0.size,
+    counted-is x y (h.0.value ∙ sym k.0.value)
+        (h.0.size ∙ sym k.0.size),
+  );
   start_clash = λ s x e h r.
       leb-clash signed_of (FitsSigned w64) s x.value x.count r.0 h.0 r.1;
 }
@@ -83,7 +88,6 @@ c_string gives = record {
   start_refuses = λ s e. (inner : Error) × RefusesCString s inner × gives inner e;
   start_agrees = λ text. index_of 0 text ≡ length text;
   start_differs = λ text e. ⊥;
-  start_same = λ x y. x ≡ y;
   start_inside = λ s x n h. omega (arith, h.found, h.size);
   start_made = λ s x n all h. without-before 0 s x (omega (arith, h.found)) h.value;
   start_bytes-len = λ x h. length-append x (0 ∷ []);
@@ -104,7 +108,6 @@ text_of gives n = record {
   start_agrees = λ text. (n ≡ length text) × IsUtf8 text;
   start_differs = λ text e. (n ≢ length text)
       × GivesBadInput gives (length text) (codes "another length than its count") e;
-  start_same = λ x y. x ≡ y;
   start_inside = λ s x m h. omega (arith, h.room, h.size);
   start_made = λ s x m all h. (sym (ap length h.prefix ∙ length-take-le n s h.room), h.utf8);
   start_bytes-len = λ x h. sym h.0;
@@ -126,7 +129,6 @@ text_until gives d = record {
   start_differs = λ text e. (i : ℕ) × (i < length text) × (slice_index text i ≡ d)
       × ((k : ℕ) → k < i → slice_index text k ≢ d)
       × GivesBadInput gives i (codes "a text has its delimiter") e;
-  start_same = λ x y. x ≡ y;
   start_inside = λ s x m h. omega (arith, h.there, h.size);
   start_made = λ s x m all h.
       (delimited d x (without-before d s x (omega (arith, h.there)) h.prefix), h.utf8);

@@ -57,6 +57,7 @@ held T C P R ends clash other = record {
       (All-drop (λ b. b < 256) at s all) (omega (arith, h.0, length-drop at s))
       (omega (arith, k.0, length-drop at s)) h.1 k.1 h.2 k.2 in
       (size, h.1 ∙ ap (λ n. take n (drop at s)) size ∙ sym k.1);
+  leaf_equal = λ x y h. h;
   leaf_clash = λ t order s at x e all h r.
       clash t order (drop at s) x e (All-drop (λ b. b < 256) at s all)
       (omega (arith, h.0, length-drop at s)) h.1 h.2 r;

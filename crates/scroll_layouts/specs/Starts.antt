@@ -7,7 +7,7 @@ use Rattle.std.specs.Prelude.{⊤}
 use Rattle.scroll_layouts.specs.Formats.{Leaf}
 
 -- how many bytes a value has and which these are, what a read at the start gives and refuses,
--- which values a write refuses, and which are the same; with what is known of these
+-- and which values a write refuses; with what is known of these
 pub record Start (E X : Type 0) : Type 1 where
   pub start_len : X → ℕ
   pub start_bytes : X → List ℕ
@@ -15,7 +15,6 @@ pub record Start (E X : Type 0) : Type 1 where
   pub start_refuses : List ℕ → E → Type 0
   pub start_agrees : X → Type 0
   pub start_differs : X → E → Type 0
-  pub start_same : X → X → Type 0
   pub start_inside : (s : List ℕ) (x : X) (n : ℕ) → start_reads s x n → n ≤ length s
   pub start_made : (s : List ℕ) (x : X) (n : ℕ) → All (λ b. b < 256) s → start_reads s x n
       → start_agrees x
@@ -25,7 +24,7 @@ pub record Start (E X : Type 0) : Type 1 where
   pub start_kept : (s : List ℕ) (x : X) (n : ℕ) → All (λ b. b < 256) s → start_reads s x n
       → start_bytes x ≡ take n s
   pub start_one : (s : List ℕ) (x y : X) → start_reads s x (start_len x)
-      → start_reads s y (start_len y) → (start_len x ≡ start_len y) × start_same x y
+      → start_reads s y (start_len y) → (start_len x ≡ start_len y) × (x ≡ y)
   pub start_clash : (s : List ℕ) (x : X) (e : E) → start_reads s x (start_len x)
       → start_refuses s e → ⊥
 
@@ -38,7 +37,7 @@ start k = record {
   leaf_refuses = λ order s at e. k.start_refuses (drop at s) e;
   leaf_agrees = λ order x. k.start_agrees x;
   leaf_differs = λ order x e. k.start_differs x e;
-  leaf_same = k.start_same;
+  leaf_same = λ x y. x ≡ y;
   leaf_told = ⊤;
   leaf_certain = ⊤;
   leaf_inside = λ order s at x here h.
@@ -52,5 +51,6 @@ start k = record {
   leaf_kept = λ order s at x all h.
       k.start_kept (drop at s) x (k.start_len x) (All-drop (λ b. b < 256) at s all) h;
   leaf_one = λ t order s at x y all h r. k.start_one (drop at s) x y h r;
+  leaf_equal = λ x y h. h;
   leaf_clash = λ t order s at x e all h r. k.start_clash (drop at s) x e h r;
 }

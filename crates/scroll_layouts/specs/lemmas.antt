@@ -2,6 +2,7 @@ pub mod ArrayLemmas
 pub mod BitLemmas
 pub mod ByteMarks
 pub mod EachLemmas
+pub mod EqualLemmas
 pub mod FillLemmas
 pub mod FormatLaws
 pub mod LayoutLaws
@@ -13,6 +14,7 @@ pub mod NameMarks
 pub mod NumeralLemmas
 pub mod OneWayLemmas
 pub mod Parts
+pub mod PromiseLemmas
 pub mod SameLaws
 pub mod ShiftLemmas
 pub mod VlqLemmas

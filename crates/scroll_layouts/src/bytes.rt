@@ -1,4 +1,5 @@
 // Bytes of a counted length, and zeros.
+ghost use Rattle.std.proofs.Common.{refl};
 ghost use Rattle.std.specs.Prelude.{◌≡◌, ◌≢◌, ◌≤◌, ◌<◌, ◌+◌, ◌-◌, ◌^◌, ◌++◌, length, take, drop, min, codes, IfErr, OnOk};
 ghost use Rattle.scroll.specs.declared.error.Error.{Error};
 ghost use Rattle.scroll_formats.specs.Zeros.{RefusesZeros};
@@ -64,7 +65,7 @@ pub(super) fn check_count<E: From<Error>>(count: usize, len: usize) -> Result<()
 
 /// As many zero bytes as the context says. The errors are those of a read of [`Zeros`].
 impl<E: From<Error>> Part<usize, E> for Zeros {
-    ghost format = { λ n. zeros E.from_gives n };
+    ghost format = { λ n. zeros E.from_gives n (λ x y. refl) };
 
     fn check(&self, _order: Endian, _ctx: &usize) -> Result<(), E> {
         Ok(())
@@ -82,7 +83,7 @@ impl<E: From<Error>> Part<usize, E> for Zeros {
 }
 
 impl<'a, E: From<Error>> ReadPart<'a, usize, E> for Zeros {
-    ghost format = { λ n. zeros E.from_gives n };
+    ghost format = { λ n. zeros E.from_gives n (λ x y. refl) };
 
     #[tactic(auto, using(crate::specs::lemmas::Parts::all_zeros))]
     #[inline(always)]

@@ -1,7 +1,8 @@
 // Values of a fixed size as one part.
 ghost use Rattle.std.specs.Prelude.{◌≡◌, ◌≤◌, ◌+◌, ◌-◌, ◌^◌, ◌++◌, length, drop, min};
-ghost use Rattle.scroll_layouts.specs.Layouts.{width, laid_bytes, makes, fits};
-ghost use Rattle.scroll_layouts.specs.Formats.{run, last};
+ghost use Rattle.std.proofs.Common.{ap};
+ghost use Rattle.scroll_layouts.specs.Layouts.{shaped, width, laid_bytes, makes, fits};
+ghost use Rattle.scroll_layouts.specs.Formats.{run};
 
 mod contexts;
 
@@ -25,7 +26,8 @@ use std::result::Result;
 pub struct Run<P>(pub P);
 
 impl<E: From<Error>, P: FixedLayout> Part<(), E> for Run<P> {
-    ghost format = { λ _. last (run E.from_gives P.layout) (λ x. x.0) };
+    ghost format = { λ _.
+        run E.from_gives (shaped P.layout (λ x. x.0) (λ x y. ap (λ p. record { 0 = p }))) };
 
     fn check(&self, _order: Endian, _ctx: &()) -> Result<(), E> {
         self.0.fit();
@@ -45,7 +47,8 @@ impl<E: From<Error>, P: FixedLayout> Part<(), E> for Run<P> {
 }
 
 impl<'a, E: From<Error>, P: FixedLayout> ReadPart<'a, (), E> for Run<P> {
-    ghost format = { λ _. last (run E.from_gives P.layout) (λ x. x.0) };
+    ghost format = { λ _.
+        run E.from_gives (shaped P.layout (λ x. x.0) (λ x y. ap (λ p. record { 0 = p }))) };
 
     #[inline(always)]
     fn read_at(

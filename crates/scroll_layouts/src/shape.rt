@@ -1,6 +1,7 @@
 // Structs and enums that are their parts.
 ghost use Rattle.std.specs.Prelude.{◌≡◌, ◌≤◌, ◌+◌, ◌-◌, ◌^◌, ◌++◌, length, drop, min};
-ghost use Rattle.scroll_layouts.specs.Formats.{last, len, bytes, reads, refuses, agrees, differs};
+ghost use Rattle.scroll_layouts.specs.Formats.{shape, len, bytes, reads, refuses, agrees, differs};
+ghost use Rattle.scroll_layouts.specs.lemmas.EqualLemmas.{parts-unique};
 
 use crate::{Part, ReadPart};
 use scroll::Endian;
@@ -22,6 +23,10 @@ use std::result::Result;
 ///     type Parts = NameParts<'a>;
 ///
 ///     ghost parts_of = { λ x. (record { 0 = (x.kind, x.len) }, x.name) };
+///
+///     ghost of_parts = { λ p. record { kind = p.0.0.0; len = p.0.0.1; name = p.1 } };
+///
+///     ghost again = { λ x. refl };
 ///
 ///     ghost inner_of = { λ _. record { 0 = tt; 1 = record {}; 2 = record {} } };
 ///
@@ -54,6 +59,12 @@ pub trait Shape: Drop {
     // The parts of a value.
     ghost parts_of: { Self → Self.Parts };
 
+    // The value of some parts.
+    ghost of_parts: { Self.Parts → Self };
+
+    // The parts are all that a value has.
+    ghost again: { (x : Self) → of_parts (parts_of x) ≡ x };
+
     // The context of the parts.
     ghost inner_of: { Self.Ctx → Self.Inner };
 
@@ -79,6 +90,12 @@ pub trait Split: Drop {
     // The parts of a value.
     ghost parts_of: { Self → Self.Parts };
 
+    // The value of some parts.
+    ghost of_parts: { Self.Parts → Self };
+
+    // The parts are all that a value has.
+    ghost again: { (x : Self) → of_parts (parts_of x) ≡ x };
+
     /// Returns the parts.
     fn split(&self) -> Self::Parts
         ensures { result ≡ parts_of self.now };
@@ -93,7 +110,9 @@ impl<E, S: Shape<Ctx = ()>> Part<(), E> for S
 where
     S::Parts: Part<S::Inner, E>,
 {
-    ghost format = { λ _. last (S.Parts.format (S.inner_of tt)) S.parts_of };
+    ghost format = { λ _.
+        shape (S.Parts.format (S.inner_of tt)) S.parts_of
+        (parts-unique S.parts_of S.of_parts S.again) };
 
     fn check(&self, order: Endian, ctx: &()) -> Result<(), E> {
         self.split().check(order, &S::inner(ctx))
@@ -113,7 +132,9 @@ impl<'a, E, S: Shape<Ctx = ()>> ReadPart<'a, (), E> for S
 where
     S::Parts: ReadPart<'a, S::Inner, E>,
 {
-    ghost format = { λ _. last (S.Parts.format (S.inner_of tt)) S.parts_of };
+    ghost format = { λ _.
+        shape (S.Parts.format (S.inner_of tt)) S.parts_of
+        (parts-unique S.parts_of S.of_parts S.again) };
 
     #[inline(always)]
     fn read_at(from: &'a [u8], offset: usize, order: Endian, ctx: &()) -> Result<(S, usize), E> {
@@ -128,7 +149,9 @@ impl<E, S: Shape> Part<Given<S::Ctx>, E> for S
 where
     S::Parts: Part<S::Inner, E>,
 {
-    ghost format = { λ c. last (S.Parts.format (S.inner_of c.0)) S.parts_of };
+    ghost format = { λ c.
+        shape (S.Parts.format (S.inner_of c.0)) S.parts_of
+        (parts-unique S.parts_of S.of_parts S.again) };
 
     fn check(&self, order: Endian, ctx: &Given<S::Ctx>) -> Result<(), E> {
         self.split().check(order, &S::inner(&ctx.0))
@@ -148,7 +171,9 @@ impl<'a, E, S: Shape> ReadPart<'a, Given<S::Ctx>, E> for S
 where
     S::Parts: ReadPart<'a, S::Inner, E>,
 {
-    ghost format = { λ c. last (S.Parts.format (S.inner_of c.0)) S.parts_of };
+    ghost format = { λ c.
+        shape (S.Parts.format (S.inner_of c.0)) S.parts_of
+        (parts-unique S.parts_of S.of_parts S.again) };
 
     #[inline(always)]
     fn read_at(

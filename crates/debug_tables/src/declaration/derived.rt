@@ -1,9 +1,10 @@
 // Printed by tools/derive from declaration.rt.
 ghost use Rattle.std.specs.Prelude.{◌≡◌, ◌≢◌, ◌<◌, ◌^◌, ◌⊎◌, nat_eq};
-ghost use Rattle.std.proofs.Common.{rules};
+ghost use Rattle.std.proofs.Common.{refl, rules};
 ghost use Rattle.scroll.specs.lemmas.Frames.{WritesPrefix-keeps};
-ghost use Rattle.scroll_layouts.specs.Formats.{last, refuses};
+ghost use Rattle.scroll_layouts.specs.Formats.{refuses, shape};
 ghost use Rattle.scroll_layouts.specs.Wholes.{KeepsWhole, ReadsExact, WritesWhole};
+ghost use Rattle.scroll_layouts.specs.lemmas.EqualLemmas.{parts-unique};
 ghost use Rattle.scroll_layouts.specs.declared.choice.Choice.TheVariants.{First, Second};
 ghost use Rattle.debug_tables.specs.declared.declaration.TableError.TheVariants as table_error_is;
 ghost use Rattle.debug_tables.specs.declared.declaration.Children.TheVariants as children_is;
@@ -59,6 +60,10 @@ impl Shape for Attribute {
     type Parts = AttributeParts;
 
     ghost parts_of = { λ x. (x.name, (x.form, x.constant)) };
+
+    ghost of_parts = { λ p. record { name = p.0; form = p.1.0; constant = p.1.1 } };
+
+    ghost again = { λ x. refl };
 
     ghost inner_of = { λ _. (tt, record { 0 = tt; 1 = record {}; 2 = record {} }) };
 
@@ -164,6 +169,16 @@ impl Split for Children {
       | children_is.Yes ↦ (record { 0 = 1 }, Second (record {}))
     ] };
 
+    ghost of_parts = { λ p. elim p.1 [
+      | First p ↦ children_is.No
+      | Second p ↦ children_is.Yes
+    ] };
+
+    ghost again = { elim [
+      | children_is.No ↦ refl
+      | children_is.Yes ↦ refl
+    ] };
+
     fn split(&self) -> ChildrenParts {
         match self {
             Children::No => (Run(0), First(Zeros)),
@@ -173,8 +188,9 @@ impl Split for Children {
 }
 
 impl Part<(), TableError> for Children {
-    ghost format = { λ _. last (⟦<ChildrenParts as Part<ChildrenCtx, TableError>>⟧.format
-        (record { 0 = tt; 1 = record {}; 2 = record {} })) ⟦<Children as Split>⟧.parts_of };
+    ghost format = { λ _. shape (⟦<ChildrenParts as Part<ChildrenCtx, TableError>>⟧.format
+        (record { 0 = tt; 1 = record {}; 2 = record {} })) ⟦<Children as Split>⟧.parts_of
+        (parts-unique ⟦<Children as Split>⟧.parts_of ⟦<Children as Split>⟧.of_parts ⟦<Children as Split>⟧.again) };
 
     fn check(&self, order: Endian, _ctx: &()) -> Result<(), TableError> {
         let parts = self.split();
@@ -197,8 +213,9 @@ impl Part<(), TableError> for Children {
 }
 
 impl<'a> ReadPart<'a, (), TableError> for Children {
-    ghost format = { λ _. last (⟦<ChildrenParts as ReadPart<'a, ChildrenCtx, TableError>>⟧.format
-        (record { 0 = tt; 1 = record {}; 2 = record {} })) ⟦<Children as Split>⟧.parts_of };
+    ghost format = { λ _. shape (⟦<ChildrenParts as ReadPart<'a, ChildrenCtx, TableError>>⟧.format
+        (record { 0 = tt; 1 = record {}; 2 = record {} })) ⟦<Children as Split>⟧.parts_of
+        (parts-unique ⟦<Children as Split>⟧.parts_of ⟦<Children as Split>⟧.of_parts ⟦<Children as Split>⟧.again) };
 
     #[inline(always)]
     fn read_at(
@@ -266,6 +283,15 @@ impl<'a> Shape for Declaration<'a> {
     type Parts = DeclarationParts<'a>;
 
     ghost parts_of = { λ x. (x.code, (x.tag, (x.children, x.attributes))) };
+
+    ghost of_parts = { λ p. record {
+      code = p.0;
+      tag = p.1.0;
+      children = p.1.1.0;
+      attributes = p.1.1.1;
+    } };
+
+    ghost again = { λ x. refl };
 
     ghost inner_of = { λ _. (tt, (tt, (tt, record {}))) };
 

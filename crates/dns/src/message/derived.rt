@@ -69,6 +69,10 @@ impl<'a> Shape for Message<'a> {
 
     ghost parts_of = { λ x. (x.header, (x.questions, x.records)) };
 
+    ghost of_parts = { λ p. record { header = p.0; questions = p.1.0; records = p.1.1 } };
+
+    ghost again = { λ x. refl };
+
     ghost inner_of = { λ _. record {
       0 = endian_is.Big;
       1 = record { 0 = tt; 1 = record {}; 2 = record {} };
@@ -170,6 +174,24 @@ impl Shape for Header {
         record { 0 = (x.questions, x.answers, x.authorities, x.additionals) },
       ),
     ) };
+
+    ghost of_parts = { λ p. record {
+      id = p.0.0;
+      is_response = p.1.0.0.0.0.0.0.0.0;
+      operation = p.1.0.0.0.0.0.0.0.1;
+      is_authoritative = p.1.0.0.0.0.0.0.1;
+      is_truncated = p.1.0.0.0.0.0.1;
+      wants_recursion = p.1.0.0.0.0.1;
+      has_recursion = p.1.0.0.0.1;
+      reserved = p.1.0.0.1;
+      code = p.1.0.1;
+      questions = p.1.1.0.0;
+      answers = p.1.1.0.1;
+      authorities = p.1.1.0.2;
+      additionals = p.1.1.0.3;
+    } };
+
+    ghost again = { λ x. refl };
 
     ghost inner_of = { λ _. (
       tt,
@@ -292,6 +314,10 @@ impl<'a> Shape for Name<'a> {
 
     ghost parts_of = { λ x. x.labels };
 
+    ghost of_parts = { λ p. record { labels = p } };
+
+    ghost again = { λ x. refl };
+
     ghost inner_of = { λ _. record {} };
 
     fn split(&self) -> NameParts<'a> {
@@ -362,6 +388,10 @@ impl<'a> Shape for Label<'a> {
 
     ghost parts_of = { λ x. (record { 0 = x.len }, x.text) };
 
+    ghost of_parts = { λ p. record { len = p.0.0; text = p.1 } };
+
+    ghost again = { λ x. refl };
+
     ghost inner_of = { λ _. record { 0 = tt; 1 = record {}; 2 = record {} } };
 
     fn split(&self) -> LabelParts<'a> {
@@ -396,6 +426,10 @@ impl<'a> Shape for Question<'a> {
     type Parts = QuestionParts<'a>;
 
     ghost parts_of = { λ x. (x.name, record { 0 = (x.kind, x.class) }) };
+
+    ghost of_parts = { λ p. record { name = p.0; kind = p.1.0.0; class = p.1.0.1 } };
+
+    ghost again = { λ x. refl };
 
     ghost inner_of = { λ _. (tt, tt) };
 
@@ -492,6 +526,17 @@ impl<'a> Shape for Resource<'a> {
     type Parts = ResourceParts<'a>;
 
     ghost parts_of = { λ x. (x.name, (record { 0 = (x.kind, x.class, x.time, x.len) }, x.«data»)) };
+
+    ghost of_parts = { λ p. record {
+      name = p.0;
+      kind = p.1.0.0.0;
+      class = p.1.0.0.1;
+      time = p.1.0.0.2;
+      len = p.1.0.0.3;
+      «data» = p.1.1;
+    } };
+
+    ghost again = { λ x. refl };
 
     ghost inner_of = { λ _. (tt, record { 0 = tt; 1 = record {}; 2 = record {} }) };
 
@@ -599,6 +644,28 @@ impl<'a> Shape for Data<'a> {
       | data_is.Texts v0 ↦ Second (Second (Second (Second (Second (First v0)))))
       | data_is.LongAddress v0 ↦ Second (Second (Second (Second (Second (Second (First (record { 0 = record { 0 = v0 } })))))))
       | data_is.Other v0 ↦ Second (Second (Second (Second (Second (Second (Second v0))))))
+    ] };
+
+    ghost of_parts = { elim [
+      | First p ↦ data_is.Address p.0.0
+      | Second (First p) ↦ data_is.Server p
+      | Second (Second (First p)) ↦ data_is.Alias p
+      | Second (Second (Second (First p))) ↦ data_is.Pointer p
+      | Second (Second (Second (Second (First p)))) ↦ data_is.Mail p
+      | Second (Second (Second (Second (Second (First p))))) ↦ data_is.Texts p
+      | Second (Second (Second (Second (Second (Second (First p)))))) ↦ data_is.LongAddress p.0.0
+      | Second (Second (Second (Second (Second (Second (Second p)))))) ↦ data_is.Other p
+    ] };
+
+    ghost again = { elim [
+      | data_is.Address v0 ↦ refl
+      | data_is.Server v0 ↦ refl
+      | data_is.Alias v0 ↦ refl
+      | data_is.Pointer v0 ↦ refl
+      | data_is.Mail v0 ↦ refl
+      | data_is.Texts v0 ↦ refl
+      | data_is.LongAddress v0 ↦ refl
+      | data_is.Other v0 ↦ refl
     ] };
 
     ghost inner_of = { λ t. record {
@@ -778,6 +845,10 @@ impl<'a> Shape for Mail<'a> {
 
     ghost parts_of = { λ x. (record { 0 = x.preference }, x.server) };
 
+    ghost of_parts = { λ p. record { preference = p.0.0; server = p.1 } };
+
+    ghost again = { λ x. refl };
+
     ghost inner_of = { λ _. (tt, tt) };
 
     fn split(&self) -> MailParts<'a> {
@@ -837,6 +908,10 @@ impl<'a> Shape for Text<'a> {
     type Parts = TextParts<'a>;
 
     ghost parts_of = { λ x. (record { 0 = x.len }, x.text) };
+
+    ghost of_parts = { λ p. record { len = p.0.0; text = p.1 } };
+
+    ghost again = { λ x. refl };
 
     ghost inner_of = { λ _. record { 0 = tt; 1 = record {}; 2 = record {} } };
 

@@ -139,6 +139,10 @@ impl<'a> Shape for Entry<'a> {
 
     ghost parts_of = { λ x. (record { 0 = record { 0 = x.stat } }, x.path) };
 
+    ghost of_parts = { λ p. record { stat = p.0.0.0; path = p.1; pad = record {} } };
+
+    ghost again = { λ x. refl };
+
     ghost inner_of = { λ _. record { 0 = 8; 1 = (tt, tt) } };
 
     fn split(&self) -> EntryParts<'a> {

@@ -6,6 +6,7 @@ ghost use Rattle.scroll.specs.Numbers.{number};
 ghost use Rattle.scroll.specs.lemmas.Frames.{WritesPrefix-keeps};
 ghost use Rattle.scroll_layouts.specs.Formats.{refuses};
 ghost use Rattle.scroll_layouts.specs.Wholes.{KeepsWhole, ReadsExact, WritesWhole};
+ghost use Rattle.scroll_layouts.specs.lemmas.EqualLemmas.{number-again};
 ghost use Rattle.scroll.specs.declared.endian.Endian.TheVariants as endian_is;
 
 use super::{CStr, Extra, ExtraField, ExtraFields, Header, Trailer};
@@ -140,6 +141,32 @@ impl<'a> Shape for Header<'a> {
       (x.extra, (x.name, (x.comment, option_map (λ v. record { 0 = v }) x.header_checksum))),
     ) };
 
+    ghost of_parts = { λ p. record {
+      magic = p.0.0.0.0;
+      method = p.0.0.0.1;
+      flags = p.0.0.0.2;
+      modified = p.0.0.0.3;
+      extra_flags = p.0.0.1.0;
+      system = p.0.0.1.1;
+      extra = p.1.0;
+      name = p.1.1.0;
+      comment = p.1.1.1.0;
+      header_checksum = option_map (λ v. v.0) p.1.1.1.1;
+    } };
+
+    ghost again = { λ x i. record {
+      magic = x.magic;
+      method = x.method;
+      flags = x.flags;
+      modified = x.modified;
+      extra_flags = x.extra_flags;
+      system = x.system;
+      extra = x.extra;
+      name = x.name;
+      comment = x.comment;
+      header_checksum = number-again x.header_checksum i;
+    } };
+
     ghost inner_of = { λ _. record {
       0 = endian_is.Little;
       1 = record { 0 = tt; 1 = record {}; 2 = record {} };
@@ -260,6 +287,10 @@ impl<'a> Shape for Extra<'a> {
 
     ghost parts_of = { λ x. (record { 0 = x.len }, x.fields) };
 
+    ghost of_parts = { λ p. record { len = p.0.0; fields = p.1 } };
+
+    ghost again = { λ x. refl };
+
     ghost inner_of = { λ _. record { 0 = tt; 1 = record {}; 2 = record {} } };
 
     fn split(&self) -> ExtraParts<'a> {
@@ -319,6 +350,10 @@ impl<'a> Shape for ExtraField<'a> {
     type Parts = ExtraFieldParts<'a>;
 
     ghost parts_of = { λ x. (record { 0 = (x.id, x.len) }, x.«data») };
+
+    ghost of_parts = { λ p. record { id = p.0.0.0; len = p.0.0.1; «data» = p.1 } };
+
+    ghost again = { λ x. refl };
 
     ghost inner_of = { λ _. record { 0 = tt; 1 = record {}; 2 = record {} } };
 

@@ -1,6 +1,6 @@
 // Printed by tools/derive from log.rt.
 ghost use Rattle.std.specs.Prelude.{◌≡◌, ◌<◌, ◌≤◌, ◌+◌, ◌-◌, ◌^◌, length, codes};
-ghost use Rattle.std.proofs.Common.{rules};
+ghost use Rattle.std.proofs.Common.{refl, rules};
 ghost use Rattle.scroll.specs.Errors.{IsBadInput};
 ghost use Rattle.scroll.specs.lemmas.Frames.{WritesPrefix-keeps};
 ghost use Rattle.scroll_layouts.specs.Formats.{refuses};
@@ -90,6 +90,10 @@ impl<'a> Shape for Record<'a> {
     type Parts = RecordParts<'a>;
 
     ghost parts_of = { λ x. (record { 0 = x.len }, (x.name, x.body)) };
+
+    ghost of_parts = { λ p. record { len = p.0.0; name = p.1.0; body = p.1.1 } };
+
+    ghost again = { λ x. refl };
 
     ghost inner_of = { λ _. record { 0 = tt; 1 = record {}; 2 = record {} } };
 

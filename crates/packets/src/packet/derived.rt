@@ -168,6 +168,10 @@ impl<'a> Shape for Packet<'a> {
 
     ghost parts_of = { λ x. (record { 0 = (record { 0 = x.udp }, record { 0 = x.dns }) }, x.body) };
 
+    ghost of_parts = { λ p. record { udp = p.0.0.0.0; dns = p.0.0.1.0; body = p.1 } };
+
+    ghost again = { λ x. refl };
+
     ghost inner_of = { λ _. record { 0 = tt; 1 = record {}; 2 = record {} } };
 
     fn split(&self) -> PacketParts<'a> {

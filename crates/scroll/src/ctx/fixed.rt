@@ -135,6 +135,9 @@ pub trait Record: Copy {
 
     ghost of_parts: { Self.Parts → Self };
 
+    // The parts are all that a struct has.
+    ghost again: { (x : Self) → of_parts (parts_of x) ≡ x };
+
     // Holds of a source and the struct that its prefix makes, said field by field.
     ghost fields_in: { Endian → List ℕ → Self → Type 0 };
 
@@ -145,9 +148,6 @@ pub trait Record: Copy {
     /// Returns the struct that has these fields.
     fn of_parts(parts: Self::Parts) -> Self
         ensures { result ≡ of_parts parts };
-
-    // The parts are all that a struct has.
-    ghost again: { (x : Self) → of_parts (parts_of x) ≡ x };
 
     // No part is left out.
     ghost there: { (p : Self.Parts) → parts_of (of_parts p) ≡ p };

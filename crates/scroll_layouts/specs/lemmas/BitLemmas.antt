@@ -3,6 +3,7 @@ use Rattle.std.proofs.Common.{◌≡◌, ℕ, suc, ◌+◌, ◌*◌, ◌/◌, �
 use Rattle.std.proofs.lemmas.Nat.{div-mul-add, div-add-mod'}
 use Rattle.std.proofs.Math.Nat.{mod-lt}
 use Rattle.scroll.specs.lemmas.Frames.{length-number_bytes}
+use Rattle.scroll_layouts.specs.lemmas.EqualLemmas.{pair-is}
 use Rattle.scroll_layouts.specs.Fields.{Fields, top, below, packed, splits, small, same_bits}
 
 -- the low field of a number
@@ -48,5 +49,10 @@ pub splits-one : {X : Type 0} (f : Fields X) (n : ℕ) (x y : X) → splits f n 
 splits-one top n x y h k = h ∙ sym k
 splits-one (below f mask) n x y h k =
     (splits-one f (n / suc mask) x.0 y.0 h.0 k.0, h.1 ∙ sym k.1)
+
+-- values whose fields are the same are equal
+pub bits-is : {X : Type 0} (f : Fields X) (x y : X) → same_bits f x y → x ≡ y
+bits-is top x y h = h
+bits-is (below f mask) x y h = pair-is x y (bits-is f x.0 y.0 h.0) h.1
 
 pub ruleset word_sizes = (length-number_bytes)

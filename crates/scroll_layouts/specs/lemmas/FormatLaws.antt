@@ -3,11 +3,11 @@
 use Rattle.std.proofs.Common.{◌≡◌, ℕ, ◌+◌, ◌-◌, ◌<◌, ◌≤◌, ◌++◌, List, length, ◌∙◌, refl, take, drop, arith, subst, sym, ap, length-drop}
 use Rattle.std.proofs.lemmas.List.{length-replicate, length-take-le, take-append-drop, take-take}
 use Rattle.std.specs.List.{All}
-use Rattle.std.specs.Prelude.{true, false, Some, None, replicate}
+use Rattle.std.specs.Prelude.{Some, None, replicate}
 use Rattle.scroll.specs.Fixed.{SameAt}
 use Rattle.scroll.specs.lemmas.FixedLemmas.{both-len, both-back, both-kept, same-first, same-second}
 use Rattle.scroll.specs.declared.endian.Endian.{Endian}
-use Rattle.scroll_layouts.specs.Formats.{Leaf, Format, run, counted, zeros, last, pair, headed, padded, within, behind, ordered, leaf, choice, when, len, bytes, reads, agrees, exact}
+use Rattle.scroll_layouts.specs.Formats.{Leaf, Format, run, counted, zeros, last, shape, pair, headed, padded, within, behind, ordered, leaf, choice, when, len, bytes, reads, agrees, exact}
 use Rattle.scroll_formats.specs.Zeros.{padding_len}
 use Rattle.scroll_layouts.specs.Layouts.{width, laid_bytes}
 use Rattle.scroll_layouts.specs.lemmas.LayoutLaws.{layout-len, layout-back, layout-fits, layout-moved, layout-kept}
@@ -19,8 +19,9 @@ pub inside : {E X : Type 0} (f : Format E X) (order : Endian) (s : List ℕ) (at
     → at ≤ length s → reads f order s at x → at + len f x ≤ length s
 inside (run gives p) order s at x here h = h.0
 inside (counted gives n) order s at x here h = h.0
-inside (zeros gives n) order s at x here h = h.0
+inside (zeros gives n unique) order s at x here h = h.0
 inside (last f get) order s at x here h = inside f order s at (get x) here h
+inside (shape f get unique) order s at x here h = inside f order s at (get x) here h
 inside (pair f g) order s at x here h =
     pair-within at (len f x.0) (len g x.1) s
     (inside g order s (at + len f x.0) x.1 (inside f order s at x.0 here h.0) h.1)
@@ -37,10 +38,8 @@ inside (behind gives n f rest) order s at x here h =
     (inside f order s at x.0 here h.0) h.1.1)
 inside (ordered o f) order s at x here h = inside f o s at x here h
 inside (leaf l) order s at x here h = l.leaf_inside order s at x here h
-inside (choice gives true f g) order s at (First x) here h = inside f order s at x here h
-inside (choice gives true f g) order s at (Second x) here h = absurd h
-inside (choice gives false f g) order s at (First x) here h = absurd h
-inside (choice gives false f g) order s at (Second x) here h = inside g order s at x here h
+inside (choice gives b f g) order s at (First x) here h = inside f order s at x here h.1
+inside (choice gives b f g) order s at (Second x) here h = inside g order s at x here h.1
 inside (when gives b f) order s at (Some x) here h = inside f order s at x here h.1
 inside (when gives b f) order s at None here h = omega (arith, here)
 
@@ -49,8 +48,9 @@ pub made-agrees : {E X : Type 0} (f : Format E X) (order : Endian) (s : List ℕ
     → All (λ b. b < 256) s → reads f order s at x → agrees f order x
 made-agrees (run gives p) order s at x all h = layout-fits p order s at x all h.1
 made-agrees (counted gives n) order s at x all h = slice-agrees n s at x h.0 h.1
-made-agrees (zeros gives n) order s at x all h = tt
+made-agrees (zeros gives n unique) order s at x all h = tt
 made-agrees (last f get) order s at x all h = made-agrees f order s at (get x) all h
+made-agrees (shape f get unique) order s at x all h = made-agrees f order s at (get x) all h
 made-agrees (pair f g) order s at x all h = (
   made-agrees f order s at x.0 all h.0,
   made-agrees g order s (at + len f x.0) x.1 all h.1,
@@ -68,10 +68,10 @@ made-agrees (behind gives n f rest) order s at x all h = (
 )
 made-agrees (ordered o f) order s at x all h = made-agrees f o s at x all h
 made-agrees (leaf l) order s at x all h = l.leaf_made order s at x all h
-made-agrees (choice gives true f g) order s at (First x) all h = made-agrees f order s at x all h
-made-agrees (choice gives true f g) order s at (Second x) all h = absurd h
-made-agrees (choice gives false f g) order s at (First x) all h = absurd h
-made-agrees (choice gives false f g) order s at (Second x) all h = made-agrees g order s at x all h
+made-agrees (choice gives b f g) order s at (First x) all h =
+    (h.0, made-agrees f order s at x all h.1)
+made-agrees (choice gives b f g) order s at (Second x) all h =
+    (h.0, made-agrees g order s at x all h.1)
 made-agrees (when gives b f) order s at (Some x) all h =
     (h.0, made-agrees f order s at x all h.1)
 made-agrees (when gives b f) order s at None all h = h
@@ -81,8 +81,9 @@ pub bytes-len : {E X : Type 0} (f : Format E X) (order : Endian) (x : X) → agr
     → length (bytes f order x) ≡ len f x
 bytes-len (run gives p) order x h = layout-len p order x
 bytes-len (counted gives n) order x h = sym h
-bytes-len (zeros gives n) order x h = length-replicate n 0
+bytes-len (zeros gives n unique) order x h = length-replicate n 0
 bytes-len (last f get) order x h = bytes-len f order (get x) h
+bytes-len (shape f get unique) order x h = bytes-len f order (get x) h
 bytes-len (pair f g) order x h =
     both-len (bytes f order x.0) (bytes g order x.1) (bytes-len f order x.0 h.0)
     (bytes-len g order x.1 h.1)
@@ -98,10 +99,8 @@ bytes-len (behind gives n f rest) order x h =
     (bytes-len f order x.0 h.0) (bytes-len (rest (n - len f x.0)) order x.1 h.1.1)
 bytes-len (ordered o f) order x h = bytes-len f o x h
 bytes-len (leaf l) order x h = l.leaf_bytes-len order x h
-bytes-len (choice gives true f g) order (First x) h = bytes-len f order x h
-bytes-len (choice gives true f g) order (Second x) h = absurd h
-bytes-len (choice gives false f g) order (First x) h = absurd h
-bytes-len (choice gives false f g) order (Second x) h = bytes-len g order x h
+bytes-len (choice gives b f g) order (First x) h = bytes-len f order x h.1
+bytes-len (choice gives b f g) order (Second x) h = bytes-len g order x h.1
 bytes-len (when gives b f) order (Some x) h = bytes-len f order x h.1
 bytes-len (when gives b f) order None h = refl
 
@@ -125,8 +124,9 @@ back (run gives p) order x prefix rest h = (
 )
 back (counted gives n) order x prefix rest h =
     (part-within n x prefix rest (sym h), slice-back n x prefix rest h)
-back (zeros gives n) order x prefix rest h = zeros-back n prefix rest
+back (zeros gives n unique) order x prefix rest h = zeros-back n prefix rest
 back (last f get) order x prefix rest h = back f order (get x) prefix rest h
+back (shape f get unique) order x prefix rest h = back f order (get x) prefix rest h
 back (pair f g) order x prefix rest h =
     both-back (len f x.0) (bytes f order x.0) (bytes g order x.1) prefix rest
     (bytes-len f order x.0 h.0)
@@ -157,10 +157,10 @@ back (behind gives n f others) order x prefix rest h =
     (λ l t. (h.1.0, back (others (n - len f x.0)) order x.1 l t h.1.1))
 back (ordered o f) order x prefix rest h = back f o x prefix rest h
 back (leaf l) order x prefix rest h = l.leaf_back order x prefix rest h
-back (choice gives true f g) order (First x) prefix rest h = back f order x prefix rest h
-back (choice gives true f g) order (Second x) prefix rest h = absurd h
-back (choice gives false f g) order (First x) prefix rest h = absurd h
-back (choice gives false f g) order (Second x) prefix rest h = back g order x prefix rest h
+back (choice gives b f g) order (First x) prefix rest h =
+    (h.0, back f order x prefix rest h.1)
+back (choice gives b f g) order (Second x) prefix rest h =
+    (h.0, back g order x prefix rest h.1)
 back (when gives b f) order (Some x) prefix rest h = (h.0, back f order x prefix rest h.1)
 back (when gives b f) order None prefix rest h = h
 
@@ -170,8 +170,9 @@ pub kept : {E X : Type 0} (f : Format E X) (order : Endian) (s : List ℕ) (at :
     → bytes f order x ≡ take (len f x) (drop at s)
 kept (run gives p) order s at x e all h = layout-kept p order s at x e all h.0 h.1
 kept (counted gives n) order s at x e all h = h.1
-kept (zeros gives n) order s at x e all h = sym h.1
+kept (zeros gives n unique) order s at x e all h = sym h.1
 kept (last f get) order s at x e all h = kept f order s at (get x) e all h
+kept (shape f get unique) order s at x e all h = kept f order s at (get x) e all h
 kept (pair f g) order s at x e all h =
     both-kept (len f x.0) (len g x.1) s at (kept f order s at x.0 e.0 all h.0)
     (kept g order s (at + len f x.0) x.1 e.1 all h.1)
@@ -189,10 +190,8 @@ kept (behind gives n f rest) order s at x e all h =
     (kept (rest (n - len f x.0)) order s (at + len f x.0) x.1 (e.1 (n - len f x.0)) all h.1.1)
 kept (ordered o f) order s at x e all h = kept f o s at x e all h
 kept (leaf l) order s at x e all h = l.leaf_kept order s at x all h
-kept (choice gives true f g) order s at (First x) e all h = kept f order s at x e.0 all h
-kept (choice gives true f g) order s at (Second x) e all h = absurd h
-kept (choice gives false f g) order s at (First x) e all h = absurd h
-kept (choice gives false f g) order s at (Second x) e all h = kept g order s at x e.1 all h
+kept (choice gives b f g) order s at (First x) e all h = kept f order s at x e.0 all h.1
+kept (choice gives b f g) order s at (Second x) e all h = kept g order s at x e.1 all h.1
 kept (when gives b f) order s at (Some x) e all h = kept f order s at x e all h.1
 kept (when gives b f) order s at None e all h = refl
 
@@ -220,8 +219,10 @@ pub moved : {E X : Type 0} (f : Format E X) (order : Endian) (s : List ℕ) (at 
 moved (run gives p) order s at t to x all there same h =
     (there, layout-moved p order s at t to x same h.1)
 moved (counted gives n) order s at t to x all there same h = (there, h.1 ∙ same)
-moved (zeros gives n) order s at t to x all there same h = (there, sym same ∙ h.1)
+moved (zeros gives n unique) order s at t to x all there same h = (there, sym same ∙ h.1)
 moved (last f get) order s at t to x all there same h =
+    moved f order s at t to (get x) all there same h
+moved (shape f get unique) order s at t to x all there same h =
     moved f order s at t to (get x) all there same h
 moved (pair f g) order s at t to x all there same h =
     let a = len f x.0 in let b = len g x.1 in (
@@ -265,12 +266,10 @@ moved (behind gives n f rest) order s at t to x all there same h =
 moved (ordered o f) order s at t to x all there same h = moved f o s at t to x all there same h
 moved (leaf l) order s at t to x all there same h =
     leaf-moved l order s at t to x all there same h
-moved (choice gives true f g) order s at t to (First x) all there same h =
-    moved f order s at t to x all there same h
-moved (choice gives true f g) order s at t to (Second x) all there same h = absurd h
-moved (choice gives false f g) order s at t to (First x) all there same h = absurd h
-moved (choice gives false f g) order s at t to (Second x) all there same h =
-    moved g order s at t to x all there same h
+moved (choice gives b f g) order s at t to (First x) all there same h =
+    (h.0, moved f order s at t to x all there same h.1)
+moved (choice gives b f g) order s at t to (Second x) all there same h =
+    (h.0, moved g order s at t to x all there same h.1)
 moved (when gives b f) order s at t to (Some x) all there same h =
     (h.0, moved f order s at t to x all there same h.1)
 moved (when gives b f) order s at t to None all there same h = h

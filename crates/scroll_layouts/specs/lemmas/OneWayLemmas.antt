@@ -8,7 +8,7 @@ use Rattle.scroll.specs.declared.error.Error.{Error}
 use Rattle.scroll.specs.declared.endian.Endian.{Endian}
 use Rattle.scroll_formats.specs.Zeros.{RefusesZeros, padding_len}
 use Rattle.scroll_layouts.specs.OneWay.{one_way}
-use Rattle.scroll_layouts.specs.Formats.{Format, run, counted, zeros, last, pair, headed, padded, within, behind, ordered, leaf, choice, when, reads, refuses, len}
+use Rattle.scroll_layouts.specs.Formats.{Format, run, counted, zeros, last, shape, pair, headed, padded, within, behind, ordered, leaf, choice, when, reads, refuses, len}
 use Rattle.scroll_layouts.specs.Lists.{Items, SomeItems}
 use Rattle.scroll_layouts.specs.declared.choice.Choice.TheVariants.{First, Second}
 use Rattle.scroll_layouts.specs.lemmas.FormatLaws.{inside, moved, alone}
@@ -33,8 +33,9 @@ no-clash (run gives p) t order s at x e all h r =
     omega (arith, h.0, r.short, length-drop at s)
 no-clash (counted gives n) t order s at x e all h r =
     omega (arith, h.0, r.short, length-drop at s)
-no-clash (zeros gives n) t order s at x e all h r = zeros-clash gives n at s e h r
+no-clash (zeros gives n unique) t order s at x e all h r = zeros-clash gives n at s e h r
 no-clash (last f get) t order s at x e all h r = no-clash f t order s at (get x) e all h r
+no-clash (shape f get unique) t order s at x e all h r = no-clash f t order s at (get x) e all h r
 no-clash (pair f g) t order s at x e all h (inl r) =
     no-clash f t.0 order s at x.0 e all h.0 r
 no-clash (pair f g) t order s at x e all h (inr (y, k, r)) =
@@ -81,11 +82,12 @@ no-clash (behind gives n f rest) t order s at x e all h (inr (y, k, inr r)) =
 no-clash (ordered o f) t order s at x e all h r = no-clash f t o s at x e all h r
 no-clash (leaf l) t order s at x e all h r = l.leaf_clash t.1 order s at x e all h r
 no-clash (choice gives true f g) t order s at (First x) e all h r =
-    no-clash f t.0 order s at x e all h r
-no-clash (choice gives true f g) t order s at (Second x) e all h r = absurd h
-no-clash (choice gives false f g) t order s at (First x) e all h r = absurd h
+    no-clash f t.0 order s at x e all h.1 r
+no-clash (choice gives true f g) t order s at (Second x) e all h r = absurd (true≢false h.0)
+no-clash (choice gives false f g) t order s at (First x) e all h r =
+    absurd (true≢false (sym h.0))
 no-clash (choice gives false f g) t order s at (Second x) e all h r =
-    no-clash g t.1 order s at x e all h r
+    no-clash g t.1 order s at x e all h.1 r
 no-clash (when gives true f) t order s at (Some x) e all h r =
     no-clash f t order s at x e all h.1 r
 no-clash (when gives true f) t order s at None e all h r = absurd (true≢false h)

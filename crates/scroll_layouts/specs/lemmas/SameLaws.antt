@@ -1,15 +1,61 @@
 -- The values of a source are the same, by recursion: a line or two for each form. The lemmas are
 -- proved, and promise nothing.
 use Rattle.std.proofs.Common.{◌≡◌, ℕ, ◌+◌, ◌-◌, ◌<◌, List, refl, sym, ap, subst, ◌∙◌, arith}
-use Rattle.std.proofs.lemmas.Bool.{true≢false}
+use Rattle.std.proofs.lemmas.Bool.{true≢false, and_parts}
 use Rattle.std.specs.List.{All}
-use Rattle.std.specs.Prelude.{true, false, Some, None}
+use Rattle.std.specs.Prelude.{◌&&◌, Bool, true, false, Option, Some, None}
 use Rattle.scroll.specs.declared.endian.Endian.{Endian}
 use Rattle.scroll_formats.specs.Zeros.{padding_len}
-use Rattle.scroll_layouts.specs.Formats.{Format, run, counted, zeros, last, pair, headed, padded, within, behind, ordered, leaf, choice, when, reads, len}
-use Rattle.scroll_layouts.specs.OneWay.{same, told, one_way}
+use Rattle.scroll_layouts.specs.Formats.{Format, run, counted, zeros, last, shape, pair, headed, padded, within, behind, ordered, leaf, choice, when, reads, len}
+use Rattle.scroll_layouts.specs.OneWay.{plain, same, same_if, same_choice, same_option, told, one_way}
+use Rattle.scroll_layouts.specs.declared.choice.Choice.{Choice}
 use Rattle.scroll_layouts.specs.declared.choice.Choice.TheVariants.{First, Second}
-use Rattle.scroll_layouts.specs.lemmas.LayoutLaws.{layout-one}
+use Rattle.scroll_layouts.specs.lemmas.EqualLemmas.{pair-is}
+use Rattle.scroll_layouts.specs.lemmas.LayoutLaws.{layout-one, fields-is}
+
+-- values that are the same are equal if they borrow nothing
+if-same : {X : Type 0} {x y : X} {P : Type 0} (b : Bool) → (b ≡ true → x ≡ y) → P
+    → same_if b x y P
+if-same true is h = is refl
+if-same false is h = h
+
+same-if : {X : Type 0} {x y : X} (P : Type 0) (b : Bool) → b ≡ true → same_if b x y P → x ≡ y
+same-if P true is h = h
+same-if P false is h = absurd (true≢false (sym is))
+
+pub same-is : {E X : Type 0} (f : Format E X) → plain f ≡ true → (x y : X) → same f x y → x ≡ y
+same-is (run gives p) is x y h = fields-is p x y h
+same-is (counted gives n) is x y h = h
+same-is (zeros gives n unique) is x y h = unique x y
+same-is (last f get) is x y h = absurd (true≢false (sym is))
+same-is (shape f get unique) is x y h = same-if _ (plain f) is h
+same-is (pair f g) is x y h =
+    let both = and_parts (plain f) (plain g) is in
+    pair-is x y (same-is f both.0 x.0 y.0 h.0) (same-is g both.1 x.1 y.1 h.1)
+same-is (headed f holds fails next rest) is x y h = absurd (true≢false (sym is))
+same-is (padded gives m f) is x y h = same-is f is x y h
+same-is (within gives n f) is x y h = same-is f is x y h
+same-is (behind gives n f rest) is x y h = absurd (true≢false (sym is))
+same-is (ordered o f) is x y h = same-is f is x y h
+same-is (leaf l) is x y h = l.leaf_equal x y h
+same-is (choice gives b f g) is x y h = same-if _ (plain f && plain g) is h
+same-is (when gives b f) is x y h = same-if _ (plain f) is h
+
+choice-is : {E A B : Type 0} (f : Format E A) (g : Format E B) (x y : Choice A B)
+    → same_choice (same f) (same g) x y → (plain f && plain g) ≡ true → x ≡ y
+choice-is f g (First x) (First y) h is =
+    ap First (same-is f (and_parts (plain f) (plain g) is).0 x y h)
+choice-is f g (First x) (Second y) h is = absurd h
+choice-is f g (Second x) (First y) h is = absurd h
+choice-is f g (Second x) (Second y) h is =
+    ap Second (same-is g (and_parts (plain f) (plain g) is).1 x y h)
+
+option-is : {E X : Type 0} (f : Format E X) (x y : Option X) → same_option (same f) x y
+    → plain f ≡ true → x ≡ y
+option-is f (Some x) (Some y) h is = ap Some (same-is f is x y h)
+option-is f (Some x) None h is = absurd h
+option-is f None (Some y) h is = absurd h
+option-is f None None h is = refl
 
 -- a source has one length at an offset, and its values are the same
 one : {E X : Type 0} (f : Format E X) → told f → (order : Endian) (s : List ℕ) (at : ℕ) (x y : X)
@@ -17,8 +63,14 @@ one : {E X : Type 0} (f : Format E X) → told f → (order : Endian) (s : List 
     → (len f x ≡ len f y) × same f x y
 one (run gives p) t order s at x y all h k = (refl, layout-one p order s at x y h.1 k.1)
 one (counted gives n) t order s at x y all h k = (refl, h.1 ∙ sym k.1)
-one (zeros gives n) t order s at x y all h k = (refl, tt)
+one (zeros gives n unique) t order s at x y all h k = (refl, tt)
 one (last f get) t order s at x y all h k = one f t order s at (get x) (get y) all h k
+one (shape f get unique) t order s at x y all h k =
+    let parts : (len f (get x) ≡ len f (get y)) × same f (get x) (get y) =
+    one f t order s at (get x) (get y) all h k in (
+      parts.0,
+      if-same (plain f) (λ is. unique x y (same-is f is (get x) (get y) parts.1)) parts.1,
+    )
 one (pair f g) t order s at x y all h k =
     let first : (len f x.0 ≡ len f y.0) × same f x.0 y.0 =
     one f t.0 order s at x.0 y.0 all h.0 k.0 in
@@ -58,19 +110,22 @@ one (behind gives n f rest) t order s at x y all h k =
     (omega (arith, first.0, second.0, other), (first.1, second.1))
 one (ordered o f) t order s at x y all h k = one f t o s at x y all h k
 one (leaf l) t order s at x y all h k = l.leaf_one t order s at x y all h k
-one (choice gives true f g) t order s at (First x) (First y) all h k =
-    one f t.0 order s at x y all h k
-one (choice gives true f g) t order s at (First x) (Second y) all h k = absurd k
-one (choice gives true f g) t order s at (Second x) y all h k = absurd h
-one (choice gives false f g) t order s at (Second x) (Second y) all h k =
-    one g t.1 order s at x y all h k
-one (choice gives false f g) t order s at (Second x) (First y) all h k = absurd k
-one (choice gives false f g) t order s at (First x) y all h k = absurd h
+one (choice gives b f g) t order s at (First x) (First y) all h k =
+    let both : (len f x ≡ len f y) × same f x y = one f t.0 order s at x y all h.1 k.1 in
+    (both.0, if-same (plain f && plain g) (choice-is f g (First x) (First y) both.1) both.1)
+one (choice gives b f g) t order s at (First x) (Second y) all h k =
+    absurd (true≢false (sym h.0 ∙ k.0))
+one (choice gives b f g) t order s at (Second x) (First y) all h k =
+    absurd (true≢false (sym k.0 ∙ h.0))
+one (choice gives b f g) t order s at (Second x) (Second y) all h k =
+    let both : (len g x ≡ len g y) × same g x y = one g t.1 order s at x y all h.1 k.1 in
+    (both.0, if-same (plain f && plain g) (choice-is f g (Second x) (Second y) both.1) both.1)
 one (when gives b f) t order s at (Some x) (Some y) all h k =
-    one f t order s at x y all h.1 k.1
+    let both : (len f x ≡ len f y) × same f x y = one f t order s at x y all h.1 k.1 in
+    (both.0, if-same (plain f) (option-is f (Some x) (Some y) both.1) both.1)
 one (when gives b f) t order s at (Some x) None all h k = absurd (true≢false (sym h.0 ∙ k))
 one (when gives b f) t order s at None (Some y) all h k = absurd (true≢false (sym k.0 ∙ h))
-one (when gives b f) t order s at None None all h k = (refl, tt)
+one (when gives b f) t order s at None None all h k = (refl, if-same (plain f) (λ is. refl) tt)
 
 pub one-len : {E X : Type 0} (f : Format E X) → told f → (order : Endian) (s : List ℕ) (at : ℕ)
     (x y : X) → All (λ b. b < 256) s → reads f order s at x → reads f order s at y
@@ -85,8 +140,9 @@ one-value f t order s at x y all h k = (one f t order s at x y all h k).1
 pub tells : {E X : Type 0} (f : Format E X) → one_way f → told f
 tells (run gives p) t = tt
 tells (counted gives n) t = tt
-tells (zeros gives n) t = tt
+tells (zeros gives n unique) t = tt
 tells (last f get) t = tells f t
+tells (shape f get unique) t = tells f t
 tells (pair f g) t = (tells f t.0, tells g t.1)
 tells (headed f holds fails next rest) t = (tells f t.0, t.1, λ d. tells (rest d) (t.3 d))
 tells (padded gives m f) t = tells f t

@@ -2,7 +2,8 @@
 ghost use Rattle.std.specs.Prelude.{◌≡◌, ◌≤◌, ◌+◌, ◌-◌, ◌^◌, ◌++◌, ℕ, List, length, drop, min};
 ghost use Rattle.std.proofs.Common.{ap};
 ghost use Rattle.scroll.specs.declared.endian.Endian.{Endian};
-ghost use Rattle.scroll_layouts.specs.Layouts.{only, width, laid_bytes, makes};
+ghost use Rattle.scroll_layouts.specs.Layouts.{shaped, width, laid_bytes, makes};
+ghost use Rattle.scroll_layouts.specs.lemmas.EqualLemmas.{parts-unique};
 
 use crate::{FixedLayout, SameLayout};
 use scroll::Endian;
@@ -19,7 +20,9 @@ impl<R: Record> FixedLayout for Field<R>
 where
     R::Parts: FixedLayout,
 {
-    ghost layout = { only (only R.Parts.layout R.parts_of) (λ x. x.0) };
+    ghost layout = { shaped R.Parts.layout (λ x. R.parts_of x.0)
+        (parts-unique (λ x. R.parts_of x.0) (λ p. record { 0 = R.of_parts p })
+        (λ x. ap (λ r. record { 0 = r }) (R.again x.0))) };
 
     fn capped() -> usize {
         <R::Parts as FixedLayout>::capped()

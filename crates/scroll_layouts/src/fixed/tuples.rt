@@ -1,12 +1,13 @@
 // Tuples: fields, one after another.
+ghost use Rattle.std.proofs.Common.{ap};
 ghost use Rattle.std.specs.Prelude.{◌≡◌, ◌≤◌, ◌+◌, ◌-◌, ◌^◌, ◌++◌, length, take, drop, min};
-ghost use Rattle.scroll_layouts.specs.Layouts.{field, only, width, laid_bytes, makes, fits};
+ghost use Rattle.scroll_layouts.specs.Layouts.{both, shaped, width, laid_bytes, makes, fits};
 
 use crate::{FixedLayout, SameLayout};
 use scroll::Endian;
 
 impl<A: FixedLayout, B: FixedLayout> FixedLayout for (A, B) {
-    ghost layout = { field A.layout (λ x. x.0) (only B.layout (λ x. x.1)) };
+    ghost layout = { both A.layout B.layout };
 
     fn capped() -> usize {
         A::capped().saturating_add(B::capped())
@@ -31,8 +32,8 @@ impl<A: FixedLayout, B: FixedLayout> FixedLayout for (A, B) {
 }
 
 impl<A: FixedLayout, B: FixedLayout, C: FixedLayout> FixedLayout for (A, B, C) {
-    ghost layout = { field A.layout (λ x. x.0)
-        (field B.layout (λ x. x.1) (only C.layout (λ x. x.2))) };
+    ghost layout = { shaped (both A.layout (both B.layout C.layout))
+        (λ x. (x.0, (x.1, x.2))) (λ x y. ap (λ p. (p.0, p.1.0, p.1.1))) };
 
     fn capped() -> usize {
         A::capped().saturating_add(B::capped().saturating_add(C::capped()))
@@ -60,8 +61,8 @@ impl<A: FixedLayout, B: FixedLayout, C: FixedLayout> FixedLayout for (A, B, C) {
 }
 
 impl<A: FixedLayout, B: FixedLayout, C: FixedLayout, D: FixedLayout> FixedLayout for (A, B, C, D) {
-    ghost layout = { field A.layout (λ x. x.0)
-        (field B.layout (λ x. x.1) (field C.layout (λ x. x.2) (only D.layout (λ x. x.3)))) };
+    ghost layout = { shaped (both A.layout (both B.layout (both C.layout D.layout)))
+        (λ x. (x.0, (x.1, (x.2, x.3)))) (λ x y. ap (λ p. (p.0, p.1.0, p.1.1.0, p.1.1.1))) };
 
     fn capped() -> usize {
         A::capped().saturating_add(B::capped().saturating_add(C::capped().saturating_add(

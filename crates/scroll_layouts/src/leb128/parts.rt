@@ -1,9 +1,10 @@
 // Numbers in LEB128 as parts.
 ghost use Rattle.std.specs.Prelude.{◌≡◌, ◌≤◌, ◌<◌, ◌+◌, ◌-◌, ◌^◌, ◌++◌, length, take, drop, min};
 ghost use Rattle.scroll.specs.declared.error.Error.{Error};
-ghost use Rattle.scroll_layouts.specs.Formats.{leaf, last};
+ghost use Rattle.scroll_layouts.specs.Formats.{leaf, shape};
 ghost use Rattle.scroll_layouts.specs.Leaves.{uleb, sleb, uleb_counted, sleb_counted};
 ghost use Rattle.scroll_layouts.specs.Starts.{start};
+ghost use Rattle.scroll_layouts.specs.lemmas.PromiseLemmas.{uleb-is, sleb-is};
 
 use crate::{Part, ReadPart, Sleb, Uleb};
 use scroll::ctx::TryFromCtx;
@@ -12,7 +13,7 @@ use std::result::Result;
 
 /// A number in LEB128. The errors are those of a read of [`Uleb128`].
 impl<E: From<Error>> Part<(), E> for Uleb {
-    ghost format = { λ _. last (leaf (start (uleb E.from_gives))) uleb_counted };
+    ghost format = { λ _. shape (leaf (start (uleb E.from_gives))) uleb_counted uleb-is };
 
     fn check(&self, _order: Endian, _ctx: &()) -> Result<(), E> {
         let _number = *self;
@@ -36,7 +37,7 @@ impl<E: From<Error>> Part<(), E> for Uleb {
 }
 
 impl<'a, E: From<Error>> ReadPart<'a, (), E> for Uleb {
-    ghost format = { λ _. last (leaf (start (uleb E.from_gives))) uleb_counted };
+    ghost format = { λ _. shape (leaf (start (uleb E.from_gives))) uleb_counted uleb-is };
 
     #[inline(always)]
     fn read_at(
@@ -56,7 +57,7 @@ impl<'a, E: From<Error>> ReadPart<'a, (), E> for Uleb {
 
 /// A signed number in LEB128. The errors are those of a read of [`Sleb128`].
 impl<E: From<Error>> Part<(), E> for Sleb {
-    ghost format = { λ _. last (leaf (start (sleb E.from_gives))) sleb_counted };
+    ghost format = { λ _. shape (leaf (start (sleb E.from_gives))) sleb_counted sleb-is };
 
     fn check(&self, _order: Endian, _ctx: &()) -> Result<(), E> {
         let _number = *self;
@@ -80,7 +81,7 @@ impl<E: From<Error>> Part<(), E> for Sleb {
 }
 
 impl<'a, E: From<Error>> ReadPart<'a, (), E> for Sleb {
-    ghost format = { λ _. last (leaf (start (sleb E.from_gives))) sleb_counted };
+    ghost format = { λ _. shape (leaf (start (sleb E.from_gives))) sleb_counted sleb-is };
 
     #[inline(always)]
     fn read_at(

@@ -1,8 +1,9 @@
 // Signed numbers in zigzag as parts.
 ghost use Rattle.std.specs.Prelude.{◌≡◌, ◌≤◌, ◌<◌, ◌+◌, ◌-◌, ◌^◌, ◌++◌, length, take, drop, min};
 ghost use Rattle.scroll.specs.declared.error.Error.{Error};
-ghost use Rattle.scroll_layouts.specs.Formats.{leaf, last};
+ghost use Rattle.scroll_layouts.specs.Formats.{leaf, shape};
 ghost use Rattle.scroll_layouts.specs.Starts.{start};
+ghost use Rattle.scroll_layouts.specs.lemmas.PromiseLemmas.{zigzag-is};
 ghost use Rattle.scroll_layouts.specs.VarintLeaves.{zigzags, zigzag_counted};
 ghost use Rattle.scroll_layouts.specs.Varints.{zigzag};
 
@@ -34,7 +35,7 @@ fn from_zigzag(number: u64) -> i64
 
 /// A signed number in zigzag. The errors are those of a read of [`Uleb128`].
 impl<E: From<Error>> Part<(), E> for Zigzag {
-    ghost format = { λ _. last (leaf (start (zigzags E.from_gives))) zigzag_counted };
+    ghost format = { λ _. shape (leaf (start (zigzags E.from_gives))) zigzag_counted zigzag-is };
 
     fn check(&self, _order: Endian, _ctx: &()) -> Result<(), E> {
         let _number = *self;
@@ -58,7 +59,7 @@ impl<E: From<Error>> Part<(), E> for Zigzag {
 }
 
 impl<'a, E: From<Error>> ReadPart<'a, (), E> for Zigzag {
-    ghost format = { λ _. last (leaf (start (zigzags E.from_gives))) zigzag_counted };
+    ghost format = { λ _. shape (leaf (start (zigzags E.from_gives))) zigzag_counted zigzag-is };
 
     #[inline(always)]
     fn read_at(

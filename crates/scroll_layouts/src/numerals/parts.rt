@@ -1,8 +1,9 @@
 // Numbers in digits as parts.
 ghost use Rattle.std.specs.Prelude.{◌≡◌, ◌≤◌, ◌<◌, ◌+◌, ◌-◌, ◌^◌, ◌++◌, ◌⊎◌, length, take, drop, min, codes};
-ghost use Rattle.scroll_layouts.specs.Formats.{leaf, last};
+ghost use Rattle.scroll_layouts.specs.Formats.{leaf, shape};
 ghost use Rattle.scroll_layouts.specs.Numerals.{numeral};
 ghost use Rattle.scroll_layouts.specs.Starts.{start};
+ghost use Rattle.scroll_layouts.specs.lemmas.PromiseLemmas.{digits_numeral, digits-is};
 
 use crate::{Digits, Part, ReadPart};
 use scroll::{Endian, Error, check_room};
@@ -12,8 +13,8 @@ use std::result::Result;
 /// number of bytes there. A field that is no number is [`Error::BadInput`] with its size and the
 /// message `the digits are no number`.
 impl<E: From<Error>, const BASE: u64, const N: usize> Part<(), E> for Digits<BASE, N> {
-    ghost format = { λ _. last (leaf (start (numeral E.from_gives BASE N)))
-        (λ x. record { bytes = x.bytes; value = x.value }) };
+    ghost format = { λ _. shape (leaf (start (numeral E.from_gives BASE N)))
+        digits_numeral digits-is };
 
     fn check(&self, _order: Endian, _ctx: &()) -> Result<(), E> {
         let _number = *self;
@@ -32,8 +33,8 @@ impl<E: From<Error>, const BASE: u64, const N: usize> Part<(), E> for Digits<BAS
 }
 
 impl<'a, E: From<Error>, const BASE: u64, const N: usize> ReadPart<'a, (), E> for Digits<BASE, N> {
-    ghost format = { λ _. last (leaf (start (numeral E.from_gives BASE N)))
-        (λ x. record { bytes = x.bytes; value = x.value }) };
+    ghost format = { λ _. shape (leaf (start (numeral E.from_gives BASE N)))
+        digits_numeral digits-is };
 
     #[inline(always)]
     fn read_at(

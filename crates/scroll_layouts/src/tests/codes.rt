@@ -1,6 +1,6 @@
 // Numbers in LEB128, zeros, bytes with padding; the whole struct is padded.
 ghost use Rattle.std.specs.Prelude.{◌≡◌, ◌<◌, length, take, IfOk, IfErr};
-ghost use Rattle.std.proofs.Common.{rules};
+ghost use Rattle.std.proofs.Common.{rules, refl};
 ghost use Rattle.scroll.specs.Numbers.{number};
 ghost use Rattle.scroll.specs.declared.error.Error.TheVariants.{TooBig};
 ghost use Rattle.scroll.specs.lemmas.Frames.{WritesPrefix-keeps};
@@ -64,6 +64,18 @@ impl<'a> Shape for Codes<'a> {
     type Parts = CodesP0<'a>;
 
     ghost parts_of = { λ x. (record { 0 = (x.a, x.n) }, (x.code, (x.delta, (x.gap, (x.name, x.body))))) };
+
+    ghost of_parts = { λ p. record {
+      a = p.0.0.0;
+      n = p.0.0.1;
+      code = p.1.0;
+      delta = p.1.1.0;
+      gap = p.1.1.1.0;
+      name = p.1.1.1.1.0;
+      body = p.1.1.1.1.1;
+    } };
+
+    ghost again = { λ x. refl };
 
     ghost inner_of = { λ _. record { 0 = 8; 1 = record { 0 = tt; 1 = record {}; 2 = record {} } } };
 

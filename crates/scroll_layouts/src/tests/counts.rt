@@ -1,7 +1,7 @@
 // Counts that are computed: a sum, a difference, a product, what a text leaves of a length, a count
 // of an inner struct, and a number in LEB128.
 ghost use Rattle.std.specs.Prelude.{◌≡◌, ◌<◌, ◌≤◌, ◌+◌, ◌-◌, ◌*◌, length, take, drop, codes, IfOk, IfErr};
-ghost use Rattle.std.proofs.Common.{rules};
+ghost use Rattle.std.proofs.Common.{rules, refl};
 ghost use Rattle.scroll.specs.Errors.{IsBadInput};
 ghost use Rattle.scroll.specs.Numbers.{number};
 ghost use Rattle.scroll.specs.lemmas.Frames.{WritesPrefix-keeps};
@@ -177,6 +177,23 @@ impl<'a> Shape for Counts<'a> {
       record { 0 = (x.total, x.start, x.step, x.words) },
       ((x.name, x.left), ((x.both, x.blocks), ((x.inner, x.marks), (x.size, x.body)))),
     ) };
+
+    ghost of_parts = { λ p. record {
+      total = p.0.0.0;
+      start = p.0.0.1;
+      step = p.0.0.2;
+      words = p.0.0.3;
+      name = p.1.0.0;
+      left = p.1.0.1;
+      both = p.1.1.0.0;
+      blocks = p.1.1.0.1;
+      inner = p.1.1.1.0.0;
+      marks = p.1.1.1.0.1;
+      size = p.1.1.1.1.0;
+      body = p.1.1.1.1.1;
+    } };
+
+    ghost again = { λ x. refl };
 
     ghost inner_of = { λ _. record { 0 = tt; 1 = record {}; 2 = record {} } };
 

@@ -31,6 +31,10 @@ impl Shape for Foo {
 
     ghost parts_of = { λ x. record { 0 = (x.foo, x.bar) } };
 
+    ghost of_parts = { λ p. record { foo = p.0.0; bar = p.0.1 } };
+
+    ghost again = { λ x. refl };
+
     ghost inner_of = { λ _. tt };
 
     fn split(&self) -> Run<(i64, u32)> {
@@ -164,6 +168,16 @@ impl<'a> Shape for Line<'a> {
       record { 0 = (x.kind, record { 0 = x.from }, record { 0 = x.to }, x.len) },
       x.label,
     ) };
+
+    ghost of_parts = { λ p. record {
+      kind = p.0.0.0;
+      from = p.0.0.1.0;
+      to = p.0.0.2.0;
+      len = p.0.0.3;
+      label = p.1;
+    } };
+
+    ghost again = { λ x. refl };
 
     ghost inner_of = { λ _. record { 0 = tt; 1 = record {}; 2 = record {} } };
 

@@ -1,6 +1,6 @@
 // Floats: they are read and written, and a NaN is not written back as it was read.
 ghost use Rattle.std.specs.Prelude.{◌≡◌, ◌<◌, length, take, drop, IfOk, IfErr};
-ghost use Rattle.std.proofs.Common.{rules};
+ghost use Rattle.std.proofs.Common.{rules, refl};
 ghost use Rattle.scroll.specs.declared.error.Error.TheVariants.{TooBig};
 ghost use Rattle.scroll.specs.lemmas.Frames.{WritesPrefix-keeps};
 ghost use Rattle.scroll_layouts.specs.Formats.{refuses};
@@ -54,6 +54,10 @@ impl<'a> Shape for Floats<'a> {
     type Parts = FloatsP0<'a>;
 
     ghost parts_of = { λ x. (record { 0 = (x.x, x.n, x.y) }, x.body) };
+
+    ghost of_parts = { λ p. record { x = p.0.0.0; n = p.0.0.1; y = p.0.0.2; body = p.1 } };
+
+    ghost again = { λ x. refl };
 
     ghost inner_of = { λ _. record { 0 = tt; 1 = record {}; 2 = record {} } };
 

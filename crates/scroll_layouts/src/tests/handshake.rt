@@ -1,7 +1,7 @@
 // A message of a handshake, as TLS has it: a hello of three counted slices within a length, and then
 // limits by a tag.
 ghost use Rattle.std.specs.Prelude.{◌≡◌, ◌≢◌, ◌<◌, ◌≤◌, ◌+◌, ◌⊎◌, ℕ, List, length, take, drop, codes, IfOk, IfErr, nat_eq};
-ghost use Rattle.std.proofs.Common.{rules};
+ghost use Rattle.std.proofs.Common.{rules, refl};
 ghost use Rattle.scroll.specs.Errors.{IsBadInput};
 ghost use Rattle.scroll.specs.Numbers.{number};
 ghost use Rattle.scroll.specs.declared.endian.Endian.TheVariants.{Big};
@@ -34,6 +34,16 @@ impl Shape for Limits {
     ghost parts_of = { λ x. elim x as (λ _. Choice (Run ℕ) (Run (ℕ × ℕ))) [
       | AtLeast n ↦ First (record { 0 = n })
       | Between n m ↦ Second (record { 0 = (n, m) })
+    ] };
+
+    ghost of_parts = { elim [
+      | First p ↦ AtLeast p.0
+      | Second p ↦ Between p.0.0 p.0.1
+    ] };
+
+    ghost again = { elim [
+      | AtLeast n ↦ refl
+      | Between n m ↦ refl
     ] };
 
     ghost inner_of = { λ tag. record { 0 = nat_eq tag 0; 1 = tt; 2 = tt } };
@@ -155,6 +165,18 @@ impl<'a> Shape for Hello<'a> {
 
     ghost parts_of = { λ x. (record { 0 = (x.version, x.session_len) }, (x.session, (record { 0 = x.suites_len }, (x.suites, (record { 0 = x.extensions_len }, x.extensions))))) };
 
+    ghost of_parts = { λ p. record {
+      version = p.0.0.0;
+      session_len = p.0.0.1;
+      session = p.1.0;
+      suites_len = p.1.1.0.0;
+      suites = p.1.1.1.0;
+      extensions_len = p.1.1.1.1.0.0;
+      extensions = p.1.1.1.1.1;
+    } };
+
+    ghost again = { λ x. refl };
+
     ghost inner_of = { λ _. record { 0 = tt; 1 = record {}; 2 = record {} } };
 
     fn split(&self) -> HelloParts<'a> {
@@ -240,6 +262,15 @@ impl<'a> Shape for Message<'a> {
 
     ghost parts_of = { λ x. (record { 0 = (x.tag, x.len) }, (x.hello, x.limits)) };
 
+    ghost of_parts = { λ p. record {
+      tag = p.0.0.0;
+      len = p.0.0.1;
+      hello = p.1.0;
+      limits = p.1.1;
+    } };
+
+    ghost again = { λ x. refl };
+
     ghost inner_of = { λ _. record { 0 = tt; 1 = record {}; 2 = record {} } };
 
     fn split(&self) -> MessageParts<'a> {
@@ -311,6 +342,15 @@ pub fn suites_again<'a>(target: &'a mut [u8], message: Message) -> Result<&'a [u
     slice::gwrite_with(target, message, &mut 0, BE)?;
     let again: Message = (&*target).pread_with(0, BE)?;
     Ok(again.hello.suites)
+}
+
+/// Writes a message and reads it: its limits are the same.
+pub fn limits_again(target: &mut [u8], message: Message) -> Result<Limits>
+    ensures { IfOk result (λ limits. limits ≡ message.entry.limits) }
+{
+    slice::gwrite_with(target, message, &mut 0, BE)?;
+    let again: Message = (&*target).pread_with(0, BE)?;
+    Ok(again.limits)
 }
 
 /// Reads a message and writes it: the bytes are the same.

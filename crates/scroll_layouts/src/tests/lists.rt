@@ -1,6 +1,6 @@
 // Lists within a length, by a count and up to a mark.
 ghost use Rattle.std.specs.Prelude.{◌≡◌, ◌<◌, [], ◌∷◌, length, take, codes, IfOk, IfErr};
-ghost use Rattle.std.proofs.Common.{rules};
+ghost use Rattle.std.proofs.Common.{rules, refl};
 ghost use Rattle.scroll.specs.Numbers.{number};
 ghost use Rattle.scroll.specs.declared.error.Error.TheVariants.{TooBig};
 ghost use Rattle.scroll.specs.lemmas.Frames.{WritesPrefix-keeps};
@@ -60,6 +60,10 @@ impl<'a> Shape for Item<'a> {
     type Parts = ItemP0<'a>;
 
     ghost parts_of = { λ x. (record { 0 = (x.kind, x.size) }, x.data) };
+
+    ghost of_parts = { λ p. record { kind = p.0.0.0; size = p.0.0.1; «data» = p.1 } };
+
+    ghost again = { λ x. refl };
 
     ghost inner_of = { λ _. record { 0 = tt; 1 = record {}; 2 = record {} } };
 
@@ -150,6 +154,16 @@ impl<'a> Shape for Lists<'a> {
     type Parts = ListsP0<'a>;
 
     ghost parts_of = { λ x. (record { 0 = (x.a, x.n) }, (x.first, (x.some, x.others))) };
+
+    ghost of_parts = { λ p. record {
+      a = p.0.0.0;
+      n = p.0.0.1;
+      first = p.1.0;
+      some = p.1.1.0;
+      others = p.1.1.1;
+    } };
+
+    ghost again = { λ x. refl };
 
     ghost inner_of = { λ _. record { 0 = tt; 1 = record {}; 2 = record {} } };
 

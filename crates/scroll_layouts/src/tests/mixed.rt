@@ -1,12 +1,13 @@
 // Twelve fields: numbers, a counted slice, an optional number by a bit of a flag, a struct of any
 // size within a length, a second head, and a slice.
 ghost use Rattle.std.specs.Prelude.{◌≡◌, ◌<◌, ◌≤◌, ◌+◌, ◌%◌, ◌/◌, ◌⊎◌, ℕ, List, length, take, drop, codes, IfOk, IfErr, Some, None, nat_eq, option_map};
-ghost use Rattle.std.proofs.Common.{rules};
+ghost use Rattle.std.proofs.Common.{rules, refl};
 ghost use Rattle.scroll.specs.Errors.{IsBadInput};
 ghost use Rattle.scroll.specs.Numbers.{number};
 ghost use Rattle.scroll.specs.lemmas.Frames.{WritesPrefix-keeps};
 ghost use Rattle.scroll.specs.declared.endian.Endian.TheVariants.{Little};
 ghost use Rattle.scroll.specs.declared.error.Error.TheVariants.{TooBig};
+ghost use Rattle.scroll_layouts.specs.lemmas.EqualLemmas.{number-again};
 ghost use Rattle.scroll_layouts.specs.Wholes.{ReadsExact, WritesWhole, KeepsWhole};
 ghost use Rattle.scroll_layouts.specs.Formats.{refuses};
 
@@ -57,6 +58,10 @@ impl<'a> Shape for Name<'a> {
     type Parts = NameParts<'a>;
 
     ghost parts_of = { λ x. (record { 0 = (x.kind, x.len) }, x.name) };
+
+    ghost of_parts = { λ p. record { kind = p.0.0.0; len = p.0.0.1; name = p.1 } };
+
+    ghost again = { λ x. refl };
 
     ghost inner_of = { λ _. record { 0 = tt; 1 = record {}; 2 = record {} } };
 
@@ -187,6 +192,36 @@ impl<'a> Shape for Mixed<'a> {
       (x.text, (record { 0 = x.time }, (option_map (λ n. record { 0 = n }) x.owner, (x.body, (record { 0 = (x.tail, x.extra_len) }, x.extra))))),
     ) };
 
+    ghost of_parts = { λ p. record {
+      kind = p.0.0.0.0;
+      flags = p.0.0.0.1;
+      crc = p.0.0.1.0;
+      len = p.0.0.1.1;
+      size = p.0.0.1.2;
+      text = p.1.0;
+      time = p.1.1.0.0;
+      owner = option_map (λ n. n.0) p.1.1.1.0;
+      body = p.1.1.1.1.0;
+      tail = p.1.1.1.1.1.0.0.0;
+      extra_len = p.1.1.1.1.1.0.0.1;
+      extra = p.1.1.1.1.1.1;
+    } };
+
+    ghost again = { λ x i. record {
+      kind = x.kind;
+      flags = x.flags;
+      crc = x.crc;
+      len = x.len;
+      size = x.size;
+      text = x.text;
+      time = x.time;
+      owner = number-again x.owner i;
+      body = x.body;
+      tail = x.tail;
+      extra_len = x.extra_len;
+      extra = x.extra;
+    } };
+
     ghost inner_of = { λ _. record { 0 = tt; 1 = record {}; 2 = record {} } };
 
     fn split(&self) -> MixedParts<'a> {
@@ -287,6 +322,15 @@ pub fn name_again<'a>(target: &'a mut [u8], value: Mixed, order: Endian) -> Resu
     slice::gwrite_with(target, value, &mut 0, order)?;
     let again: Mixed = (&*target).pread_with(0, order)?;
     Ok(again.body.name)
+}
+
+/// Writes a value and reads it: its owner is the same, or is none again.
+pub fn owner_again(target: &mut [u8], value: Mixed, order: Endian) -> Result<Option<u32>>
+    ensures { IfOk result (λ owner. owner ≡ value.entry.owner) }
+{
+    slice::gwrite_with(target, value, &mut 0, order)?;
+    let again: Mixed = (&*target).pread_with(0, order)?;
+    Ok(again.owner)
 }
 
 /// Reads a value and writes it: the bytes are the same.

@@ -1,7 +1,7 @@
 // Bytes that Python's `struct` packed, read and written as nested formats.
-use crate::tests::handshake::{copy_message, read_message, suites_again};
+use crate::tests::handshake::{copy_message, limits_again, read_message, suites_again};
 use crate::tests::limits::Limits;
-use crate::tests::mixed::{copy_mixed, name_again, read_mixed};
+use crate::tests::mixed::{copy_mixed, name_again, owner_again, read_mixed};
 use scroll::{Error, LE};
 use std::test::Fail;
 
@@ -25,6 +25,7 @@ fn a_mixed_struct(rt: HostRuntime) -> Result<(), Fail> {
     assert_eq!(rt; copy_mixed(&MIXED, &mut copy, LE)?, 37);
     assert_eq!(rt; copy, MIXED);
     let mut again = [0u8; 64];
+    assert_eq!(rt; owner_again(&mut again, value, LE)?, Some(0x0a0b));
     assert_eq!(rt; name_again(&mut again, value, LE)?, b"xy".as_slice());
     for n in 0..37 {
         assert!(rt; read_mixed(&MIXED[..n], LE).is_err());
@@ -42,6 +43,8 @@ fn a_message(rt: HostRuntime) -> Result<(), Fail> {
     assert_eq!(rt; copy_message(&MESSAGE, &mut copy)?, 25);
     assert_eq!(rt; copy, MESSAGE);
     let mut again = [0u8; 64];
+    let limits = limits_again(&mut again, message)?;
+    assert!(rt; matches!(&limits, Limits::Between(16, 32)));
     assert_eq!(rt;
         suites_again(&mut again, message)?,
         [0u8, 1, 0, 2].as_slice()

@@ -1,6 +1,6 @@
 // Signed numbers, arrays, fields of bits in a byte and in a word, and a table.
 ghost use Rattle.std.specs.Prelude.{◌≡◌, ◌<◌, length, take, IfOk, IfErr};
-ghost use Rattle.std.proofs.Common.{rules};
+ghost use Rattle.std.proofs.Common.{rules, refl};
 ghost use Rattle.scroll.specs.Numbers.{signed_number};
 ghost use Rattle.scroll.specs.declared.error.Error.TheVariants.{TooBig};
 ghost use Rattle.scroll.specs.lemmas.Frames.{WritesPrefix-keeps};
@@ -76,6 +76,23 @@ impl<'a> Shape for Numbers<'a> {
     type Parts = NumbersP0<'a>;
 
     ghost parts_of = { λ x. (record { 0 = ((x.a, x.n), (x.id, x.xs), x.b) }, ((x.pair_0, x.pair_1), (((x.flags_0, x.flags_1), x.flags_2), (x.words, x.body)))) };
+
+    ghost of_parts = { λ p. record {
+      a = p.0.0.0.0;
+      n = p.0.0.0.1;
+      id = p.0.0.1.0;
+      xs = p.0.0.1.1;
+      b = p.0.0.2;
+      pair_0 = p.1.0.0;
+      pair_1 = p.1.0.1;
+      flags_0 = p.1.1.0.0.0;
+      flags_1 = p.1.1.0.0.1;
+      flags_2 = p.1.1.0.1;
+      words = p.1.1.1.0;
+      body = p.1.1.1.1;
+    } };
+
+    ghost again = { λ x. refl };
 
     ghost inner_of = { λ _. record { 0 = tt; 1 = record {}; 2 = record {} } };
 

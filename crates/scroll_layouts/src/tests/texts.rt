@@ -1,6 +1,6 @@
 // C strings, texts by a count and up to a byte, and bytes.
 ghost use Rattle.std.specs.Prelude.{◌≡◌, ◌<◌, length, take, IfOk, IfErr};
-ghost use Rattle.std.proofs.Common.{rules};
+ghost use Rattle.std.proofs.Common.{rules, refl};
 ghost use Rattle.scroll.specs.Numbers.{number};
 ghost use Rattle.scroll.specs.declared.error.Error.TheVariants.{TooBig};
 ghost use Rattle.scroll.specs.lemmas.Frames.{WritesPrefix-keeps};
@@ -58,6 +58,17 @@ impl<'a> Shape for Texts<'a> {
     type Parts = TextsP0<'a>;
 
     ghost parts_of = { λ x. (record { 0 = (x.a, x.n) }, (x.name, (x.label, (x.line, x.body)))) };
+
+    ghost of_parts = { λ p. record {
+      a = p.0.0.0;
+      n = p.0.0.1;
+      name = p.1.0;
+      label = p.1.1.0;
+      line = p.1.1.1.0;
+      body = p.1.1.1.1;
+    } };
+
+    ghost again = { λ x. refl };
 
     ghost inner_of = { λ _. record { 0 = tt; 1 = record {}; 2 = record {} } };
 

@@ -1,6 +1,6 @@
 // Lists whose values are walked where they lie: fields behind a length in LEB128, and names.
 ghost use Rattle.std.specs.Prelude.{◌≡◌, length, IfOk, IfNone};
-ghost use Rattle.std.proofs.Common.{rules};
+ghost use Rattle.std.proofs.Common.{rules, refl};
 ghost use Rattle.scroll.specs.Numbers.{number};
 ghost use Rattle.scroll.specs.declared.endian.Endian.TheVariants.{Little};
 ghost use Rattle.scroll_layouts.specs.Formats.{refuses};
@@ -59,6 +59,10 @@ impl<'a> Shape for Field<'a> {
     type Parts = FieldParts<'a>;
 
     ghost parts_of = { λ x. ((record { 0 = x.number }, x.len), x.data) };
+
+    ghost of_parts = { λ p. record { number = p.0.0.0; len = p.0.1; «data» = p.1 } };
+
+    ghost again = { λ x. refl };
 
     ghost inner_of = { λ _. record { 0 = (tt, tt); 1 = record {}; 2 = record {} } };
 
@@ -129,6 +133,10 @@ impl<'a> Shape for Message<'a> {
     type Parts = MessageParts<'a>;
 
     ghost parts_of = { λ x. (record { 0 = x.size }, (x.name, x.fields)) };
+
+    ghost of_parts = { λ p. record { size = p.0.0; name = p.1.0; fields = p.1.1 } };
+
+    ghost again = { λ x. refl };
 
     ghost inner_of = { λ _. record { 0 = tt; 1 = record {}; 2 = record {} } };
 

@@ -2,8 +2,9 @@
 ghost use Rattle.std.specs.Prelude.{◌≡◌, ◌≤◌, ◌<◌, ◌+◌, ◌-◌, ◌^◌, ◌++◌, length, take, drop, min, IfOk, IfErr};
 ghost use Rattle.scroll.specs.Encoding.{HasEncoding};
 ghost use Rattle.scroll.specs.declared.error.Error.{Error};
-ghost use Rattle.scroll_layouts.specs.Formats.{leaf, last};
+ghost use Rattle.scroll_layouts.specs.Formats.{leaf, shape};
 ghost use Rattle.scroll_layouts.specs.Starts.{start};
+ghost use Rattle.scroll_layouts.specs.lemmas.PromiseLemmas.{vlq-is};
 ghost use Rattle.scroll_layouts.specs.VarintLeaves.{vlq, vlq_counted};
 ghost use Rattle.scroll_layouts.specs.Varints.{ReadsVlq, RefusesVlq, vlq_bytes};
 
@@ -15,7 +16,7 @@ use std::result::Result;
 /// the size 1 and the length 0. One whose number has more than ten bytes or 64 bits is
 /// [`Error::BadInput`] with the number of bytes there and the message `failed to parse`.
 impl<E: From<Error>> Part<(), E> for Vlq {
-    ghost format = { λ _. last (leaf (start (vlq E.from_gives))) vlq_counted };
+    ghost format = { λ _. shape (leaf (start (vlq E.from_gives))) vlq_counted vlq-is };
 
     fn check(&self, _order: Endian, _ctx: &()) -> Result<(), E> {
         let _number = *self;
@@ -36,7 +37,7 @@ impl<E: From<Error>> Part<(), E> for Vlq {
 }
 
 impl<'a, E: From<Error>> ReadPart<'a, (), E> for Vlq {
-    ghost format = { λ _. last (leaf (start (vlq E.from_gives))) vlq_counted };
+    ghost format = { λ _. shape (leaf (start (vlq E.from_gives))) vlq_counted vlq-is };
 
     #[inline(always)]
     fn read_at(

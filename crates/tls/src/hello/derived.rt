@@ -1,6 +1,6 @@
 // Printed by tools/derive from hello.rt.
 ghost use Rattle.std.specs.Prelude.{◌≡◌, ◌≢◌, ◌<◌, ◌≤◌, ◌^◌, codes, nat_eq};
-ghost use Rattle.std.proofs.Common.{rules};
+ghost use Rattle.std.proofs.Common.{refl, rules};
 ghost use Rattle.scroll.specs.Errors.{IsBadInput};
 ghost use Rattle.scroll.specs.lemmas.Frames.{WritesPrefix-keeps};
 ghost use Rattle.scroll_layouts.specs.Errors.{IsNot};
@@ -93,6 +93,10 @@ impl<'a> Shape for Handshake<'a> {
     type Parts = HandshakeParts<'a>;
 
     ghost parts_of = { λ x. (record { 0 = x.kind }, (x.len, x.hello)) };
+
+    ghost of_parts = { λ p. record { kind = p.0.0; len = p.1.0; hello = p.1.1 } };
+
+    ghost again = { λ x. refl };
 
     ghost inner_of = { λ _. record {
       0 = endian_is.Big;
@@ -262,6 +266,20 @@ impl<'a> Shape for ClientHello<'a> {
       x.extensions,
     ) };
 
+    ghost of_parts = { λ p. record {
+      version = p.0.0.0.0;
+      random = p.0.0.0.1;
+      session_len = p.0.0.0.2;
+      session = p.0.1.0;
+      suites_len = p.0.1.1.0.0;
+      suites = p.0.1.1.1.0;
+      compressions_len = p.0.1.1.1.1.0.0;
+      compressions = p.0.1.1.1.1.1;
+      extensions = p.1;
+    } };
+
+    ghost again = { λ x. refl };
+
     ghost inner_of = { λ n. record { 0 = n; 1 = record { 0 = tt; 1 = record {}; 2 = record {} } } };
 
     fn split(&self) -> ClientHelloParts<'a> {
@@ -350,6 +368,10 @@ impl<'a> Shape for ExtensionList<'a> {
 
     ghost parts_of = { λ x. (record { 0 = x.len }, x.each) };
 
+    ghost of_parts = { λ p. record { len = p.0.0; each = p.1 } };
+
+    ghost again = { λ x. refl };
+
     ghost inner_of = { λ _. record { 0 = tt; 1 = record {}; 2 = record {} } };
 
     fn split(&self) -> ExtensionListParts<'a> {
@@ -409,6 +431,10 @@ impl<'a> Shape for Extension<'a> {
     type Parts = ExtensionParts<'a>;
 
     ghost parts_of = { λ x. (record { 0 = (x.kind, x.len) }, x.body) };
+
+    ghost of_parts = { λ p. record { kind = p.0.0.0; len = p.0.0.1; body = p.1 } };
+
+    ghost again = { λ x. refl };
 
     ghost inner_of = { λ _. record { 0 = tt; 1 = record {}; 2 = record {} } };
 
@@ -485,6 +511,22 @@ impl<'a> Shape for ExtensionBody<'a> {
       | extension_body_is.Protocols v0 ↦ Second (Second (First v0))
       | extension_body_is.Versions v0 ↦ Second (Second (Second (First v0)))
       | extension_body_is.Other v0 ↦ Second (Second (Second (Second v0)))
+    ] };
+
+    ghost of_parts = { elim [
+      | First p ↦ extension_body_is.Server p
+      | Second (First p) ↦ extension_body_is.Groups p
+      | Second (Second (First p)) ↦ extension_body_is.Protocols p
+      | Second (Second (Second (First p))) ↦ extension_body_is.Versions p
+      | Second (Second (Second (Second p))) ↦ extension_body_is.Other p
+    ] };
+
+    ghost again = { elim [
+      | extension_body_is.Server v0 ↦ refl
+      | extension_body_is.Groups v0 ↦ refl
+      | extension_body_is.Protocols v0 ↦ refl
+      | extension_body_is.Versions v0 ↦ refl
+      | extension_body_is.Other v0 ↦ refl
     ] };
 
     ghost inner_of = { λ t. record {
@@ -578,6 +620,10 @@ impl<'a> Shape for ServerNames<'a> {
 
     ghost parts_of = { λ x. (record { 0 = x.len }, x.host) };
 
+    ghost of_parts = { λ p. record { len = p.0.0; host = p.1 } };
+
+    ghost again = { λ x. refl };
+
     ghost inner_of = { λ _. record { 0 = tt; 1 = record {}; 2 = record {} } };
 
     fn split(&self) -> ServerNamesParts<'a> {
@@ -635,6 +681,10 @@ impl<'a> Shape for HostName<'a> {
 
     ghost parts_of = { λ x. (record { 0 = (x.kind, x.len) }, x.name) };
 
+    ghost of_parts = { λ p. record { kind = p.0.0.0; len = p.0.0.1; name = p.1 } };
+
+    ghost again = { λ x. refl };
+
     ghost inner_of = { λ _. record { 0 = tt; 1 = record {}; 2 = record {} } };
 
     fn split(&self) -> HostNameParts<'a> {
@@ -690,6 +740,10 @@ impl<'a> Shape for LongList<'a> {
     type Parts = LongListParts<'a>;
 
     ghost parts_of = { λ x. (record { 0 = x.len }, x.each) };
+
+    ghost of_parts = { λ p. record { len = p.0.0; each = p.1 } };
+
+    ghost again = { λ x. refl };
 
     ghost inner_of = { λ _. record { 0 = tt; 1 = record {}; 2 = record {} } };
 
@@ -747,6 +801,10 @@ impl<'a> Shape for ShortList<'a> {
 
     ghost parts_of = { λ x. (record { 0 = x.len }, x.each) };
 
+    ghost of_parts = { λ p. record { len = p.0.0; each = p.1 } };
+
+    ghost again = { λ x. refl };
+
     ghost inner_of = { λ _. record { 0 = tt; 1 = record {}; 2 = record {} } };
 
     fn split(&self) -> ShortListParts<'a> {
@@ -802,6 +860,10 @@ impl<'a> Shape for ProtocolList<'a> {
     type Parts = ProtocolListParts<'a>;
 
     ghost parts_of = { λ x. (record { 0 = x.len }, x.each) };
+
+    ghost of_parts = { λ p. record { len = p.0.0; each = p.1 } };
+
+    ghost again = { λ x. refl };
 
     ghost inner_of = { λ _. record { 0 = tt; 1 = record {}; 2 = record {} } };
 
@@ -868,6 +930,10 @@ impl<'a> Shape for Protocol<'a> {
     type Parts = ProtocolParts<'a>;
 
     ghost parts_of = { λ x. (record { 0 = x.len }, x.name) };
+
+    ghost of_parts = { λ p. record { len = p.0.0; name = p.1 } };
+
+    ghost again = { λ x. refl };
 
     ghost inner_of = { λ _. record { 0 = tt; 1 = record {}; 2 = record {} } };
 

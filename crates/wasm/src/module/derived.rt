@@ -1,11 +1,12 @@
 // Printed by tools/derive from module.rt.
 ghost use Rattle.std.specs.Prelude.{◌≡◌, ◌≢◌, ◌<◌, ◌≤◌, ◌^◌, ◌⊎◌, [], ◌∷◌, codes, nat_eq};
-ghost use Rattle.std.proofs.Common.{rules};
+ghost use Rattle.std.proofs.Common.{refl, rules};
 ghost use Rattle.scroll.specs.Errors.{IsBadInput};
 ghost use Rattle.scroll.specs.lemmas.Frames.{WritesPrefix-keeps};
 ghost use Rattle.scroll_layouts.specs.Errors.{IsNot};
-ghost use Rattle.scroll_layouts.specs.Formats.{last, refuses};
+ghost use Rattle.scroll_layouts.specs.Formats.{refuses, shape};
 ghost use Rattle.scroll_layouts.specs.Wholes.{KeepsWhole, ReadsExact, WritesWhole};
+ghost use Rattle.scroll_layouts.specs.lemmas.EqualLemmas.{parts-unique};
 ghost use Rattle.scroll_layouts.specs.declared.choice.Choice.TheVariants.{First, Second};
 ghost use Rattle.scroll.specs.declared.endian.Endian.TheVariants as endian_is;
 ghost use Rattle.wasm.specs.declared.module.Contents.TheVariants as contents_is;
@@ -75,6 +76,10 @@ impl<'a> Shape for Module<'a> {
     type Parts = ModuleParts<'a>;
 
     ghost parts_of = { λ x. ((record { 0 = (x.magic, x.version) }, record {}), x.sections) };
+
+    ghost of_parts = { λ p. record { magic = p.0.0.0.0; version = p.0.0.0.1; sections = p.1 } };
+
+    ghost again = { λ x. refl };
 
     ghost inner_of = { λ n. record {
       0 = endian_is.Little;
@@ -170,6 +175,10 @@ impl<'a> Shape for Section<'a> {
 
     ghost parts_of = { λ x. (record { 0 = x.id }, (x.size, x.contents)) };
 
+    ghost of_parts = { λ p. record { id = p.0.0; size = p.1.0; contents = p.1.1 } };
+
+    ghost again = { λ x. refl };
+
     ghost inner_of = { λ _. record { 0 = tt; 1 = record {}; 2 = record {} } };
 
     fn split(&self) -> SectionParts<'a> {
@@ -246,6 +255,24 @@ impl<'a> Shape for Contents<'a> {
       | contents_is.Functions v0 ↦ Second (Second (Second (First v0)))
       | contents_is.Exports v0 ↦ Second (Second (Second (Second (First v0))))
       | contents_is.Other v0 ↦ Second (Second (Second (Second (Second v0))))
+    ] };
+
+    ghost of_parts = { elim [
+      | First p ↦ contents_is.Custom p
+      | Second (First p) ↦ contents_is.Types p
+      | Second (Second (First p)) ↦ contents_is.Imports p
+      | Second (Second (Second (First p))) ↦ contents_is.Functions p
+      | Second (Second (Second (Second (First p)))) ↦ contents_is.Exports p
+      | Second (Second (Second (Second (Second p)))) ↦ contents_is.Other p
+    ] };
+
+    ghost again = { elim [
+      | contents_is.Custom v0 ↦ refl
+      | contents_is.Types v0 ↦ refl
+      | contents_is.Imports v0 ↦ refl
+      | contents_is.Functions v0 ↦ refl
+      | contents_is.Exports v0 ↦ refl
+      | contents_is.Other v0 ↦ refl
     ] };
 
     ghost inner_of = { λ t. record {
@@ -349,6 +376,10 @@ impl<'a> Shape for Name<'a> {
 
     ghost parts_of = { λ x. (x.len, x.text) };
 
+    ghost of_parts = { λ p. record { len = p.0; text = p.1 } };
+
+    ghost again = { λ x. refl };
+
     ghost inner_of = { λ _. record { 0 = tt; 1 = record {}; 2 = record {} } };
 
     fn split(&self) -> NameParts<'a> {
@@ -381,6 +412,10 @@ impl<'a> Shape for Custom<'a> {
     type Parts = CustomParts<'a>;
 
     ghost parts_of = { λ x. (x.name, x.bytes) };
+
+    ghost of_parts = { λ p. record { name = p.0; bytes = p.1 } };
+
+    ghost again = { λ x. refl };
 
     ghost inner_of = { λ n. record { 0 = n; 1 = tt } };
 
@@ -437,6 +472,10 @@ impl<'a> Shape for Types<'a> {
     type Parts = TypesParts<'a>;
 
     ghost parts_of = { λ x. (x.count, x.each) };
+
+    ghost of_parts = { λ p. record { count = p.0; each = p.1 } };
+
+    ghost again = { λ x. refl };
 
     ghost inner_of = { λ _. record { 0 = tt; 1 = record {}; 2 = record {} } };
 
@@ -559,6 +598,16 @@ impl<'a> Shape for FunctionType<'a> {
       (x.parameter_count, (x.parameters, (x.result_count, x.results))),
     ) };
 
+    ghost of_parts = { λ p. record {
+      form = p.0.0;
+      parameter_count = p.1.0;
+      parameters = p.1.1.0;
+      result_count = p.1.1.1.0;
+      results = p.1.1.1.1;
+    } };
+
+    ghost again = { λ x. refl };
+
     ghost inner_of = { λ _. record { 0 = tt; 1 = record {}; 2 = record {} } };
 
     fn split(&self) -> FunctionTypeParts<'a> {
@@ -627,6 +676,10 @@ impl<'a> Shape for Imports<'a> {
 
     ghost parts_of = { λ x. (x.count, x.each) };
 
+    ghost of_parts = { λ p. record { count = p.0; each = p.1 } };
+
+    ghost again = { λ x. refl };
+
     ghost inner_of = { λ _. record { 0 = tt; 1 = record {}; 2 = record {} } };
 
     fn split(&self) -> ImportsParts<'a> {
@@ -661,6 +714,10 @@ impl<'a> Shape for Import<'a> {
     type Parts = ImportParts<'a>;
 
     ghost parts_of = { λ x. (x.«module», (x.name, x.what)) };
+
+    ghost of_parts = { λ p. record { «module» = p.0; name = p.1.0; what = p.1.1 } };
+
+    ghost again = { λ x. refl };
 
     ghost inner_of = { λ _. (tt, (tt, tt)) };
 
@@ -737,6 +794,20 @@ impl Split for Imported {
       | imported_is.Global v0 v1 ↦ (record { 0 = 3 }, Second (Second (Second (record { 0 = (v0, v1) }))))
     ] };
 
+    ghost of_parts = { λ p. elim p.1 [
+      | First p ↦ imported_is.Function p
+      | Second (First p) ↦ imported_is.Table p
+      | Second (Second (First p)) ↦ imported_is.Memory p
+      | Second (Second (Second p)) ↦ imported_is.Global p.0.0 p.0.1
+    ] };
+
+    ghost again = { elim [
+      | imported_is.Function v0 ↦ refl
+      | imported_is.Table v0 ↦ refl
+      | imported_is.Memory v0 ↦ refl
+      | imported_is.Global v0 v1 ↦ refl
+    ] };
+
     fn split(&self) -> ImportedParts {
         match self {
             Imported::Function(v0) => (Run(0), First(*v0)),
@@ -748,8 +819,9 @@ impl Split for Imported {
 }
 
 impl Part<(), Error> for Imported {
-    ghost format = { λ _. last (⟦<ImportedParts as Part<ImportedCtx, Error>>⟧.format
-        (record { 0 = tt; 1 = record {}; 2 = record {} })) ⟦<Imported as Split>⟧.parts_of };
+    ghost format = { λ _. shape (⟦<ImportedParts as Part<ImportedCtx, Error>>⟧.format
+        (record { 0 = tt; 1 = record {}; 2 = record {} })) ⟦<Imported as Split>⟧.parts_of
+        (parts-unique ⟦<Imported as Split>⟧.parts_of ⟦<Imported as Split>⟧.of_parts ⟦<Imported as Split>⟧.again) };
 
     fn check(&self, order: Endian, _ctx: &()) -> Result<(), Error> {
         let parts = self.split();
@@ -772,8 +844,9 @@ impl Part<(), Error> for Imported {
 }
 
 impl<'a> ReadPart<'a, (), Error> for Imported {
-    ghost format = { λ _. last (⟦<ImportedParts as ReadPart<'a, ImportedCtx, Error>>⟧.format
-        (record { 0 = tt; 1 = record {}; 2 = record {} })) ⟦<Imported as Split>⟧.parts_of };
+    ghost format = { λ _. shape (⟦<ImportedParts as ReadPart<'a, ImportedCtx, Error>>⟧.format
+        (record { 0 = tt; 1 = record {}; 2 = record {} })) ⟦<Imported as Split>⟧.parts_of
+        (parts-unique ⟦<Imported as Split>⟧.parts_of ⟦<Imported as Split>⟧.of_parts ⟦<Imported as Split>⟧.again) };
 
     #[inline(always)]
     fn read_at(
@@ -809,6 +882,10 @@ impl Shape for TableType {
     type Parts = TableTypeParts;
 
     ghost parts_of = { λ x. (record { 0 = x.element }, x.limits) };
+
+    ghost of_parts = { λ p. record { element = p.0.0; limits = p.1 } };
+
+    ghost again = { λ x. refl };
 
     ghost inner_of = { λ _. (tt, tt) };
 
@@ -872,6 +949,10 @@ impl Shape for Limits {
 
     ghost parts_of = { λ x. (record { 0 = x.flags }, (x.least, x.most)) };
 
+    ghost of_parts = { λ p. record { flags = p.0.0; least = p.1.0; most = p.1.1 } };
+
+    ghost again = { λ x. refl };
+
     ghost inner_of = { λ _. record { 0 = tt; 1 = record {}; 2 = record {} } };
 
     fn split(&self) -> LimitsParts {
@@ -927,6 +1008,10 @@ impl<'a> Shape for Indices<'a> {
     type Parts = IndicesParts<'a>;
 
     ghost parts_of = { λ x. (x.count, x.each) };
+
+    ghost of_parts = { λ p. record { count = p.0; each = p.1 } };
+
+    ghost again = { λ x. refl };
 
     ghost inner_of = { λ _. record { 0 = tt; 1 = record {}; 2 = record {} } };
 
@@ -987,6 +1072,10 @@ impl<'a> Shape for Exports<'a> {
     type Parts = ExportsParts<'a>;
 
     ghost parts_of = { λ x. (x.count, x.each) };
+
+    ghost of_parts = { λ p. record { count = p.0; each = p.1 } };
+
+    ghost again = { λ x. refl };
 
     ghost inner_of = { λ _. record { 0 = tt; 1 = record {}; 2 = record {} } };
 
@@ -1055,6 +1144,10 @@ impl<'a> Shape for Export<'a> {
     type Parts = ExportParts<'a>;
 
     ghost parts_of = { λ x. (x.name, (record { 0 = x.kind }, x.index)) };
+
+    ghost of_parts = { λ p. record { name = p.0; kind = p.1.0.0; index = p.1.1 } };
+
+    ghost again = { λ x. refl };
 
     ghost inner_of = { λ _. (tt, record { 0 = tt; 1 = record {}; 2 = record {} }) };
 

@@ -1,0 +1,32 @@
+-- When values are equal. The lemmas are proved, and promise nothing.
+use Rattle.std.proofs.Common.{◌≡◌, sym, ap, ◌∙◌, refl}
+use Rattle.std.specs.Prelude.{Option, Some, None, option_map}
+use Rattle.scroll.specs.Leb128.{Counted}
+use Rattle.scroll_layouts.specs.declared.fixed.records.Field.{Field}
+use Rattle.scroll_layouts.specs.declared.run.Run.{Run}
+
+-- pairs of the same values
+pub pair-is : {A B : Type 0} (x y : A × B) → x.0 ≡ y.0 → x.1 ≡ y.1 → x ≡ y
+pair-is x y h k = ap (λ a. (a, x.1)) h ∙ ap (λ b. (y.0, b)) k
+
+-- values of the same parts, of which a value is made again
+pub parts-unique : {X P : Type 0} (get : X → P) (of_parts : P → X)
+    → ((x : X) → of_parts (get x) ≡ x) → (x y : X) → get x ≡ get y → x ≡ y
+parts-unique get of_parts again x y h = sym (again x) ∙ ap of_parts h ∙ again y
+
+-- an optional number, or an optional struct of a fixed size, that was made a part
+pub number-again : {A : Type 0} (o : Option A)
+    → option_map (λ r. r.0) (option_map {T = A} {U = Run A} (λ v. record { 0 = v }) o) ≡ o
+number-again (Some a) = refl
+number-again None = refl
+
+pub record-again : {A : Type 0} (o : Option A) → option_map (λ r. r.0.0)
+    (option_map {T = A} {U = Run (Field A)} (λ v. record { 0 = record { 0 = v } }) o) ≡ o
+record-again (Some a) = refl
+record-again None = refl
+
+-- equal numbers, with the length of their encodings
+pub counted-is : {V : Type 0} (x y : Counted V) → x.value ≡ y.value → x.count ≡ y.count → x ≡ y
+counted-is x y h k =
+    ap (λ v. record { value = v; count = x.count }) h
+    ∙ ap (λ n. record { value = y.value; count = n }) k

@@ -1,0 +1,57 @@
+"""What makes a value of its parts again: the inverse of what says the parts in the logic."""
+
+import re
+from dataclasses import dataclass
+from typing import Iterator, List, Tuple
+
+from text import is_whole, label, split_top
+
+WRAPPED = re.compile(r"option_map \(λ v\. (.*)\) (\S+)")
+
+
+@dataclass(frozen=True)
+class Leaf:
+    """A value that stands in the parts: how it is taken out of them, and a proof that it is there again, if it isn't by itself."""
+
+    name: str
+    taken: str
+    proof: str
+
+
+def leaves_of(said: str, path: str) -> Iterator[Leaf]:
+    """Returns the values in what is said of the parts."""
+    if is_whole(said, "("):
+        for at, it in enumerate(split_top(said[1:-1], ",")):
+            yield from leaves_of(it, f"{path}.{at}")
+    elif is_whole(said, "record {"):
+        for it in split_top(said[8:-1].strip(), ";"):
+            name, _, value = it.partition(" = ")
+            if name:
+                yield from leaves_of(value, f"{path}.{name}")
+    elif found := WRAPPED.fullmatch(said):
+        [inside] = leaves_of(found[1], "v")
+        lemma = "record-again" if "record" in found[1].partition("=")[2] else "number-again"
+        yield Leaf(found[2], f"option_map (λ v. {inside.taken}) {path}", f"{lemma} {found[2]}")
+    else:
+        yield Leaf(said, path, "")
+
+
+def struct_again(said: str, names: List[str]) -> Tuple[str, str]:
+    """Returns the struct of its parts, and the proof that it has nothing else. (A field that isn't there is of zeros.)"""
+    leaves = {it.name: it for it in leaves_of(said, "p")}
+    fields = [(label(it), leaves.get(f"x.{label(it)}", Leaf(f"x.{label(it)}", "record {}", ""))) for it in names]
+    value = "record { " + "; ".join(f"{name} = {it.taken}" for name, it in fields) + " }"
+    if not any(it.proof for _, it in fields):
+        return f"λ p. {value}", "λ x. refl"
+    proofs = "; ".join(f"{name} = {f'{it.proof} i' if it.proof else it.name}" for name, it in fields)
+    return f"λ p. {value}", f"λ x i. record {{ {proofs} }}"
+
+
+def variant_again(said: str, made: str, names: List[str]) -> Tuple[str, str]:
+    """Returns a variant of its parts `p`, and the proof that it has nothing else."""
+    leaves = {it.name: it for it in leaves_of(said, "p")}
+    found = [leaves.get(it, Leaf(it, "record {}", "")) for it in names]
+    taken = " ".join([made, *(f"({it.taken})" if " " in it.taken else it.taken for it in found)])
+    if not any(it.proof for it in found):
+        return taken, "refl"
+    return taken, "λ i. " + " ".join([made, *(f"({it.proof} i)" if it.proof else it.name for it in found)])
