@@ -47,9 +47,9 @@ def struct_again(said: str, names: List[str]) -> Tuple[str, str]:
     return f"λ p. {value}", f"λ x i. record {{ {proofs} }}"
 
 
-def variant_again(said: str, made: str, names: List[str]) -> Tuple[str, str]:
-    """Returns a variant of its parts `p`, and the proof that it has nothing else."""
-    leaves = {it.name: it for it in leaves_of(said, "p")}
+def variant_again(said: str, made: str, names: List[str], path: str) -> Tuple[str, str]:
+    """Returns a variant of its parts, and the proof that it has nothing else."""
+    leaves = {it.name: it for it in leaves_of(said, path)}
     found = [leaves.get(it, Leaf(it, "record {}", "")) for it in names]
     taken = " ".join([made, *(f"({it.taken})" if " " in it.taken else it.taken for it in found)])
     if not any(it.proof for it in found):

@@ -186,11 +186,15 @@ class Enum(Form):
 
     def again(self) -> Tuple[str, str]:
         """Returns in the logic what makes the enum of a choice, and the proof that it has nothing else."""
-        alias, patterns = alias_of(self.item.name), [self.chosen(at, "p", spaced) for at in range(len(self.variants))]
+        alias, path = alias_of(self.item.name), "p.1" if self.is_own else "p"
+        one = len(self.variants) == 1
         said = [it.part.ghost.replace("x.v", "v") for it in self.variants]
-        made = [variant_again(it, f"{alias}.{variant.name}", variant.fields) for it, variant in zip(said, self.variants)]
-        cases = "".join(f"\n      | {pattern} ↦ {value}" for pattern, (value, _) in zip(patterns, made))
-        return f"{'λ p. elim p.1' if self.is_own else 'elim'} [{cases}\n    ]", f"elim [{self.cases([proof for _, proof in made], 6)}\n    ]"
+        made = [variant_again(text, f"{alias}.{it.name}", it.fields, path if one else "p") for text, it in zip(said, self.variants)]
+        proofs = f"elim [{self.cases([proof for _, proof in made], 6)}\n    ]"
+        if one:
+            return f"λ p. {made[0][0]}", proofs
+        cases = "".join(f"\n      | {self.chosen(at, 'p', spaced)} ↦ {value}" for at, (value, _) in enumerate(made))
+        return f"{'λ p. elim p.1' if self.is_own else 'elim'} [{cases}\n    ]", proofs
 
     def pattern(self, variant: Variant) -> str:
         return f"{self.item.name}::{variant.name}" + (call("", *variant.fields) if variant.fields else "")
