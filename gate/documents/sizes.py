@@ -23,7 +23,7 @@ FORMATS = {
     "network": "dhcp dns ethernet ipv4 mqtt packets pcap pcapng tcp tls",
     "pictures": "bmp gif ico jpeg png tga",
     "sound, film": "flac id3 midi mp4 ogg wav",
-    "data": "bson fat git_index lnk pack_index protobuf sqlite",
+    "data": "bson fat git_index lnk ntfs pack_index protobuf sqlite",
 }
 # What is no format, of the clients and of the catalogue.
 OTHERS = {"examples", "lib", "shapes", "tests"}
