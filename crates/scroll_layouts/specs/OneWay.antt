@@ -7,7 +7,8 @@ use Rattle.scroll_layouts.specs.Formats.{Format, run, counted, zeros, last, shap
 use Rattle.scroll_layouts.specs.declared.choice.Choice.{Choice}
 use Rattle.scroll_layouts.specs.declared.choice.Choice.TheVariants.{First, Second}
 
--- `plain f`: whether a value borrows nothing, so that values whose parts are the same are equal
+-- `plain f`: whether it is known that values whose parts are the same are equal: they borrow
+-- nothing, and no part has a format that others before it say
 abbrev pub plain : {E X : Type 0} → Format E X → Bool
 plain (run gives p) = true
 plain (counted gives n) = true
