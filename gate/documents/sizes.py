@@ -36,8 +36,8 @@ MAY_BE_WIDE = re.compile(r"(?:ghost )?use |//[/!]     |#\[")
 
 
 def count_parts(crate: Path) -> List[str]:
-    """Returns the lines that aren't empty of code without the tests, of definitions and of proof."""
-    code = [it for it in crate.glob("src/**/*.rt") if "tests" not in it.parts and it.name != "tests.rt"]
+    """Returns the lines that aren't empty of code, without tests and what tools/derive prints, of definitions and of proof."""
+    code = [it for it in crate.glob("src/**/*.rt") if "tests" not in it.parts and it.name not in ("tests.rt", "derived.rt")]
     return [count_lines(code), *(count_lines(antt_files(crate / it)) for it in ("specs", "proofs"))]
 
 
