@@ -6,7 +6,7 @@
 Without names all are run, as many side by side as there are workers (gate/step.py), those that take longest first; with names, the
 tests of these crates, and the sessions if scroll_run is among them. gate/sessions/stored.py runs the sessions' cuts too, by the
 proved program. A crate is printed as it ends. A test is a check, and so is a session, and so are a crate's files that tools/derive writes,
-which must not be stale, and its own tests. A crate whose tests don't compile is one failure; where no crate has tests, that is skipped.
+which must not be stale, its own tests, and that a crate's files are laid out as `rt ci` wants them. A crate whose tests don't compile is one failure; where no crate has tests, that is skipped.
 """
 
 import re
@@ -18,7 +18,7 @@ from pathlib import Path
 from typing import Callable, Dict, List, NamedTuple
 
 from sessions.stored import Session, read_sessions
-from step import TOP, Crate, Ran, Step, count_workers, read_crates, run_step
+from step import FOLDERS, TOP, Crate, Ran, Step, copy_kept, count_workers, read_crates, run_step
 
 PROGRAM = "scroll_run"
 # So many builds of the program run the sessions, since each takes a quarter of a second for one.
@@ -26,6 +26,7 @@ SHARES = 2
 RESULT = re.compile(r"(?m)^test result: \w+\. (\d+) passed; (\d+) failed; 0 ignored")
 # What stands in a crate that has files by tools/derive: the line that asks for one, or the first one of such a file.
 DESCRIBED = re.compile(r"(?m)^// (?:#\[derive\(P|Printed by tools/derive )")
+FORMATTED = re.compile(r"(?m)^rt: formatted (.*)")
 CASE = re.compile(r"(?m)^case=(\S+) run=ended status=(\d+) runners=\d output=expected proved=no$")
 
 
@@ -87,9 +88,25 @@ def check_derived(step: Step, crates: Dict[str, Crate]) -> Counted:
     return Counted(len(commands) - len(told), len(told), "".join(told))
 
 
+def check_layout(step: Step, crates: Dict[str, Crate]) -> Counted:
+    """Each crate's files are as `rt fmt` lays them out."""
+    told = []
+    for name, crate in crates.items():
+        folder = step.room / "layout" / name
+        copy_kept(crate.folder, folder, [*FOLDERS, "out"])
+        ran = step.run(folder, "rt", "fmt")
+        files = FORMATTED.findall(ran.said)
+        if files or ran.status:
+            told.append(f"FAILED {name}: rt fmt lays out {', '.join(files) or 'nothing'}\n{ran.end() if ran.status else ''}")
+    return Counted(len(crates) - len(told), len(told), "".join(told))
+
+
 def work(step: Step, crates: Dict[str, Crate]) -> None:
     sizes = {name: sum(it.stat().st_size for it in (crate.folder / "src").rglob("*.rt")) for name, crate in crates.items()}
-    jobs: Dict[str, Callable[[], Counted]] = {"derived files": lambda: check_derived(step, crates)}
+    jobs: Dict[str, Callable[[], Counted]] = {
+        "derived files": lambda: check_derived(step, crates),
+        "layout": lambda: check_layout(step, crates),
+    }
     for share in range(SHARES if PROGRAM in crates else 0):
         jobs[f"sessions, {share + 1} of {SHARES}"] = lambda share=share: run_sessions(step, crates[PROGRAM], share)  # type: ignore[misc]
     for name in sorted((it for it in crates if crates[it].has_tests), key=lambda it: -sizes[it]):
