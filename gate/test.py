@@ -5,8 +5,11 @@
 
 Without names all are run, as many side by side as there are workers (gate/step.py), those that take longest first; with names, the
 tests of these crates, and the sessions if scroll_run is among them. gate/sessions/stored.py runs the sessions' cuts too, by the
-proved program. A crate is printed as it ends. A test is a check, and so is a session, and so are a crate's files that tools/derive writes,
-which must not be stale, its own tests, and that a crate's files are laid out as `rt ci` wants them. A crate whose tests don't compile is one failure; where no crate has tests, that is skipped.
+proved program. A crate is printed as it ends.
+
+These are checks: each test; each session; of each crate, that what tools/derive writes isn't stale, and that its files are laid out as
+`rt ci` wants them; and each test of tools/derive. A crate whose tests don't compile is one failure; where no crate has tests, that is
+skipped.
 """
 
 import re

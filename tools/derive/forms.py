@@ -150,15 +150,7 @@ def optional(part: Part, name: str) -> Part:
     made.numbers, made.fields = [], ()
     if not part.fields:
         return made
-    is_record = isinstance(part.fields[0][1], Record)
-    inside, wrapped = record(record("v") if is_record else "v"), "Run(Field(it))" if is_record else "Run(it)"
-
-    def text(of: str, pattern: str, value: str) -> str:
-        return f"""
-        let {local(name)} = match {of} {{
-            Some({pattern}) => Some({value}),
-            None => None,
-        }};"""
-
-    made.ghost, made.split = f"option_map (λ v. {inside}) {made.ghost}", local(name)
-    return replace(made, before=text(f"self.{name}", "it", wrapped), after=text(local(name), wrapped, "it"))
+    inside, of = (record("v"), "Field") if isinstance(part.fields[0][1], Record) else ("v", "Run")
+    made.ghost, made.split = f"option_map (λ v. {record(inside)}) {made.ghost}", f"{of}::from_option({made.split})"
+    made.after = f"\n        let {made.join} = {of}::into_option({made.join});"
+    return made

@@ -13,9 +13,9 @@ use Rattle.scroll_layouts.specs.declared.choice.Choice.{Choice}
 use Rattle.scroll_layouts.specs.declared.choice.Choice.TheVariants.{First, Second}
 
 -- a kind of value that isn't put together from others, such as a number in LEB128: how many bytes a
--- value has, which these are, what a read gives and refuses, which values a write refuses, what is
--- said of equal values, and what has to be so for a source to have one value, and for it to have
--- none where a read is refused; with its laws
+-- value has, which these are, what a read gives and refuses, which values a write refuses, what two
+-- values have in common that are read at one place, and what has to be so for a source to have one
+-- value, and for it to have none where a read is refused; with its laws
 pub record Leaf (E X : Type 0) : Type 1 where
   pub leaf_len : X → ℕ
   pub leaf_bytes : Endian → X → List ℕ

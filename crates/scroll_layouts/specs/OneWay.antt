@@ -45,7 +45,8 @@ same_option P (Some x) None = ⊥
 same_option P None (Some y) = ⊥
 same_option P None None = ⊤
 
--- `same f x y`: each part of the one value is that of the other
+-- `same f x y`: each part of the one value is that of the other; where `plain` is true of a struct,
+-- a choice or an optional value, the two are equal
 abbrev pub same : {E X : Type 0} → Format E X → X → X → Type 0
 same (run gives p) x y = same_fields p x y
 same (counted gives n) x y = x ≡ y

@@ -1,8 +1,9 @@
 // Values that are there if something before them says so.
-ghost use Rattle.std.specs.Prelude.{◌≡◌, ◌≤◌, ◌+◌, ◌-◌, ◌^◌, ◌++◌, length, drop, min, codes};
+ghost use Rattle.std.specs.Prelude.{◌≡◌, ◌≤◌, ◌+◌, ◌-◌, ◌^◌, ◌++◌, length, drop, min, codes, option_map};
 ghost use Rattle.scroll_layouts.specs.Formats.{when, len, bytes, reads, refuses, agrees, differs};
 
-use crate::{Part, ReadPart};
+use crate::{Field, Part, ReadPart, Run};
+use scroll::ctx::Record;
 use scroll::{Endian, Error};
 use std::result::Result;
 
@@ -80,5 +81,53 @@ impl<'a, E: From<Error>, C: Drop, A: ReadPart<'a, C, E>> ReadPart<'a, When<C>, E
         }
         let (value, end) = A::read_at(from, offset, order, &ctx.1)?;
         Ok((Some(value), end))
+    }
+}
+
+impl<P> Run<P> {
+    /// Returns an optional value of a fixed size as an optional part.
+    #[inline(always)]
+    pub fn from_option(value: Option<P>) -> Option<Run<P>>
+        ensures { result ≡ option_map (λ v. record { 0 = v }) value }
+    {
+        match value {
+            Some(it) => Some(Run(it)),
+            None => None,
+        }
+    }
+
+    /// Returns the optional value that an optional part is.
+    #[inline(always)]
+    pub fn into_option(part: Option<Run<P>>) -> Option<P>
+        ensures { option_map (λ v. record { 0 = v }) result ≡ part }
+    {
+        match part {
+            Some(Run(it)) => Some(it),
+            None => None,
+        }
+    }
+}
+
+impl<R: Record> Field<R> {
+    /// Returns an optional struct of a fixed size as an optional part.
+    #[inline(always)]
+    pub fn from_option(value: Option<R>) -> Option<Run<Field<R>>>
+        ensures { result ≡ option_map (λ v. record { 0 = record { 0 = v } }) value }
+    {
+        match value {
+            Some(it) => Some(Run(Field(it))),
+            None => None,
+        }
+    }
+
+    /// Returns the optional struct that an optional part is.
+    #[inline(always)]
+    pub fn into_option(part: Option<Run<Field<R>>>) -> Option<R>
+        ensures { option_map (λ v. record { 0 = record { 0 = v } }) result ≡ part }
+    {
+        match part {
+            Some(Run(Field(it))) => Some(it),
+            None => None,
+        }
     }
 }

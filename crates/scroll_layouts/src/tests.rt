@@ -5,6 +5,7 @@ mod calls;
 mod codes;
 mod counts;
 mod encoded;
+mod equal;
 mod fixed;
 mod floats;
 mod handshake;

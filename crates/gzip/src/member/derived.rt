@@ -177,23 +177,22 @@ impl<'a> Shape for Header<'a> {
             (self.magic, self.method, self.flags, self.modified),
             (self.extra_flags, self.system),
         );
-        let header_checksum = match self.header_checksum {
-            Some(it) => Some(Run(it)),
-            None => None,
-        };
         (
             Run(numbers),
-            (self.extra, (self.name, (self.comment, header_checksum))),
+            (
+                self.extra,
+                (
+                    self.name,
+                    (self.comment, Run::from_option(self.header_checksum)),
+                ),
+            ),
         )
     }
 
     fn join(parts: HeaderParts<'a>) -> Header<'a> {
         let (Run(numbers), (extra, (name, (comment, header_checksum)))) = parts;
         let ((magic, method, flags, modified), (extra_flags, system)) = numbers;
-        let header_checksum = match header_checksum {
-            Some(Run(it)) => Some(it),
-            None => None,
-        };
+        let header_checksum = Run::into_option(header_checksum);
         Header {
             magic,
             method,

@@ -13,7 +13,6 @@ use Rattle.scroll_layouts.specs.declared.choice.Choice.TheVariants.{First, Secon
 use Rattle.scroll_layouts.specs.lemmas.EqualLemmas.{pair-is}
 use Rattle.scroll_layouts.specs.lemmas.LayoutLaws.{layout-one, fields-is}
 
--- values that are the same are equal if they borrow nothing
 if-same : {X : Type 0} {x y : X} {P : Type 0} (b : Bool) → (b ≡ true → x ≡ y) → P
     → same_if b x y P
 if-same true is h = is refl
@@ -23,6 +22,7 @@ same-if : {X : Type 0} {x y : X} (P : Type 0) (b : Bool) → b ≡ true → same
 same-if P true is h = h
 same-if P false is h = absurd (true≢false (sym is))
 
+-- values that are the same are equal if they borrow nothing
 pub same-is : {E X : Type 0} (f : Format E X) → plain f ≡ true → (x y : X) → same f x y → x ≡ y
 same-is (run gives p) is x y h = fields-is p x y h
 same-is (counted gives n) is x y h = h
