@@ -1,5 +1,5 @@
--- A log of records, one after another from the first byte to the last. The relations take the format
--- of a record.
+-- A log of records, one after another from the first byte to the last. The relations take the
+-- format of a record.
 use Rattle.std.specs.Prelude.{◌≡◌, ℕ, List, length}
 use Rattle.std.specs.List.{flat_map}
 use Rattle.scroll.specs.Arrays.{WritesAll}

@@ -3,6 +3,7 @@ pub mod NumberLemmas
 pub mod OneAnswer
 pub mod Leaves
 pub mod ArrayLemmas
+pub mod LeafArrays
 pub mod TextLemmas
 pub mod WordLemmas
 pub mod SearchLemmas
@@ -14,6 +15,8 @@ pub mod StandLemmas
 pub mod LebLemmas
 pub mod LebReadLemmas
 pub mod LebWriteLemmas
+pub mod LebWordLemmas
 pub mod BlockLemmas
+pub mod ShortBlockLemmas
 pub mod EncodingLemmas
 pub mod callers

@@ -1,6 +1,6 @@
 -- Runs of commands. The contract of `runner::run`: what each command returns over one buffer, and
 -- what the list leaves.
-use Rattle.std.specs.Prelude.{◌≡◌, ◌<◌, ℕ, ◌+◌, ◌++◌, Bool, true, false, List, [], ◌∷◌, length, take, map, Ok, Err, ⊤, ◌⊎◌}
+use Rattle.std.specs.Prelude.{◌≡◌, ◌<◌, ℕ, ◌+◌, ◌++◌, Bool, true, false, List, [], ◌∷◌, length, take, map, Ok, Err, ⊤}
 use Rattle.std.specs.String.{string_bytes}
 use Rattle.scroll.specs.Arrays.{ReadsArray, RefusesArray}
 use Rattle.scroll.specs.Bytes.{RefusesShort}
@@ -15,7 +15,6 @@ use Rattle.scroll.specs.Reads.{ReadsAt, RefusesAt}
 use Rattle.scroll.specs.Texts.{ReadsText, RefusesText, ReadsSlice}
 use Rattle.scroll.specs.declared.endian.Endian.{Endian}
 use Rattle.scroll.specs.declared.error.Error.{Error}
-use Rattle.scroll.specs.declared.error.Error.TheVariants.{NoMemory}
 use Rattle.scroll.specs.declared.runner.Answer.{Answer}
 use Rattle.scroll.specs.declared.runner.Answer.TheVariants as answer
 use Rattle.scroll.specs.declared.runner.Command.{Command}

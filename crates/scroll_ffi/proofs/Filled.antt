@@ -22,7 +22,8 @@ stored_more P xs i x inside before here k d h =
     k h d
 
 -- what is behind it is unchanged
-pub rest_more : {X : Type 0} (xs ys : List X) (i : ℕ) (x : X) → drop i xs ≡ drop i ys → drop (i + 1) (set xs i x) ≡ drop (i + 1) ys
+pub rest_more : {X : Type 0} (xs ys : List X) (i : ℕ) (x : X) → drop i xs ≡ drop i ys
+    → drop (i + 1) (set xs i x) ≡ drop (i + 1) ys
 rest_more xs ys i x same =
     let behind : i < i + 1 = omega arith in
     drop-set-lt (i + 1) xs i x behind ∙ drop_more_same xs ys i same
@@ -35,7 +36,8 @@ past_none x =
     rw left (rw next refl)
 
 -- the numbers of an entry, which are those at its offset in the file
-pub are_fields_at : (order : Endian) (file : List ℕ) (at : ℕ) (s : ScrollElfSection) → AreFields order (drop at file) 0 s → AreFields order file at s
+pub are_fields_at : (order : Endian) (file : List ℕ) (at : ℕ) (s : ScrollElfSection)
+    → AreFields order (drop at file) 0 s → AreFields order file at s
 are_fields_at order file at s f = record {
   name = f.name;
   kind = f.kind ∙ ap (number order 4) (drop-drop 4 at file);
@@ -58,16 +60,21 @@ entry_at order file x s fields order-is room =
       order = order;
       order-is = order-is;
       room = room;
-      fields = are_fields_at order file x.next s (subst (λ l. AreFields order l 0 s) (take_rest file x.next) fields);
+      fields =
+          are_fields_at order file x.next s
+              (subst (λ l. AreFields order l 0 s) (take_rest file x.next) fields);
     }
 
 -- its name, from the bytes of the names
-pub name_at : (file names : List ℕ) (x : ScrollElfSections) (s : ScrollElfSection) (name len : ℕ) → HasLen names name len
+pub name_at : (file names : List ℕ) (x : ScrollElfSections) (s : ScrollElfSection) (name len : ℕ)
+    → HasLen names name len
     → names ≡ take x.names_size (drop x.names_offset file) → s.name ≡ name → s.name_len ≡ len
-    → s.name_offset ≡ x.names_offset + name → x.names_offset + x.names_size ≤ length file → HasName file x s
+    → s.name_offset ≡ x.names_offset + name → x.names_offset + x.names_size ≤ length file
+        → HasName file x s
 name_at file names x s name len has names-is name-is len-is start inside =
     let here : HasLen names s.name s.name_len =
-    subst (λ n. HasLen names n s.name_len) (sym name-is) (subst (λ k. HasLen names name k) (sym len-is) has)
+    subst (λ n. HasLen names n s.name_len) (sym name-is)
+        (subst (λ k. HasLen names name k) (sym len-is) has)
     in
     record {
       len = subst (λ l. HasLen l s.name s.name_len) names-is here;
@@ -84,13 +91,17 @@ same_order Big Big n first second = refl
 
 -- the number of its name, which is read first
 pub same_name : (order : Endian) (file : List ℕ) (at : ℕ) (s : ScrollElfSection) (name : ℕ)
-    → AreFields order (take (length file - at) (drop at file)) 0 s → name ≡ number order 4 (drop at file) → s.name ≡ name
-same_name order file at s name fields read = fields.name ∙ ap (number order 4) (take_rest file at) ∙ sym read
+    → AreFields order (take (length file - at) (drop at file)) 0 s → name
+        ≡ number order 4 (drop at file) → s.name ≡ name
+same_name order file at s name fields read =
+    fields.name ∙ ap (number order 4) (take_rest file at) ∙ sym read
 
 -- the sections that are stored, in any table that begins with them
-pub all_filled : (file : List ℕ) (n : ℕ) (x y : ScrollElfSections) (old new table : List ScrollElfSection)
+pub all_filled : (file : List ℕ) (n : ℕ) (x y : ScrollElfSections)
+    (old new table : List ScrollElfSection)
     → IsOpened file x → Fills file n x y old new → n ≡ x.left
-    → ((k : ℕ) (d : ScrollElfSection) → k < n → get_or table k d ≡ get_or new k d) → AreAll file n table
+    → ((k : ℕ) (d : ScrollElfSection) → k < n → get_or table k d ≡ get_or new k d)
+        → AreAll file n table
 all_filled file n x y old new table is fills count same = record {
   opened = x;
   is = is;
@@ -99,10 +110,13 @@ all_filled file n x y old new table is fills count same = record {
 }
 
 -- all sections, with more behind them
-pub all_before : (file : List ℕ) (n : ℕ) (table rest : List ScrollElfSection) → n ≤ length table → AreAll file n table → AreAll file n (table ++ rest)
+pub all_before : (file : List ℕ) (n : ℕ) (table rest : List ScrollElfSection) → n ≤ length table
+    → AreAll file n table → AreAll file n (table ++ rest)
 all_before file n table rest inside h = record {
   opened = h.opened;
   is = h.is;
   count = h.count;
-  each = λ k d less. subst (λ s. IsSection file (past k h.opened) s) (sym (get_or-append table rest d k (omega (arith, less, inside)))) (h.each k d less);
+  each =
+      λ k d less. subst (λ s. IsSection file (past k h.opened) s)
+          (sym (get_or-append table rest d k (omega (arith, less, inside)))) (h.each k d less);
 }

@@ -35,7 +35,8 @@ pub record AreNames (file : List ℕ) (h : Header) (x : ScrollElfSections) : Typ
   pub entry-is : entry ≡ section_of h.order (drop (h.sections_offset + 64 * h.names_index) file)
   pub offset : x.names_offset ≡ entry.offset
   pub size : x.names_size ≡ entry.size
-  pub bytes : ReadsAt (ReadsSlice entry.size) file entry.offset (take entry.size (drop entry.offset file)) entry.size
+  pub bytes : ReadsAt (ReadsSlice entry.size) file entry.offset
+      (take entry.size (drop entry.offset file)) entry.size
 
 -- what `scroll_elf_open` stores: all of the file's sections are left, and the first is next. A file
 -- without sections has no table
@@ -102,7 +103,8 @@ IsNoSection file x = (s : ScrollElfSection) → ¬ IsSection file x s
 
 -- the next `n` sections are at the start of a table
 abbrev pub AreSections : List ℕ → ScrollElfSections → ℕ → List ScrollElfSection → Type 0
-AreSections file x n table = (k : ℕ) (s : ScrollElfSection) → k < n → IsSection file (past k x) (slice_index_or table k s)
+AreSections file x n table =
+    (k : ℕ) (s : ScrollElfSection) → k < n → IsSection file (past k x) (slice_index_or table k s)
 
 -- the `n` sections of a file, all of them, are at the start of a table
 pub record AreAll (file : List ℕ) (n : ℕ) (table : List ScrollElfSection) : Type 0 where
@@ -113,7 +115,8 @@ pub record AreAll (file : List ℕ) (n : ℕ) (table : List ScrollElfSection) : 
 
 -- the next `n` sections are stored at the start of a table, as many as there is room for and as are
 -- there; and the iterator has passed them
-pub record Fills (file : List ℕ) (n : ℕ) (x y : ScrollElfSections) (old new : List ScrollElfSection) : Type 0 where
+pub record Fills (file : List ℕ) (n : ℕ) (x y : ScrollElfSections) (old new : List ScrollElfSection)
+    : Type 0 where
   pub fits : n ≤ length old
   pub left : n ≤ x.left
   pub each : AreSections file x n new
@@ -157,7 +160,8 @@ pub record IsPlainFile (file : StoredFile) (start : ℕ) (x : ScrollZipFile) : T
   pub date : x.date ≡ file.date
 
 -- a stored file that is read between two offsets
-pub record IsStored (formats : Formats) (archive : List ℕ) (from to : ℕ) (x : ScrollZipFile) : Type 0 where
+pub record IsStored (formats : Formats) (archive : List ℕ) (from to : ℕ) (x : ScrollZipFile) : Type
+    0 where
   pub there : StoredFile
   pub size : ℕ
   pub read : ReadsAt (ReadsExact formats.file Little) archive from there size

@@ -43,7 +43,8 @@ RefusesEntryOf file table index e =
 abbrev pub RefusesNames : List ℕ → Header → ScrollError → Type 0
 RefusesNames file h e =
     RefusesEntryOf file h.sections_offset h.names_index e
-    ⊎ ((entry : Section) × (entry ≡ section_of h.order (drop (h.sections_offset + 64 * h.names_index) file))
+    ⊎ ((entry : Section) × (entry
+        ≡ section_of h.order (drop (h.sections_offset + 64 * h.names_index) file))
     × RefusesPart file entry.offset entry.size e)
 
 -- the table of a header with sections: its entries have another size, it has none for the names, or
@@ -105,7 +106,8 @@ pub record SkipsNext (file : List ℕ) (x y : ScrollElfSections) (e : ScrollErro
   pub order-is : IsOrder order x.order
   pub names : x.names_offset + x.names_size ≤ length file
   pub room : x.next + 64 ≤ length file
-  pub why : RefusesLen (take x.names_size (drop x.names_offset file)) (number order 4 (drop x.next file)) x.names_offset e
+  pub why : RefusesLen (take x.names_size (drop x.names_offset file))
+      (number order 4 (drop x.next file)) x.names_offset e
   pub left : y ≡ past 1 x
 
 -- the errors of the next section

@@ -16,7 +16,8 @@ use Rattle.scroll_run.specs.Words.{SpellsBytes, SpellsNumber, order_word, texts_
 use Rattle.scroll_run.proofs.CommandLemmas.{counted}
 
 -- words that differ at an index
-differ : {C : Type 0} (a b : List ℕ) (i : ℕ) → nat_eq (get_or a i 0) (get_or b i 0) ≡ false → a ≡ b → C
+differ : {C : Type 0} (a b : List ℕ) (i : ℕ) → nat_eq (get_or a i 0) (get_or b i 0) ≡ false → a ≡ b
+    → C
 differ a b i unlike e =
     let same : get_or a i 0 ≡ get_or b i 0 = ap (λ w. get_or w i 0) e in
     absurd (grind (arith, nat_tests, same, unlike))
@@ -34,11 +35,14 @@ by_two : {C : Type 0} (a b : List ℕ)
     → (p : Put) → SpellsPut (a ∷ b ∷ []) p → C
 by_two a b str bytes cstr uleb sleb (put.Number x order) s = let e = s.2 in absurd cc
 by_two a b str bytes cstr uleb sleb (put.Text text) s =
-    let e = same_words a b _ s.0 s.1 in str text.now e.0 (subst (λ w. SpellsText w text.now) e.1 s.2)
+    let e = same_words a b _ s.0 s.1 in
+    str text.now e.0 (subst (λ w. SpellsText w text.now) e.1 s.2)
 by_two a b str bytes cstr uleb sleb (put.Bytes slice) s =
-    let e = same_words a b _ s.0 s.1 in bytes slice.now e.0 (subst (λ w. SpellsBytes w slice.now) e.1 s.2)
+    let e = same_words a b _ s.0 s.1 in
+    bytes slice.now e.0 (subst (λ w. SpellsBytes w slice.now) e.1 s.2)
 by_two a b str bytes cstr uleb sleb (put.CStr text) s =
-    let e = same_words a b _ s.0 s.1 in cstr (c_str_text text) e.0 (subst (λ w. SpellsCString w (c_str_text text)) e.1 s.2)
+    let e = same_words a b _ s.0 s.1 in
+    cstr (c_str_text text) e.0 (subst (λ w. SpellsCString w (c_str_text text)) e.1 s.2)
 by_two a b str bytes cstr uleb sleb (put.Uleb x) s =
     let e = same_words a b _ s.0 s.1 in uleb x e.0 (subst (λ w. SpellsUleb w x) e.1 s.2)
 by_two a b str bytes cstr uleb sleb (put.Sleb x) s =
@@ -46,22 +50,39 @@ by_two a b str bytes cstr uleb sleb (put.Sleb x) s =
 by_two a b str bytes cstr uleb sleb (put.U16x3 xs order) s = let e = s.3 in absurd cc
 by_two a b str bytes cstr uleb sleb (put.Bytesx2 x y) s = let e = s.2 in absurd cc
 
-pub by_str : (b : List ℕ) (p : Put) → SpellsPut (codes "str" ∷ b ∷ []) p → (text : List ℕ) × SpellsText b text
-by_str b = by_two (codes "str") b (λ text e h. (text, h)) (λ _ e _. differ _ _ 0 refl e) (λ _ e _. differ _ _ 0 refl e) (λ _ e _. differ _ _ 0 refl e) (λ _ e _. differ _ _ 1 refl e)
+pub by_str : (b : List ℕ) (p : Put) → SpellsPut (codes "str" ∷ b ∷ []) p
+    → (text : List ℕ) × SpellsText b text
+by_str b =
+    by_two (codes "str") b (λ text e h. (text, h)) (λ _ e _. differ _ _ 0 refl e)
+        (λ _ e _. differ _ _ 0 refl e) (λ _ e _. differ _ _ 0 refl e) (λ _ e _. differ _ _ 1 refl e)
 
-pub by_bytes : (b : List ℕ) (p : Put) → SpellsPut (codes "bytes" ∷ b ∷ []) p → (bytes : List ℕ) × SpellsBytes b bytes
-by_bytes b = by_two (codes "bytes") b (λ _ e _. differ _ _ 0 refl e) (λ bytes e h. (bytes, h)) (λ _ e _. differ _ _ 0 refl e) (λ _ e _. differ _ _ 0 refl e) (λ _ e _. differ _ _ 0 refl e)
+pub by_bytes : (b : List ℕ) (p : Put) → SpellsPut (codes "bytes" ∷ b ∷ []) p
+    → (bytes : List ℕ) × SpellsBytes b bytes
+by_bytes b =
+    by_two (codes "bytes") b (λ _ e _. differ _ _ 0 refl e) (λ bytes e h. (bytes, h))
+        (λ _ e _. differ _ _ 0 refl e) (λ _ e _. differ _ _ 0 refl e) (λ _ e _. differ _ _ 0 refl e)
 
-pub by_cstr : (b : List ℕ) (p : Put) → SpellsPut (codes "cstr" ∷ b ∷ []) p → (text : List ℕ) × SpellsCString b text
-by_cstr b = by_two (codes "cstr") b (λ _ e _. differ _ _ 0 refl e) (λ _ e _. differ _ _ 0 refl e) (λ text e h. (text, h)) (λ _ e _. differ _ _ 0 refl e) (λ _ e _. differ _ _ 0 refl e)
+pub by_cstr : (b : List ℕ) (p : Put) → SpellsPut (codes "cstr" ∷ b ∷ []) p
+    → (text : List ℕ) × SpellsCString b text
+by_cstr b =
+    by_two (codes "cstr") b (λ _ e _. differ _ _ 0 refl e) (λ _ e _. differ _ _ 0 refl e)
+        (λ text e h. (text, h)) (λ _ e _. differ _ _ 0 refl e) (λ _ e _. differ _ _ 0 refl e)
 
-pub by_uleb : (b : List ℕ) (p : Put) → SpellsPut (codes "uleb" ∷ b ∷ []) p → (x : Counted ℕ) × SpellsUleb b x
-by_uleb b = by_two (codes "uleb") b (λ _ e _. differ _ _ 0 refl e) (λ _ e _. differ _ _ 0 refl e) (λ _ e _. differ _ _ 0 refl e) (λ x e h. (x, h)) (λ _ e _. differ _ _ 0 refl e)
+pub by_uleb : (b : List ℕ) (p : Put) → SpellsPut (codes "uleb" ∷ b ∷ []) p
+    → (x : Counted ℕ) × SpellsUleb b x
+by_uleb b =
+    by_two (codes "uleb") b (λ _ e _. differ _ _ 0 refl e) (λ _ e _. differ _ _ 0 refl e)
+        (λ _ e _. differ _ _ 0 refl e) (λ x e h. (x, h)) (λ _ e _. differ _ _ 0 refl e)
 
-pub by_sleb : (b : List ℕ) (p : Put) → SpellsPut (codes "sleb" ∷ b ∷ []) p → (x : Counted ℤ) × SpellsSleb b x
-by_sleb b = by_two (codes "sleb") b (λ _ e _. differ _ _ 1 refl e) (λ _ e _. differ _ _ 0 refl e) (λ _ e _. differ _ _ 0 refl e) (λ _ e _. differ _ _ 0 refl e) (λ x e h. (x, h))
+pub by_sleb : (b : List ℕ) (p : Put) → SpellsPut (codes "sleb" ∷ b ∷ []) p
+    → (x : Counted ℤ) × SpellsSleb b x
+by_sleb b =
+    by_two (codes "sleb") b (λ _ e _. differ _ _ 1 refl e) (λ _ e _. differ _ _ 0 refl e)
+        (λ _ e _. differ _ _ 0 refl e) (λ _ e _. differ _ _ 0 refl e) (λ x e h. (x, h))
 
-pub by_u16x3 : (a b c d : List ℕ) (p : Put) → SpellsPut (codes "u16x3" ∷ a ∷ b ∷ c ∷ d ∷ []) p → (order : Endian) × (xs : List ℕ) × (a ≡ order_word order) × AllZip (SpellsNumber (2 ^ 16)) (b ∷ c ∷ d ∷ []) xs
+pub by_u16x3 : (a b c d : List ℕ) (p : Put) → SpellsPut (codes "u16x3" ∷ a ∷ b ∷ c ∷ d ∷ []) p
+    → (order : Endian) × (xs : List ℕ) × (a ≡ order_word order)
+    × AllZip (SpellsNumber (2 ^ 16)) (b ∷ c ∷ d ∷ []) xs
 by_u16x3 a b c d (put.Number x order) s = let e = s.2 in absurd cc
 by_u16x3 a b c d (put.Text text) s = let e = s.1 in absurd cc
 by_u16x3 a b c d (put.Bytes bytes) s = let e = s.1 in absurd cc
@@ -88,7 +109,8 @@ short_width width.I64 a e = let n = ap length e in omega (arith, n)
 short_width width.U128 a e = let n = ap length e in omega (arith, n)
 short_width width.I128 a e = let n = ap length e in omega (arith, n)
 
-pub by_bytesx2 : (b c : List ℕ) (p : Put) → SpellsPut (codes "bytesx2" ∷ b ∷ c ∷ []) p → (x y : List ℕ) × SpellsBytes b x × SpellsBytes c y
+pub by_bytesx2 : (b c : List ℕ) (p : Put) → SpellsPut (codes "bytesx2" ∷ b ∷ c ∷ []) p
+    → (x y : List ℕ) × SpellsBytes b x × SpellsBytes c y
 by_bytesx2 b c (put.Number x order) s =
     let q = s.2 in
     let e : codes "bytesx2" ≡ width_word s.0 = cc in
@@ -104,21 +126,26 @@ by_bytesx2 b c (put.Bytesx2 x y) s =
     let e = s.2 in
     let first : s.0 ≡ b = cc in
     let second : s.1 ≡ c = cc in
-    (x.now, y.now, subst (λ w. SpellsBytes w x.now) first s.3, subst (λ w. SpellsBytes w y.now) second s.4)
+    (x.now, y.now, subst (λ w. SpellsBytes w x.now) first s.3,
+        subst (λ w. SpellsBytes w y.now) second s.4)
 
 -- three words that spell neither a number nor two slices
-pub no_three : (a b c : List ℕ) → ((q : Number × Endian) → ¬ (SpellsPut (a ∷ b ∷ c ∷ []) (put.Number q.0 q.1))) → a ≢ codes "bytesx2" → (p : Put) → ¬ (SpellsPut (a ∷ b ∷ c ∷ []) p)
+pub no_three : (a b c : List ℕ)
+    → ((q : Number × Endian) → ¬ (SpellsPut (a ∷ b ∷ c ∷ []) (put.Number q.0 q.1)))
+    → a ≢ codes "bytesx2" → (p : Put) → ¬ (SpellsPut (a ∷ b ∷ c ∷ []) p)
 no_three a b c none name (put.Number x order) = λ s. none (x, order) s
 no_three a b c none name (put.Text text) = λ s. let n : 3 ≡ 2 = ap length s.1 in omega (arith, n)
 no_three a b c none name (put.Bytes bytes) = λ s. let n : 3 ≡ 2 = ap length s.1 in omega (arith, n)
 no_three a b c none name (put.CStr text) = λ s. let n : 3 ≡ 2 = ap length s.1 in omega (arith, n)
 no_three a b c none name (put.Uleb x) = λ s. let n : 3 ≡ 2 = ap length s.1 in omega (arith, n)
 no_three a b c none name (put.Sleb x) = λ s. let n : 3 ≡ 2 = ap length s.1 in omega (arith, n)
-no_three a b c none name (put.U16x3 xs order) = λ s. let n : 3 ≡ 5 = ap length s.3 in omega (arith, n)
+no_three a b c none name (put.U16x3 xs order) = λ s. let n : 3 ≡ 5 = ap length s.3 in
+    omega (arith, n)
 no_three a b c none name (put.Bytesx2 x y) = λ s. name (ap (λ ws. get_or ws 0 []) s.2)
 
 -- words that are neither two, three nor five spell no value
-pub no_count : (words : List (Bor (List ℕ))) → length words ≢ 2 → length words ≢ 3 → length words ≢ 5 → (p : Put) → ¬ (SpellsPut (texts_of words) p)
+pub no_count : (words : List (Bor (List ℕ))) → length words ≢ 2 → length words ≢ 3
+    → length words ≢ 5 → (p : Put) → ¬ (SpellsPut (texts_of words) p)
 no_count words two three five (put.Number x order) = λ s. three (counted words _ s.2)
 no_count words two three five (put.Text text) = λ s. two (counted words _ s.1)
 no_count words two three five (put.Bytes bytes) = λ s. two (counted words _ s.1)

@@ -6,8 +6,8 @@ use Rattle.tls.specs.declared.hello.ExtensionBody.TheVariants.{Server}
 use Rattle.tls.specs.declared.hello.ExtensionList.{ExtensionList}
 use Rattle.tls.specs.declared.hello.ServerNames.{ServerNames}
 
--- in the extensions stands one with the name of a server (RFC 6066, section 3); `reads` says what an
--- extension is
+-- in the extensions stands one with the name of a server (RFC 6066, section 3); `reads` says what
+-- an extension is
 pub record NamesServer (reads : List ℕ → Extension → ℕ → Type 0) (extensions : Option ExtensionList)
     (name : List ℕ) : Type 0 where
   pub list : ExtensionList

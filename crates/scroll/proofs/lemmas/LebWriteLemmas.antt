@@ -1,22 +1,20 @@
--- Encodings as a writer makes them: digits of the groups, the shortest count, signed numbers, and
--- words of four groups.
-use Rattle.std.proofs.Common.{◌≡◌, ℕ, suc, ◌+◌, ◌-◌, ◌*◌, ◌/◌, ◌%◌, ◌^◌, ◌<◌, ◌≤◌, inl, inr, true, false, nat_lt, List, [], ◌∷◌, ◌++◌, length, take, drop, get_or, bit_and, bit_or, refl, sym, ap, ◌∙◌, arith, below_none, below_more, ℤ, pos, negsuc, of_z, FitsSigned}
+-- Encodings as a writer makes them: digits of the groups, the shortest count, and signed numbers.
+use Rattle.std.proofs.Common.{◌≡◌, ℕ, suc, ◌+◌, ◌-◌, ◌*◌, ◌/◌, ◌%◌, ◌^◌, ◌<◌, ◌≤◌, inl, inr, true, false, nat_lt, List, ◌++◌, length, take, drop, get_or, bit_and, bit_or, refl, sym, ap, ◌∙◌, arith, ℤ, pos, negsuc, of_z, FitsSigned}
 use Rattle.std.proofs.Math.ListN.{set}
-use Rattle.std.proofs.Math.Nat.{mod-eq_of_lt, mul_assoc, one-le-pow, div-div-eq-div-mul}
+use Rattle.std.proofs.Math.Nat.{mod-eq_of_lt, mul_assoc, one-le-pow}
 use Rattle.std.proofs.Math.Pow.{pow_mono}
-use Rattle.std.proofs.lemmas.Nat.{pow-add, mod-mul-add, div-mul-add, div_below, and_mask, and_block, leading_top, le_or_l, le_or_r, or_lt}
+use Rattle.std.proofs.lemmas.Nat.{pow-add, mod-mul-add, div-mul-add, div_below, and_mask, leading_top, le_or_l, le_or_r, or_lt}
 use Rattle.std.proofs.lemmas.Int.{ints}
 use Rattle.std.proofs.lemmas.Bool.{cases_lt}
 use Rattle.std.proofs.lemmas.Bool.Decides.{nat_tests}
 use Rattle.std.proofs.lemmas.Grind.{get_or-set_at}
-use Rattle.std.proofs.lemmas.List.{drop-drop, length-take-le, get_or-take, take-append-drop, drop-set-lt, length-set, get_or-set_other}
+use Rattle.std.proofs.lemmas.List.{length-take-le, get_or-take, take-append-drop, drop-set-lt, length-set, get_or-set_other}
 use Rattle.std.proofs.lemmas.List.FromFn.{fill_by_all}
-use Rattle.std.specs.Int.{w32, w64, to_le_bytes}
-use Rattle.std.specs.Int.Bits.{or_shifted_r, and_zero_r, or_zero_r}
+use Rattle.std.specs.Int.{w64}
+use Rattle.std.specs.Int.Bits.{or_shifted_r}
 use Rattle.std.specs.Int.Count.{count_leading_zeros}
 use Rattle.std.specs.Int.Signed.{lt_z}
 use Rattle.scroll.specs.Encoding.{encoded_byte, encoding, unsigned_form, HoldsGroups, HasSignedEncoding, ten_groups, magnitude_bits, IsLeast}
-use Rattle.scroll.proofs.lemmas.WordLemmas.{lanes, Lanewise, done, lane, and_lanes, or_lanes, keep}
 use Rattle.scroll.proofs.lemmas.LebLemmas.{pow_128, power_more}
 use Rattle.scroll.proofs.lemmas.EncodingLemmas.{power_last}
 
@@ -30,13 +28,16 @@ pub digit_low : (q r m i : ℕ) → i < m → (q * 128 ^ m + r) / 128 ^ i % 128 
 digit_low q r m i h =
     let k = m - (i + 1) in
     let whole : k + (i + 1) ≡ m = omega arith in
-    let power : 128 ^ m ≡ 128 ^ k * (128 * 128 ^ i) = ap (λ j. 128 ^ j) (sym whole) ∙ pow-add 128 k (i + 1) ∙ ap (λ x. 128 ^ k * x) (power_more i) in
+    let power : 128 ^ m ≡ 128 ^ k * (128 * 128 ^ i) = ap (λ j. 128 ^ j) (sym whole)
+        ∙ pow-add 128 k (i + 1) ∙ ap (λ x. 128 ^ k * x) (power_more i) in
     let positive : 0 < 128 ^ i = one-le-pow i 128 (omega arith) in
     let parts : r ≡ r / 128 ^ i * 128 ^ i + r % 128 ^ i = omega arith in
     let form : q * 128 ^ m + r ≡ (q * 128 ^ k * 128 + r / 128 ^ i) * 128 ^ i + r % 128 ^ i =
-    ap (λ x. q * x + r) power ∙ ap (λ x. q * (128 ^ k * (128 * 128 ^ i)) + x) parts ∙ split_at q (128 ^ k) (128 ^ i) (r / 128 ^ i) (r % 128 ^ i) in
+    ap (λ x. q * x + r) power ∙ ap (λ x. q * (128 ^ k * (128 * 128 ^ i)) + x) parts
+    ∙ split_at q (128 ^ k) (128 ^ i) (r / 128 ^ i) (r % 128 ^ i) in
     ap (λ x. x / 128 ^ i % 128) form
-    ∙ ap (λ x. x % 128) (div-mul-add (q * 128 ^ k * 128 + r / 128 ^ i) (128 ^ i) (r % 128 ^ i) (omega arith))
+    ∙ ap (λ x. x % 128) (div-mul-add (q * 128 ^ k * 128 + r / 128 ^ i) (128 ^ i) (r % 128 ^ i)
+        (omega arith))
     ∙ omega arith
 
 pub digit_mod : (x m i : ℕ) → i < m → x % 128 ^ m / 128 ^ i % 128 ≡ x / 128 ^ i % 128
@@ -46,55 +47,70 @@ digit_mod x m i h =
     sym (ap (λ y. y / 128 ^ i % 128) parts ∙ digit_low (x / 128 ^ m) (x % 128 ^ m) m i h)
 
 -- the first nine of ten groups are those of the word
-pub word_digit : (low tenth n i : ℕ) → i < n → i < 9 → ten_groups low tenth % 128 ^ n / 128 ^ i % 128 ≡ low / 128 ^ i % 128
+pub word_digit : (low tenth n i : ℕ) → i < n → i < 9
+    → ten_groups low tenth % 128 ^ n / 128 ^ i % 128 ≡ low / 128 ^ i % 128
 word_digit low tenth n i within nine =
-    digit_mod (ten_groups low tenth) n i within ∙ digit_low tenth (low % 2 ^ 63) 9 i nine ∙ digit_mod low 9 i nine
+    digit_mod (ten_groups low tenth) n i within ∙ digit_low tenth (low % 2 ^ 63) 9 i nine
+    ∙ digit_mod low 9 i nine
 
 -- and the tenth is given
-pub tenth_digit : (low tenth n i : ℕ) → tenth < 128 → i < n → 9 ≤ i → n ≤ 10 → ten_groups low tenth % 128 ^ n / 128 ^ i % 128 ≡ tenth
+pub tenth_digit : (low tenth n i : ℕ) → tenth < 128 → i < n → 9 ≤ i → n ≤ 10
+    → ten_groups low tenth % 128 ^ n / 128 ^ i % 128 ≡ tenth
 tenth_digit low tenth n i small within nine few =
     let i_is : i ≡ 9 = omega arith in
     digit_mod (ten_groups low tenth) n i within ∙ rw i_is (omega arith)
 
-pub group_digit : (low tenth n i g : ℕ) → i < n → i < 9 → g ≡ bit_and (low / 2 ^ (7 * i)) 127 → g ≡ ten_groups low tenth % 128 ^ n / 128 ^ i % 128
+pub group_digit : (low tenth n i g : ℕ) → i < n → i < 9 → g ≡ bit_and (low / 2 ^ (7 * i)) 127
+    → g ≡ ten_groups low tenth % 128 ^ n / 128 ^ i % 128
 group_digit low tenth n i g within nine e =
-    e ∙ and_mask (low / 2 ^ (7 * i)) 7 ∙ ap (λ x. low / x % 128) (pow_128 i) ∙ sym (word_digit low tenth n i within nine)
+    e ∙ and_mask (low / 2 ^ (7 * i)) 7 ∙ ap (λ x. low / x % 128) (pow_128 i)
+    ∙ sym (word_digit low tenth n i within nine)
 
 -- ---- the bytes of an encoding
-pub marked_byte : (u n i g : ℕ) → i + 1 < n → g ≡ u / 128 ^ i % 128 → bit_or g 128 ≡ encoded_byte u n i
+pub marked_byte : (u n i g : ℕ) → i + 1 < n → g ≡ u / 128 ^ i % 128
+    → bit_or g 128 ≡ encoded_byte u n i
 marked_byte u n i g more e =
     let t : nat_lt (i + 1) n ≡ true = grind (arith, nat_tests) in
     let low : g < 128 = omega arith in
     rw t (or_shifted_r 1 7 g low ∙ ap (λ x. 128 + x) e)
 
-pub last_byte : (u n i g : ℕ) → u < 128 ^ n → i < n → n ≤ i + 1 → g ≡ u / 128 ^ i % 128 → g ≡ encoded_byte u n i
+pub last_byte : (u n i g : ℕ) → u < 128 ^ n → i < n → n ≤ i + 1 → g ≡ u / 128 ^ i % 128
+    → g ≡ encoded_byte u n i
 last_byte u n i g room before last e =
     let t : nat_lt (i + 1) n ≡ false = grind (arith, nat_tests) in
     let n_is : n ≡ i + 1 = omega arith in
     let positive : 0 < 128 ^ i = one-le-pow i 128 (omega arith) in
-    let below : u / 128 ^ i < 128 = div_below u (128 ^ i) 128 positive (rw (n_is, power_more i) at room) in
+    let below : u / 128 ^ i < 128 =
+        div_below u (128 ^ i) 128 positive (rw (n_is, power_more i) at room) in
     rw t (e ∙ mod-eq_of_lt below)
 
 pub mod_room : (x n : ℕ) → x % 128 ^ n < 128 ^ n
 mod_room x n = let positive : 0 < 128 ^ n = one-le-pow n 128 (omega arith) in omega arith
 
 -- a target whose first bytes are those of an encoding
-pub encoding_written : (u n : ℕ) (old new : List ℕ) → n ≤ length new → ((k : ℕ) → k < n → get_or new k 0 ≡ encoded_byte u n k) → drop n new ≡ drop n old
+pub encoding_written : (u n : ℕ) (old new : List ℕ) → n ≤ length new
+    → ((k : ℕ) → k < n → get_or new k 0 ≡ encoded_byte u n k) → drop n new ≡ drop n old
     → new ≡ encoding u n ++ drop n old
 encoding_written u n old new room bytes rest =
-    let prefix : take n new ≡ encoding u n = fill_by_all (encoded_byte u n) (take n new) n 0 (length-take-le n new room) (λ k h. get_or-take n new k 0 h ∙ bytes k h) in
+    let prefix : take n new ≡ encoding u n =
+        fill_by_all (encoded_byte u n) (take n new) n 0 (length-take-le n new room)
+            (λ k h. get_or-take n new k 0 h ∙ bytes k h) in
     sym (take-append-drop n new) ∙ rw (prefix, rest) refl
 
 -- the byte before the last is the same whatever the length
-pub open_same : (x m n i : ℕ) → i + 1 < m → i + 1 < n → encoded_byte (x % 128 ^ m) m i ≡ encoded_byte (x % 128 ^ n) n i
+pub open_same : (x m n i : ℕ) → i + 1 < m → i + 1 < n
+    → encoded_byte (x % 128 ^ m) m i ≡ encoded_byte (x % 128 ^ n) n i
 open_same x m n i p q =
     let s : nat_lt (i + 1) m ≡ true = grind (arith, nat_tests) in
     let t : nat_lt (i + 1) n ≡ true = grind (arith, nat_tests) in
-    rw (s, t) (ap (λ d. 128 + d) (digit_mod x m i (omega arith) ∙ sym (digit_mod x n i (omega arith))))
+    rw (s, t) (ap (λ d. 128 + d)
+        (digit_mod x m i (omega arith) ∙ sym (digit_mod x n i (omega arith))))
 
 -- a target of an encoding of two or three bytes, whose second byte may be written twice
-pub short_written : (u n a b l : ℕ) (old : List ℕ) → 2 ≤ n → n ≤ 3 → n ≤ length old → a ≡ encoded_byte u n 0 → (n ≡ 3 → b ≡ encoded_byte u n 1)
-    → l ≡ encoded_byte u n (n - 1) → set (set (set old 0 a) 1 b) (n - 1) l ≡ encoding u n ++ drop n old
+pub short_written : (u n a b l : ℕ) (old : List ℕ) → 2 ≤ n → n ≤ 3 → n ≤ length old
+    → a ≡ encoded_byte u n 0 → (n ≡ 3 → b ≡ encoded_byte u n 1)
+    → l ≡ encoded_byte u n (n - 1) → set (set (set old 0 a) 1 b) (n - 1) l
+        ≡ encoding u n ++ drop n old
 short_written u n a b l old some few room first second last =
     let one = set old 0 a in
     let two = set one 1 b in
@@ -102,25 +118,34 @@ short_written u n a b l old some few room first second last =
     let size_one : length one ≡ length old = length-set old 0 a in
     let size_two : length two ≡ length old = length-set one 1 b ∙ size_one in
     let size : length new ≡ length old = length-set two (n - 1) l ∙ size_two in
-    let byte = λ (k : ℕ) (h : k < n). elim (cases_lt k (n - 1)) as (λ _. get_or new k 0 ≡ encoded_byte u n k) [
-      | inl early ↦ get_or-set_other two (n - 1) k l 0 (λ (e : k ≡ n - 1). omega (arith, e, early)) ∙ elim (cases_lt k 1) as (λ _. get_or two k 0 ≡ encoded_byte u n k) [
+    let byte =
+        λ (k : ℕ) (h : k < n). elim (cases_lt k (n - 1))
+            as (λ _. get_or new k 0 ≡ encoded_byte u n k) [
+      | inl early ↦ get_or-set_other two (n - 1) k l 0 (λ (e : k ≡ n - 1). omega (arith, e, early))
+          ∙ elim (cases_lt k 1) as (λ _. get_or two k 0 ≡ encoded_byte u n k) [
         | inl prefix ↦
             let here : k ≡ 0 = omega arith in
-            get_or-set_other one 1 k b 0 (λ (e : k ≡ 1). omega (arith, e, here)) ∙ get_or-set_at old 0 k a 0 here (omega (arith, room, some)) ∙ first ∙ ap (encoded_byte u n) (sym here)
+            get_or-set_other one 1 k b 0 (λ (e : k ≡ 1). omega (arith, e, here))
+            ∙ get_or-set_at old 0 k a 0 here (omega (arith, room, some)) ∙ first
+            ∙ ap (encoded_byte u n) (sym here)
         | inr middle ↦
             let here : k ≡ 1 = omega (arith, middle, early, few) in
-            get_or-set_at one 1 k b 0 here (omega (arith, size_one, room, some)) ∙ second (omega (arith, middle, early, few)) ∙ ap (encoded_byte u n) (sym here)
+            get_or-set_at one 1 k b 0 here (omega (arith, size_one, room, some))
+            ∙ second (omega (arith, middle, early, few)) ∙ ap (encoded_byte u n) (sym here)
       ]
       | inr late ↦
           let here : k ≡ n - 1 = omega (arith, late, h) in
-          get_or-set_at two (n - 1) k l 0 here (omega (arith, size_two, room, some)) ∙ last ∙ ap (encoded_byte u n) (sym here)
+          get_or-set_at two (n - 1) k l 0 here (omega (arith, size_two, room, some)) ∙ last
+          ∙ ap (encoded_byte u n) (sym here)
     ] in
     let rest : drop n new ≡ drop n old =
-    drop-set-lt n two (n - 1) l (omega arith) ∙ drop-set-lt n one 1 b (omega arith) ∙ drop-set-lt n old 0 a (omega arith) in
+    drop-set-lt n two (n - 1) l (omega arith) ∙ drop-set-lt n one 1 b (omega arith)
+    ∙ drop-set-lt n old 0 a (omega arith) in
     encoding_written u n old new (omega (arith, size, room)) byte rest
 
 -- ---- the shortest count
-pub place_found : (v l : ℕ) → v < 2 ^ 64 → l ≡ count_leading_zeros 64 (bit_or v 1) → (l ≤ 63) × (2 ^ (63 - l) ≤ bit_or v 1) × (bit_or v 1 < 2 ^ (63 - l + 1))
+pub place_found : (v l : ℕ) → v < 2 ^ 64 → l ≡ count_leading_zeros 64 (bit_or v 1)
+    → (l ≤ 63) × (2 ^ (63 - l) ≤ bit_or v 1) × (bit_or v 1 < 2 ^ (63 - l + 1))
 place_found v l fits e =
     let some : 0 < bit_or v 1 = omega (arith, le_or_r v 1) in
     let top = leading_top 64 (bit_or v 1) some (or_lt 64 v 1 fits (omega arith)) in
@@ -128,12 +153,14 @@ place_found v l fits e =
     let next : 63 - l + 1 ≡ suc top.0 = omega (arith, index) in
     (omega (arith, top.1), rw index top.2, rw next top.3)
 
-pub shortest_found : (v p n : ℕ) → p ≤ 63 → 2 ^ p ≤ bit_or v 1 → bit_or v 1 < 2 ^ (p + 1) → n ≡ (p * 9 + 73) / 64 → IsLeast (HoldsGroups v) n
+pub shortest_found : (v p n : ℕ) → p ≤ 63 → 2 ^ p ≤ bit_or v 1 → bit_or v 1 < 2 ^ (p + 1)
+    → n ≡ (p * 9 + 73) / 64 → IsLeast (HoldsGroups v) n
 shortest_found v p n few above below e =
     let n_is : n ≡ p / 7 + 1 = omega arith in
     let wide : 2 ^ (p + 1) ≤ 2 ^ (7 * n) = pow_mono {i = p + 1} {j = 7 * n} (omega arith) in
     record {
-      has = record { some = omega arith; few = omega arith; room = omega (arith, wide, pow_128 n, le_or_l v 1); fits = tt };
+      has = record { some = omega arith; few = omega arith;
+          room = omega (arith, wide, pow_128 n, le_or_l v 1); fits = tt };
       least = λ (m : ℕ) (has : HoldsGroups v m). elim (cases_lt m n) [
         | inl short ↦
             let some : 1 ≤ m = has.some in
@@ -148,26 +175,42 @@ shortest_found v p n few above below e =
 
 -- ---- signed numbers
 to_turned : (v : ℤ) (n : ℕ) → HasSignedEncoding v n → HoldsGroups (2 * magnitude_bits v) n
-to_turned (pos a) n h = record { some = h.some; few = h.few; room = omega (arith, ints, power_last n h.some, h.room); fits = tt }
-to_turned (negsuc k) n h = record { some = h.some; few = h.few; room = omega (arith, ints, power_last n h.some, h.room); fits = tt }
+to_turned (pos a) n h =
+    record { some = h.some; few = h.few; room = omega (arith, ints, power_last n h.some, h.room);
+        fits = tt }
+to_turned (negsuc k) n h =
+    record { some = h.some; few = h.few; room = omega (arith, ints, power_last n h.some, h.room);
+        fits = tt }
 
-from_turned : (v : ℤ) (n : ℕ) → FitsSigned w64 v → HoldsGroups (2 * magnitude_bits v) n → HasSignedEncoding v n
-from_turned (pos a) n fits h = let power = power_last n h.some in let room : 2 * a < 128 ^ n = h.room in record { some = h.some; few = h.few; room = (omega (arith, ints), omega (arith, ints)); fits = fits }
-from_turned (negsuc k) n fits h = let power = power_last n h.some in let room : 2 * k < 128 ^ n = h.room in record { some = h.some; few = h.few; room = (omega (arith, ints), omega (arith, ints)); fits = fits }
+from_turned : (v : ℤ) (n : ℕ) → FitsSigned w64 v → HoldsGroups (2 * magnitude_bits v) n
+    → HasSignedEncoding v n
+from_turned (pos a) n fits h = let power = power_last n h.some in
+    let room : 2 * a < 128 ^ n = h.room in
+    record { some = h.some; few = h.few; room = (omega (arith, ints), omega (arith, ints));
+        fits = fits }
+from_turned (negsuc k) n fits h = let power = power_last n h.some in
+    let room : 2 * k < 128 ^ n = h.room in
+    record { some = h.some; few = h.few; room = (omega (arith, ints), omega (arith, ints));
+        fits = fits }
 
 -- a signed number takes as many groups as twice `magnitude_bits` of it
-pub signed_least : (v : ℤ) (n : ℕ) → FitsSigned w64 v → IsLeast (HoldsGroups (2 * magnitude_bits v)) n → IsLeast (HasSignedEncoding v) n
-signed_least v n fits h = record { has = from_turned v n fits h.has; least = λ m s. h.least m (to_turned v m s) }
+pub signed_least : (v : ℤ) (n : ℕ) → FitsSigned w64 v
+    → IsLeast (HoldsGroups (2 * magnitude_bits v)) n → IsLeast (HasSignedEncoding v) n
+signed_least v n fits h =
+    record { has = from_turned v n fits h.has; least = λ m s. h.least m (to_turned v m s) }
 
-pub magnitude_below : (v : ℤ) (r : ℕ) → FitsSigned w64 v → lt_z v (pos 0) ≡ true → r ≡ 18446744073709551615 - of_z w64 v → r ≡ magnitude_bits v
+pub magnitude_below : (v : ℤ) (r : ℕ) → FitsSigned w64 v → lt_z v (pos 0) ≡ true
+    → r ≡ 18446744073709551615 - of_z w64 v → r ≡ magnitude_bits v
 magnitude_below (pos a) r fits h e = absurd (omega (arith, ints))
 magnitude_below (negsuc k) r fits h e = omega (arith, ints)
 
-pub magnitude_above : (v : ℤ) (r : ℕ) → lt_z v (pos 0) ≡ false → r ≡ of_z w64 v → r ≡ magnitude_bits v
+pub magnitude_above : (v : ℤ) (r : ℕ) → lt_z v (pos 0) ≡ false → r ≡ of_z w64 v
+    → r ≡ magnitude_bits v
 magnitude_above (pos a) r h e = e
 magnitude_above (negsuc k) r h e = absurd (omega (arith, ints))
 
-pub twice_magnitude : (v : ℤ) → FitsSigned w64 v → magnitude_bits v * 2 % 2 ^ 64 ≡ 2 * magnitude_bits v
+pub twice_magnitude : (v : ℤ) → FitsSigned w64 v
+    → magnitude_bits v * 2 % 2 ^ 64 ≡ 2 * magnitude_bits v
 twice_magnitude (pos a) fits = let small : a < 2 ^ 63 = omega (arith, ints) in omega arith
 twice_magnitude (negsuc k) fits = let small : k < 2 ^ 63 = omega (arith, ints) in omega arith
 
@@ -184,7 +227,8 @@ pub tenth_above : (v : ℤ) (t : ℕ) → lt_z v (pos 0) ≡ false → t ≡ 0 �
 tenth_above (pos a) t h e = e
 tenth_above (negsuc k) t h e = absurd (omega (arith, ints))
 
-below_zero : (k n : ℕ) → n ≤ 10 → suc k ≤ 128 ^ n → suc k ≤ 2 ^ 63 → ten_groups (2 ^ 64 - suc k) 127 % 128 ^ n ≡ 128 ^ n - suc k
+below_zero : (k n : ℕ) → n ≤ 10 → suc k ≤ 128 ^ n → suc k ≤ 2 ^ 63
+    → ten_groups (2 ^ 64 - suc k) 127 % 128 ^ n ≡ 128 ^ n - suc k
 below_zero k n few room fits =
     let whole : 10 - n + n ≡ 10 = omega arith in
     let q = 128 ^ (10 - n) in
@@ -193,10 +237,12 @@ below_zero k n few room fits =
     let before : q ≡ q - 1 + 1 = omega arith in
     let split : (q - 1) * 128 ^ n + 128 ^ n ≡ 2 ^ 70 = omega (arith, rw before at power) in
     let low : (2 ^ 64 - suc k) % 2 ^ 63 ≡ 2 ^ 63 - suc k = omega arith in
-    let form : ten_groups (2 ^ 64 - suc k) 127 ≡ (q - 1) * 128 ^ n + (128 ^ n - suc k) = omega (arith, low, split) in
+    let form : ten_groups (2 ^ 64 - suc k) 127 ≡ (q - 1) * 128 ^ n + (128 ^ n - suc k) =
+        omega (arith, low, split) in
     ap (λ x. x % 128 ^ n) form ∙ mod-mul-add (q - 1) (128 ^ n) (128 ^ n - suc k) (omega arith)
 
-pub signed_groups_form : (v : ℤ) (n : ℕ) → HasSignedEncoding v n → ten_groups (of_z w64 v) (tenth_of v) % 128 ^ n ≡ unsigned_form v n
+pub signed_groups_form : (v : ℤ) (n : ℕ) → HasSignedEncoding v n
+    → ten_groups (of_z w64 v) (tenth_of v) % 128 ^ n ≡ unsigned_form v n
 signed_groups_form (pos a) n h =
     let fits : FitsSigned w64 (pos a) = h.fits in
     let small : a < 128 ^ n = omega (arith, ints, power_last n h.some, h.room) in
@@ -212,165 +258,3 @@ pub unsigned_groups_form : (v n : ℕ) → v < 128 ^ n → ten_groups v (v / 2 ^
 unsigned_groups_form v n room =
     let whole : ten_groups v (v / 2 ^ 63) ≡ v = omega arith in
     ap (λ x. x % 128 ^ n) whole ∙ mod-eq_of_lt room
-
--- ---- four groups in a word of four bytes
--- the words after each round, as the code makes them
-abbrev pub parted : ℕ → ℕ
-parted n = (n + bit_and n 268419072 * 3 % 4294967296) % 4294967296
-
-abbrev pub spaced : ℕ → ℕ
-spaced n = (n + bit_and n 1065369472) % 4294967296
-
-first_part : (a b : ℕ) → a < 2 ^ 14 → b < 2 ^ 14 → parted (b * 2 ^ 14 + a) ≡ lanes 16 (a ∷ b ∷ [])
-first_part a b p q =
-    let high : bit_and (b * 2 ^ 14 + a) 268419072 ≡ b * 2 ^ 14 = and_block 14 b 16383 a 0 p (omega arith) ∙ rw (keep 14 b q, and_zero_r a) (omega arith) in
-    rw high (omega arith)
-
-top_group : (a b : ℕ) → a < 128 → b < 128 → bit_and (b * 2 ^ 7 + a) 16256 ≡ b * 2 ^ 7
-top_group a b p q = and_block 7 b 127 a 0 p (omega arith) ∙ rw (keep 7 b q, and_zero_r a) (omega arith)
-
-second_part : (a b c d : ℕ) → a < 128 → b < 128 → c < 128 → d < 128
-    → spaced (lanes 16 ((b * 2 ^ 7 + a) ∷ (d * 2 ^ 7 + c) ∷ [])) ≡ lanes 8 (a ∷ b ∷ c ∷ d ∷ [])
-second_part a b c d p q r s =
-    let tops : Lanewise bit_and 16 ((b * 2 ^ 7 + a) ∷ (d * 2 ^ 7 + c) ∷ []) (16256 ∷ 16256 ∷ []) ((b * 2 ^ 7) ∷ (d * 2 ^ 7) ∷ []) =
-    lane (omega arith) (omega arith) (top_group a b p q) (lane (omega arith) (omega arith) (top_group c d r s) done) in
-    let high : bit_and (lanes 16 ((b * 2 ^ 7 + a) ∷ (d * 2 ^ 7 + c) ∷ [])) 1065369472 ≡ lanes 16 ((b * 2 ^ 7) ∷ (d * 2 ^ 7) ∷ []) = and_lanes tops in
-    rw high (omega arith)
-
-pub spread_word : (low : ℕ) → spaced (parted (bit_and low 268435455)) ≡ lanes 8 ((low / 1 % 128) ∷ (low / 128 % 128) ∷ (low / 16384 % 128) ∷ (low / 2097152 % 128) ∷ [])
-spread_word low =
-    let a = low / 1 % 128 in
-    let b = low / 128 % 128 in
-    let c = low / 16384 % 128 in
-    let d = low / 2097152 % 128 in
-    let e : bit_and low 268435455 ≡ (d * 2 ^ 7 + c) * 2 ^ 14 + (b * 2 ^ 7 + a) = and_mask low 28 ∙ omega arith in
-    ap (λ n. spaced (parted n)) e
-    ∙ ap spaced (first_part (b * 2 ^ 7 + a) (d * 2 ^ 7 + c) (omega arith) (omega arith))
-    ∙ second_part a b c d (omega arith) (omega arith) (omega arith) (omega arith)
-
-mark : (d : ℕ) → d < 128 → bit_or d 128 ≡ 128 + d
-mark d h = or_shifted_r 1 7 d h
-
-open_word : (a b c d : ℕ) → a < 128 → b < 128 → c < 128 → d < 128
-    → bit_or (lanes 8 (a ∷ b ∷ c ∷ d ∷ [])) 2155905152 ≡ lanes 8 ((128 + a) ∷ (128 + b) ∷ (128 + c) ∷ (128 + d) ∷ [])
-open_word a b c d p q r s =
-    let marks : Lanewise bit_or 8 (a ∷ b ∷ c ∷ d ∷ []) (128 ∷ 128 ∷ 128 ∷ 128 ∷ []) ((128 + a) ∷ (128 + b) ∷ (128 + c) ∷ (128 + d) ∷ []) =
-    lane (omega arith) (omega arith) (mark a p) (lane (omega arith) (omega arith) (mark b q) (lane (omega arith) (omega arith) (mark c r) (lane (omega arith) (omega arith) (mark d s) done))) in
-    or_lanes marks
-
-last_word : (a b c d : ℕ) → a < 128 → b < 128 → c < 128 → d < 128
-    → bit_or (lanes 8 (a ∷ b ∷ c ∷ d ∷ [])) 8421504 ≡ lanes 8 ((128 + a) ∷ (128 + b) ∷ (128 + c) ∷ d ∷ [])
-last_word a b c d p q r s =
-    let marks : Lanewise bit_or 8 (a ∷ b ∷ c ∷ d ∷ []) (128 ∷ 128 ∷ 128 ∷ 0 ∷ []) ((128 + a) ∷ (128 + b) ∷ (128 + c) ∷ d ∷ []) =
-    lane (omega arith) (omega arith) (mark a p) (lane (omega arith) (omega arith) (mark b q) (lane (omega arith) (omega arith) (mark c r) (lane (omega arith) (omega arith) (or_zero_r d) done))) in
-    or_lanes marks
-
-four_bytes : (n a b c d : ℕ) → n ≡ lanes 8 (a ∷ b ∷ c ∷ d ∷ []) → a < 256 → b < 256 → c < 256 → d < 256 → to_le_bytes w32 n ≡ (a ∷ b ∷ c ∷ d ∷ [])
-four_bytes n a b c d e p q r s =
-    let x : n % 256 ≡ a = omega arith in
-    let y : n / 256 % 256 ≡ b = omega arith in
-    let z : n / 65536 % 256 ≡ c = omega arith in
-    let w : n / 16777216 % 256 ≡ d = omega arith in
-    cc
-
-pub open_bytes : (low g : ℕ) (bytes : List ℕ) → g ≡ 0 + low / 1 % 128 * 1 + low / 128 % 128 * 256 + low / 16384 % 128 * 65536 + low / 2097152 % 128 * 16777216
-    → bytes ≡ to_le_bytes w32 (bit_or g 2155905152) → (k : ℕ) → k < 4 → get_or bytes k 0 ≡ 128 + low / 128 ^ k % 128
-open_bytes low g bytes e is =
-    let a = low / 1 % 128 in
-    let b = low / 128 % 128 in
-    let c = low / 16384 % 128 in
-    let d = low / 2097152 % 128 in
-    let word : g ≡ lanes 8 (a ∷ b ∷ c ∷ d ∷ []) = e ∙ omega arith in
-    let marked = ap (λ n. bit_or n 2155905152) word ∙ open_word a b c d (omega arith) (omega arith) (omega arith) (omega arith) in
-    let list = is ∙ four_bytes (bit_or g 2155905152) (128 + a) (128 + b) (128 + c) (128 + d) marked (omega arith) (omega arith) (omega arith) (omega arith) in
-    let P = λ (k : ℕ). get_or bytes k 0 ≡ 128 + low / 128 ^ k % 128 in
-    below_more P 3 (below_more P 2 (below_more P 1 (below_more P 0 (below_none P) (rw list refl)) (rw list refl)) (rw list refl)) (rw list refl)
-
-pub last_bytes : (low g : ℕ) (bytes : List ℕ) → g ≡ 0 + low / 1 % 128 * 1 + low / 128 % 128 * 256 + low / 16384 % 128 * 65536 + low / 2097152 % 128 * 16777216
-    → bytes ≡ to_le_bytes w32 (bit_or g 8421504) → ((k : ℕ) → k < 3 → get_or bytes k 0 ≡ 128 + low / 128 ^ k % 128) × (get_or bytes 3 0 ≡ low / 2097152 % 128)
-last_bytes low g bytes e is =
-    let a = low / 1 % 128 in
-    let b = low / 128 % 128 in
-    let c = low / 16384 % 128 in
-    let d = low / 2097152 % 128 in
-    let word : g ≡ lanes 8 (a ∷ b ∷ c ∷ d ∷ []) = e ∙ omega arith in
-    let marked = ap (λ n. bit_or n 8421504) word ∙ last_word a b c d (omega arith) (omega arith) (omega arith) (omega arith) in
-    let list = is ∙ four_bytes (bit_or g 8421504) (128 + a) (128 + b) (128 + c) d marked (omega arith) (omega arith) (omega arith) (omega arith) in
-    let P = λ (k : ℕ). get_or bytes k 0 ≡ 128 + low / 128 ^ k % 128 in
-    (below_more P 2 (below_more P 1 (below_more P 0 (below_none P) (rw list refl)) (rw list refl)) (rw list refl), rw list refl)
-
--- ---- bytes of an encoding from the digits of its word
-pub open_byte : (low tenth n k b : ℕ) → k + 1 < n → k < 9 → b ≡ 128 + low / 128 ^ k % 128 → b ≡ encoded_byte (ten_groups low tenth % 128 ^ n) n k
-open_byte low tenth n k b more nine e =
-    let t : nat_lt (k + 1) n ≡ true = grind (arith, nat_tests) in
-    rw t (e ∙ ap (λ x. 128 + x) (sym (word_digit low tenth n k (omega arith) nine)))
-
-pub close_byte : (low tenth n k b : ℕ) → n ≡ k + 1 → k < 9 → b ≡ low / 128 ^ k % 128 → b ≡ encoded_byte (ten_groups low tenth % 128 ^ n) n k
-close_byte low tenth n k b last nine e =
-    last_byte (ten_groups low tenth % 128 ^ n) n k b (mod_room (ten_groups low tenth) n) (omega arith) (omega arith) (e ∙ sym (word_digit low tenth n k (omega arith) nine))
-
--- digit j of the word without its first m groups
-pub later_digit : (low m j : ℕ) → low / 2 ^ (7 * m) / 128 ^ j % 128 ≡ low / 128 ^ (m + j) % 128
-later_digit low m j = ap (λ p. low / p / 128 ^ j % 128) (pow_128 m) ∙ ap (λ q. q % 128) (div-div-eq-div-mul low (128 ^ m) (128 ^ j) ∙ ap (λ p. low / p) (sym (pow-add 128 m j)))
-
--- ---- targets that were written by words of four bytes: `at` says which bytes of a list are in a
--- target from an offset on
-pub record FourAt (index : ℕ) (bytes old new : List ℕ) : Type 0 where
-  pub put : (k : ℕ) → k < 4 → get_or new (index + k) 0 ≡ get_or bytes k 0
-  pub before : (k : ℕ) → k < index → get_or new k 0 ≡ get_or old k 0
-  pub after : drop (index + 4) new ≡ drop (index + 4) old
-
-drop_more : (i n : ℕ) (x y : List ℕ) → i ≤ n → drop i x ≡ drop i y → drop n x ≡ drop n y
-drop_more i n x y h e =
-    let whole : i + (n - i) ≡ n = omega arith in
-    ap (λ j. drop j x) (sym whole) ∙ sym (drop-drop (n - i) i x) ∙ ap (drop (n - i)) e ∙ drop-drop (n - i) i y ∙ ap (λ j. drop j y) whole
-
-open_from : (low tenth n m j b : ℕ) → m + j + 1 < n → m + j < 9 → b ≡ 128 + low / 2 ^ (7 * m) / 128 ^ j % 128 → b ≡ encoded_byte (ten_groups low tenth % 128 ^ n) n (m + j)
-open_from low tenth n m j b more nine e = open_byte low tenth n (m + j) b more nine (e ∙ ap (λ x. 128 + x) (later_digit low m j))
-
-pub words_written : (low tenth n : ℕ) (old mid new a z : List ℕ) → 4 ≤ n → n ≤ 8 → n ≤ length new
-    → ((k : ℕ) → k < 4 → get_or a k 0 ≡ 128 + low / 128 ^ k % 128)
-    → ((k : ℕ) → k < 3 → get_or z k 0 ≡ 128 + low / 2 ^ (7 * (n - 4)) / 128 ^ k % 128)
-    → get_or z 3 0 ≡ low / 2 ^ (7 * (n - 4)) / 2097152 % 128
-    → FourAt 0 a old mid → FourAt (n - 4) z mid new → new ≡ encoding (ten_groups low tenth % 128 ^ n) n ++ drop n old
-words_written low tenth n old mid new a z some few room opens lasts end first second =
-    let back : n - 4 + 4 ≡ n = omega arith in
-    let rest : drop n new ≡ drop n old = rw back at second.after ∙ drop_more (0 + 4) n mid old (omega arith) first.after in
-    let byte = λ (k : ℕ) (h : k < n). let P : Type 0 = get_or new k 0 ≡ encoded_byte (ten_groups low tenth % 128 ^ n) n k in elim (cases_lt k (n - 4)) as (λ _. P) [
-      | inl early ↦
-          let index : 0 + k ≡ k = omega arith in
-          let four : k < 4 = omega arith in
-          open_byte low tenth n k _ (omega arith) (omega arith) (second.before k early ∙ rw index at (first.put k four) ∙ opens k four)
-      | inr late ↦
-          let j = k - (n - 4) in
-          let index : n - 4 + j ≡ k = omega arith in
-          let four : j < 4 = omega arith in
-          let here : get_or new k 0 ≡ get_or z j 0 = rw index at (second.put j four) in
-          elim (cases_lt j 3) as (λ _. P) [
-            | inl more ↦ rw index at (open_from low tenth n (n - 4) j _ (omega arith) (omega arith) (here ∙ lasts j more))
-            | inr last ↦
-                let three : j ≡ 3 = omega arith in
-                let digit : get_or z j 0 ≡ low / 2 ^ (7 * (n - 4)) / 128 ^ j % 128 = rw three end in
-                close_byte low tenth n k _ (omega arith) (omega arith) (here ∙ digit ∙ later_digit low (n - 4) j ∙ rw index refl)
-          ]
-    ] in
-    encoding_written (ten_groups low tenth % 128 ^ n) n old new room byte rest
-
-pub eight_written : (low tenth n : ℕ) (old mid new a z : List ℕ) → 9 ≤ n
-    → ((k : ℕ) → k < 4 → get_or a k 0 ≡ 128 + low / 128 ^ k % 128)
-    → ((k : ℕ) → k < 4 → get_or z k 0 ≡ 128 + low / 268435456 / 128 ^ k % 128)
-    → FourAt 0 a old mid → FourAt 4 z mid new
-    → ((k : ℕ) → k < 8 → get_or new k 0 ≡ encoded_byte (ten_groups low tenth % 128 ^ n) n k) × (drop n new ≡ drop n old)
-eight_written low tenth n old mid new a z some opens mores first second = (
-  λ (k : ℕ) (h : k < 8). let P : Type 0 = get_or new k 0 ≡ encoded_byte (ten_groups low tenth % 128 ^ n) n k in elim (cases_lt k 4) as (λ _. P) [
-    | inl early ↦
-        let index : 0 + k ≡ k = omega arith in
-        open_byte low tenth n k _ (omega arith) (omega arith) (second.before k early ∙ rw index at (first.put k early) ∙ opens k early)
-    | inr late ↦
-        let j = k - 4 in
-        let index : 4 + j ≡ k = omega arith in
-        let four : j < 4 = omega arith in
-        rw index at (open_from low tenth n 4 j _ (omega arith) (omega arith) (rw index at (second.put j four) ∙ mores j four))
-  ],
-  drop_more (4 + 4) n new mid (omega arith) second.after ∙ drop_more (0 + 4) n mid old (omega arith) first.after,
-)

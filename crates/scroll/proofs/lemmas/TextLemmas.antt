@@ -26,7 +26,8 @@ use Rattle.std.specs.List.{All}
 use Rattle.scroll.specs.Bytes.{WritesPrefix}
 
 -- where the first delimiter is, after bytes that are not the delimiter
-pub offset-behind : (d : ℕ) (t rest : List ℕ) → All (λ b. b ≢ d) t → index_of d (t ++ d ∷ rest) ≡ length t
+pub offset-behind : (d : ℕ) (t rest : List ℕ) → All (λ b. b ≢ d) t
+    → index_of d (t ++ d ∷ rest) ≡ length t
 offset-behind d [] rest h = grind arith
 offset-behind d (b ∷ bs) rest h =
     let hb = All-head (λ x. x ≢ d) b bs h in
@@ -38,13 +39,17 @@ pub index_of-take : (d k : ℕ) (s : List ℕ) → index_of d (take k s) ≡ min
 index_of-take d k s = position_or_len-take (λ b. b == d) k s
 
 -- a string within a limit
-pub take-until : (d k n : ℕ) (s : List ℕ) → n ≡ index_of d (take k s) → take n (take k s) ≡ take (min k (index_of d s)) s
-take-until d k n s e = ap (λ n. take n (take k s)) (e ∙ index_of-take d k s) ∙ take-take (min k (index_of d s)) k s (omega arith)
+pub take-until : (d k n : ℕ) (s : List ℕ) → n ≡ index_of d (take k s)
+    → take n (take k s) ≡ take (min k (index_of d s)) s
+take-until d k n s e = ap (λ n. take n (take k s)) (e ∙ index_of-take d k s)
+    ∙ take-take (min k (index_of d s)) k s (omega arith)
 
 -- a text has as many bytes as its context selects
-pub text_len-take : (ctx : StrCtx) (s : List ℕ) → wanted_len ctx ≤ length s → length (take (text_len ctx s) s) ≡ text_len ctx s
+pub text_len-take : (ctx : StrCtx) (s : List ℕ) → wanted_len ctx ≤ length s
+    → length (take (text_len ctx s) s) ≡ text_len ctx s
 text_len-take (Delimiter d) s h = length-take-le (index_of d s) s (index_of-le d s)
-text_len-take (DelimiterUntil d limit) s h = length-take-le (min limit (index_of d s)) s (omega (arith, h))
+text_len-take (DelimiterUntil d limit) s h =
+    length-take-le (min limit (index_of d s)) s (omega (arith, h))
 text_len-take (Length n) s h = length-take-le n s h
 text_len-take (Required d) s h = length-take-le (index_of d s) s (index_of-le d s)
 
@@ -55,7 +60,8 @@ pub ruleset index_ofs = (index_of-le, index_of-take)
 pub ruleset ascii = (IsUtf8-from_ascii)
 
 -- the index of the first byte of a value in lists with equal prefixes
-pub index_of-prefixes : (d n : ℕ) (s t : List ℕ) → take n t ≡ take n s → min n (index_of d t) ≡ min n (index_of d s)
+pub index_of-prefixes : (d n : ℕ) (s t : List ℕ) → take n t ≡ take n s
+    → min n (index_of d t) ≡ min n (index_of d s)
 index_of-prefixes d n s t e = sym (index_of-take d n t) ∙ ap (index_of d) e ∙ index_of-take d n s
 
 pub local-slice : (c : ℕ) → IsLocal (ReadsSlice c)
@@ -67,13 +73,16 @@ local-slice c s t v n r h long e = record {
 
 -- a source that begins with the same bytes as another, as many as a read takes, has a text of the
 -- same length
-same-len : (ctx : StrCtx) (n : ℕ) (s t : List ℕ) → n ≡ text_len ctx s + delimiter_len ctx → take n t ≡ take n s → text_len ctx t ≡ text_len ctx s
+same-len : (ctx : StrCtx) (n : ℕ) (s t : List ℕ) → n ≡ text_len ctx s + delimiter_len ctx
+    → take n t ≡ take n s → text_len ctx t ≡ text_len ctx s
 same-len (Delimiter d) n s t size e = let f = index_of-prefixes d n s t e in omega (arith, size, f)
-same-len (DelimiterUntil d k) n s t size e = let f = index_of-prefixes d n s t e in omega (arith, size, f)
+same-len (DelimiterUntil d k) n s t size e = let f = index_of-prefixes d n s t e in
+    omega (arith, size, f)
 same-len (Length k) n s t size e = refl
 same-len (Required d) n s t size e = let f = index_of-prefixes d n s t e in omega (arith, size, f)
 
-same-delimiter : (ctx : StrCtx) (s t : List ℕ) → text_len ctx t ≡ text_len ctx s → length s ≤ length t → HasDelimiter ctx s → HasDelimiter ctx t
+same-delimiter : (ctx : StrCtx) (s t : List ℕ) → text_len ctx t ≡ text_len ctx s
+    → length s ≤ length t → HasDelimiter ctx s → HasDelimiter ctx t
 same-delimiter (Delimiter d) s t same long h = tt
 same-delimiter (DelimiterUntil d k) s t same long h = tt
 same-delimiter (Length k) s t same long h = tt
@@ -84,7 +93,8 @@ local-text ctx s t v n r h long e =
     let same = same-len ctx n s t r.size e in
     record {
       room = omega (arith, r.room, long);
-      prefix = r.prefix ∙ sym (take-same (text_len ctx s) n s t (omega (arith, r.size)) e) ∙ ap (λ m. take m t) (sym same);
+      prefix = r.prefix ∙ sym (take-same (text_len ctx s) n s t (omega (arith, r.size)) e)
+          ∙ ap (λ m. take m t) (sym same);
       utf8 = r.utf8;
       size = r.size ∙ ap (λ m. m + delimiter_len ctx) (sym same);
       there = same-delimiter ctx s t same long r.there;
@@ -94,7 +104,8 @@ local-text ctx s t v n r h long e =
 pub within-length : (k : ℕ) → IsWithin (ReadsText (Length k))
 within-length k s v n r = omega (arith, r.room, r.size)
 
-pub same-bad_input : (d : Error) (n : ℕ) (text : List ℕ) → IsBadInput d n text → SameError d (BadInput n (record { ref_ptr = (0, 0); now = text }))
+pub same-bad_input : (d : Error) (n : ℕ) (text : List ℕ) → IsBadInput d n text
+    → SameError d (BadInput n (record { ref_ptr = (0, 0); now = text }))
 same-bad_input (BadInput size msg) n text h = (h.0, h.1)
 same-bad_input (TooBig size len) n text h = absurd h
 same-bad_input (BadOffset index) n text h = absurd h
@@ -112,44 +123,66 @@ has-cases : (ctx : StrCtx) (s : List ℕ) → HasDelimiter ctx s ⊎ ¬ (HasDeli
 has-cases (Delimiter d) s = inl tt
 has-cases (DelimiterUntil d k) s = inl tt
 has-cases (Length k) s = inl tt
-has-cases (Required d) s = elim (cases_lt (index_of d s) (length s)) [ inl inside ↦ inl inside | inr past ↦ inr (λ inside. absurd (omega (arith, inside, past))) ]
+has-cases (Required d) s =
+    elim (cases_lt (index_of d s) (length s)) [ inl inside ↦ inl inside
+        | inr past ↦ inr (λ inside. absurd (omega (arith, inside, past))) ]
 
-refuses-long : (ctx : StrCtx) (s : List ℕ) (d : Error) → wanted_len ctx ≤ length s → HasDelimiter ctx s → RefusesText ctx s d → RefusesInvalid ctx s d
+refuses-long : (ctx : StrCtx) (s : List ℕ) (d : Error) → wanted_len ctx ≤ length s
+    → HasDelimiter ctx s → RefusesText ctx s d → RefusesInvalid ctx s d
 refuses-long ctx s d long there (inl r) = absurd (omega (arith, long, r.short))
 refuses-long ctx s d long there (inr (inl r)) = r
 refuses-long ctx s d long there (inr (inr r)) = absurd (r.missing there)
 
-refuses-missing : (ctx : StrCtx) (s : List ℕ) (d : Error) → wanted_len ctx ≤ length s → ¬ (HasDelimiter ctx s) → RefusesText ctx s d → RefusesMissing ctx s d
+refuses-missing : (ctx : StrCtx) (s : List ℕ) (d : Error) → wanted_len ctx ≤ length s
+    → ¬ (HasDelimiter ctx s) → RefusesText ctx s d → RefusesMissing ctx s d
 refuses-missing ctx s d long missing (inl r) = absurd (omega (arith, long, r.short))
 refuses-missing ctx s d long missing (inr (inl r)) = absurd (missing r.there)
 refuses-missing ctx s d long missing (inr (inr r)) = r
 
-refuses-short : (ctx : StrCtx) (s : List ℕ) (d : Error) → length s < wanted_len ctx → RefusesText ctx s d → d ≡ TooBig (wanted_len ctx) (length s)
+refuses-short : (ctx : StrCtx) (s : List ℕ) (d : Error) → length s < wanted_len ctx
+    → RefusesText ctx s d → d ≡ TooBig (wanted_len ctx) (length s)
 refuses-short ctx s d short (inl r) = r.error
 refuses-short ctx s d short (inr (inl r)) = absurd (omega (arith, short, r.room))
 refuses-short ctx s d short (inr (inr r)) = absurd (omega (arith, short, r.room))
 
-one-there : (ctx : StrCtx) (s : List ℕ) → wanted_len ctx ≤ length s → HasDelimiter ctx s → AllowsOne (ReadsText ctx s) (RefusesText ctx s)
-one-there ctx s long there = elim (utf8-cases (take (text_len ctx s) s)) as (λ _. AllowsOne (ReadsText ctx s) (RefusesText ctx s)) [
-  | inl holds ↦ one-Ok (ReadsText ctx s) (RefusesText ctx s) (take (text_len ctx s) s) (text_len ctx s + delimiter_len ctx)
+one-there : (ctx : StrCtx) (s : List ℕ) → wanted_len ctx ≤ length s → HasDelimiter ctx s
+    → AllowsOne (ReadsText ctx s) (RefusesText ctx s)
+one-there ctx s long there =
+    elim (utf8-cases (take (text_len ctx s) s))
+        as (λ _. AllowsOne (ReadsText ctx s) (RefusesText ctx s)) [
+  | inl holds ↦
+      one-Ok (ReadsText ctx s) (RefusesText ctx s) (take (text_len ctx s) s)
+          (text_len ctx s + delimiter_len ctx)
       (record { room = long; prefix = refl; utf8 = holds; size = refl; there = there })
       (λ v m r. (r.prefix, r.size)) (λ e r. (refuses-long ctx s e long there r).invalid holds)
-  | inr fails ↦ one-Err (ReadsText ctx s) (RefusesText ctx s) (BadInput (length s) (record { ref_ptr = (0, 0); now = codes "invalid utf8" }))
+  | inr fails ↦
+      one-Err (ReadsText ctx s) (RefusesText ctx s)
+          (BadInput (length s) (record { ref_ptr = (0, 0); now = codes "invalid utf8" }))
       (inr (inl (record { room = long; invalid = fails; error = (refl, refl); there = there })))
       (λ v m r. fails (subst IsUtf8 r.prefix r.utf8))
-      (λ d r. same-bad_input d (length s) (codes "invalid utf8") (refuses-long ctx s d long there r).error)
+      (λ d r. same-bad_input d (length s) (codes "invalid utf8")
+          (refuses-long ctx s d long there r).error)
 ]
 
-one-missing : (ctx : StrCtx) (s : List ℕ) → wanted_len ctx ≤ length s → ¬ (HasDelimiter ctx s) → AllowsOne (ReadsText ctx s) (RefusesText ctx s)
-one-missing ctx s long missing = one-Err (ReadsText ctx s) (RefusesText ctx s) (BadInput (length s) (record { ref_ptr = (0, 0); now = codes "missing delimiter" }))
+one-missing : (ctx : StrCtx) (s : List ℕ) → wanted_len ctx ≤ length s → ¬ (HasDelimiter ctx s)
+    → AllowsOne (ReadsText ctx s) (RefusesText ctx s)
+one-missing ctx s long missing =
+    one-Err (ReadsText ctx s) (RefusesText ctx s)
+        (BadInput (length s) (record { ref_ptr = (0, 0); now = codes "missing delimiter" }))
     (inr (inr (record { room = long; missing = missing; error = (refl, refl) })))
     (λ v m r. missing r.there)
-    (λ d r. same-bad_input d (length s) (codes "missing delimiter") (refuses-missing ctx s d long missing r).error)
+    (λ d r. same-bad_input d (length s) (codes "missing delimiter")
+        (refuses-missing ctx s d long missing r).error)
 
 pub one-text : (ctx : StrCtx) (s : List ℕ) → AllowsOne (ReadsText ctx s) (RefusesText ctx s)
-one-text ctx s = elim (cases_lt (length s) (wanted_len ctx)) as (λ _. AllowsOne (ReadsText ctx s) (RefusesText ctx s)) [
-  | inl short ↦ one-Err (ReadsText ctx s) (RefusesText ctx s) (TooBig (wanted_len ctx) (length s)) (inl (record { short = short; error = refl }))
-      (λ v m r. absurd (omega (arith, short, r.room))) (λ d r. same-too_big d (wanted_len ctx) (length s) (refuses-short ctx s d short r))
+one-text ctx s =
+    elim (cases_lt (length s) (wanted_len ctx))
+        as (λ _. AllowsOne (ReadsText ctx s) (RefusesText ctx s)) [
+  | inl short ↦
+      one-Err (ReadsText ctx s) (RefusesText ctx s) (TooBig (wanted_len ctx) (length s))
+          (inl (record { short = short; error = refl }))
+      (λ v m r. absurd (omega (arith, short, r.room)))
+          (λ d r. same-too_big d (wanted_len ctx) (length s) (refuses-short ctx s d short r))
   | inr long ↦ elim (has-cases ctx s) as (λ _. AllowsOne (ReadsText ctx s) (RefusesText ctx s)) [
     | inl there ↦ one-there ctx s long there
     | inr missing ↦ one-missing ctx s long missing
@@ -164,8 +197,10 @@ within-required d s v n r = omega (arith, r.there, r.size)
 pub begins-slice : (s t : List ℕ) → take (length t) s ≡ t → ReadsSlice (length t) s t (length t)
 begins-slice s t e = record { room = begins-length s t e; value = sym e; size = refl }
 
-pub begins-text : (s t : List ℕ) → IsUtf8 t → take (length t) s ≡ t → ReadsText (Length (length t)) s t (length t)
-begins-text s t u e = record { room = begins-length s t e; prefix = sym e; utf8 = u; size = omega arith; there = tt }
+pub begins-text : (s t : List ℕ) → IsUtf8 t → take (length t) s ≡ t
+    → ReadsText (Length (length t)) s t (length t)
+begins-text s t u e =
+    record { room = begins-length s t e; prefix = sym e; utf8 = u; size = omega arith; there = tt }
 
 -- a prefix that ends before the first such byte doesn't contain one
 pub index_of-prefix : (d : ℕ) (s : List ℕ) (n : ℕ) → n ≤ index_of d s → index_of d (take n s) ≡ n
@@ -173,20 +208,25 @@ index_of-prefix d s n h =
     let within = index_of-le d s in
     let len : length (take n s) ≡ n = grind (arith, common_steps) in
     position_or_len_is (λ b. b == d) (take n s) n 0 (omega arith)
-    (λ k l. let fails = fails_before_first (λ b. b == d) s k 0 (omega arith) in let same : get_or (take n s) k 0 ≡ get_or s k 0 = grind (arith, common_steps) in rw same fails)
+    (λ k l. let fails = fails_before_first (λ b. b == d) s k 0 (omega arith) in let same : get_or
+        (take n s) k 0 ≡ get_or s k 0 = grind (arith, common_steps) in rw same fails)
     (λ l. absurd (omega arith))
 
 -- a prefix that ends with the first such byte contains it there
-pub index_of-with : (d : ℕ) (s : List ℕ) → index_of d s < length s → index_of d (take (index_of d s + 1) s) ≡ index_of d s
+pub index_of-with : (d : ℕ) (s : List ℕ) → index_of d s < length s
+    → index_of d (take (index_of d s + 1) s) ≡ index_of d s
 index_of-with d s h =
     let n : ℕ = index_of d s in
     let len : length (take (n + 1) s) ≡ n + 1 = grind (arith, common_steps) in
     position_or_len_is (λ b. b == d) (take (n + 1) s) n 0 (omega arith)
-    (λ k l. let fails = fails_before_first (λ b. b == d) s k 0 (omega arith) in let same : get_or (take (n + 1) s) k 0 ≡ get_or s k 0 = grind (arith, common_steps) in rw same fails)
-    (λ l. let passes = passes_at_first (λ b. b == d) s 0 h in let same : get_or (take (n + 1) s) n 0 ≡ get_or s n 0 = grind (arith, common_steps) in rw same passes)
+    (λ k l. let fails = fails_before_first (λ b. b == d) s k 0 (omega arith) in let same : get_or
+        (take (n + 1) s) k 0 ≡ get_or s k 0 = grind (arith, common_steps) in rw same fails)
+    (λ l. let passes = passes_at_first (λ b. b == d) s 0 h in let same : get_or (take (n + 1) s) n 0
+        ≡ get_or s n 0 = grind (arith, common_steps) in rw same passes)
 
 -- the bytes up to and including the first zero are a C string
-pub IsCString-prefix : (s : List ℕ) → index_of 0 s < length s → IsCString (take (index_of 0 s + 1) s)
+pub IsCString-prefix : (s : List ℕ) → index_of 0 s < length s
+    → IsCString (take (index_of 0 s + 1) s)
 IsCString-prefix s h =
     let first = index_of-with 0 s h in
     let len : length (take (index_of 0 s + 1) s) ≡ index_of 0 s + 1 = grind (arith, common_steps) in
@@ -197,16 +237,19 @@ pub IsCString-push : (text : List ℕ) → index_of 0 text ≡ length text → I
 IsCString-push text h = grind (arith, common_steps)
 
 -- a C string is its text followed by a zero
-pub with_zero_again : (bytes : List ℕ) → IsCString bytes → bytes ≡ take (length bytes - 1) bytes ++ 0 ∷ []
+pub with_zero_again : (bytes : List ℕ) → IsCString bytes
+    → bytes ≡ take (length bytes - 1) bytes ++ 0 ∷ []
 with_zero_again bytes h =
     let zero_there = passes_at_first (λ b. b == 0) bytes 0 (omega arith) in
     grind (arith, common_steps)
 
 -- the text of a C string contains no zero
-pub text_without_zero : (bytes : List ℕ) → IsCString bytes → index_of 0 (take (length bytes - 1) bytes) ≡ length (take (length bytes - 1) bytes)
+pub text_without_zero : (bytes : List ℕ) → IsCString bytes
+    → index_of 0 (take (length bytes - 1) bytes) ≡ length (take (length bytes - 1) bytes)
 text_without_zero bytes h =
     let none = index_of-prefix 0 bytes (length bytes - 1) (omega arith) in
-    let len : length (take (length bytes - 1) bytes) ≡ length bytes - 1 = grind (arith, common_steps) in
+    let len : length (take (length bytes - 1) bytes) ≡ length bytes - 1 =
+        grind (arith, common_steps) in
     omega arith
 
 not-nul : (b : ℕ) → b ≢ 0 → (b == 0) ≡ false
@@ -225,22 +268,30 @@ passes-zero b h = grind (arith, h)
 pub IsCString-of_std : (bytes : List ℕ) → IsNulTerminated bytes → IsCString bytes
 IsCString-of_std bytes h =
     let some = h.nonempty in
-    let len : length (take (length bytes - 1) bytes) ≡ length bytes - 1 = length-take-le (length bytes - 1) bytes (omega arith) in
+    let len : length (take (length bytes - 1) bytes) ≡ length bytes - 1 =
+        length-take-le (length bytes - 1) bytes (omega arith) in
     let at : index_of 0 bytes ≡ length bytes - 1 =
     position_or_len_is (λ b. b == 0) bytes (length bytes - 1) 0 (omega arith)
-    (λ k l. not-nul (get_or bytes k 0) (rw (get_or-take (length bytes - 1) bytes k 0 l) at (h.no_nul k (omega (arith, l, len)))))
+    (λ k l. not-nul (get_or bytes k 0)
+        (rw (get_or-take (length bytes - 1) bytes k 0 l) at (h.no_nul k (omega (arith, l, len)))))
     (λ l. is-nul (get_or bytes (length bytes - 1) 0) h.last) in
     omega (arith, at, some)
 
 -- the crate's is std's
 pub IsCString-to_std : (bytes : List ℕ) → IsCString bytes → IsNulTerminated bytes
 IsCString-to_std bytes h =
-    let len : length (take (length bytes - 1) bytes) ≡ length bytes - 1 = length-take-le (length bytes - 1) bytes (omega arith) in
+    let len : length (take (length bytes - 1) bytes) ≡ length bytes - 1 =
+        length-take-le (length bytes - 1) bytes (omega arith) in
     let last : index_of 0 bytes ≡ length bytes - 1 = omega (arith, h) in
     record {
       nonempty = omega (arith, h);
-      last = rw (← last) (passes-zero (get_or bytes (index_of 0 bytes) 0) (passes_at_first (λ b. b == 0) bytes 0 (omega (arith, h))));
-      no_nul = λ k l. rw (get_or-take (length bytes - 1) bytes k 0 (omega (arith, l, len))) (fails-zero (get_or bytes k 0) (fails_before_first (λ b. b == 0) bytes k 0 (omega (arith, l, len, last))));
+      last =
+          rw (← last) (passes-zero (get_or bytes (index_of 0 bytes) 0)
+              (passes_at_first (λ b. b == 0) bytes 0 (omega (arith, h))));
+      no_nul =
+          λ k l. rw (get_or-take (length bytes - 1) bytes k 0 (omega (arith, l, len)))
+              (fails-zero (get_or bytes k 0)
+              (fails_before_first (λ b. b == 0) bytes k 0 (omega (arith, l, len, last))));
     }
 
 pub local-c_string : IsLocal ReadsCString
@@ -249,7 +300,8 @@ local-c_string s t v n r h long e =
     let same : index_of 0 t ≡ index_of 0 s = omega (arith, r.size, f) in
     record {
       found = omega (arith, same, r.found, long);
-      value = r.value ∙ sym (take-same (index_of 0 s) n s t (omega (arith, r.size)) e) ∙ ap (λ m. take m t) (sym same);
+      value = r.value ∙ sym (take-same (index_of 0 s) n s t (omega (arith, r.size)) e)
+          ∙ ap (λ m. take m t) (sym same);
       size = r.size ∙ ap (λ m. m + 1) (sym same);
     }
 
@@ -259,24 +311,32 @@ within-c_string s v n r = omega (arith, r.found, r.size)
 pub one-c_string : (s : List ℕ) → AllowsOne (ReadsCString s) (RefusesCString s)
 one-c_string s =
     let within = index_of-le 0 s in
-    elim (cases_lt (index_of 0 s) (length s)) as (λ _. AllowsOne (ReadsCString s) (RefusesCString s)) [
-      | inl found ↦ one-Ok (ReadsCString s) (RefusesCString s) (take (index_of 0 s) s) (index_of 0 s + 1)
+    elim (cases_lt (index_of 0 s) (length s))
+        as (λ _. AllowsOne (ReadsCString s) (RefusesCString s)) [
+      | inl found ↦
+          one-Ok (ReadsCString s) (RefusesCString s) (take (index_of 0 s) s) (index_of 0 s + 1)
           (record { found = found; value = refl; size = refl })
           (λ v m r. (r.value, r.size)) (λ e r. absurd (omega (arith, found, r.none)))
-      | inr none ↦ one-Err (ReadsCString s) (RefusesCString s) (BadInput 0 (record { ref_ptr = (0, 0); now = codes "The input doesn't contain a null byte" }))
+      | inr none ↦
+          one-Err (ReadsCString s) (RefusesCString s)
+              (BadInput 0 (record { ref_ptr = (0, 0);
+              now = codes "The input doesn't contain a null byte" }))
           (record { none = omega (arith, within, none); error = (refl, refl) })
           (λ v m r. absurd (omega (arith, none, r.found)))
           (λ d r. same-bad_input d 0 (codes "The input doesn't contain a null byte") r.error)
     ]
 
-pub begins-c_string : (s t : List ℕ) → All (λ b. b ≢ 0) t → take (length (t ++ 0 ∷ [])) s ≡ t ++ 0 ∷ [] → ReadsCString s t (length t + 1)
+pub begins-c_string : (s t : List ℕ) → All (λ b. b ≢ 0) t
+    → take (length (t ++ 0 ∷ [])) s ≡ t ++ 0 ∷ [] → ReadsCString s t (length t + 1)
 begins-c_string s t h e =
     let long = begins-length s (t ++ 0 ∷ []) e in
     let whole = length-append t (0 ∷ []) in
     let split : s ≡ t ++ 0 ∷ drop (length (t ++ 0 ∷ [])) s =
     begins-split s (t ++ 0 ∷ []) e ∙ append_assoc t (0 ∷ []) (drop (length (t ++ 0 ∷ [])) s) in
-    let index : index_of 0 s ≡ length t = ap (index_of 0) split ∙ offset-behind 0 t (drop (length (t ++ 0 ∷ [])) s) h in
-    let text : take (length t) s ≡ t = ap (take (length t)) split ∙ take_at t (0 ∷ drop (length (t ++ 0 ∷ [])) s) (length t) refl in
+    let index : index_of 0 s ≡ length t =
+        ap (index_of 0) split ∙ offset-behind 0 t (drop (length (t ++ 0 ∷ [])) s) h in
+    let text : take (length t) s ≡ t = ap (take (length t)) split
+        ∙ take_at t (0 ∷ drop (length (t ++ 0 ∷ [])) s) (length t) refl in
     record {
       found = omega (arith, long, whole, index);
       value = sym (ap (λ n. take n s) index ∙ text);
@@ -299,7 +359,8 @@ is-zero b e = grind (arith, e)
 -- the bytes that a C string takes: its text, and the zero
 pub taken : (s text : List ℕ) (n : ℕ) → ReadsCString s text n → take n s ≡ text ++ 0 ∷ []
 taken s text n r =
-    let zero : get_or s (index_of 0 s) 0 ≡ 0 = is-zero (get_or s (index_of 0 s) 0) (prefix_len_stops (λ b. not (b == 0)) s 0 r.found) in
+    let zero : get_or s (index_of 0 s) 0 ≡ 0 =
+        is-zero (get_or s (index_of 0 s) 0) (prefix_len_stops (λ b. not (b == 0)) s 0 r.found) in
     ap (λ m. take m s) r.size ∙ take_more s (index_of 0 s) 0 r.found
     ∙ ap (λ b. take (index_of 0 s) s ++ b ∷ []) zero ∙ ap (λ t. t ++ 0 ∷ []) (sym r.value)
 
@@ -308,7 +369,9 @@ pub no-zero : (s text : List ℕ) (n : ℕ) → ReadsCString s text n → All (�
 no-zero s text n r = subst (All (λ b. b ≢ 0)) (sym r.value) (before-zero s)
 
 -- a C string that was read, and written where it fits
-pub written-back : (s text old new : List ℕ) (n m : ℕ) → ReadsCString s text n → WritesPrefix (length (text ++ 0 ∷ [])) (text ++ 0 ∷ []) old new m → (m ≡ n) × (take m new ≡ take n s)
+pub written-back : (s text old new : List ℕ) (n m : ℕ) → ReadsCString s text n
+    → WritesPrefix (length (text ++ 0 ∷ [])) (text ++ 0 ∷ []) old new m
+    → (m ≡ n) × (take m new ≡ take n s)
 written-back s text old new n m r w =
     let whole = taken s text n r in
     let inside : n ≤ length s = omega (arith, r.found, r.size) in
@@ -316,5 +379,6 @@ written-back s text old new n m r w =
     let size : m ≡ n = w.size ∙ ap length (sym whole) ∙ long in (
       size,
       ap (λ k. take k new) w.size ∙ ap (take (length (text ++ 0 ∷ []))) w.after
-          ∙ take_at (text ++ 0 ∷ []) (drop (length (text ++ 0 ∷ [])) old) (length (text ++ 0 ∷ [])) refl ∙ sym whole,
+          ∙ take_at (text ++ 0 ∷ []) (drop (length (text ++ 0 ∷ [])) old) (length (text ++ 0 ∷ []))
+              refl ∙ sym whole,
     )

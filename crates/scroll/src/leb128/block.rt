@@ -37,7 +37,7 @@ pub(crate) fn block_groups(b: [u8; 8]) -> u64
 // Returns the groups up to the end of the encoding as one number, and how many there are.
 // (`signed_in` is its twin.)
 #[inline(always)]
-#[tactic(auto, using(crate::proofs::lemmas::BlockLemmas::one_byte, crate::proofs::lemmas::BlockLemmas::two_bytes))]
+#[tactic(auto, using(crate::proofs::lemmas::ShortBlockLemmas::one_byte, crate::proofs::lemmas::ShortBlockLemmas::two_bytes))]
 fn groups_in(word: u64) -> Option<(u64, usize)>
     ensures { MatchOption result (8 ≤ end_of (to_le_bytes w64 word)) (λ read.
         ReadsGroups (to_le_bytes w64 word) read.0 read.1) }

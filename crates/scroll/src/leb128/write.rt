@@ -166,7 +166,7 @@ fn fill_four(dst: &mut [u8], bytes: [u8; 4])
 
 // Returns the lowest four groups, each with the bit that says that more groups follow.
 #[inline(always)]
-#[tactic(auto, using(crate::proofs::lemmas::LebWriteLemmas::open_bytes))]
+#[tactic(auto, using(crate::proofs::lemmas::LebWordLemmas::open_bytes))]
 fn open_groups(low: u64) -> [u8; 4]
     ensures { (k : ℕ) → k < 4 → slice_index result k ≡ 128 + low / 128 ^ k % 128 }
 {
@@ -175,7 +175,7 @@ fn open_groups(low: u64) -> [u8; 4]
 
 // Returns the lowest four groups, the last of which ends the encoding.
 #[inline(always)]
-#[tactic(auto, using(crate::proofs::lemmas::LebWriteLemmas::last_bytes))]
+#[tactic(auto, using(crate::proofs::lemmas::LebWordLemmas::last_bytes))]
 fn last_groups(low: u64) -> [u8; 4]
     ensures open { (k : ℕ) → k < 3 → slice_index result k ≡ 128 + low / 128 ^ k % 128 }
     ensures last { slice_index result 3 ≡ low / 128 ^ 3 % 128 }
@@ -185,7 +185,7 @@ fn last_groups(low: u64) -> [u8; 4]
 
 // Returns the lowest four groups, one per byte.
 #[inline(always)]
-#[tactic(auto, using(crate::proofs::lemmas::LebWriteLemmas::spread_word))]
+#[tactic(auto, using(crate::proofs::lemmas::LebWordLemmas::spread_word))]
 fn spread(low: u64) -> u32
     ensures { result ≡ sum_below (λ i. low / 128 ^ i % 128 * 256 ^ i) 4 }
 {

@@ -5,4 +5,6 @@ use Rattle.scroll_formats.specs.declared.zeros.Zeros.{Zeros}
 use Rattle.scroll_formats.proofs.laws.zeros_keep_their_laws.Goals as goal
 
 pub returns : goal.returns
-returns c n = reader-within (λ s (_ : Zeros) m. ReadsZeros n s m) (RefusesZeros n) (local-zeros n) (within-zeros n) (one-zeros n)
+returns c n =
+    reader-within (λ s (_ : Zeros) m. ReadsZeros n s m) (RefusesZeros n) (local-zeros n)
+        (within-zeros n) (one-zeros n)

@@ -8,4 +8,5 @@ pub returns-clause-wrote : goal.returns-clause-wrote
 returns-clause-wrote g c =
     let text = g.A.Encode.bytes c.args.order c.args.value in
     let size : c.size-size.result ≡ length text = grind (arith, common_steps) in
-    rw size (puts-at text refl (grind (arith, common_steps)) c.put_behind.ensures.before c.put_behind.ensures.after)
+    rw size (puts-at text refl (grind (arith, common_steps)) c.put_behind.ensures.before
+        c.put_behind.ensures.after)

@@ -6,4 +6,5 @@ pub returns-clause-next : goal.returns-clause-next
 returns-clause-next c h =
     let o = c.args.offset in
     let k = c.args.multiple in
-    add-mod-mod o (k - o % k) k ∙ sym (mod-add-mod o k (k - o % k)) ∙ ap (λ x. x % k) (add-sub_of_le (le_of_lt (mod-lt o h))) ∙ mod_self k
+    add-mod-mod o (k - o % k) k ∙ sym (mod-add-mod o k (k - o % k))
+    ∙ ap (λ x. x % k) (add-sub_of_le (le_of_lt (mod-lt o h))) ∙ mod_self k

@@ -38,4 +38,5 @@ loop-at-preserved c =
     let sum : c.in-Some-checked_add.next ≡ c.in-Some.shifted + c.digit-more.result = search rules in
     let same : c.loop-at.value * c.args.base ≡ digits_value c.args.base (take n s) * c.args.base =
     ap (λ k. k * c.args.base) h.0 in
-    (omega (arith, sum, product, digit, same, digits_value_more c.args.base s n there), omega (arith, there))
+    (omega (arith, sum, product, digit, same, digits_value_more c.args.base s n there),
+        omega (arith, there))

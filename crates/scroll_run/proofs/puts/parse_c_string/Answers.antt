@@ -10,8 +10,10 @@ use Rattle.scroll_run.proofs.PutLemmas.{by_cstr}
 use Rattle.scroll_run.proofs.puts.parse_c_string.Goals as goal
 
 -- a text whose conversion fails with `BadInput` contains a zero
-has_a_zero : (text other : List ℕ) (e : Error) (size : ℕ) (msg : Bor (List ℕ)) → text ≡ other → index_of 0 other ≡ length other → e ≡ BadInput size msg → ¬ (RefusesToHold text e)
-has_a_zero text other e size msg same none is (inl q) = let some = rw same at q.0 in omega (arith, some, none)
+has_a_zero : (text other : List ℕ) (e : Error) (size : ℕ) (msg : Bor (List ℕ)) → text ≡ other
+    → index_of 0 other ≡ length other → e ≡ BadInput size msg → ¬ (RefusesToHold text e)
+has_a_zero text other e size msg same none is (inl q) = let some = rw same at q.0 in
+    omega (arith, some, none)
 has_a_zero text other e size msg same none is (inr q) = let no = q.1 in grind (arith, common_steps)
 
 pub returns-in_default : goal.returns-in_default
@@ -24,7 +26,8 @@ returns-in-Ok g c =
     let bytes = rw c.in-Some.is at c.in_ok-text.ensures in
     let text = c.in-Ok.ensures.text in
     let zero = c.in-Ok.ensures.no_zero in
-    λ p is. rw is.1 (_, refl, subst (SpellsCString _) (sym is.2) (rw (text ∙ c.deref.ensures.value) bytes, rw text zero))
+    λ p is. rw is.1 (_, refl,
+        subst (SpellsCString _) (sym is.2) (rw (text ∙ c.deref.ensures.value) bytes, rw text zero))
 
 pub returns-in-Err-BadInput : goal.returns-in-Err-BadInput
 returns-in-Err-BadInput g c =

@@ -9,7 +9,8 @@ pub overflow_add-result : goal.overflow_add-result
 overflow_add-result c = let within = index_of-le 0 c.args.bytes.now in grind (arith, common_steps)
 
 pub slice_bounds-result-end : goal.slice_bounds-result-end
-slice_bounds-result-end c = let within = index_of-le 0 c.args.bytes.now in grind (arith, common_steps)
+slice_bounds-result-end c = let within = index_of-le 0 c.args.bytes.now in
+    grind (arith, common_steps)
 
 pub invariant_of-result : goal.invariant_of-result
 invariant_of-result c =

@@ -13,5 +13,7 @@ from_fn-requires g c = (
 pub returns : goal.returns
 returns g c =
     let full = IsFull-from_map _ c.requires.0 c.requires.1 g.row.N (omega arith) in
-    filled_from (λ p. p.0.now.items) _ (λ p i y q e. search rules) (λ p i y q e. search rules) g.row.N _ _
-    full (omega (arith, length-map c.requires.0 (λ x. Some x), ap length c.requires.1)) c.from_fn.ensures.items
+    filled_from (λ p. p.0.now.items) _ (λ p i y q e. search rules) (λ p i y q e. search rules)
+        g.row.N _ _
+    full (omega (arith, length-map c.requires.0 (λ x. Some x), ap length c.requires.1))
+        c.from_fn.ensures.items

@@ -7,7 +7,8 @@ use Rattle.scroll.specs.Numbers.{number_bytes, signed_bytes}
 use Rattle.scroll.proofs.laws.histories.what_was_written_stands.Goals as goal
 
 pub returns-clause-bytes : goal.returns-clause-bytes
-returns-clause-bytes c first commands history run o t last = stands first commands history o t run last
+returns-clause-bytes c first commands history run o t last =
+    stands first commands history o t run last
 
 pub returns-clause-number : goal.returns-clause-number
 returns-clause-number c first commands history run o w x order fits last =

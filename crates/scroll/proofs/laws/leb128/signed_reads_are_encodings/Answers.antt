@@ -2,4 +2,6 @@ use Rattle.scroll.proofs.lemmas.EncodingLemmas.{signed-form, reads_encoding, lon
 use Rattle.scroll.proofs.laws.leb128.signed_reads_are_encodings.Goals as goal
 
 pub returns : goal.returns
-returns c = record { reads = reads_encoding signed-form; longer = longer_encoding signed-form; one = one_encoding signed-form }
+returns c =
+    record { reads = reads_encoding signed-form; longer = longer_encoding signed-form;
+        one = one_encoding signed-form }

@@ -5,7 +5,8 @@ pub returns-clause-local : goal.returns-clause-local
 returns-clause-local g c ctx counts local = local-nested (g.T.TryFromCtx.reads ctx) local counts
 
 pub returns-clause-bounded : goal.returns-clause-bounded
-returns-clause-bounded g c ctx counts bounded = bounded-nested (g.T.TryFromCtx.reads ctx) bounded counts
+returns-clause-bounded g c ctx counts bounded =
+    bounded-nested (g.T.TryFromCtx.reads ctx) bounded counts
 
 pub returns-clause-within : goal.returns-clause-within
 returns-clause-within g c ctx counts within = within-nested (g.T.TryFromCtx.reads ctx) within counts

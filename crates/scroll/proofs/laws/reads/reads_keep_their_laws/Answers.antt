@@ -12,7 +12,9 @@ use Rattle.scroll.specs.lemmas.Frames.{ReadsText-bounded}
 use Rattle.scroll.proofs.laws.reads.reads_keep_their_laws.Goals as goal
 
 slice-reader : (n : ℕ) → IsReaderWithin (ReadsSlice n) (RefusesShort n)
-slice-reader n = reader-within (ReadsSlice n) (RefusesShort n) (local-slice n) (λ s v size r. omega (arith, r.room, r.size)) (one-prefix n (take n))
+slice-reader n =
+    reader-within (ReadsSlice n) (RefusesShort n) (local-slice n)
+        (λ s v size r. omega (arith, r.room, r.size)) (one-prefix n (take n))
 
 text-reader : (ctx : StrCtx) → IsReader (ReadsText ctx) (RefusesText ctx)
 text-reader ctx = record {
@@ -22,7 +24,8 @@ text-reader ctx = record {
 }
 
 c_string-reader : IsReaderWithin ReadsCString RefusesCString
-c_string-reader = reader-within ReadsCString RefusesCString local-c_string within-c_string one-c_string
+c_string-reader =
+    reader-within ReadsCString RefusesCString local-c_string within-c_string one-c_string
 
 pub returns-clause-slice : goal.returns-clause-slice
 returns-clause-slice c = slice-reader
@@ -37,22 +40,33 @@ pub returns-clause-c_string : goal.returns-clause-c_string
 returns-clause-c_string c = c_string-reader
 
 pub returns-clause-uleb : goal.returns-clause-uleb
-returns-clause-uleb c = reader-within ReadsUleb RefusesUleb local-uleb (λ s x n r. omega (arith, r.complete.0, r.size)) one-uleb
+returns-clause-uleb c =
+    reader-within ReadsUleb RefusesUleb local-uleb (λ s x n r. omega (arith, r.complete.0, r.size))
+        one-uleb
 
 pub returns-clause-sleb : goal.returns-clause-sleb
-returns-clause-sleb c = reader-within ReadsSleb RefusesSleb local-sleb (λ s x n r. omega (arith, r.complete.0, r.size)) one-sleb
+returns-clause-sleb c =
+    reader-within ReadsSleb RefusesSleb local-sleb (λ s x n r. omega (arith, r.complete.0, r.size))
+        one-sleb
 
 pub returns-clause-counted_uleb : goal.returns-clause-counted_uleb
-returns-clause-counted_uleb c = reader-sized ReadsUleb RefusesUleb local-uleb (λ s x n r. omega (arith, r.complete.0, r.size)) one-uleb
+returns-clause-counted_uleb c =
+    reader-sized ReadsUleb RefusesUleb local-uleb (λ s x n r. omega (arith, r.complete.0, r.size))
+        one-uleb
 
 pub returns-clause-counted_sleb : goal.returns-clause-counted_sleb
-returns-clause-counted_sleb c = reader-sized ReadsSleb RefusesSleb local-sleb (λ s x n r. omega (arith, r.complete.0, r.size)) one-sleb
+returns-clause-counted_sleb c =
+    reader-sized ReadsSleb RefusesSleb local-sleb (λ s x n r. omega (arith, r.complete.0, r.size))
+        one-sleb
 
 pub returns-clause-slices : goal.returns-clause-slices
-returns-clause-slices c n counts = reader-nested (ReadsSlice n) (RefusesShort n) (slice-reader n).reader counts
+returns-clause-slices c n counts =
+    reader-nested (ReadsSlice n) (RefusesShort n) (slice-reader n).reader counts
 
 pub returns-clause-texts : goal.returns-clause-texts
-returns-clause-texts c ctx counts = reader-nested (ReadsText ctx) (RefusesText ctx) (text-reader ctx) counts
+returns-clause-texts c ctx counts =
+    reader-nested (ReadsText ctx) (RefusesText ctx) (text-reader ctx) counts
 
 pub returns-clause-c_strings : goal.returns-clause-c_strings
-returns-clause-c_strings c counts = reader-nested ReadsCString RefusesCString c_string-reader.reader counts
+returns-clause-c_strings c counts =
+    reader-nested ReadsCString RefusesCString c_string-reader.reader counts

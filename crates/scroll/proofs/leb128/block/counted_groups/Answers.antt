@@ -6,7 +6,8 @@ pub returns-then-filled : goal.returns-then-filled
 returns-then-filled c = word_none c.args.word c.ranges.word.fits c.if-filled.true
 
 pub overflow_add-carried : goal.overflow_add-carried
-overflow_add-carried c = record { fits = word_carries c.args.word c.ranges.word.fits c.if-filled.false }
+overflow_add-carried c =
+    record { fits = word_carries c.args.word c.ranges.word.fits c.if-filled.false }
 
 pub returns : goal.returns
 returns c =

@@ -1,4 +1,4 @@
-use Rattle.scroll.proofs.lemmas.LebWriteLemmas.{last_bytes}
+use Rattle.scroll.proofs.lemmas.LebWordLemmas.{last_bytes}
 use Rattle.scroll.proofs.leb128.write.last_groups.Goals as goal
 
 pub returns-clause-open : goal.returns-clause-open

@@ -13,10 +13,12 @@ loop-i-preserved g c =
       len = length-set c.loop-i.inout c.loop-i.i c.in_ok-inout.field-0 ∙ c.loop-i.invariant.len;
       prefix = rw (take_more_set c.loop-i.inout c.loop-i.i c.in_ok-inout.field-0 inside)
           (ReadsAll-push _ _ _ _ _ _ _ _ c.loop-i.invariant.prefix read.1 read.2);
-      others = drop-set-lt (c.loop-i.i + 1) c.loop-i.inout c.loop-i.i c.in_ok-inout.field-0 (omega arith)
+      others =
+          drop-set-lt (c.loop-i.i + 1) c.loop-i.inout c.loop-i.i c.in_ok-inout.field-0 (omega arith)
           ∙ drop-next c.loop-i.i _ _ c.loop-i.invariant.others;
     }
 
 pub returns-clause-read : goal.returns-clause-read
 returns-clause-read g c =
-    rw (take_all c.loop-i.i c.loop-i.inout (omega (arith, c.loop-i.invariant.len))) at c.loop-i.invariant.prefix
+    rw (take_all c.loop-i.i c.loop-i.inout (omega (arith, c.loop-i.invariant.len))) at
+        c.loop-i.invariant.prefix

@@ -26,7 +26,8 @@ returns-then-value-clause-refused c =
     inr (record {
       whole = λ cut. nine-below s n there h.1 cut great;
       unfit = λ whole fits.
-          too-great s n (omega (arith, c.loop-count-test.true)) there h.1 great whole.0 whole.1 fits;
+          too-great s n (omega (arith, c.loop-count-test.true)) there h.1 great whole.0 whole.1
+              fits;
       error = search rules;
     })
 
