@@ -16,7 +16,7 @@ from step import TOP, Step, read_crates
 
 LIBRARIES = ("scroll", "scroll_formats", "scroll_layouts")
 PRODUCT = (*LIBRARIES, "scroll_run")
-FOR_CHECKS = ("scroll_ffi", "compare_calls", "workloads")
+FOR_CHECKS = ("scroll_ffi", "compare_calls", "workloads", "described")
 CALLERS = r"(?:\.|::)lemmas(?:\.|::)callers\b"
 USE = re.compile(r"(?ms)^(?:pub )?use (?:crate::)?([\w:]+?)(?:::\{([^}]*)\})?;$")
 IMPORT = re.compile(r"\b(\w+)(?=(?:\.|::)(?:\{([^}]*)\}|([\w-]+)))")

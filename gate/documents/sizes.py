@@ -1,8 +1,8 @@
 """Makes the columns of lines in crates/README.md from the files of the clients, and compares them: each client is a check, and
 so is that the page names each crate. README has the lines of code and of proof in its table of formats, with those of the
 descriptions in catalogue/; it also has the version of the kit, which `rt version` prints, and how fast whole jobs are, from the
-table in docs/SPEED.md. The product's contracts, definitions and comments have at most 100 columns; imports, the strings of tests
-and examples in comments may have more.
+table in docs/SPEED.md. The product's contracts and comments, and each crate's definitions and proofs, have at most 100 columns;
+imports, the strings of tests and examples in comments may have more.
 """
 
 import re
@@ -32,7 +32,7 @@ KIT = re.compile(r"(?<=\*\*Rattle kit )\d+(?=\*\*)")
 MADE = r"(?s)(?<=<!-- {0}: begin -->\n).*(?=\n<!-- {0}: end -->)"
 JOB, MORE = 11, re.compile(r" \(per byte\)")
 WIDTH = 100
-MAY_BE_WIDE = re.compile(r"(?:ghost )?use |//[/!]     |#\[")
+MAY_BE_WIDE = re.compile(r"(?:ghost |pub )?use |//[/!]     |#\[")
 
 
 def count_parts(crate: Path) -> List[str]:
@@ -46,9 +46,10 @@ def antt_files(folder: Path) -> List[Path]:
 
 
 def try_widths(step: Step) -> None:
-    files = [it for crate in PRODUCT for part in ("src/**/*.rt", "specs/**/*.antt") for it in (TOP / "crates" / crate).glob(part)]
+    files = [it for crate in PRODUCT for it in (TOP / "crates" / crate).glob("src/**/*.rt")]
+    files += [it for part in ("specs", "proofs") for it in (TOP / "crates").glob(f"*/{part}/**/*.antt")]
     for path in files:
-        if path.relative_to(TOP).parts[3] == "tests":
+        if path.relative_to(TOP).parts[2:4] == ("src", "tests"):
             continue
         for index, line in enumerate(path.read_text(encoding="utf-8").split("\n")):
             if len(line) > WIDTH and not MAY_BE_WIDE.match(line):

@@ -45,4 +45,4 @@ abbrev pub FailsPut : List ℕ → List ℕ → ℕ → Error → Type 0
 FailsPut bytes target offset e =
     ((length target < offset) × (e ≡ BadOffset offset))
     ⊎ ((length target - offset < length bytes)
-        × (e ≡ TooBig (length bytes) (length target - offset)))
+    × (e ≡ TooBig (length bytes) (length target - offset)))

@@ -62,7 +62,7 @@ entry_at order file x s fields order-is room =
       room = room;
       fields =
           are_fields_at order file x.next s
-              (subst (λ l. AreFields order l 0 s) (take_rest file x.next) fields);
+          (subst (λ l. AreFields order l 0 s) (take_rest file x.next) fields);
     }
 
 -- its name, from the bytes of the names
@@ -70,11 +70,11 @@ pub name_at : (file names : List ℕ) (x : ScrollElfSections) (s : ScrollElfSect
     → HasLen names name len
     → names ≡ take x.names_size (drop x.names_offset file) → s.name ≡ name → s.name_len ≡ len
     → s.name_offset ≡ x.names_offset + name → x.names_offset + x.names_size ≤ length file
-        → HasName file x s
+    → HasName file x s
 name_at file names x s name len has names-is name-is len-is start inside =
     let here : HasLen names s.name s.name_len =
     subst (λ n. HasLen names n s.name_len) (sym name-is)
-        (subst (λ k. HasLen names name k) (sym len-is) has)
+    (subst (λ k. HasLen names name k) (sym len-is) has)
     in
     record {
       len = subst (λ l. HasLen l s.name s.name_len) names-is here;
@@ -92,7 +92,7 @@ same_order Big Big n first second = refl
 -- the number of its name, which is read first
 pub same_name : (order : Endian) (file : List ℕ) (at : ℕ) (s : ScrollElfSection) (name : ℕ)
     → AreFields order (take (length file - at) (drop at file)) 0 s → name
-        ≡ number order 4 (drop at file) → s.name ≡ name
+    ≡ number order 4 (drop at file) → s.name ≡ name
 same_name order file at s name fields read =
     fields.name ∙ ap (number order 4) (take_rest file at) ∙ sym read
 
@@ -101,7 +101,7 @@ pub all_filled : (file : List ℕ) (n : ℕ) (x y : ScrollElfSections)
     (old new table : List ScrollElfSection)
     → IsOpened file x → Fills file n x y old new → n ≡ x.left
     → ((k : ℕ) (d : ScrollElfSection) → k < n → get_or table k d ≡ get_or new k d)
-        → AreAll file n table
+    → AreAll file n table
 all_filled file n x y old new table is fills count same = record {
   opened = x;
   is = is;
@@ -118,5 +118,5 @@ all_before file n table rest inside h = record {
   count = h.count;
   each =
       λ k d less. subst (λ s. IsSection file (past k h.opened) s)
-          (sym (get_or-append table rest d k (omega (arith, less, inside)))) (h.each k d less);
+      (sym (get_or-append table rest d k (omega (arith, less, inside)))) (h.each k d less);
 }

@@ -44,7 +44,7 @@ abbrev pub RefusesNames : List ℕ → Header → ScrollError → Type 0
 RefusesNames file h e =
     RefusesEntryOf file h.sections_offset h.names_index e
     ⊎ ((entry : Section) × (entry
-        ≡ section_of h.order (drop (h.sections_offset + 64 * h.names_index) file))
+    ≡ section_of h.order (drop (h.sections_offset + 64 * h.names_index) file))
     × RefusesPart file entry.offset entry.size e)
 
 -- the table of a header with sections: its entries have another size, it has none for the names, or

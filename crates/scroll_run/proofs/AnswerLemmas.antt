@@ -10,9 +10,13 @@ pub AreAnswerLines-more : (answers : List Answer) (text : List ℕ) (a : Answer)
     → AreAnswerLines (answers ++ a ∷ []) (text ++ line)
 AreAnswerLines-more [] text a line h s =
     (line, [], ap (λ t. t ++ line) h ∙ sym (append-nil line), s, refl)
-AreAnswerLines-more (b ∷ more) text a line h s =
-    (h.0, h.1 ++ line, ap (λ t. t ++ line) h.2 ∙ append_assoc h.0 h.1 line, h.3,
-        AreAnswerLines-more more h.1 a line h.4 s)
+AreAnswerLines-more (b ∷ more) text a line h s = (
+  h.0,
+  h.1 ++ line,
+  ap (λ t. t ++ line) h.2 ∙ append_assoc h.0 h.1 line,
+  h.3,
+  AreAnswerLines-more more h.1 a line h.4 s,
+)
 
 -- the answer at i has its line too
 pub lines_next : (answers : List Answer) (d : Answer) (i : ℕ) (old new line : List ℕ)

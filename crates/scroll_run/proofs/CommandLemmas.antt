@@ -57,7 +57,7 @@ pub commands_next : (lines : List CommandLine) (i : ℕ) (cs : List Command) (x 
 commands_next lines i cs x c h lt e s =
     let more = take_more lines i x lt in
     rw more (all_zipped_more IsCommandOf (take i lines) cs (get_or lines i x) c h
-        (subst (λ y. IsCommandOf y c) e s))
+    (subst (λ y. IsCommandOf y c) e s))
 
 -- a word spells bytes in one way
 pub same_bytes : (word a b : List ℕ) → SpellsBytes word a → SpellsBytes word b → a ≡ b
@@ -74,9 +74,12 @@ pub by_pread : (b : List ℕ) (rest : List (List ℕ)) (c : Command)
 by_pread b rest (command.Read (place.At offset) what) s =
     let e = s.2 in
     let word : s.0 ≡ b = cc in
-    let more : s.1 ≡ rest = cc in
-    (offset, what, subst (λ w. SpellsNumber (2 ^ 64) w offset) word s.3,
-        subst (λ ws. SpellsKind ws what) more s.4)
+    let more : s.1 ≡ rest = cc in (
+      offset,
+      what,
+      subst (λ w. SpellsNumber (2 ^ 64) w offset) word s.3,
+      subst (λ ws. SpellsKind ws what) more s.4,
+    )
 by_pread b rest (command.Read place.Cursor what) s = let n : 112 ≡ 103 = ap first_letter s.1 in
     absurd (omega (arith, n))
 by_pread b rest (command.Write (place.At offset) x) s = let e = s.2 in absurd cc
@@ -101,9 +104,12 @@ by_pwrite b rest (command.Read place.Cursor what) s = let e = s.1 in absurd cc
 by_pwrite b rest (command.Write (place.At offset) x) s =
     let e = s.2 in
     let word : s.0 ≡ b = cc in
-    let more : s.1 ≡ rest = cc in
-    (offset, x, subst (λ w. SpellsNumber (2 ^ 64) w offset) word s.3,
-        subst (λ ws. SpellsPut ws x) more s.4)
+    let more : s.1 ≡ rest = cc in (
+      offset,
+      x,
+      subst (λ w. SpellsNumber (2 ^ 64) w offset) word s.3,
+      subst (λ ws. SpellsPut ws x) more s.4,
+    )
 by_pwrite b rest (command.Write place.Cursor x) s = let n : 112 ≡ 103 = ap first_letter s.1 in
     absurd (omega (arith, n))
 

@@ -24,7 +24,7 @@ pub appends_prefix : (old new : Option (List ℕ)) (all done rest : List ℕ) �
     → Appends old new done → AppendsPrefix old new all
 appends_prefix old new all done rest e h =
     let t : take (length done) all ≡ done =
-        ap (take (length done)) e ∙ take-append_seam done rest in
+    ap (take (length done)) e ∙ take-append_seam done rest in
     (length done, rw t h)
 
 pub appends_more : (old mid new : Option (List ℕ)) (all done rest : List ℕ) (n : ℕ)

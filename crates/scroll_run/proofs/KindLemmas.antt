@@ -42,9 +42,12 @@ by_until b c (context.Delimiter d) s = let e = s.1 in absurd cc
 by_until b c (context.DelimiterUntil d limit) s =
     let e = s.2 in
     let first : s.0 ≡ b = cc in
-    let second : s.1 ≡ c = cc in
-    (d, limit, subst (λ w. SpellsByte w d) first s.3,
-        subst (λ w. SpellsNumber (2 ^ 64) w limit) second s.4)
+    let second : s.1 ≡ c = cc in (
+      d,
+      limit,
+      subst (λ w. SpellsByte w d) first s.3,
+      subst (λ w. SpellsNumber (2 ^ 64) w limit) second s.4,
+    )
 by_until b c (context.Length n) s = let e = s.1 in absurd cc
 by_until b c (context.Required d) s = let e = s.1 in absurd cc
 

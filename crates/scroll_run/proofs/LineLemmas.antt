@@ -22,9 +22,9 @@ use Rattle.scroll_run.specs.declared.lines.Stop.TheVariants.{BadLine, NoMemory}
 pub buffer_by_word : {V E : Type 0} (refused : Type 0) (items : V → List ℕ) (line word : List ℕ)
     (r : Result (Option V) E) → line ≡ codes "buffer " ++ word
     → MatchResult r (λ found. MatchOption found ((bytes : List ℕ) → ¬ (SpellsBytes word bytes))
-        (λ v. SpellsBytes word (items v))) (λ _. refused)
+    (λ v. SpellsBytes word (items v))) (λ _. refused)
     → MatchResult r (λ found. MatchOption found ((bytes : List ℕ) → ¬ (SpellsBuffer line bytes))
-        (λ v. SpellsBuffer line (items v))) (λ _. refused)
+    (λ v. SpellsBuffer line (items v))) (λ _. refused)
 buffer_by_word refused items line word (Ok (Some v)) e h = (word, e, h)
 buffer_by_word refused items line word (Ok None) e h = λ bytes s. let f = h bytes in
     grind (arith, common_steps)
@@ -42,8 +42,10 @@ lent (line.Write at (owned.Bytes v)) =
     (command.Write at (put.Bytes bytes), (put.Bytes bytes, refl, (bytes, refl, refl)))
 lent (line.Write at (owned.CStr s)) =
     let text : CStr =
-        record { bytes = record { ref_ptr = (0, 0); now = s.bytes.items };
-            one_zero = s.one_zero } in
+    record {
+      bytes = record { ref_ptr = (0, 0); now = s.bytes.items };
+      one_zero = s.one_zero;
+    } in
     (command.Write at (put.CStr text), (put.CStr text, refl, (text, refl, refl)))
 lent (line.Write at (owned.Bytesx2 v w)) =
     let x : Bor (List ℕ) = record { ref_ptr = (0, 0); now = v.items } in

@@ -13,7 +13,7 @@ widen half most word x le s = grind (arith, common_steps)
 pub parses_mapped : {X Y : Type 0} (make : X → Y) (P : X → Type 0) (Q : Y → Type 0)
     (found : Option X) (made : Option Y)
     → MatchOption found (made ≡ None) (λ x. IsSomeAnd made (λ y. y ≡ make x))
-        → ((x : X) → P x → Q (make x)) → ((y : Y) → Q y → (x : X) × P x)
+    → ((x : X) → P x → Q (make x)) → ((y : Y) → Q y → (x : X) × P x)
     → Parses P found → Parses Q made
 parses_mapped make P Q (Some x) (Some y) e to from h = rw e (to x h)
 parses_mapped make P Q (Some x) None e to from h = absurd e

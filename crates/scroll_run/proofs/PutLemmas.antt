@@ -54,31 +54,31 @@ pub by_str : (b : List ℕ) (p : Put) → SpellsPut (codes "str" ∷ b ∷ []) p
     → (text : List ℕ) × SpellsText b text
 by_str b =
     by_two (codes "str") b (λ text e h. (text, h)) (λ _ e _. differ _ _ 0 refl e)
-        (λ _ e _. differ _ _ 0 refl e) (λ _ e _. differ _ _ 0 refl e) (λ _ e _. differ _ _ 1 refl e)
+    (λ _ e _. differ _ _ 0 refl e) (λ _ e _. differ _ _ 0 refl e) (λ _ e _. differ _ _ 1 refl e)
 
 pub by_bytes : (b : List ℕ) (p : Put) → SpellsPut (codes "bytes" ∷ b ∷ []) p
     → (bytes : List ℕ) × SpellsBytes b bytes
 by_bytes b =
     by_two (codes "bytes") b (λ _ e _. differ _ _ 0 refl e) (λ bytes e h. (bytes, h))
-        (λ _ e _. differ _ _ 0 refl e) (λ _ e _. differ _ _ 0 refl e) (λ _ e _. differ _ _ 0 refl e)
+    (λ _ e _. differ _ _ 0 refl e) (λ _ e _. differ _ _ 0 refl e) (λ _ e _. differ _ _ 0 refl e)
 
 pub by_cstr : (b : List ℕ) (p : Put) → SpellsPut (codes "cstr" ∷ b ∷ []) p
     → (text : List ℕ) × SpellsCString b text
 by_cstr b =
     by_two (codes "cstr") b (λ _ e _. differ _ _ 0 refl e) (λ _ e _. differ _ _ 0 refl e)
-        (λ text e h. (text, h)) (λ _ e _. differ _ _ 0 refl e) (λ _ e _. differ _ _ 0 refl e)
+    (λ text e h. (text, h)) (λ _ e _. differ _ _ 0 refl e) (λ _ e _. differ _ _ 0 refl e)
 
 pub by_uleb : (b : List ℕ) (p : Put) → SpellsPut (codes "uleb" ∷ b ∷ []) p
     → (x : Counted ℕ) × SpellsUleb b x
 by_uleb b =
     by_two (codes "uleb") b (λ _ e _. differ _ _ 0 refl e) (λ _ e _. differ _ _ 0 refl e)
-        (λ _ e _. differ _ _ 0 refl e) (λ x e h. (x, h)) (λ _ e _. differ _ _ 0 refl e)
+    (λ _ e _. differ _ _ 0 refl e) (λ x e h. (x, h)) (λ _ e _. differ _ _ 0 refl e)
 
 pub by_sleb : (b : List ℕ) (p : Put) → SpellsPut (codes "sleb" ∷ b ∷ []) p
     → (x : Counted ℤ) × SpellsSleb b x
 by_sleb b =
     by_two (codes "sleb") b (λ _ e _. differ _ _ 1 refl e) (λ _ e _. differ _ _ 0 refl e)
-        (λ _ e _. differ _ _ 0 refl e) (λ _ e _. differ _ _ 0 refl e) (λ x e h. (x, h))
+    (λ _ e _. differ _ _ 0 refl e) (λ _ e _. differ _ _ 0 refl e) (λ x e h. (x, h))
 
 pub by_u16x3 : (a b c d : List ℕ) (p : Put) → SpellsPut (codes "u16x3" ∷ a ∷ b ∷ c ∷ d ∷ []) p
     → (order : Endian) × (xs : List ℕ) × (a ≡ order_word order)
@@ -125,9 +125,12 @@ by_bytesx2 b c (put.U16x3 xs order) s = let e = s.3 in absurd cc
 by_bytesx2 b c (put.Bytesx2 x y) s =
     let e = s.2 in
     let first : s.0 ≡ b = cc in
-    let second : s.1 ≡ c = cc in
-    (x.now, y.now, subst (λ w. SpellsBytes w x.now) first s.3,
-        subst (λ w. SpellsBytes w y.now) second s.4)
+    let second : s.1 ≡ c = cc in (
+      x.now,
+      y.now,
+      subst (λ w. SpellsBytes w x.now) first s.3,
+      subst (λ w. SpellsBytes w y.now) second s.4,
+    )
 
 -- three words that spell neither a number nor two slices
 pub no_three : (a b c : List ℕ)

@@ -6,6 +6,9 @@ use Rattle.git_index.proofs.read_index.Goals as goal
 
 pub returns-in-Ok-clause-read : goal.returns-in-Ok-clause-read
 returns-in-Ok-clause-read c =
-    record { header = c.in_ok-count.ensures.header;
-        count = omega (arith, c.in-Ok.ensures.count, c.in_ok-count.ensures.count); to = _;
-        each = list_read_back _ Big _ 12 _ _ c.in-Ok.ensures.read }
+    record {
+      header = c.in_ok-count.ensures.header;
+      count = omega (arith, c.in-Ok.ensures.count, c.in_ok-count.ensures.count);
+      to = _;
+      each = list_read_back _ Big _ 12 _ _ c.in-Ok.ensures.read;
+    }

@@ -6,4 +6,4 @@ use Rattle.packets.proofs.write_headers.Goals as goal
 pub returns-clause-either_order : goal.returns-clause-either_order
 returns-clause-either_order c =
     prefixes-exchange refl refl (inr (omega arith)) c.in_ok-pwrite_with.ensures.wrote
-        c.in_ok-pwrite_with-2.ensures.wrote
+    c.in_ok-pwrite_with-2.ensures.wrote

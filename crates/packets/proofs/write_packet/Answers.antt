@@ -7,4 +7,4 @@ pub returns-in_err-size-clause-refused : goal.returns-in_err-size-clause-refused
 returns-in_err-size-clause-refused c =
     handed-on _ c.from_residual.result c.from_residual.ensures.1
     (elim c.in_err-size.ensures.refused
-        [ inl past ↦ absurd (omega (arith, past.past)) | inr at ↦ at.after ])
+    [ inl past ↦ absurd (omega (arith, past.past)) | inr at ↦ at.after ])

@@ -28,9 +28,9 @@ IsFull-from_map slots xs e n long = rw (e, ← long) (IsFull-map xs)
 
 module _ {F B : Type 0} (view : F → List (Option B)) (g : Mut F (ℕ × Unit {0}) B)
     (gives : (p : F) (i : ℕ) (y : B) (q : F) → Called g p (i, tt) y q → get_or (view p) i None
-        ≡ Some y)
+    ≡ Some y)
     (overwrites : (p : F) (i : ℕ) (y : B) (q : F) → Called g p (i, tt) y q → view q
-        ≡ set (view p) i None) where
+    ≡ set (view p) i None) where
   pub IsFull-called : (p : F) (i n : ℕ) (y : B) (q : F) → Called g p (i, tt) y q
       → IsFull (view p) i n → IsFull (view q) (i + 1) n
   IsFull-called p i n y q call full k ge lt =
@@ -50,7 +50,7 @@ module _ {F B : Type 0} (view : F → List (Option B)) (g : Mut F (ℕ × Unit {
       → ((p : F) (i : ℕ) (b : B) → get_or (view p) i None ≡ Some b → Takes g p (i, tt))
       → IsFull (view f) 0 n
       → CallableAtEachTurn (index_steps n) (λ p x q. (y : B) × Called g p (x, tt) y q)
-          (λ p x. Takes g p (x, tt)) 0 f
+      (λ p x. Takes g p (x, tt)) 0 f
   callable n f can full = record {
     at = λ xs t q x u y c e.
         let here = still n xs 0 t f q y c full t (omega arith) (omega (arith, e.0)) in
@@ -73,7 +73,7 @@ module _ {F B : Type 0} (view : F → List (Option B)) (g : Mut F (ℕ × Unit {
       → IsFromFnResult g f ys n → view f ≡ map (λ (y : B). Some y) ys
   filled_from n f ys full long m =
       same_lists (view f) (map (λ (y : B). Some y) ys)
-          (long ∙ sym m.long ∙ sym (length-map ys (λ (y : B). Some y)))
+      (long ∙ sym m.long ∙ sym (length-map ys (λ (y : B). Some y)))
       (λ k d lt.
       let inside : k < n = omega arith in
       let b = (full k (omega arith) inside).0 in
@@ -81,7 +81,7 @@ module _ {F B : Type 0} (view : F → List (Option B)) (g : Mut F (ℕ × Unit {
       let from_zero : 0 + k ≡ k = omega arith in
       let same : get_or (view f) k None ≡ Some (get_or ys k b) =
       subst (λ (j : ℕ). get_or (view f) j None ≡ Some (get_or ys j b)) from_zero
-          (made f ys 0 n m.each k b inside) in
+      (made f ys 0 n m.each k b inside) in
       get_or_default (view f) k d None lt ∙ same
       ∙ sym (get_or-map (λ (y : B). Some y) ys k b d there))
 
@@ -124,7 +124,7 @@ pub err-map : {T V W E : Type 0} (f : V → W) (reads : List ℕ → W → ℕ �
 err-map f reads refuses past_end count buffer offset (Ok x) h = tt
 err-map f reads refuses past_end count buffer offset (Err e) h =
     RefusesAt-by (RefusesArray (λ s v n. reads s (f v) n) refuses past_end count)
-        (RefusesArray reads refuses past_end count) past_end
+    (RefusesArray reads refuses past_end count) past_end
     (RefusesArray-map f reads refuses past_end count) buffer offset e h
 
 -- lists that agree from one index on agree from the next
@@ -145,7 +145,7 @@ module _ {F B X : Type 0} (view : F → X) (g : Mut F (ℕ × Unit {0}) B)
   pub callable-same : (n : ℕ) (f : F)
       → ((p : F) (i : ℕ) → view p ≡ view f → i < n → Takes g p (i, tt))
       → CallableAtEachTurn (index_steps n) (λ p x q. (y : B) × Called g p (x, tt) y q)
-          (λ p x. Takes g p (x, tt)) 0 f
+      (λ p x. Takes g p (x, tt)) 0 f
   callable-same n f can = record {
     at = λ xs t q x u y c e. rw e.1 (can q t (steps-same xs f q c) (omega (arith, e.0)));
   }
@@ -166,7 +166,7 @@ module _ {F B X : Type 0} (view : F → X) (g : Mut F (ℕ × Unit {0}) B)
         → i < n → P (view f) i (slice_index_or ys i d)
     each-made f ys n m i d lt =
         subst (λ j. P (view f) j (slice_index_or ys j d)) (zero-add i)
-            (made-same f ys 0 n m.each i d lt)
+        (made-same f ys 0 n m.each i d lt)
 
 -- one more value is written
 pub OverwritesAll-push : {V : Type 0} (width : ℕ) (overwrites : V → List ℕ → List ℕ → Type 0)
@@ -175,14 +175,20 @@ pub OverwritesAll-push : {V : Type 0} (width : ℕ) (overwrites : V → List ℕ
     → OverwritesValue (overwrites x) mid (from + width * length vs) new
     → OverwritesAll width overwrites old from (vs ++ x ∷ []) new
 OverwritesAll-push width overwrites old from [] mid x new h w =
-    let here : from + width * 0 ≡ from = omega arith in
-    (new, subst (λ k. OverwritesValue (overwrites x) old k new) here
-        (subst (λ y. OverwritesValue (overwrites x) y (from + width * 0) new) h w), refl)
+    let here : from + width * 0 ≡ from = omega arith in (
+      new,
+      subst (λ k. OverwritesValue (overwrites x) old k new) here
+          (subst (λ y. OverwritesValue (overwrites x) y (from + width * 0) new) h w),
+      refl,
+    )
 OverwritesAll-push width overwrites old from (v ∷ vs) mid x new h w =
     let next : from + width * length (v ∷ vs) ≡ from + width + width * length vs =
-        omega (arith, mul-suc width (length vs)) in
-    (h.0, h.1, OverwritesAll-push width overwrites h.0 (from + width) vs mid x new h.2
-        (subst (λ k. OverwritesValue (overwrites x) mid k new) next w))
+    omega (arith, mul-suc width (length vs)) in (
+      h.0,
+      h.1,
+      OverwritesAll-push width overwrites h.0 (from + width) vs mid x new h.2
+          (subst (λ k. OverwritesValue (overwrites x) mid k new) next w),
+    )
 
 pub OverwritesAll-next : {V : Type 0} (width : ℕ) (overwrites : V → List ℕ → List ℕ → Type 0)
     (old : List ℕ) (vs : List V) (mid : List ℕ) (x : V) (new : List ℕ) (i : ℕ) → length vs ≡ i
@@ -191,9 +197,9 @@ pub OverwritesAll-next : {V : Type 0} (width : ℕ) (overwrites : V → List ℕ
     → OverwritesAll width overwrites old 0 (vs ++ x ∷ []) new
 OverwritesAll-next width overwrites old vs mid x new i len h w =
     let at : width * i ≡ 0 + width * length vs =
-        ap (λ k. width * k) (sym len) ∙ sym (zero-add (width * length vs)) in
+    ap (λ k. width * k) (sym len) ∙ sym (zero-add (width * length vs)) in
     OverwritesAll-push width overwrites old 0 vs mid x new h
-        (subst (λ k. OverwritesValue (overwrites x) mid k new) at w)
+    (subst (λ k. OverwritesValue (overwrites x) mid k new) at w)
 
 -- lists are equal if their optional values are
 pub map_some-same : {A : Type 0} → (xs ys : List A)
@@ -247,17 +253,26 @@ pub IsFilled-refused : {V E : Type 0} (reads : List ℕ → V → ℕ → Type 0
     → i < count → RefusesAt refuses past_end s offset e
     → RefusesArray reads refuses past_end count s e
 IsFilled-refused reads refuses past_end s slots i count offset e was more error =
-    record { prefix = was.values; stop = offset; fewer = rw was.len more; each = was.each;
-        error = error }
+    record {
+      prefix = was.values;
+      stop = offset;
+      fewer = rw was.len more;
+      each = was.each;
+      error = error;
+    }
 
 -- one more value is written
 pub WritesAll-push : {V : Type 0} (writes : V → List ℕ → List ℕ → ℕ → Type 0) (old : List ℕ)
     (from : ℕ) (vs : List V) (mid : List ℕ) (to : ℕ) (x : V) (new : List ℕ) (n : ℕ)
     → WritesAll writes old from vs mid to → WritesAt (writes x) mid to new n
     → WritesAll writes old from (vs ++ x ∷ []) new (to + n)
-WritesAll-push writes old from [] mid to x new n h w =
-    (new, n, subst (λ k. WritesAt (writes x) old k new n) h.1
-        (subst (λ y. WritesAt (writes x) y to new n) h.0 w), (refl, ap (λ k. k + n) h.1))
+WritesAll-push writes old from [] mid to x new n h w = (
+  new,
+  n,
+  subst (λ k. WritesAt (writes x) old k new n) h.1
+      (subst (λ y. WritesAt (writes x) y to new n) h.0 w),
+  (refl, ap (λ k. k + n) h.1),
+)
 WritesAll-push writes old from (y ∷ vs) mid to x new n h w =
     (h.0, h.1, h.2, WritesAll-push writes h.0 (from + h.1) vs mid to x new n h.3 w)
 
@@ -285,12 +300,12 @@ pub IsPartWritten-next : {V : Type 0} (writes : V → List ℕ → List ℕ → 
     → IsPartWritten writes all left' old new' (count + 1) (offset + n)
 IsPartWritten-next writes all left left' old new new' count offset n x was next wrote inside =
     record {
-  done = was.done ++ x ∷ [];
-  split = was.split ∙ ap (λ l. was.done ++ l) next ∙ sym (append_assoc was.done (x ∷ []) left');
-  len = omega (arith, length_push was.done x, was.len);
-  written = WritesAll-push writes old 0 was.done new offset x new' n was.written wrote;
-  inside = inside;
-}
+      done = was.done ++ x ∷ [];
+      split = was.split ∙ ap (λ l. was.done ++ l) next ∙ sym (append_assoc was.done (x ∷ []) left');
+      len = omega (arith, length_push was.done x, was.len);
+      written = WritesAll-push writes old 0 was.done new offset x new' n was.written wrote;
+      inside = inside;
+    }
 
 -- the next value fails
 pub IsPartWritten-fails : {V E : Type 0} (writes : V → List ℕ → List ℕ → ℕ → Type 0)
@@ -300,12 +315,12 @@ pub IsPartWritten-fails : {V E : Type 0} (writes : V → List ℕ → List ℕ �
     → FailsArray writes refuses all old new e
 IsPartWritten-fails writes refuses all left left' old mid new count offset x e was next failed =
     record {
-  prefix = was.done;
-  value = x;
-  back = left';
-  mid = mid;
-  stop = offset;
-  split = was.split ∙ ap (λ l. was.done ++ l) next;
-  written = was.written;
-  refused = failed;
-}
+      prefix = was.done;
+      value = x;
+      back = left';
+      mid = mid;
+      stop = offset;
+      split = was.split ∙ ap (λ l. was.done ++ l) next;
+      written = was.written;
+      refused = failed;
+    }

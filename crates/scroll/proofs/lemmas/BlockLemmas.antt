@@ -42,8 +42,8 @@ full_is b h = elim (cases_lt b 128) [
       let t : nat_lt b 128 ≡ false = grind (arith, nat_tests) in
       let split : b ≡ 1 * 2 ^ 7 + (b - 128) = omega arith in
       let e : bit_or (1 * 2 ^ 7 + (b - 128)) (0 * 2 ^ 7 + 127)
-              ≡ bit_or 1 0 * 2 ^ 7 + bit_or (b - 128) 127 =
-          or_block 7 1 0 (b - 128) 127 (omega arith) (omega arith) in
+      ≡ bit_or 1 0 * 2 ^ 7 + bit_or (b - 128) 127 =
+      or_block 7 1 0 (b - 128) 127 (omega arith) (omega arith) in
       let low = or_low (b - 128) (omega arith) in
       rw t (ap (λ x. bit_or x 127) split ∙ e ∙ omega (arith, low))
 ]
@@ -115,8 +115,11 @@ carried_form (b ∷ bs) h = elim (cases_lt b 128) [
       let within : end_of bs < length bs = let g = rw t at h in omega arith in
       let rest = carried_form bs within in
       let index : 8 * (1 + end_of bs) + 7 ≡ 8 * end_of bs + 7 + 8 = omega arith in
-      rw t (rest.0, rw (index, pow-add 2 (8 * end_of bs + 7) 8)
-          (omega (arith, rest.1, mul_assoc (rest.0 * 2 + 1) (2 ^ (8 * end_of bs + 7)) 256)))
+      rw t (
+        rest.0,
+        rw (index, pow-add 2 (8 * end_of bs + 7) 8)
+            (omega (arith, rest.1, mul_assoc (rest.0 * 2 + 1) (2 ^ (8 * end_of bs + 7)) 256)),
+      )
 ]
 
 -- the trailing zeros of the doubled carry: eight for each byte up to the end
@@ -128,14 +131,14 @@ shifted_mod x j k =
     let quotient : x * 2 ^ j / 2 ^ j ≡ x = rw whole at (div-mul-add x (2 ^ j) 0 c) in
     let rest : x * 2 ^ j % 2 ^ j ≡ 0 = rw whole at (mod-mul-add x (2 ^ j) 0 c) in
     rw (pow-add 2 k j, mod-mul (x * 2 ^ j) {m = 2 ^ k} {c = 2 ^ j} m c, quotient, rest)
-        (omega arith)
+    (omega arith)
 
 odd_mod : (q k : ℕ) → (q * 2 + 1) % 2 ^ (k + 1) % 2 ≡ 1
 odd_mod q k =
     let c = one-le-pow k 2 (omega arith) in
     let power : 2 ^ (k + 1) ≡ 2 ^ k * 2 = pow-add 2 k 1 in
     let form : (q * 2 + 1) % (2 ^ k * 2) ≡ (q * 2 + 1) / 2 % 2 ^ k * 2 + (q * 2 + 1) % 2 =
-        mod-mul (q * 2 + 1) {m = 2 ^ k} {c = 2} c (omega arith) in
+    mod-mul (q * 2 + 1) {m = 2 ^ k} {c = 2} c (omega arith) in
     rw (power, form) (omega arith)
 
 no_digits : (n : ℕ) → count_trailing_zeros 0 n ≡ 0
@@ -203,7 +206,7 @@ keeps (b ∷ bs) h = elim (cases_lt b 128) [
   | inl low ↦
       let t : nat_lt b 128 ≡ true = grind (arith, nat_tests) in
       rw t (lane {m = 255 - 128} h.0 (omega arith) (and_mask b 7 ∙ mod-eq_of_lt low)
-          (aboves bs h.1))
+      (aboves bs h.1))
   | inr high ↦
       let t : nat_lt b 128 ≡ false = grind (arith, nat_tests) in
       rw t (lane {m = 255 - 0} h.0 (omega arith) (keep 8 b h.0) (keeps bs h.1))
@@ -214,9 +217,9 @@ unfolding carry
 carry_small [] = tt
 carry_small (b ∷ bs) = elim (cases_lt b 128) [
   | inl low ↦ let t : nat_lt b 128 ≡ true = grind (arith, nat_tests) in
-  rw t (omega arith, fulls_small bs)
+      rw t (omega arith, fulls_small bs)
   | inr high ↦ let t : nat_lt b 128 ≡ false = grind (arith, nat_tests) in
-  rw t (omega arith, carry_small bs)
+      rw t (omega arith, carry_small bs)
 ]
 
 carry_length : (bs : List ℕ) → length (carry bs) ≡ length bs
@@ -224,9 +227,9 @@ unfolding carry
 carry_length [] = refl
 carry_length (b ∷ bs) = elim (cases_lt b 128) [
   | inl low ↦ let t : nat_lt b 128 ≡ true = grind (arith, nat_tests) in
-  rw t (omega (arith, length-map bs full))
+      rw t (omega (arith, length-map bs full))
   | inr high ↦ let t : nat_lt b 128 ≡ false = grind (arith, nat_tests) in
-  rw t (omega (arith, carry_length bs))
+      rw t (omega (arith, carry_length bs))
 ]
 
 kept_length : (bs : List ℕ) → length (kept bs) ≡ length bs
@@ -234,9 +237,9 @@ unfolding kept
 kept_length [] = refl
 kept_length (b ∷ bs) = elim (cases_lt b 128) [
   | inl low ↦ let t : nat_lt b 128 ≡ true = grind (arith, nat_tests) in
-  rw t (omega (arith, length-map {B = ℕ} bs (λ (b : ℕ). 0)))
+      rw t (omega (arith, length-map {B = ℕ} bs (λ (b : ℕ). 0)))
   | inr high ↦ let t : nat_lt b 128 ≡ false = grind (arith, nat_tests) in
-  rw t (omega (arith, kept_length bs))
+      rw t (omega (arith, kept_length bs))
 ]
 
 kept_prefix : (bs : List ℕ) (k : ℕ) → k ≤ end_of bs → get_or (kept bs) k 0 ≡ get_or bs k 0
@@ -288,10 +291,10 @@ kept_groups : (bs : List ℕ) → length bs ≡ 8 → end_of bs < 8
 kept_groups bs eight within =
     let whole : count_of bs + (8 - count_of bs) ≡ 8 = omega arith in
     let zeros =
-        groups_zero (kept bs) (count_of bs) (8 - count_of bs)
-            (λ k h. kept_back bs k (omega arith)) in
+    groups_zero (kept bs) (count_of bs) (8 - count_of bs)
+    (λ k h. kept_back bs k (omega arith)) in
     rw whole at zeros ∙ groups_same (kept bs) bs (count_of bs)
-        (λ k h. kept_prefix bs k (omega arith))
+    (λ k h. kept_prefix bs k (omega arith))
 
 -- ---- what the code makes of a word
 
@@ -311,7 +314,7 @@ word_some n fits h = elim (cases_lt (end_of (to_le_bytes w64 n)) 8) [
   | inl within ↦ within
   | inr none ↦
       absurd (h (let f = none_filled (to_le_bytes w64 n) none in omega
-          (arith, filled_word n fits, f)))
+      (arith, filled_word n fits, f)))
 ]
 
 pub word_carries : (n : ℕ) → n < 2 ^ 64
@@ -321,33 +324,33 @@ word_carries n fits h = elim (cases_lt (bit_or n 0x7f7f_7f7f_7f7f_7f7f + 1) (2 ^
   | inl small ↦ small
   | inr large ↦
       let bound : bit_or n 0x7f7f_7f7f_7f7f_7f7f < 2 ^ 64 =
-          or_lt 64 n 0x7f7f_7f7f_7f7f_7f7f fits (omega arith) in absurd (h (omega arith))
+      or_lt 64 n 0x7f7f_7f7f_7f7f_7f7f fits (omega arith) in absurd (h (omega arith))
 ]
 
 pub word_count : (n : ℕ) → n < 2 ^ 64 → end_of (to_le_bytes w64 n) < 8
     → count_trailing_zeros 64 ((bit_or n 0x7f7f_7f7f_7f7f_7f7f + 1) * 2 % 2 ^ 64) / 8
-        ≡ count_of (to_le_bytes w64 n)
+    ≡ count_of (to_le_bytes w64 n)
 word_count n fits within =
     let form = carried_form (to_le_bytes w64 n) within in
     let e : bit_or n 0x7f7f_7f7f_7f7f_7f7f + 1
-            ≡ (form.0 * 2 + 1) * 2 ^ (8 * end_of (to_le_bytes w64 n) + 7) =
-        ap (λ m. m + 1) (filled_word n fits) ∙ form.1 in
+    ≡ (form.0 * 2 + 1) * 2 ^ (8 * end_of (to_le_bytes w64 n) + 7) =
+    ap (λ m. m + 1) (filled_word n fits) ∙ form.1 in
     ap (λ m. count_trailing_zeros 64 (m * 2 % 2 ^ 64) / 8) e
     ∙ ap (λ z. z / 8) (zeros_doubled form.0 (end_of (to_le_bytes w64 n)) within)
     ∙ omega arith
 
 kept_word : (n : ℕ) → n < 2 ^ 64 → end_of (to_le_bytes w64 n) < 8
     → bit_and n (18446744073709551615 - (bit_or n 0x7f7f_7f7f_7f7f_7f7f + 1))
-        ≡ lanes 8 (kept (to_le_bytes w64 n))
+    ≡ lanes 8 (kept (to_le_bytes w64 n))
 kept_word n fits within =
     let bs = to_le_bytes w64 n in
     let carried : bit_or n 0x7f7f_7f7f_7f7f_7f7f + 1 ≡ lanes 8 (carry bs) =
-        ap (λ m. m + 1) (filled_word n fits) ∙ carry_is bs within in
+    ap (λ m. m + 1) (filled_word n fits) ∙ carry_is bs within in
     let flip = flipped (λ b. b) (λ b h. h) (carry bs) (carry_small bs) in
     let power : 256 ^ length (carry bs) ≡ 2 ^ 64 = rw (carry_length bs) refl in
     let complement : 18446744073709551615 - (bit_or n 0x7f7f_7f7f_7f7f_7f7f + 1)
-            ≡ lanes 8 (map (λ b. 255 - b) (carry bs)) =
-        omega (arith, carried, flip, power, each_itself (carry bs)) in
+    ≡ lanes 8 (map (λ b. 255 - b) (carry bs)) =
+    omega (arith, carried, flip, power, each_itself (carry bs)) in
     ap (bit_and n) complement
     ∙ ap (λ m. bit_and m (lanes 8 (map (λ b. 255 - b) (carry bs)))) (word_lanes n fits)
     ∙ and_lanes (keeps bs (bytes_small n))
@@ -359,14 +362,14 @@ byte_small (b ∷ bs) h (suc i) = byte_small bs h.1 i
 
 pub word_groups : (n g : ℕ) → n < 2 ^ 64 → end_of (to_le_bytes w64 n) < 8
     → g ≡ groups_value (to_le_bytes w64
-        (bit_and n (18446744073709551615 - (bit_or n 0x7f7f_7f7f_7f7f_7f7f + 1)))) 8
+    (bit_and n (18446744073709551615 - (bit_or n 0x7f7f_7f7f_7f7f_7f7f + 1)))) 8
     → g ≡ unsigned_of (to_le_bytes w64 n)
 word_groups n g fits within e =
     let bs = to_le_bytes w64 n in
     let eight : length (kept bs) ≡ 8 = kept_length bs in
     let bytes =
-        le_bytes_8 (kept bs) (bit_and n
-            (18446744073709551615 - (bit_or n 0x7f7f_7f7f_7f7f_7f7f + 1))) eight
-            (kept_small bs (byte_small bs (bytes_small n)))
-            (kept_word n fits within ∙ sym (lanes_word (kept bs) eight)) in
+    le_bytes_8 (kept bs) (bit_and n
+    (18446744073709551615 - (bit_or n 0x7f7f_7f7f_7f7f_7f7f + 1))) eight
+    (kept_small bs (byte_small bs (bytes_small n)))
+    (kept_word n fits within ∙ sym (lanes_word (kept bs) eight)) in
     e ∙ ap (λ s. groups_value s 8) bytes ∙ kept_groups bs refl within

@@ -28,11 +28,11 @@ pub grow : {offset w : ℕ} {prefix : List ℕ} (bytes : List ℕ) {first a b : 
     → Begins (offset + w) (prefix ++ bytes) first b
 grow {offset} {w} {prefix} bytes {first} {a} {b} h size before after =
     let head : take offset b ≡ prefix =
-        rw h.is at before ∙ take_at prefix (drop offset first) offset h.len in
+    rw h.is at before ∙ take_at prefix (drop offset first) offset h.len in
     let rest : drop offset a ≡ drop offset first =
-        rw h.is (drop_at prefix (drop offset first) offset h.len) in
+    rw h.is (drop_at prefix (drop offset first) offset h.len) in
     let tail : drop offset b ≡ bytes ++ drop (offset + w) first =
-        rw (← drop-drop w offset first) (rw rest at after) in
+    rw (← drop-drop w offset first) (rw rest at after) in
     record {
       len = omega (arith, h.len, size, length-append prefix bytes);
       is = sym (take-append-drop offset b)
@@ -53,9 +53,9 @@ pub grow-next : {V : Type 0} (bytes : V → List ℕ) (vs : List V) (i : ℕ) (d
     → Begins (offset + w) (flat_map bytes (take (i + 1) vs)) first b
 grow-next bytes vs i d {offset} {w} {first} {a} {b} h inside size before after =
     let more : flat_map bytes (take (i + 1) vs)
-            ≡ flat_map bytes (take i vs) ++ bytes (get_or vs i d) =
+    ≡ flat_map bytes (take i vs) ++ bytes (get_or vs i d) =
     ap (flat_map bytes) (take_more vs i d inside)
     ∙ flat_map-append bytes (take i vs) (get_or vs i d ∷ [])
     ∙ ap (λ l. flat_map bytes (take i vs) ++ l) (append-nil (bytes (get_or vs i d))) in
     subst (λ l. Begins (offset + w) l first b) (sym more)
-        (grow (bytes (get_or vs i d)) h size before after)
+    (grow (bytes (get_or vs i d)) h size before after)

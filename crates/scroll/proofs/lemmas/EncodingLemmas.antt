@@ -63,7 +63,7 @@ digits_sum s v n h =
 
 encoded_at : (s : List ℕ) (v n k : ℕ) → n ≤ length s → ((i : ℕ) → i < length s → get_or s i 0 < 256)
     → n ≡ end_of s + 1 → v ≡ groups_value s n → v < 128 ^ n → end_of s < length s → k < n
-        → get_or s k 0 ≡ encoded_byte v n k
+    → get_or s k 0 ≡ encoded_byte v n k
 encoded_at s v n k within bytes n_is v_is room whole h =
     let small = bytes k (omega arith) in
     let digit : v / 128 ^ k % 128 ≡ group s k = rw v_is (digit_is s n k h) in
@@ -79,7 +79,7 @@ encoded_at s v n k within bytes n_is v_is room whole h =
           let n_next : n ≡ k + 1 = omega arith in
           let positive : 0 < 128 ^ k = one-le-pow k 128 (omega arith) in
           let below : v / 128 ^ k < 128 =
-              div_below v (128 ^ k) 128 positive (rw (n_next, power_more k) at room) in
+          div_below v (128 ^ k) 128 positive (rw (n_next, power_more k) at room) in
           rw t (omega arith)
     ]
 
@@ -91,7 +91,7 @@ to_encoding s v n bytes g =
     let room : v < 128 ^ n = rw v_is (groups_lt s n) in
     let within : n ≤ length s = omega (arith, g.complete.0) in
     let byte =
-        λ (k : ℕ) (h : k < n). encoded_at s v n k within bytes n_is v_is room (g.complete.0) h in (
+    λ (k : ℕ) (h : k < n). encoded_at s v n k within bytes n_is v_is room (g.complete.0) h in (
       record { some = omega arith; few = omega (arith, g.complete.1); room = room; fits = tt },
       fill_by_all (encoded_byte v n) (take n s) n 0 (length-take-le n s within)
           (λ k h. get_or-take n s k 0 h ∙ byte k h),
@@ -101,11 +101,11 @@ pub from_encoding : (s : List ℕ) (v n : ℕ) → HoldsGroups v n → take n s 
     → ReadsGroups s v n
 from_encoding s v n has is =
     let within : n ≤ length s =
-        omega (arith, length-take n s, ap length is ∙ length-encoding v n) in
+    omega (arith, length-take n s, ap length is ∙ length-encoding v n) in
     let byte = λ (k : ℕ) (h : k < n). sym (get_or-take n s k 0 h) ∙ ap (λ l. get_or l k 0) is
-        ∙ get_or-map-range_with_len (encoded_byte v n) 0 n k k 0 h (omega arith) in
+    ∙ get_or-map-range_with_len (encoded_byte v n) 0 n k k 0 h (omega arith) in
     let more =
-        λ (k : ℕ) (h : k < n - 1). before_last s v n k (byte k (omega arith)) (omega arith) in
+    λ (k : ℕ) (h : k < n - 1). before_last s v n k (byte k (omega arith)) (omega arith) in
     let top = last_one s v n (byte (n - 1) (omega (arith, has.some))) has.some has.room in
     let e : end_of s ≡ n - 1 = end_at s (n - 1) (omega (arith, has.some)) more top.0 in
     let digits = λ (i : ℕ) (h : i < n). digit_at s v n i (byte i h) in
@@ -161,10 +161,10 @@ module _ {V : Type 0} {value_of : List ℕ → V} {Fits : V → Type 0} {HasRoom
   reads_encoding s v n bytes = (
     λ (g : ReadsLeb value_of Fits s v n).
         let groups : ReadsGroups s (unsigned_of s) n =
-            record { complete = g.complete; fits = tt; value = refl; size = g.size } in
+        record { complete = g.complete; fits = tt; value = refl; size = g.size } in
         let r =
-            to_encoding s (unsigned_of s) n (λ i h. All-get_or (λ x. x < 256) s i 0 h bytes)
-                groups in
+        to_encoding s (unsigned_of s) n (λ i h. All-get_or (λ x. x < 256) s i 0 h bytes)
+        groups in
         record { has = gives_encoding s v n g; prefix = rw (is.of_read s v n g).1 r.1 },
     λ (b : BeginsWithLeb (HasLeb HasRoom Fits) form s v n). begins_reads s v n b.has b.prefix,
   )
@@ -183,8 +183,12 @@ module _ {V : Type 0} {value_of : List ℕ → V} {Fits : V → Type 0} {HasRoom
   pub longer_encoding : (v : V) (m n : ℕ) → HasLeb HasRoom Fits v m → m ≤ n → n ≤ 10
       → HasLeb HasRoom Fits v n
   longer_encoding v m n h more few =
-      record { some = omega (arith, h.some, more); few = few;
-          room = is.more v m n h.some more h.room; fits = h.fits }
+      record {
+        some = omega (arith, h.some, more);
+        few = few;
+        room = is.more v m n h.some more h.room;
+        fits = h.fits;
+      }
 
   -- what was written reads as the number, and a source that begins otherwise doesn't read so
   pub written_reads : (v : V) (n : ℕ) (t rest : List ℕ) → HasLeb HasRoom Fits v n
@@ -201,9 +205,11 @@ module _ {V : Type 0} {value_of : List ℕ → V} {Fits : V → Type 0} {HasRoom
       → ReadsCounted (ReadsLeb value_of Fits) s x n
       → WritesLeb form x old new m → (m ≡ n) × (new ≡ take n s ++ drop n old)
   encoding_back s old new x m n bytes g w =
-      let w_n = rw g.1 at w in
-      (w_n.size, w_n.after ∙ ap (λ t. t ++ drop n old)
-          (sym ((reads_encoding s x.value n bytes).0 g.0).prefix))
+      let w_n = rw g.1 at w in (
+        w_n.size,
+        w_n.after ∙ ap (λ t. t ++ drop n old)
+            (sym ((reads_encoding s x.value n bytes).0 g.0).prefix),
+      )
 
   pub encoding_begins : (s old new : List ℕ) (x : Counted V) (m n : ℕ) → All (λ b. b < 256) s
       → ReadsCounted (ReadsLeb value_of Fits) s x n
@@ -217,9 +223,11 @@ module _ {V : Type 0} {value_of : List ℕ → V} {Fits : V → Type 0} {HasRoom
       → WritesLeb form x old new n → ReadsCounted (ReadsLeb value_of Fits) (take n new ++ after) x n
   encoding_again old new after x n has w =
       let w_n = rw (← w.size) at w in
-      let prefix = encoding_prefix (form x.value n) n new (drop n old) w_n.after in
-      (written_reads x.value n (take n new ++ after) after (rw (← w.size) at has)
-          (ap (λ t. t ++ after) prefix), sym w.size)
+      let prefix = encoding_prefix (form x.value n) n new (drop n old) w_n.after in (
+        written_reads x.value n (take n new ++ after) after (rw (← w.size) at has)
+            (ap (λ t. t ++ after) prefix),
+        sym w.size,
+      )
 
 -- ---- unsigned numbers
 pub unsigned-form : IsForm unsigned_of (λ v. v < 2 ^ 64) Room (λ v n. v)
@@ -229,7 +237,7 @@ unsigned-form = record {
   of_read = λ s v n r. (rw (r.value, r.size) (groups_lt s (count_of s)), r.value);
   more =
       λ v m n some le room. let power : 128 ^ m ≤ 128 ^ n =
-          pow-le-pow_right {n = 128} (omega arith) le in omega (arith, room, power);
+      pow-le-pow_right {n = 128} (omega arith) le in omega (arith, room, power);
 }
 
 -- ---- signed numbers
@@ -240,11 +248,19 @@ power_last n some = let back : n - 1 + 1 ≡ n = omega arith in rw back at (powe
 -- the number that encodes a signed number is below 128 ^ n
 form_small : (v : ℤ) (n : ℕ) → HasSignedEncoding v n → HoldsGroups (unsigned_form v n) n
 form_small (pos a) n h =
-    record { some = h.some; few = h.few; room = omega (arith, ints, power_last n h.some, h.room);
-        fits = tt }
+    record {
+      some = h.some;
+      few = h.few;
+      room = omega (arith, ints, power_last n h.some, h.room);
+      fits = tt;
+    }
 form_small (negsuc k) n h =
-    record { some = h.some; few = h.few; room = omega (arith, ints, power_last n h.some, h.room);
-        fits = tt }
+    record {
+      some = h.some;
+      few = h.few;
+      room = omega (arith, ints, power_last n h.some, h.room);
+      fits = tt;
+    }
 
 -- a signed value is the one that its groups encode
 form_signed : (s : List ℕ) (v : ℤ) (n : ℕ) → HasSignedEncoding v n
@@ -252,7 +268,7 @@ form_signed : (s : List ℕ) (v : ℤ) (n : ℕ) → HasSignedEncoding v n
 form_signed s (pos a) n h g =
     let top = sign_is_top s a n g.complete.0 g.value g.size in
     let below : nat_lt a (64 * 128 ^ (n - 1)) ≡ true =
-        let l : a < 64 * 128 ^ (n - 1) = omega (arith, ints, h.room) in grind (arith, nat_tests) in
+    let l : a < 64 * 128 ^ (n - 1) = omega (arith, ints, h.room) in grind (arith, nat_tests) in
     rw (sym top ∙ below) (ap pos g.value)
 form_signed s (negsuc k) n h g =
     let top = sign_is_top s (128 ^ n - suc k) n g.complete.0 g.value g.size in
@@ -286,7 +302,7 @@ signed_form s v n g =
           let t : nat_lt (unsigned_of s) (64 * 128 ^ (n - 1)) ≡ false = grind (arith, nat_tests) in
           let room : unsigned_of s < 128 ^ n = rw g.size (groups_lt s (count_of s)) in
           negative_form v (unsigned_of s) n (omega (arith, g.size)) room above
-              (g.value ∙ rw (sym top ∙ t, g.size) refl)
+          (g.value ∙ rw (sym top ∙ t, g.size) refl)
     ]
 
 signed_more : (v : ℤ) (m n : ℕ) → 1 ≤ m → m ≤ n → SignedRoom v m → SignedRoom v n

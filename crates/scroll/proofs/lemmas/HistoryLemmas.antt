@@ -62,7 +62,7 @@ pub get_or-seen : (b : List ℕ) (h : List Piece) (i : ℕ) → i < length b
     → get_or (seen b h) i 0 ≡ unwrap_or (last_byte h i) (get_or b i 0)
 get_or-seen b h i l =
     get_or-map-range_with_len (λ j. unwrap_or (last_byte h j) (get_or b j 0)) 0 (length b) i i 0 l
-        (omega arith)
+    (omega arith)
 
 -- more pieces over what is seen
 pub seen-append : (b : List ℕ) (h p : List Piece) → seen (seen b h) p ≡ seen b (h ++ p)
@@ -106,12 +106,12 @@ last_byte-before : (n o : ℕ) (ls : List (List ℕ)) (i : ℕ) → i < o
 last_byte-before n o [] i h = refl
 last_byte-before n o (l ∷ ls) i h =
     elim (cases_lt n (o + length l)) as (λ _. last_byte (pieces n o (l ∷ ls)) i ≡ None) [
-  | inl k ↦ rw (pieces-misfit n o l ls k) refl
-  | inr k ↦
-      let rest = last_byte-before n (o + length l) ls i (omega (arith, h)) in
-      let none : byte_of (o, l) i ≡ None = grind arith in
-      rw (pieces-fits n o l ls k, rest, none) refl
-]
+      | inl k ↦ rw (pieces-misfit n o l ls k) refl
+      | inr k ↦
+          let rest = last_byte-before n (o + length l) ls i (omega (arith, h)) in
+          let none : byte_of (o, l) i ≡ None = grind arith in
+          rw (pieces-fits n o l ls k, rest, none) refl
+    ]
 
 -- the pieces in a buffer are those in its rest
 last_byte-rest : (n o p : ℕ) (ls : List (List ℕ)) (i : ℕ) → o ≤ n
@@ -119,21 +119,26 @@ last_byte-rest : (n o p : ℕ) (ls : List (List ℕ)) (i : ℕ) → o ≤ n
 last_byte-rest n o p [] i h = refl
 last_byte-rest n o p (l ∷ ls) i h =
     elim (cases_lt n (o + p + length l))
-        as (λ _. last_byte (pieces n (o + p) (l ∷ ls)) (o + i)
-        ≡ last_byte (pieces (n - o) p (l ∷ ls)) i) [
-  | inl k ↦
-      rw (pieces-misfit n (o + p) l ls k, pieces-misfit (n - o) p l ls (omega (arith, k))) refl
-  | inr k ↦
-      let rest = last_byte-rest n o (p + length l) ls i h in
-      let offset : o + p + length l ≡ o + (p + length l) = omega arith in
-      let byte : byte_of (o + p, l) (o + i) ≡ byte_of (p, l) i =
-      elim (cases_lt i p) as (λ _. byte_of (o + p, l) (o + i) ≡ byte_of (p, l) i) [
-        | inl x ↦ grind arith
-        | inr x ↦ let at : o + i - (o + p) ≡ i - p = omega (arith, x) in grind arith
-      ] in
-      rw (pieces-fits n (o + p) l ls k, pieces-fits (n - o) p l ls (omega (arith, k)), offset, rest,
-          byte) refl
-]
+    as (λ _. last_byte (pieces n (o + p) (l ∷ ls)) (o + i)
+    ≡ last_byte (pieces (n - o) p (l ∷ ls)) i) [
+      | inl k ↦
+          rw (pieces-misfit n (o + p) l ls k, pieces-misfit (n - o) p l ls (omega (arith, k))) refl
+      | inr k ↦
+          let rest = last_byte-rest n o (p + length l) ls i h in
+          let offset : o + p + length l ≡ o + (p + length l) = omega arith in
+          let byte : byte_of (o + p, l) (o + i) ≡ byte_of (p, l) i =
+          elim (cases_lt i p) as (λ _. byte_of (o + p, l) (o + i) ≡ byte_of (p, l) i) [
+            | inl x ↦ grind arith
+            | inr x ↦ let at : o + i - (o + p) ≡ i - p = omega (arith, x) in grind arith
+          ] in
+          rw (
+            pieces-fits n (o + p) l ls k,
+            pieces-fits (n - o) p l ls (omega (arith, k)),
+            offset,
+            rest,
+            byte,
+          ) refl
+    ]
 
 -- the error in a buffer is that in its rest
 left_over-rest : (n o p : ℕ) (ls : List (List ℕ)) → o ≤ n
@@ -141,17 +146,24 @@ left_over-rest : (n o p : ℕ) (ls : List (List ℕ)) → o ≤ n
 left_over-rest n o p [] h = refl
 left_over-rest n o p (l ∷ ls) h =
     elim (cases_lt n (o + p + length l))
-        as (λ _. left_over n (o + p) (l ∷ ls) ≡ left_over (n - o) p (l ∷ ls)) [
-  | inl k ↦
-      let left : n - (o + p) ≡ n - o - p = omega arith in
-      rw (left_over-misfit n (o + p) l ls k, left_over-misfit (n - o) p l ls (omega (arith, k)),
-          left) refl
-  | inr k ↦
-      let rest = left_over-rest n o (p + length l) ls h in
-      let offset : o + p + length l ≡ o + (p + length l) = omega arith in
-      rw (left_over-fits n (o + p) l ls k, left_over-fits (n - o) p l ls (omega (arith, k)), offset,
-          rest) refl
-]
+    as (λ _. left_over n (o + p) (l ∷ ls) ≡ left_over (n - o) p (l ∷ ls)) [
+      | inl k ↦
+          let left : n - (o + p) ≡ n - o - p = omega arith in
+          rw (
+            left_over-misfit n (o + p) l ls k,
+            left_over-misfit (n - o) p l ls (omega (arith, k)),
+            left,
+          ) refl
+      | inr k ↦
+          let rest = left_over-rest n o (p + length l) ls h in
+          let offset : o + p + length l ≡ o + (p + length l) = omega arith in
+          rw (
+            left_over-fits n (o + p) l ls k,
+            left_over-fits (n - o) p l ls (omega (arith, k)),
+            offset,
+            rest,
+          ) refl
+    ]
 
 pub refusal-inside : (n o : ℕ) (ls : List (List ℕ)) → o ≤ n → refusal n o ls ≡ left_over n o ls
 refusal-inside n o ls h = grind arith
@@ -173,8 +185,8 @@ seen-rest o old new ls h len prefix back =
     let whole = length-seen old (pieces (length old) o ls) in
     same_number_lists new (seen old (pieces (length old) o ls)) (len ∙ sym whole) (λ k l.
     let inside : k < length old = omega (arith, l, len) in
-    elim (cases_lt k o) as (λ _. get_or new k 0 ≡ get_or (seen old (pieces (length old) o ls)) k 0)
-        [
+    elim (cases_lt k o)
+    as (λ _. get_or new k 0 ≡ get_or (seen old (pieces (length old) o ls)) k 0) [
       | inl x ↦
           sym (get_or-take o new k 0 x) ∙ ap (λ w. get_or w k 0) prefix ∙ get_or-take o old k 0 x
           ∙ ap (λ w. unwrap_or w (get_or old k 0)) (sym (last_byte-before (length old) o ls k x))
@@ -183,17 +195,17 @@ seen-rest o old new ls h len prefix back =
           let at : o + (k - o) ≡ k = omega (arith, x) in
           let bytes = last_byte-rest (length old) o 0 ls (k - o) h in
           let bytes' : last_byte (pieces (length (drop o old)) 0 ls) (k - o)
-                  ≡ last_byte (pieces (length old) o ls) k =
+          ≡ last_byte (pieces (length old) o ls) k =
           ap (λ m. last_byte (pieces m 0 ls) (k - o)) left ∙ sym bytes
           ∙ ap (λ m. last_byte (pieces (length old) m ls) (o + (k - o))) (omega arith)
           ∙ ap (last_byte (pieces (length old) o ls)) at in
           ap (λ m. get_or new m 0) (sym at) ∙ sym (get_or-drop o new (k - o) 0)
           ∙ ap (λ w. get_or w (k - o) 0) back
           ∙ get_or-seen (drop o old) (pieces (length (drop o old)) 0 ls) (k - o)
-              (omega (arith, inside, left, x))
+          (omega (arith, inside, left, x))
           ∙ ap (λ w. unwrap_or w (get_or (drop o old) (k - o) 0)) bytes'
           ∙ ap (λ w. unwrap_or (last_byte (pieces (length old) o ls) k) w)
-              (get_or-drop o old (k - o) 0 ∙ ap (λ m. get_or old m 0) at)
+          (get_or-drop o old (k - o) 0 ∙ ap (λ m. get_or old m 0) at)
           ∙ sym (get_or-seen old (pieces (length old) o ls) k inside)
     ])
 
@@ -211,8 +223,8 @@ byte-prefix t old k =
     let none : k - 0 ≡ k = omega arith in
     let byte : byte_of (0, t) k ≡ slice_get t k = grind arith in
     elim (cases_lt k (length t))
-        as (λ _. get_or (t ++ drop (length t) old) k 0
-        ≡ unwrap_or (byte_of (0, t) k) (get_or old k 0)) [
+    as (λ _. get_or (t ++ drop (length t) old) k 0
+    ≡ unwrap_or (byte_of (0, t) k) (get_or old k 0)) [
       | inl l ↦
           get_or_append_left t (drop (length t) old) 0 k l
           ∙ ap (λ o. unwrap_or o (get_or old k 0)) (sym (slice_get-get_or t k 0 l) ∙ sym byte)
@@ -232,7 +244,7 @@ prefix-piece t old room =
     let whole = length-append t (drop (length t) old) in
     let same = length-seen old ((0, t) ∷ []) in
     same_number_lists (t ++ drop (length t) old) (seen old ((0, t) ∷ []))
-        (omega (arith, left, whole, same)) (λ k l.
+    (omega (arith, left, whole, same)) (λ k l.
     let inside : k < length old = omega (arith, l, left, whole, room) in
     byte-prefix t old k ∙ sym (get_or-seen old ((0, t) ∷ []) k inside))
 
@@ -244,9 +256,9 @@ Run-push : (first : List ℕ) (h : List Piece) (cursor : ℕ) (cs : List Command
     → Run first h cursor (cs ++ c ∷ []) (answers ++ a ∷ []) (whole ++ written) end
 Run-push first h cursor [] [] whole after c a written end r s =
     let s1 : Step (seen first h) after c a written end =
-        subst (λ w. Step (seen first w) after c a written end) r.0 s in
+    subst (λ w. Step (seen first w) after c a written end) r.0 s in
     let s2 : Step (seen first h) cursor c a written end =
-        subst (λ k. Step (seen first h) k c a written end) r.1 s1 in
+    subst (λ k. Step (seen first h) k c a written end) r.1 s1 in
     (written, end, s2, (ap (λ w. w ++ written) r.0, refl))
 Run-push first h cursor (d ∷ ds) (b ∷ bs) whole after c a written end r s =
     (r.0, r.1, r.2, Run-push first (h ++ r.0) r.1 ds bs whole after c a written end r.3 s)
@@ -271,7 +283,7 @@ IsRun-push : (first buffer buffer' : List ℕ) (from to to' : ℕ) (cs : List Co
     → IsRun first buffer' from to' (cs ++ c ∷ []) old new'
 IsRun-push first buffer buffer' from to to' cs old new new' c a r items s =
     let step : Step (seen first r.history) to c a s.written to' =
-        subst (λ b. Step b to c a s.written to') r.bytes s.step in
+    subst (λ b. Step b to c a s.written to') r.bytes s.step in
     record {
       answers = r.answers ++ a ∷ [];
       history = r.history ++ s.written;
@@ -289,7 +301,7 @@ pub IsRun-next : (first buffer buffer' : List ℕ) (from to to' : ℕ) (commands
 IsRun-next first buffer buffer' from to to' commands i d old new new' a inside r items s =
     rw (take_more commands i d inside)
     (IsRun-push first buffer buffer' from to to' (take i commands) old new new'
-        (get_or commands i d) a r items s)
+    (get_or commands i d) a r items s)
 
 plain-short : (w : ℕ) (s : List ℕ) (e : Error) → RefusesShort w s e → IsPlain e
 plain-short w s e r = subst IsPlain (sym r.error) tt
@@ -351,7 +363,7 @@ plain-left len place (leaf ∷ leaves) e h = elim (cases_lt len (place + length 
       subst IsPlain (same_Some _ _ (sym (left_over-misfit len place leaf leaves short) ∙ h)) tt
   | inr fits ↦
       plain-left len (place + length leaf) leaves e
-          (sym (left_over-fits len place leaf leaves fits) ∙ h)
+      (sym (left_over-fits len place leaf leaves fits) ∙ h)
 ]
 
 plain-write : (len place : ℕ) (leaves : List (List ℕ)) (e : Error)

@@ -39,7 +39,7 @@ prefix-leaf-by w bytes len = record {
             ∙ ap (seen old) (sym (pieces-fits (length old) 0 (bytes x) [] inside));
         answer = (
           refusal-inside (length old) 0 (bytes x ∷ []) (omega arith)
-          ∙ left_over-fits (length old) 0 (bytes x) [] inside,
+              ∙ left_over-fits (length old) 0 (bytes x) [] inside,
           h.size ∙ sym (len x) ∙ omega arith,
         );
       };
@@ -85,7 +85,7 @@ pub sleb-leaves : HasLeaves (λ (x : Counted ℤ). sleb_text x ∷ []) WritesSle
     (λ x. FailsShort x.count)
 sleb-leaves =
     prefix-leaf-by (λ x. x.count) sleb_text
-        (λ x. length-encoding (unsigned_form x.value x.count) x.count)
+    (λ x. length-encoding (unsigned_form x.value x.count) x.count)
 
 -- an array has those of its elements, in order
 pub array-leaves : {V : Type 0} (leaves : V → List (List ℕ))
@@ -103,7 +103,7 @@ pub nested-leaves : {V : Type 0} (leaves : V → List (List ℕ))
 nested-leaves leaves writes refuses has [] = has
 nested-leaves leaves writes refuses has (count ∷ counts) =
     array-leaves (leaves_nested leaves counts) (WritesNested writes counts)
-        (FailsNested writes refuses counts) (nested-leaves leaves writes refuses has counts)
+    (FailsNested writes refuses counts) (nested-leaves leaves writes refuses has counts)
 
 -- an error that is stated under a condition that holds, like an array's in generic code
 pub leaves-where : {V : Type 0} (leaves : V → List (List ℕ))
@@ -131,7 +131,7 @@ at-leaves leaves writes refuses has x old o new (Ok n) w =
       after = seen-rest o old new (leaves x) w.inside w.len w.before part.after;
       answer = (
         refusal-inside (length old) o (leaves x) w.inside ∙ left_over-drop old o (leaves x) w.inside
-        ∙ part.answer.0,
+            ∙ part.answer.0,
         part.answer.1,
       );
     }
@@ -218,7 +218,7 @@ pub numbers-leaves : {P : Type 0} (w : ℕ) (order : Endian) (xs : List ℕ) (ol
 numbers-leaves {P} w order xs old o new r h p =
     subst (λ ls. WritesLeaves old o ls new r) (one_each (number_bytes order w) xs)
     (at-leaves _ _ _ (leaves-where _ _ _ (λ _ old new e. (e ≡ NoMemory) × (new ≡ old)) P p
-        (array-leaves _ _ _ (number-leaves w order))) xs old o new r h)
+    (array-leaves _ _ _ (number-leaves w order))) xs old o new r h)
 
 -- an array of slices that is written at an offset, where it fits in memory
 pub slices-leaves : {P : Type 0} (xs : List (Bor (List ℕ))) (old : List ℕ) (o : ℕ) (new : List ℕ)
@@ -229,7 +229,7 @@ pub slices-leaves : {P : Type 0} (xs : List (Bor (List ℕ))) (old : List ℕ) (
     → WritesLeaves old o (flat_map (λ x. x.now ∷ []) xs) new r
 slices-leaves {P} xs old o new r h p =
     at-leaves _ _ _ (leaves-where _ _ _ (λ _ old new e. (e ≡ NoMemory) × (new ≡ old)) P p
-        (array-leaves _ _ _ (bytes-leaves (λ x. x.now)))) xs old o new r h
+    (array-leaves _ _ _ (bytes-leaves (λ x. x.now)))) xs old o new r h
 
 -- WRITES IN EITHER ORDER
 -- leaves that end where others begin, or before, don't overlap them
@@ -253,7 +253,7 @@ pub leaves-exchange : (old mid new : List ℕ) (offset offset' : ℕ) (leaves le
     × WritesLeaves mid' offset leaves new r
 leaves-exchange old mid new o o' ls ls' r r' apart w w' =
     let second : WritesLeaves (seen old (pieces (length old) o ls)) o' ls' new r' =
-        subst (λ x. WritesLeaves x o' ls' new r') w.after w' in
+    subst (λ x. WritesLeaves x o' ls' new r') w.after w' in
     let len = length-seen old (pieces (length old) o ls) in
     let len' = length-seen old (pieces (length old) o' ls') in (
       seen old (pieces (length old) o' ls'),
@@ -264,7 +264,7 @@ leaves-exchange old mid new o o' ls ls' r r' apart w w' =
       record {
         after =
             second.after ∙ ap (λ n. seen (seen old (pieces (length old) o ls)) (pieces n o' ls'))
-                len
+            len
             ∙ seen-append old (pieces (length old) o ls) (pieces (length old) o' ls')
             ∙ seen-exchange old (pieces (length old) o ls) (pieces (length old) o' ls') apart
             ∙ sym (seen-append old (pieces (length old) o' ls') (pieces (length old) o ls))
@@ -304,8 +304,8 @@ either-order {old} {mid} {new} {mid'} {new'} {offset} {offset'} {leaves} {leaves
     let to_magnitude = leaves-exchange old mid new offset offset' leaves leaves' r r' apart w w' in
     let first = one-outcome old offset' leaves' to_magnitude.0 mid' r' q' to_magnitude.1 v' in
     let second =
-        one-outcome mid' offset leaves new new' r q
-            (subst (λ m. WritesLeaves m offset leaves new r) first.0 to_magnitude.2) v in
+    one-outcome mid' offset leaves new new' r q
+    (subst (λ m. WritesLeaves m offset leaves new r) first.0 to_magnitude.2) v in
     (second.0, second.1, first.1)
 
 -- two writes of values of fixed sizes that don't overlap may be exchanged
@@ -318,20 +318,20 @@ pub prefixes-exchange : {w w' offset offset' n n' : ℕ} {bytes bytes' old mid n
 prefixes-exchange {w} {w'} {offset} {offset'} {n} {n'} {bytes} {bytes'} {old} {mid} {new} len len'
     apart first second =
     let one : WritesLeaves old offset (bytes ∷ []) mid (Ok w) =
-        wrote-leaves (prefix-leaf w (λ (_ : ℕ). bytes) (λ _. len)) 0
-            (rw first.after.size at first) in
+    wrote-leaves (prefix-leaf w (λ (_ : ℕ). bytes) (λ _. len)) 0
+    (rw first.after.size at first) in
     let two : WritesLeaves mid offset' (bytes' ∷ []) new (Ok w') =
-        wrote-leaves (prefix-leaf w' (λ (_ : ℕ). bytes') (λ _. len')) 0
-            (rw second.after.size at second) in
+    wrote-leaves (prefix-leaf w' (λ (_ : ℕ). bytes') (λ _. len')) 0
+    (rw second.after.size at second) in
     let away : Apart (pieces (length old) offset (bytes ∷ []))
-            (pieces (length old) offset' (bytes' ∷ [])) =
-        elim apart [
+    (pieces (length old) offset' (bytes' ∷ [])) =
+    elim apart [
       | inl h ↦
           apart-behind (length old) offset offset' (bytes ∷ []) (bytes' ∷ [])
-              (omega (arith, h, len))
+          (omega (arith, h, len))
       | inr h ↦
           apart-before (length old) offset offset' (bytes ∷ []) (bytes' ∷ [])
-              (omega (arith, h, len'))
+          (omega (arith, h, len'))
     ] in
     leaves-exchange old mid new offset offset' (bytes ∷ []) (bytes' ∷ []) (Ok w) (Ok w') away one
-        two
+    two

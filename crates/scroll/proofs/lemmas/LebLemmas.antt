@@ -37,12 +37,12 @@ pub end_at : (s : List ℕ) (i : ℕ) → i < length s → ((k : ℕ) → k < i 
     → get_or s i 0 < 128 → end_of s ≡ i
 end_at s i within more last =
     position_or_len_is (λ b. nat_lt b 128) s i 0 (omega arith)
-        (λ k h. let f = more k h in grind (arith, nat_tests)) (λ h. grind (arith, nat_tests))
+    (λ k h. let f = more k h in grind (arith, nat_tests)) (λ h. grind (arith, nat_tests))
 
 pub no_end : (s : List ℕ) → ((k : ℕ) → k < length s → 128 ≤ get_or s k 0) → end_of s ≡ length s
 no_end s more =
     position_or_len_is (λ b. nat_lt b 128) s (length s) 0 (omega arith)
-        (λ k h. let f = more k h in grind (arith, nat_tests)) (λ h. absurd (omega arith))
+    (λ k h. let f = more k h in grind (arith, nat_tests)) (λ h. absurd (omega arith))
 
 -- a complete encoding ends at a byte below 128
 pub end_below : (s : List ℕ) → end_of s < length s → get_or s (end_of s) 0 < 128
@@ -92,23 +92,23 @@ sign_is_top s g n within g_is n_is =
     let low = groups_lt s (end_of s) in
     let back : n - 1 ≡ end_of s = omega arith in
     let sum : g ≡ top * 128 ^ end_of s + groups_value s (end_of s) =
-        omega (arith, g_is, groups_more s (end_of s)) in
+    omega (arith, g_is, groups_more s (end_of s)) in
     rw (back, sum) (elim (cases_lt top 64) [
       | inl below ↦
           let fits = mul-add-lt top (128 ^ end_of s) (groups_value s (end_of s)) 64 below low in
           let fits_turned : top * 128 ^ end_of s + groups_value s (end_of s) < 64 * 128 ^ end_of s =
-              omega (arith, fits) in
+          omega (arith, fits) in
           let left : nat_lt (top * 128 ^ end_of s + groups_value s (end_of s)) (64 * 128 ^ end_of s)
-                  ≡ true =
-              grind (arith, nat_tests) in
+          ≡ true =
+          grind (arith, nat_tests) in
           let right : nat_lt top 64 ≡ true = grind (arith, nat_tests) in
           left ∙ sym right
       | inr above ↦
           let more : 64 * 128 ^ end_of s ≤ top * 128 ^ end_of s =
-              mul-le-mul_right (128 ^ end_of s) above in
+          mul-le-mul_right (128 ^ end_of s) above in
           let left : nat_lt (top * 128 ^ end_of s + groups_value s (end_of s)) (64 * 128 ^ end_of s)
-                  ≡ false =
-              grind (arith, nat_tests) in
+          ≡ false =
+          grind (arith, nat_tests) in
           let right : nat_lt top 64 ≡ false = grind (arith, nat_tests) in
           left ∙ sym right
     ])
@@ -117,12 +117,17 @@ sign_is_top s g n within g_is n_is =
 pub gives_at : (s : List ℕ) (i v r b : ℕ) → i < length s → i < 9
     → ((k : ℕ) → k < i → 128 ≤ get_or s k 0) → get_or s i 0 ≡ b → b < 128
     → v ≡ groups_value s i → r ≡ bit_and b 127
-        → ReadsGroups s (bit_or v (r * 2 ^ (7 * i) % 2 ^ 64)) (i + 1)
+    → ReadsGroups s (bit_or v (r * 2 ^ (7 * i) % 2 ^ 64)) (i + 1)
 gives_at s i v r b within early more byte last value_is r_is =
     let e = end_at s i within more (omega arith) in
     let value = or_group s i v r early value_is (rw byte r_is) in
-    record { complete = (omega arith, omega arith); fits = tt; value = value
-        ∙ ap (λ j. groups_value s (j + 1)) (sym e); size = ap (λ j. j + 1) (sym e) }
+    record {
+      complete = (omega arith, omega arith);
+      fits = tt;
+      value = value
+          ∙ ap (λ j. groups_value s (j + 1)) (sym e);
+      size = ap (λ j. j + 1) (sym e);
+    }
 
 pub groups_same : (a b : List ℕ) (n : ℕ) → ((k : ℕ) → k < n → get_or a k 0 ≡ get_or b k 0)
     → groups_value a n ≡ groups_value b n
@@ -133,8 +138,10 @@ groups_same a b (suc n) h =
 -- past the end there is no byte
 pub none_past : (s : List ℕ) (i : ℕ) → None ≡ slice_get s i → length s ≤ i
 none_past s i e =
-    elim (cases_lt i (length s)) [ inl h ↦ let f = e ∙ slice_get-get_or s i 0 h in absurd (cc)
-        | inr h ↦ h ]
+    elim (cases_lt i (length s)) [
+      | inl h ↦ let f = e ∙ slice_get-get_or s i 0 h in absurd (cc)
+      | inr h ↦ h
+    ]
 
 -- what a look-up by `get` says of a byte in bounds, and of an offset past the end
 pub byte_there : (s : List ℕ) (i b : ℕ) → true ≡ nat_lt i (length s) → b ≡ get_or s i b
@@ -164,7 +171,7 @@ less_whole u p k h = omega (arith, ints)
 -- the highest bit h of a number, flipped and then subtracted
 to_magnitude : (g k h : ℕ) → h ≡ 2 ^ k → h ≤ 2 ^ 62 → g < 2 * h
     → to_z w64 ((bit_xor g h + (2 ^ 64 - h)) % 2 ^ 64)
-        ≡ (if nat_lt g h then pos g else pos g -ℤ pos (2 * h))
+    ≡ (if nat_lt g h then pos g else pos g -ℤ pos (2 * h))
 to_magnitude g k h is small room =
     let total : bit_xor g h + bit_and g h * 2 ≡ g + h = xor_add_and g h in
     let form : bit_and g h ≡ g / h % 2 * h = rw (← is) at (and_pow g k) in
@@ -178,7 +185,7 @@ to_magnitude g k h is small room =
           let clear : bit_and g h ≡ 0 = form ∙ ap (λ q. q % 2 * h) none ∙ nothing in
           let sum : bit_xor g h + (2 ^ 64 - h) ≡ 1 * 2 ^ 64 + g = omega (arith, total, clear) in
           let word : (bit_xor g h + (2 ^ 64 - h)) % 2 ^ 64 ≡ g =
-              ap (λ x. x % 2 ^ 64) sum ∙ mod-mul-add 1 (2 ^ 64) g (omega arith) in
+          ap (λ x. x % 2 ^ 64) sum ∙ mod-mul-add 1 (2 ^ 64) g (omega arith) in
           rw (t, word) (to_z_pos w64 g (omega arith))
       | inr high ↦
           let t : nat_lt g h ≡ false = grind (arith, nat_tests) in
@@ -189,14 +196,14 @@ to_magnitude g k h is small room =
           let set : bit_and g h ≡ h = form ∙ ap (λ q. q % 2 * h) one ∙ once in
           let sum : bit_xor g h + (2 ^ 64 - h) ≡ 2 ^ 64 - suc rest = omega (arith, total, set) in
           let word : (bit_xor g h + (2 ^ 64 - h)) % 2 ^ 64 ≡ 2 ^ 64 - suc rest =
-              ap (λ x. x % 2 ^ 64) sum ∙ mod-eq_of_lt (omega arith) in
+          ap (λ x. x % 2 ^ 64) sum ∙ mod-eq_of_lt (omega arith) in
           rw (t, word) (to_z-neg w64 rest (omega arith) ∙ less_whole g (2 * h) rest (omega arith))
     ]
 
 -- up to nine groups in two's complement
 pub signed_groups : (g n : ℕ) → 1 ≤ n → n ≤ 9 → g < 128 ^ n
     → to_z w64 ((bit_xor g (64 * 2 ^ (7 * (n - 1)) % 2 ^ 64)
-        + (2 ^ 64 - 64 * 2 ^ (7 * (n - 1)) % 2 ^ 64)) % 2 ^ 64)
+    + (2 ^ 64 - 64 * 2 ^ (7 * (n - 1)) % 2 ^ 64)) % 2 ^ 64)
     ≡ (if nat_lt g (64 * 128 ^ (n - 1)) then pos g else pos g -ℤ pos (128 ^ n))
 signed_groups g n some few room =
     let h = 64 * 128 ^ (n - 1) in
@@ -208,6 +215,6 @@ signed_groups g n some few room =
     let places : 64 * 2 ^ (7 * (n - 1)) ≡ h = ap (λ x. 64 * x) (pow_128 (n - 1)) in
     let bit : h ≡ 2 ^ (6 + 7 * (n - 1)) = sym places ∙ sym (pow-add 2 6 (7 * (n - 1))) in
     let sign : 64 * 2 ^ (7 * (n - 1)) % 2 ^ 64 ≡ h =
-        ap (λ x. x % 2 ^ 64) places ∙ mod-eq_of_lt (omega (arith, most)) in
+    ap (λ x. x % 2 ^ 64) places ∙ mod-eq_of_lt (omega (arith, most)) in
     rw (sign, ← whole) (to_magnitude g (6 + 7 * (n - 1)) h bit (omega (arith, most))
-        (rw (← whole) at room))
+    (rw (← whole) at room))

@@ -41,23 +41,23 @@ module _ (s t : List ℕ) (inside : end_of s < length s) (room : count_of s ≤ 
   signed-same : signed_of t ≡ signed_of s
   signed-same =
       ap (λ (g : ℕ). if nat_lt g 64 then pos (unsigned_of t) else pos (unsigned_of t) -ℤ pos
-          (128 ^ count_of t)) group-same
+      (128 ^ count_of t)) group-same
       ∙ ap (λ (u : ℕ). if nat_lt (group s (end_of s)) 64 then pos u else pos u -ℤ pos
-          (128 ^ count_of t)) unsigned-same
+      (128 ^ count_of t)) unsigned-same
       ∙ ap (λ (e : ℕ). if nat_lt (group s (end_of s)) 64 then pos (unsigned_of s) else pos
-          (unsigned_of s) -ℤ pos (128 ^ (e + 1))) end-same
+      (unsigned_of s) -ℤ pos (128 ^ (e + 1))) end-same
 
 -- the bytes that a read takes are read likewise, whether others follow them or none do
 exact-leb : {V : Type 0} (value_of : List ℕ → V) (Fits : V → Type 0)
     → ((s t : List ℕ) → end_of s < length s → count_of s ≤ length t → take (count_of s) t
-        ≡ take (count_of s) s → value_of t ≡ value_of s)
+    ≡ take (count_of s) s → value_of t ≡ value_of s)
     → (s t : List ℕ) (x : V) (n : ℕ) → ReadsLeb value_of Fits s x n → n ≤ length t → take n t
-        ≡ take n s → ReadsLeb value_of Fits t x n
+    ≡ take n s → ReadsLeb value_of Fits t x n
 exact-leb value_of Fits same s t x n r room e =
     let inside = r.complete.0 in
     let there : count_of s ≤ length t = omega (arith, r.size, room) in
     let prefix : take (count_of s) t ≡ take (count_of s) s =
-        ap (λ m. take m t) (sym r.size) ∙ e ∙ ap (λ m. take m s) r.size in
+    ap (λ m. take m t) (sym r.size) ∙ e ∙ ap (λ m. take m s) r.size in
     let end = end-same s t inside there prefix in
     let value = same s t inside there prefix in
     record {
@@ -101,20 +101,22 @@ neg-fit n small = search (arith, ints)
 fits-cases : (z : ℤ) → FitsSigned w64 z ⊎ ¬ (FitsSigned w64 z)
 fits-cases (pos n) =
     elim (cases_lt n (2 ^ 63)) as (λ _. FitsSigned w64 (pos n) ⊎ ¬ (FitsSigned w64 (pos n))) [
-  | inl small ↦ inl (fits_signed_from_abs w64 (pos n) (omega (arith, small)))
-  | inr large ↦ inr (pos-unfit n large)
-]
+      | inl small ↦ inl (fits_signed_from_abs w64 (pos n) (omega (arith, small)))
+      | inr large ↦ inr (pos-unfit n large)
+    ]
 fits-cases (negsuc n) =
     elim (cases_lt n (2 ^ 63)) as (λ _. FitsSigned w64 (negsuc n) ⊎ ¬ (FitsSigned w64 (negsuc n))) [
-  | inl small ↦ inl (neg-fit n small)
-  | inr large ↦ inr (neg-unfit n large)
-]
+      | inl small ↦ inl (neg-fit n small)
+      | inr large ↦ inr (neg-unfit n large)
+    ]
 
 word-cases : (n : ℕ) → (n < 2 ^ 64) ⊎ ¬ (n < 2 ^ 64)
 word-cases n =
     elim (cases_lt n (2 ^ 64))
-        as (λ _. (n < 2 ^ 64) ⊎ ¬ (n < 2 ^ 64)) [ inl small ↦ inl small
-        | inr large ↦ inr (λ small. absurd (omega (arith, small, large))) ]
+    as (λ _. (n < 2 ^ 64) ⊎ ¬ (n < 2 ^ 64)) [
+      | inl small ↦ inl small
+      | inr large ↦ inr (λ small. absurd (omega (arith, small, large)))
+    ]
 
 -- a read returns a value where the encoding is complete and its number fits, and otherwise an error
 module _ {V : Type 0} (value_of : List ℕ → V) (Fits : V → Type 0) (s : List ℕ) where
@@ -142,35 +144,43 @@ module _ {V : Type 0} (value_of : List ℕ → V) (Fits : V → Type 0) (s : Lis
       → AllowsOne (ReadsLeb value_of Fits s) (RefusesLeb value_of Fits s)
   one-leb fit =
       elim (cases_lt (end_of s) (length s))
-          as (λ _. AllowsOne (ReadsLeb value_of Fits s) (RefusesLeb value_of Fits s)) [
-    | inr none ↦
-        elim (cases_lt (length s) 10)
+      as (λ _. AllowsOne (ReadsLeb value_of Fits s) (RefusesLeb value_of Fits s)) [
+        | inr none ↦
+            elim (cases_lt (length s) 10)
             as (λ _. AllowsOne (ReadsLeb value_of Fits s) (RefusesLeb value_of Fits s)) [
-      | inl short ↦
-          one-Err (ReadsLeb value_of Fits s) (RefusesLeb value_of Fits s) (TooBig 1 0)
-              (inl (record { cut = (none, short); error = refl }))
-          (λ v m r. complete-whole s r.complete (none, short))
-              (λ d r. refused-cut d (none, short) r)
-      | inr long ↦
-          one-unfit (λ cut. absurd (omega (arith, long, cut.1)))
-              (λ complete. absurd (omega (arith, none, complete.0)))
-    ]
-    | inl found ↦
-        elim (cases_lt (end_of s) 10)
+              | inl short ↦
+                  one-Err (ReadsLeb value_of Fits s) (RefusesLeb value_of Fits s) (TooBig 1 0)
+                  (inl (record { cut = (none, short); error = refl }))
+                  (λ v m r. complete-whole s r.complete (none, short))
+                  (λ d r. refused-cut d (none, short) r)
+              | inr long ↦
+                  one-unfit (λ cut. absurd (omega (arith, long, cut.1)))
+                  (λ complete. absurd (omega (arith, none, complete.0)))
+            ]
+        | inl found ↦
+            elim (cases_lt (end_of s) 10)
             as (λ _. AllowsOne (ReadsLeb value_of Fits s) (RefusesLeb value_of Fits s)) [
-      | inr late ↦
-          one-unfit (λ cut. absurd (omega (arith, found, cut.0)))
-              (λ complete. absurd (omega (arith, late, complete.1)))
-      | inl near ↦
-          elim fit as (λ _. AllowsOne (ReadsLeb value_of Fits s) (RefusesLeb value_of Fits s)) [
-        | inl fits ↦
-            one-Ok (ReadsLeb value_of Fits s) (RefusesLeb value_of Fits s) (value_of s) (count_of s)
-            (record { complete = (found, near); fits = fits; value = refl; size = refl })
-            (λ v m r. (r.value, r.size)) (λ d r. not-refused d (found, near) fits r)
-        | inr unfit ↦ one-unfit (λ cut. absurd (omega (arith, found, cut.0))) (λ _. unfit)
+              | inr late ↦
+                  one-unfit (λ cut. absurd (omega (arith, found, cut.0)))
+                  (λ complete. absurd (omega (arith, late, complete.1)))
+              | inl near ↦
+                  elim fit as (λ _. AllowsOne (ReadsLeb value_of Fits s)
+                  (RefusesLeb value_of Fits s)) [
+                    | inl fits ↦
+                        one-Ok (ReadsLeb value_of Fits s) (RefusesLeb value_of Fits s) (value_of s)
+                        (count_of s)
+                        (record {
+                          complete = (found, near);
+                          fits = fits;
+                          value = refl;
+                          size = refl;
+                        })
+                        (λ v m r. (r.value, r.size)) (λ d r. not-refused d (found, near) fits r)
+                    | inr unfit ↦
+                        one-unfit (λ cut. absurd (omega (arith, found, cut.0))) (λ _. unfit)
+                  ]
+            ]
       ]
-    ]
-  ]
 
 pub one-uleb : (s : List ℕ) → AllowsOne (ReadsUleb s) (RefusesUleb s)
 one-uleb s = one-leb unsigned_of (λ v. v < 2 ^ 64) s (word-cases (unsigned_of s))
@@ -187,29 +197,30 @@ block_reads local s b x n eight prefix r =
     let b_length : length b ≡ 8 = ap length prefix ∙ length-take-le 8 s eight in
     let few : n ≤ 8 = omega (arith, r.size, r.complete.0) in
     local b s x n r (omega (arith, few)) (omega (arith, eight))
-        (sym (take-take n 8 s few) ∙ ap (take n) (sym prefix))
+    (sym (take-take n 8 s few) ∙ ap (take n) (sym prefix))
 
 -- a block that ends no encoding
 pub block_open : (s b : List ℕ) → (8 ≤ length s) × (b ≡ take 8 s) → 8 ≤ end_of b
     → (8 ≤ end_of s) × (groups_value b 8 ≡ groups_value s 8)
 block_open s b first open_to =
     let same : (k : ℕ) → k < 8 → get_or b k 0 ≡ get_or s k 0 =
-        λ k h. ap (λ l. get_or l k 0) first.1 ∙ get_or-take 8 s k 0 h in
-    (late_end s 8 first.0 (λ k h. rw (← same k h) (open_before b k (omega (arith, h, open_to)))),
-        groups_same b s 8 same)
+    λ k h. ap (λ l. get_or l k 0) first.1 ∙ get_or-take 8 s k 0 h in (
+      late_end s 8 first.0 (λ k h. rw (← same k h) (open_before b k (omega (arith, h, open_to)))),
+      groups_same b s 8 same,
+    )
 
 -- the groups, with the value that their top bit determines
 sign_of_groups : (s : List ℕ) (g n : ℕ) (z : ℤ) → end_of s < length s → g ≡ unsigned_of s
     → n ≡ count_of s
     → z ≡ (if nat_lt g (64 * 128 ^ (n - 1)) then pos g else pos g -ℤ pos (128 ^ n)) → z
-        ≡ signed_of s
+    ≡ signed_of s
 sign_of_groups s g n z within g_is n_is e =
     e ∙ rw (sign_is_top s g n within g_is n_is, g_is, n_is) refl
 
 -- groups and their sign
 pub groups_read_signed : (s : List ℕ) (g n : ℕ) (z : ℤ) → ReadsGroups s g n → FitsSigned w64 z
     → z ≡ (if nat_lt g (64 * 128 ^ (n - 1)) then pos g else pos g -ℤ pos (128 ^ n))
-        → ReadsSleb s z n
+    → ReadsSleb s z n
 groups_read_signed s g n z r fits form =
     let value = sign_of_groups s g n z r.complete.0 r.value r.size form in
     record { complete = r.complete; fits = rw value at fits; value = value; size = r.size }
@@ -217,7 +228,7 @@ groups_read_signed s g n z r fits form =
 -- the same with the result that the code returns
 pub word_read_signed : (s : List ℕ) (g n : ℕ) (z : ℤ) → ReadsGroups s g n → FitsSigned w64 z
     → z ≡ (if nat_lt g (64 * 128 ^ (n - 1)) then pos g else pos g -ℤ pos (128 ^ n))
-        → ReadsSleb s (to_z w64 (of_z w64 z)) n
+    → ReadsSleb s (to_z w64 (of_z w64 z)) n
 word_read_signed s g n z r fits form =
     rw (to_z-of_z w64 z fits) (groups_read_signed s g n z r fits form)
 
@@ -230,8 +241,12 @@ groups_read s g n few r =
     let low = groups_lt s (count_of s) in
     let nine : count_of s ≤ 9 = omega (arith, r.size) in
     let power : 128 ^ count_of s ≤ 128 ^ 9 = pow-le-pow_right {n = 128} (omega arith) nine in
-    record { complete = r.complete; fits = omega (arith, low, power, r.value); value = r.value;
-        size = r.size }
+    record {
+      complete = r.complete;
+      fits = omega (arith, low, power, r.value);
+      value = r.value;
+      size = r.size;
+    }
 
 -- ---- the tenth byte
 tenth_end : (s : List ℕ) (t : ℕ) → 9 ≤ end_of s → slice_get s 9 ≡ Some t → t < 128 → end_of s ≡ 9
@@ -256,7 +271,7 @@ tenth_reads s g t late at g_is small =
     let whole : t * 2 ^ 63 % 2 ^ 64 ≡ t * 2 ^ 63 = mod-eq_of_lt (omega arith) in
     let joined : bit_or g (t * 2 ^ 63) ≡ t * 2 ^ 63 + g = or_shifted_r t 63 g low in
     let value : bit_or g (t * 2 ^ 63 % 2 ^ 64) ≡ groups_value s (9 + 1) =
-        ap (bit_or g) whole ∙ joined ∙ omega (arith, sum) in
+    ap (bit_or g) whole ∙ joined ∙ omega (arith, sum) in
     let total = ap (λ i. groups_value s (i + 1)) e in
     record {
       complete = (omega arith, omega arith);
@@ -295,21 +310,23 @@ sign_or_none t small h =
 
 not_sign : (t : ℕ) → (t ≡ bit_and t 1 * 127 → ⊥) → (0 < t) × (t ≡ 127 → ⊥)
 not_sign t h = (
-  elim (cases_lt 0 t) [ inl some ↦ some
-      | inr none ↦ absurd (h (let z : t ≡ 0 = omega arith in rw z refl)) ],
+  elim (cases_lt 0 t) [
+    | inl some ↦ some
+    | inr none ↦ absurd (h (let z : t ≡ 0 = omega arith in rw z refl))
+  ],
   λ e. h (rw e refl),
 )
 
 pub tenth_reads_signed : (s : List ℕ) (g t : ℕ) → 9 ≤ end_of s → slice_get s 9 ≡ Some t
     → g ≡ groups_value s 9 → t < 256 → t ≡ bit_and t 1 * 127
     → FitsSigned w64 (to_z w64 (bit_or g (t * 2 ^ 63 % 2 ^ 64)))
-        → ReadsSleb s (to_z w64 (bit_or g (t * 2 ^ 63 % 2 ^ 64))) 10
+    → ReadsSleb s (to_z w64 (bit_or g (t * 2 ^ 63 % 2 ^ 64))) 10
 tenth_reads_signed s g t late at g_is small h fits =
     let inside = slice_get_within s 9 t at in
     let byte = get_or_from_slice_get s 9 t 0 at in
     let low : g < 2 ^ 63 = rw g_is (groups_lt s 9) in
     let value : (end_of s ≡ 9) × (to_z w64 (bit_or g (t * 2 ^ 63 % 2 ^ 64)) ≡ signed_of s) =
-        elim (sign_or_none t small h) [
+    elim (sign_or_none t small h) [
       | inl none ↦
           let e = tenth_end s t late at (omega arith) in
           let sum = tenth_sum s g t g_is at (omega arith) in
@@ -326,12 +343,14 @@ tenth_reads_signed s g t late at g_is small h fits =
           let joined : bit_or g (1 * 2 ^ 63) ≡ 1 * 2 ^ 63 + g = or_shifted_r 1 63 g low in
           let to_magnitude : 1 * 2 ^ 63 + g ≡ 2 ^ 64 - suc (2 ^ 63 - g - 1) = omega arith in
           let word : to_z w64 (1 * 2 ^ 63 + g) ≡ negsuc (2 ^ 63 - g - 1) =
-              ap (to_z w64) to_magnitude ∙ to_z-neg w64 (2 ^ 63 - g - 1) (omega arith) in
+          ap (to_z w64) to_magnitude ∙ to_z-neg w64 (2 ^ 63 - g - 1) (omega arith) in
           let signed_is : signed_of s ≡ pos (g + 127 * 2 ^ 63) -ℤ pos (128 ^ 10) =
-              rw (e, sign, total) refl in
-          let less = less_whole (g + 127 * 2 ^ 63) (128 ^ 10) (2 ^ 63 - g - 1) (omega arith) in
-          (e, ap (λ x. to_z w64 (bit_or g (x * 2 ^ 63 % 2 ^ 64))) all ∙ ap (to_z w64) joined ∙ word
-              ∙ less ∙ sym signed_is)
+          rw (e, sign, total) refl in
+          let less = less_whole (g + 127 * 2 ^ 63) (128 ^ 10) (2 ^ 63 - g - 1) (omega arith) in (
+            e,
+            ap (λ x. to_z w64 (bit_or g (x * 2 ^ 63 % 2 ^ 64))) all ∙ ap (to_z w64) joined ∙ word
+                ∙ less ∙ sym signed_is,
+          )
     ] in
     record {
       complete = (omega (arith, value.0), omega (arith, value.0));
@@ -359,10 +378,12 @@ tenth_refused_signed s g t late at g_is h whole fits =
       | inr set ↦
           let sign : nat_lt (group s 9) 64 ≡ false = grind (arith, nat_tests) in
           let signed_is : signed_of s ≡ pos (g + t * 2 ^ 63) -ℤ pos (128 ^ 10) =
-              rw (e.0, sign, sum) refl in
+          rw (e.0, sign, sum) refl in
           let below : t < 127 =
-              elim (cases_lt t 127) [ inl b ↦ b
-                  | inr a ↦ absurd (other.1 (let small = e.1 in omega arith)) ] in
+          elim (cases_lt t 127) [
+            | inl b ↦ b
+            | inr a ↦ absurd (other.1 (let small = e.1 in omega arith))
+          ] in
           let k = 128 ^ 10 - (g + t * 2 ^ 63) - 1 in
           let less = less_whole (g + t * 2 ^ 63) (128 ^ 10) k (omega arith) in
           let f = rw (signed_is ∙ sym less) at fits in

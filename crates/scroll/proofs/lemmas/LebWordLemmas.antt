@@ -23,7 +23,7 @@ spaced n = (n + bit_and n 1065369472) % 4294967296
 first_part : (a b : ℕ) → a < 2 ^ 14 → b < 2 ^ 14 → parted (b * 2 ^ 14 + a) ≡ lanes 16 (a ∷ b ∷ [])
 first_part a b p q =
     let high : bit_and (b * 2 ^ 14 + a) 268419072 ≡ b * 2 ^ 14 =
-        and_block 14 b 16383 a 0 p (omega arith) ∙ rw (keep 14 b q, and_zero_r a) (omega arith) in
+    and_block 14 b 16383 a 0 p (omega arith) ∙ rw (keep 14 b q, and_zero_r a) (omega arith) in
     rw high (omega arith)
 
 top_group : (a b : ℕ) → a < 128 → b < 128 → bit_and (b * 2 ^ 7 + a) 16256 ≡ b * 2 ^ 7
@@ -34,12 +34,12 @@ second_part : (a b c d : ℕ) → a < 128 → b < 128 → c < 128 → d < 128
     → spaced (lanes 16 ((b * 2 ^ 7 + a) ∷ (d * 2 ^ 7 + c) ∷ [])) ≡ lanes 8 (a ∷ b ∷ c ∷ d ∷ [])
 second_part a b c d p q r s =
     let tops : Lanewise bit_and 16 ((b * 2 ^ 7 + a) ∷ (d * 2 ^ 7 + c) ∷ []) (16256 ∷ 16256 ∷ [])
-            ((b * 2 ^ 7) ∷ (d * 2 ^ 7) ∷ []) =
+    ((b * 2 ^ 7) ∷ (d * 2 ^ 7) ∷ []) =
     lane (omega arith) (omega arith) (top_group a b p q)
-        (lane (omega arith) (omega arith) (top_group c d r s) done) in
+    (lane (omega arith) (omega arith) (top_group c d r s) done) in
     let high : bit_and (lanes 16 ((b * 2 ^ 7 + a) ∷ (d * 2 ^ 7 + c) ∷ [])) 1065369472
-            ≡ lanes 16 ((b * 2 ^ 7) ∷ (d * 2 ^ 7) ∷ []) =
-        and_lanes tops in
+    ≡ lanes 16 ((b * 2 ^ 7) ∷ (d * 2 ^ 7) ∷ []) =
+    and_lanes tops in
     rw high (omega arith)
 
 pub spread_word : (low : ℕ)
@@ -52,7 +52,7 @@ spread_word low =
     let c = low / 16384 % 128 in
     let d = low / 2097152 % 128 in
     let e : bit_and low 268435455 ≡ (d * 2 ^ 7 + c) * 2 ^ 14 + (b * 2 ^ 7 + a) =
-        and_mask low 28 ∙ omega arith in
+    and_mask low 28 ∙ omega arith in
     ap (λ n. spaced (parted n)) e
     ∙ ap spaced (first_part (b * 2 ^ 7 + a) (d * 2 ^ 7 + c) (omega arith) (omega arith))
     ∙ second_part a b c d (omega arith) (omega arith) (omega arith) (omega arith)
@@ -62,26 +62,26 @@ mark d h = or_shifted_r 1 7 d h
 
 open_word : (a b c d : ℕ) → a < 128 → b < 128 → c < 128 → d < 128
     → bit_or (lanes 8 (a ∷ b ∷ c ∷ d ∷ [])) 2155905152
-        ≡ lanes 8 ((128 + a) ∷ (128 + b) ∷ (128 + c) ∷ (128 + d) ∷ [])
+    ≡ lanes 8 ((128 + a) ∷ (128 + b) ∷ (128 + c) ∷ (128 + d) ∷ [])
 open_word a b c d p q r s =
     let marks : Lanewise bit_or 8 (a ∷ b ∷ c ∷ d ∷ []) (128 ∷ 128 ∷ 128 ∷ 128 ∷ [])
-            ((128 + a) ∷ (128 + b) ∷ (128 + c) ∷ (128 + d) ∷ []) =
+    ((128 + a) ∷ (128 + b) ∷ (128 + c) ∷ (128 + d) ∷ []) =
     lane (omega arith) (omega arith) (mark a p)
-        (lane (omega arith) (omega arith) (mark b q)
-        (lane (omega arith) (omega arith) (mark c r)
-        (lane (omega arith) (omega arith) (mark d s) done))) in
+    (lane (omega arith) (omega arith) (mark b q)
+    (lane (omega arith) (omega arith) (mark c r)
+    (lane (omega arith) (omega arith) (mark d s) done))) in
     or_lanes marks
 
 last_word : (a b c d : ℕ) → a < 128 → b < 128 → c < 128 → d < 128
     → bit_or (lanes 8 (a ∷ b ∷ c ∷ d ∷ [])) 8421504
-        ≡ lanes 8 ((128 + a) ∷ (128 + b) ∷ (128 + c) ∷ d ∷ [])
+    ≡ lanes 8 ((128 + a) ∷ (128 + b) ∷ (128 + c) ∷ d ∷ [])
 last_word a b c d p q r s =
     let marks : Lanewise bit_or 8 (a ∷ b ∷ c ∷ d ∷ []) (128 ∷ 128 ∷ 128 ∷ 0 ∷ [])
-            ((128 + a) ∷ (128 + b) ∷ (128 + c) ∷ d ∷ []) =
+    ((128 + a) ∷ (128 + b) ∷ (128 + c) ∷ d ∷ []) =
     lane (omega arith) (omega arith) (mark a p)
-        (lane (omega arith) (omega arith) (mark b q)
-        (lane (omega arith) (omega arith) (mark c r)
-        (lane (omega arith) (omega arith) (or_zero_r d) done))) in
+    (lane (omega arith) (omega arith) (mark b q)
+    (lane (omega arith) (omega arith) (mark c r)
+    (lane (omega arith) (omega arith) (or_zero_r d) done))) in
     or_lanes marks
 
 four_bytes : (n a b c d : ℕ) → n ≡ lanes 8 (a ∷ b ∷ c ∷ d ∷ []) → a < 256 → b < 256 → c < 256
@@ -97,7 +97,7 @@ pub open_bytes : (low g : ℕ) (bytes : List ℕ)
     → g ≡ 0 + low / 1 % 128 * 1 + low / 128 % 128 * 256 + low / 16384 % 128 * 65536
     + low / 2097152 % 128 * 16777216
     → bytes ≡ to_le_bytes w32 (bit_or g 2155905152) → (k : ℕ) → k < 4 → get_or bytes k 0
-        ≡ 128 + low / 128 ^ k % 128
+    ≡ 128 + low / 128 ^ k % 128
 open_bytes low g bytes e is =
     let a = low / 1 % 128 in
     let b = low / 128 % 128 in
@@ -105,21 +105,21 @@ open_bytes low g bytes e is =
     let d = low / 2097152 % 128 in
     let word : g ≡ lanes 8 (a ∷ b ∷ c ∷ d ∷ []) = e ∙ omega arith in
     let marked = ap (λ n. bit_or n 2155905152) word
-        ∙ open_word a b c d (omega arith) (omega arith) (omega arith) (omega arith) in
+    ∙ open_word a b c d (omega arith) (omega arith) (omega arith) (omega arith) in
     let list =
-        is ∙ four_bytes (bit_or g 2155905152) (128 + a) (128 + b) (128 + c) (128 + d) marked
-            (omega arith) (omega arith) (omega arith) (omega arith) in
+    is ∙ four_bytes (bit_or g 2155905152) (128 + a) (128 + b) (128 + c) (128 + d) marked
+    (omega arith) (omega arith) (omega arith) (omega arith) in
     let P = λ (k : ℕ). get_or bytes k 0 ≡ 128 + low / 128 ^ k % 128 in
     below_more P 3 (below_more P 2
-        (below_more P 1 (below_more P 0 (below_none P) (rw list refl)) (rw list refl))
-        (rw list refl)) (rw list refl)
+    (below_more P 1 (below_more P 0 (below_none P) (rw list refl)) (rw list refl))
+    (rw list refl)) (rw list refl)
 
 pub last_bytes : (low g : ℕ) (bytes : List ℕ)
     → g ≡ 0 + low / 1 % 128 * 1 + low / 128 % 128 * 256 + low / 16384 % 128 * 65536
     + low / 2097152 % 128 * 16777216
     → bytes ≡ to_le_bytes w32 (bit_or g 8421504)
-        → ((k : ℕ) → k < 3 → get_or bytes k 0 ≡ 128 + low / 128 ^ k % 128)
-        × (get_or bytes 3 0 ≡ low / 2097152 % 128)
+    → ((k : ℕ) → k < 3 → get_or bytes k 0 ≡ 128 + low / 128 ^ k % 128)
+    × (get_or bytes 3 0 ≡ low / 2097152 % 128)
 last_bytes low g bytes e is =
     let a = low / 1 % 128 in
     let b = low / 128 % 128 in
@@ -127,13 +127,15 @@ last_bytes low g bytes e is =
     let d = low / 2097152 % 128 in
     let word : g ≡ lanes 8 (a ∷ b ∷ c ∷ d ∷ []) = e ∙ omega arith in
     let marked = ap (λ n. bit_or n 8421504) word
-        ∙ last_word a b c d (omega arith) (omega arith) (omega arith) (omega arith) in
+    ∙ last_word a b c d (omega arith) (omega arith) (omega arith) (omega arith) in
     let list =
-        is ∙ four_bytes (bit_or g 8421504) (128 + a) (128 + b) (128 + c) d marked (omega arith)
-            (omega arith) (omega arith) (omega arith) in
-    let P = λ (k : ℕ). get_or bytes k 0 ≡ 128 + low / 128 ^ k % 128 in
-    (below_more P 2 (below_more P 1 (below_more P 0 (below_none P) (rw list refl)) (rw list refl))
-        (rw list refl), rw list refl)
+    is ∙ four_bytes (bit_or g 8421504) (128 + a) (128 + b) (128 + c) d marked (omega arith)
+    (omega arith) (omega arith) (omega arith) in
+    let P = λ (k : ℕ). get_or bytes k 0 ≡ 128 + low / 128 ^ k % 128 in (
+      below_more P 2 (below_more P 1 (below_more P 0 (below_none P) (rw list refl)) (rw list refl))
+          (rw list refl),
+      rw list refl,
+    )
 
 -- ---- bytes of an encoding from the digits of its word
 pub open_byte : (low tenth n k b : ℕ) → k + 1 < n → k < 9 → b ≡ 128 + low / 128 ^ k % 128
@@ -146,7 +148,7 @@ pub close_byte : (low tenth n k b : ℕ) → n ≡ k + 1 → k < 9 → b ≡ low
     → b ≡ encoded_byte (ten_groups low tenth % 128 ^ n) n k
 close_byte low tenth n k b last nine e =
     last_byte (ten_groups low tenth % 128 ^ n) n k b (mod_room (ten_groups low tenth) n)
-        (omega arith) (omega arith) (e ∙ sym (word_digit low tenth n k (omega arith) nine))
+    (omega arith) (omega arith) (e ∙ sym (word_digit low tenth n k (omega arith) nine))
 
 -- digit j of the word without its first m groups
 pub later_digit : (low m j : ℕ) → low / 2 ^ (7 * m) / 128 ^ j % 128 ≡ low / 128 ^ (m + j) % 128
@@ -178,20 +180,20 @@ pub words_written : (low tenth n : ℕ) (old mid new a z : List ℕ) → 4 ≤ n
     → ((k : ℕ) → k < 3 → get_or z k 0 ≡ 128 + low / 2 ^ (7 * (n - 4)) / 128 ^ k % 128)
     → get_or z 3 0 ≡ low / 2 ^ (7 * (n - 4)) / 2097152 % 128
     → FourAt 0 a old mid → FourAt (n - 4) z mid new → new
-        ≡ encoding (ten_groups low tenth % 128 ^ n) n ++ drop n old
+    ≡ encoding (ten_groups low tenth % 128 ^ n) n ++ drop n old
 words_written low tenth n old mid new a z some few room opens lasts end first second =
     let back : n - 4 + 4 ≡ n = omega arith in
     let rest : drop n new ≡ drop n old =
-        rw back at second.after ∙ drop_more (0 + 4) n mid old (omega arith) first.after in
+    rw back at second.after ∙ drop_more (0 + 4) n mid old (omega arith) first.after in
     let byte =
-        λ (k : ℕ) (h : k < n). let P : Type 0 =
-            get_or new k 0 ≡ encoded_byte (ten_groups low tenth % 128 ^ n) n k in
-            elim (cases_lt k (n - 4)) as (λ _. P) [
+    λ (k : ℕ) (h : k < n). let P : Type 0 =
+    get_or new k 0 ≡ encoded_byte (ten_groups low tenth % 128 ^ n) n k in
+    elim (cases_lt k (n - 4)) as (λ _. P) [
       | inl early ↦
           let index : 0 + k ≡ k = omega arith in
           let four : k < 4 = omega arith in
           open_byte low tenth n k _ (omega arith) (omega arith)
-              (second.before k early ∙ rw index at (first.put k four) ∙ opens k four)
+          (second.before k early ∙ rw index at (first.put k four) ∙ opens k four)
       | inr late ↦
           let j = k - (n - 4) in
           let index : n - 4 + j ≡ k = omega arith in
@@ -200,12 +202,12 @@ words_written low tenth n old mid new a z some few room opens lasts end first se
           elim (cases_lt j 3) as (λ _. P) [
             | inl more ↦
                 rw index at (open_from low tenth n (n - 4) j _ (omega arith) (omega arith)
-                    (here ∙ lasts j more))
+                (here ∙ lasts j more))
             | inr last ↦
                 let three : j ≡ 3 = omega arith in
                 let digit : get_or z j 0 ≡ low / 2 ^ (7 * (n - 4)) / 128 ^ j % 128 = rw three end in
                 close_byte low tenth n k _ (omega arith) (omega arith)
-                    (here ∙ digit ∙ later_digit low (n - 4) j ∙ rw index refl)
+                (here ∙ digit ∙ later_digit low (n - 4) j ∙ rw index refl)
           ]
     ] in
     encoding_written (ten_groups low tenth % 128 ^ n) n old new room byte rest
@@ -215,22 +217,22 @@ pub eight_written : (low tenth n : ℕ) (old mid new a z : List ℕ) → 9 ≤ n
     → ((k : ℕ) → k < 4 → get_or z k 0 ≡ 128 + low / 268435456 / 128 ^ k % 128)
     → FourAt 0 a old mid → FourAt 4 z mid new
     → ((k : ℕ) → k < 8 → get_or new k 0 ≡ encoded_byte (ten_groups low tenth % 128 ^ n) n k)
-        × (drop n new ≡ drop n old)
+    × (drop n new ≡ drop n old)
 eight_written low tenth n old mid new a z some opens mores first second = (
   λ (k : ℕ) (h : k < 8). let P : Type 0 =
       get_or new k 0 ≡ encoded_byte (ten_groups low tenth % 128 ^ n) n k in
       elim (cases_lt k 4) as (λ _. P) [
-    | inl early ↦
-        let index : 0 + k ≡ k = omega arith in
-        open_byte low tenth n k _ (omega arith) (omega arith)
+        | inl early ↦
+            let index : 0 + k ≡ k = omega arith in
+            open_byte low tenth n k _ (omega arith) (omega arith)
             (second.before k early ∙ rw index at (first.put k early) ∙ opens k early)
-    | inr late ↦
-        let j = k - 4 in
-        let index : 4 + j ≡ k = omega arith in
-        let four : j < 4 = omega arith in
-        rw index at (open_from low tenth n 4 j _ (omega arith) (omega arith)
+        | inr late ↦
+            let j = k - 4 in
+            let index : 4 + j ≡ k = omega arith in
+            let four : j < 4 = omega arith in
+            rw index at (open_from low tenth n 4 j _ (omega arith) (omega arith)
             (rw index at (second.put j four) ∙ mores j four))
-  ],
+      ],
   drop_more (4 + 4) n new mid (omega arith) second.after
-  ∙ drop_more (0 + 4) n mid old (omega arith) first.after,
+      ∙ drop_more (0 + 4) n mid old (omega arith) first.after,
 )

@@ -29,7 +29,7 @@ digit_low q r m i h =
     let k = m - (i + 1) in
     let whole : k + (i + 1) ≡ m = omega arith in
     let power : 128 ^ m ≡ 128 ^ k * (128 * 128 ^ i) = ap (λ j. 128 ^ j) (sym whole)
-        ∙ pow-add 128 k (i + 1) ∙ ap (λ x. 128 ^ k * x) (power_more i) in
+    ∙ pow-add 128 k (i + 1) ∙ ap (λ x. 128 ^ k * x) (power_more i) in
     let positive : 0 < 128 ^ i = one-le-pow i 128 (omega arith) in
     let parts : r ≡ r / 128 ^ i * 128 ^ i + r % 128 ^ i = omega arith in
     let form : q * 128 ^ m + r ≡ (q * 128 ^ k * 128 + r / 128 ^ i) * 128 ^ i + r % 128 ^ i =
@@ -37,7 +37,7 @@ digit_low q r m i h =
     ∙ split_at q (128 ^ k) (128 ^ i) (r / 128 ^ i) (r % 128 ^ i) in
     ap (λ x. x / 128 ^ i % 128) form
     ∙ ap (λ x. x % 128) (div-mul-add (q * 128 ^ k * 128 + r / 128 ^ i) (128 ^ i) (r % 128 ^ i)
-        (omega arith))
+    (omega arith))
     ∙ omega arith
 
 pub digit_mod : (x m i : ℕ) → i < m → x % 128 ^ m / 128 ^ i % 128 ≡ x / 128 ^ i % 128
@@ -81,7 +81,7 @@ last_byte u n i g room before last e =
     let n_is : n ≡ i + 1 = omega arith in
     let positive : 0 < 128 ^ i = one-le-pow i 128 (omega arith) in
     let below : u / 128 ^ i < 128 =
-        div_below u (128 ^ i) 128 positive (rw (n_is, power_more i) at room) in
+    div_below u (128 ^ i) 128 positive (rw (n_is, power_more i) at room) in
     rw t (e ∙ mod-eq_of_lt below)
 
 pub mod_room : (x n : ℕ) → x % 128 ^ n < 128 ^ n
@@ -93,8 +93,8 @@ pub encoding_written : (u n : ℕ) (old new : List ℕ) → n ≤ length new
     → new ≡ encoding u n ++ drop n old
 encoding_written u n old new room bytes rest =
     let prefix : take n new ≡ encoding u n =
-        fill_by_all (encoded_byte u n) (take n new) n 0 (length-take-le n new room)
-            (λ k h. get_or-take n new k 0 h ∙ bytes k h) in
+    fill_by_all (encoded_byte u n) (take n new) n 0 (length-take-le n new room)
+    (λ k h. get_or-take n new k 0 h ∙ bytes k h) in
     sym (take-append-drop n new) ∙ rw (prefix, rest) refl
 
 -- the byte before the last is the same whatever the length
@@ -104,13 +104,13 @@ open_same x m n i p q =
     let s : nat_lt (i + 1) m ≡ true = grind (arith, nat_tests) in
     let t : nat_lt (i + 1) n ≡ true = grind (arith, nat_tests) in
     rw (s, t) (ap (λ d. 128 + d)
-        (digit_mod x m i (omega arith) ∙ sym (digit_mod x n i (omega arith))))
+    (digit_mod x m i (omega arith) ∙ sym (digit_mod x n i (omega arith))))
 
 -- a target of an encoding of two or three bytes, whose second byte may be written twice
 pub short_written : (u n a b l : ℕ) (old : List ℕ) → 2 ≤ n → n ≤ 3 → n ≤ length old
     → a ≡ encoded_byte u n 0 → (n ≡ 3 → b ≡ encoded_byte u n 1)
     → l ≡ encoded_byte u n (n - 1) → set (set (set old 0 a) 1 b) (n - 1) l
-        ≡ encoding u n ++ drop n old
+    ≡ encoding u n ++ drop n old
 short_written u n a b l old some few room first second last =
     let one = set old 0 a in
     let two = set one 1 b in
@@ -119,20 +119,20 @@ short_written u n a b l old some few room first second last =
     let size_two : length two ≡ length old = length-set one 1 b ∙ size_one in
     let size : length new ≡ length old = length-set two (n - 1) l ∙ size_two in
     let byte =
-        λ (k : ℕ) (h : k < n). elim (cases_lt k (n - 1))
-            as (λ _. get_or new k 0 ≡ encoded_byte u n k) [
+    λ (k : ℕ) (h : k < n). elim (cases_lt k (n - 1))
+    as (λ _. get_or new k 0 ≡ encoded_byte u n k) [
       | inl early ↦ get_or-set_other two (n - 1) k l 0 (λ (e : k ≡ n - 1). omega (arith, e, early))
           ∙ elim (cases_lt k 1) as (λ _. get_or two k 0 ≡ encoded_byte u n k) [
-        | inl prefix ↦
-            let here : k ≡ 0 = omega arith in
-            get_or-set_other one 1 k b 0 (λ (e : k ≡ 1). omega (arith, e, here))
-            ∙ get_or-set_at old 0 k a 0 here (omega (arith, room, some)) ∙ first
-            ∙ ap (encoded_byte u n) (sym here)
-        | inr middle ↦
-            let here : k ≡ 1 = omega (arith, middle, early, few) in
-            get_or-set_at one 1 k b 0 here (omega (arith, size_one, room, some))
-            ∙ second (omega (arith, middle, early, few)) ∙ ap (encoded_byte u n) (sym here)
-      ]
+            | inl prefix ↦
+                let here : k ≡ 0 = omega arith in
+                get_or-set_other one 1 k b 0 (λ (e : k ≡ 1). omega (arith, e, here))
+                ∙ get_or-set_at old 0 k a 0 here (omega (arith, room, some)) ∙ first
+                ∙ ap (encoded_byte u n) (sym here)
+            | inr middle ↦
+                let here : k ≡ 1 = omega (arith, middle, early, few) in
+                get_or-set_at one 1 k b 0 here (omega (arith, size_one, room, some))
+                ∙ second (omega (arith, middle, early, few)) ∙ ap (encoded_byte u n) (sym here)
+          ]
       | inr late ↦
           let here : k ≡ n - 1 = omega (arith, late, h) in
           get_or-set_at two (n - 1) k l 0 here (omega (arith, size_two, room, some)) ∙ last
@@ -159,8 +159,12 @@ shortest_found v p n few above below e =
     let n_is : n ≡ p / 7 + 1 = omega arith in
     let wide : 2 ^ (p + 1) ≤ 2 ^ (7 * n) = pow_mono {i = p + 1} {j = 7 * n} (omega arith) in
     record {
-      has = record { some = omega arith; few = omega arith;
-          room = omega (arith, wide, pow_128 n, le_or_l v 1); fits = tt };
+      has = record {
+        some = omega arith;
+        few = omega arith;
+        room = omega (arith, wide, pow_128 n, le_or_l v 1);
+        fits = tt;
+      };
       least = λ (m : ℕ) (has : HoldsGroups v m). elim (cases_lt m n) [
         | inl short ↦
             let some : 1 ≤ m = has.some in
@@ -176,22 +180,38 @@ shortest_found v p n few above below e =
 -- ---- signed numbers
 to_turned : (v : ℤ) (n : ℕ) → HasSignedEncoding v n → HoldsGroups (2 * magnitude_bits v) n
 to_turned (pos a) n h =
-    record { some = h.some; few = h.few; room = omega (arith, ints, power_last n h.some, h.room);
-        fits = tt }
+    record {
+      some = h.some;
+      few = h.few;
+      room = omega (arith, ints, power_last n h.some, h.room);
+      fits = tt;
+    }
 to_turned (negsuc k) n h =
-    record { some = h.some; few = h.few; room = omega (arith, ints, power_last n h.some, h.room);
-        fits = tt }
+    record {
+      some = h.some;
+      few = h.few;
+      room = omega (arith, ints, power_last n h.some, h.room);
+      fits = tt;
+    }
 
 from_turned : (v : ℤ) (n : ℕ) → FitsSigned w64 v → HoldsGroups (2 * magnitude_bits v) n
     → HasSignedEncoding v n
 from_turned (pos a) n fits h = let power = power_last n h.some in
     let room : 2 * a < 128 ^ n = h.room in
-    record { some = h.some; few = h.few; room = (omega (arith, ints), omega (arith, ints));
-        fits = fits }
+    record {
+      some = h.some;
+      few = h.few;
+      room = (omega (arith, ints), omega (arith, ints));
+      fits = fits;
+    }
 from_turned (negsuc k) n fits h = let power = power_last n h.some in
     let room : 2 * k < 128 ^ n = h.room in
-    record { some = h.some; few = h.few; room = (omega (arith, ints), omega (arith, ints));
-        fits = fits }
+    record {
+      some = h.some;
+      few = h.few;
+      room = (omega (arith, ints), omega (arith, ints));
+      fits = fits;
+    }
 
 -- a signed number takes as many groups as twice `magnitude_bits` of it
 pub signed_least : (v : ℤ) (n : ℕ) → FitsSigned w64 v
@@ -238,7 +258,7 @@ below_zero k n few room fits =
     let split : (q - 1) * 128 ^ n + 128 ^ n ≡ 2 ^ 70 = omega (arith, rw before at power) in
     let low : (2 ^ 64 - suc k) % 2 ^ 63 ≡ 2 ^ 63 - suc k = omega arith in
     let form : ten_groups (2 ^ 64 - suc k) 127 ≡ (q - 1) * 128 ^ n + (128 ^ n - suc k) =
-        omega (arith, low, split) in
+    omega (arith, low, split) in
     ap (λ x. x % 128 ^ n) form ∙ mod-mul-add (q - 1) (128 ^ n) (128 ^ n - suc k) (omega arith)
 
 pub signed_groups_form : (v : ℤ) (n : ℕ) → HasSignedEncoding v n

@@ -38,9 +38,12 @@ pub local-made : {X : Type 0} (w : ℕ) (makes : List ℕ → X → Type 0)
     → IsLocal (ReadsFixed w makes)
 local-made w makes same s t v n r h long e =
     let prefix : take w t ≡ take w s =
-        ap (λ m. take m t) (sym r.size) ∙ e ∙ ap (λ m. take m s) r.size in
-    record { room = omega (arith, r.room, long); value = same s t v (sym prefix) r.value;
-        size = r.size }
+    ap (λ m. take m t) (sym r.size) ∙ e ∙ ap (λ m. take m s) r.size in
+    record {
+      room = omega (arith, r.room, long);
+      value = same s t v (sym prefix) r.value;
+      size = r.size;
+    }
 
 -- the end is not before the start
 after-start : {V : Type 0} (reads : List ℕ → V → ℕ → Type 0) (s : List ℕ) (o : ℕ) (vs : List V)
@@ -65,7 +68,7 @@ local-all reads local s t o (v ∷ vs) end r h long e =
         inside = omega (arith, later, h, long);
         value =
             local (drop o s) (drop o t) v r.0 r.1.value (omega (arith, left, later, h))
-                (omega (arith, left, left', long)) part;
+            (omega (arith, left, left', long)) part;
       },
       local-all reads local s t (o + r.0) vs end r.2 h long e,
     )
@@ -98,7 +101,7 @@ parts_written d xs ys x y a b prefix rest ex ey ef er first second =
     let none : drop 8 prefix ≡ [] = ap (λ l. drop 8 l) ef ∙ drop-take 8 0 d in
     let left : drop 8 rest ≡ drop 16 d = ap (λ l. drop 8 l) er ∙ drop-drop 8 8 d in
     ap (λ l. l ++ b) (first ∙ ap (λ l. l ++ drop 8 prefix) ex ∙ ap (λ l. x ++ l) none
-        ∙ append-nil x)
+    ∙ append-nil x)
     ∙ ap (λ l. x ++ l) (second ∙ ap (λ l. l ++ drop 8 rest) ey ∙ ap (λ l. y ++ l) left)
     ∙ sym (append_assoc x y (drop 16 d))
 
@@ -114,34 +117,34 @@ little_halves x =
     let low3 : (x % 18446744073709551616) / 16777216 % 256 ≡ x / 16777216 % 256 = omega arith in
     let low4 : (x % 18446744073709551616) / 4294967296 % 256 ≡ x / 4294967296 % 256 = omega arith in
     let low5 : (x % 18446744073709551616) / 1099511627776 % 256 ≡ x / 1099511627776 % 256 =
-        omega arith in
+    omega arith in
     let low6 : (x % 18446744073709551616) / 281474976710656 % 256 ≡ x / 281474976710656 % 256 =
-        omega arith in
+    omega arith in
     let low7 : (x % 18446744073709551616) / 72057594037927936 % 256 ≡ x / 72057594037927936 % 256 =
-        omega arith in
+    omega arith in
     let high1 : x / 18446744073709551616 / 256 % 256 ≡ x / 4722366482869645213696 % 256 =
-        omega arith in
+    omega arith in
     let high2 : x / 18446744073709551616 / 65536 % 256 ≡ x / 1208925819614629174706176 % 256 =
-        omega arith in
+    omega arith in
     let high3 : x / 18446744073709551616 / 16777216 % 256 ≡ x / 309485009821345068724781056 % 256 =
-        omega arith in
+    omega arith in
     let high4 : x / 18446744073709551616 / 4294967296 % 256
-            ≡ x / 79228162514264337593543950336 % 256 =
-        omega arith in
+    ≡ x / 79228162514264337593543950336 % 256 =
+    omega arith in
     let high5 : x / 18446744073709551616 / 1099511627776 % 256
-            ≡ x / 20282409603651670423947251286016 % 256 =
-        omega arith in
+    ≡ x / 20282409603651670423947251286016 % 256 =
+    omega arith in
     let high6 : x / 18446744073709551616 / 281474976710656 % 256
-            ≡ x / 5192296858534827628530496329220096 % 256 =
-        omega arith in
+    ≡ x / 5192296858534827628530496329220096 % 256 =
+    omega arith in
     let high7 : x / 18446744073709551616 / 72057594037927936 % 256
-            ≡ x / 1329227995784915872903807060280344576 % 256 =
-        omega arith in
+    ≡ x / 1329227995784915872903807060280344576 % 256 =
+    omega arith in
     both low0 (both low1 (both low2
-        (both low3 (both low4 (both low5
-        (both low6 (both low7 (both refl
-        (both high1 (both high2 (both high3
-        (both high4 (both high5 (both high6 (both high7 refl)))))))))))))))
+    (both low3 (both low4 (both low5
+    (both low6 (both low7 (both refl
+    (both high1 (both high2 (both high3
+    (both high4 (both high5 (both high6 (both high7 refl)))))))))))))))
 
 abbrev IsSmall : ℕ → ℕ → Type 0
 IsSmall n i = get_or (to_le_bytes w64 n) i 0 < 256
@@ -150,18 +153,18 @@ byte_small : (n i : ℕ) → IsSmall n i
 byte_small n i = elim (cases_lt i 8) as (λ _. IsSmall n i) [
   | inl inside ↦
       below_more (IsSmall n) 7
-          (below_more (IsSmall n) 6
-          (below_more (IsSmall n) 5
-          (below_more (IsSmall n) 4
-          (below_more (IsSmall n) 3
-          (below_more (IsSmall n) 2
-          (below_more (IsSmall n) 1
-          (below_more (IsSmall n) 0 (below_none (IsSmall n)) (omega arith)) (omega arith))
-          (omega arith)) (omega arith)) (omega arith)) (omega arith)) (omega arith)) (omega arith) i
-          inside
+      (below_more (IsSmall n) 6
+      (below_more (IsSmall n) 5
+      (below_more (IsSmall n) 4
+      (below_more (IsSmall n) 3
+      (below_more (IsSmall n) 2
+      (below_more (IsSmall n) 1
+      (below_more (IsSmall n) 0 (below_none (IsSmall n)) (omega arith)) (omega arith))
+      (omega arith)) (omega arith)) (omega arith)) (omega arith)) (omega arith)) (omega arith) i
+      inside
   | inr past ↦
       subst (λ b. b < 256) (sym (get_or_past (to_le_bytes w64 n) i 0 (omega (arith, past))))
-          (omega arith)
+      (omega arith)
 ]
 
 swapped : (n : ℕ) → to_le_bytes w64 (swap_bytes w64 n) ≡ to_be_bytes w64 n
@@ -172,9 +175,9 @@ pub big_halves : (x a b : ℕ) → a ≡ swap_bytes w64 (x / 1844674407370955161
     → to_le_bytes w64 a ++ to_le_bytes w64 b ≡ number_bytes Big 16 x
 big_halves x a b first second =
     let high : to_le_bytes w64 a ≡ to_be_bytes w64 (x / 18446744073709551616) =
-        ap (to_le_bytes w64) first ∙ swapped (x / 18446744073709551616) in
+    ap (to_le_bytes w64) first ∙ swapped (x / 18446744073709551616) in
     let low : to_le_bytes w64 b ≡ to_be_bytes w64 (x % 18446744073709551616) =
-        ap (to_le_bytes w64) second ∙ swapped (x % 18446744073709551616) in
+    ap (to_le_bytes w64) second ∙ swapped (x % 18446744073709551616) in
     ap (λ l. l ++ to_le_bytes w64 b) high
     ∙ ap (λ l. to_be_bytes w64 (x / 18446744073709551616) ++ l) low ∙ ap reverse (little_halves x)
 
@@ -202,7 +205,7 @@ begins-number order w x s fits e =
       room = omega (arith, long, length-number_bytes order w x);
       value =
           sym (ap (number order w) (begins-split s (number_bytes order w x) e)
-              ∙ number-begins order w x (drop (length (number_bytes order w x)) s) fits);
+          ∙ number-begins order w x (drop (length (number_bytes order w x)) s) fits);
       size = refl;
     }
 
@@ -211,15 +214,15 @@ pub begins-signed : (order : Endian) (w : ℕ) (x : ℤ) (s : List ℕ)
     → take (length (signed_bytes order w x)) s ≡ signed_bytes order w x → ReadsSigned w order s x w
 begins-signed order w x s low high e =
     let back =
-        complement-back (256 ^ w) x low high
-            (if int_lt x (pos 0) then nat_abs (pos (256 ^ w) +ℤ x) else nat_abs x) refl in
+    complement-back (256 ^ w) x low high
+    (if int_lt x (pos 0) then nat_abs (pos (256 ^ w) +ℤ x) else nat_abs x) refl in
     let long = begins-length s (signed_bytes order w x) e in
     record {
       room = omega (arith, long, length-signed_bytes order w x);
       value = sym (ap (signed_number order w) (begins-split s (signed_bytes order w x) e)
           ∙ ap (λ (n : ℕ). if nat_lt (2 * n) (256 ^ w) then pos n else pos n -ℤ pos (256 ^ w))
           (number-begins order w (if int_lt x (pos 0) then nat_abs (pos (256 ^ w) +ℤ x) else nat_abs
-              x) (drop (length (signed_bytes order w x)) s) back.0)
+          x) (drop (length (signed_bytes order w x)) s) back.0)
           ∙ back.1);
       size = refl;
     }
@@ -232,9 +235,9 @@ pub float-back : (f : Format) (order : Endian) (index : ℕ) (s : List ℕ)
 float-back f order index s h room real =
     let bits = number order (float_width f) (drop index s) in
     let bound : number order (float_width f) (drop index s) < 2 * top f =
-        omega (arith, number-bound order (float_width f) index s h, all-bits f) in
+    omega (arith, number-bound order (float_width f) index s h, all-bits f) in
     ap (number_bytes order (float_width f))
-        (to_bits-of_bits f (number order (float_width f) (drop index s)) bound real)
+    (to_bits-of_bits f (number order (float_width f) (drop index s)) bound real)
     ∙ number-back order (float_width f) index s h room
 
 -- a byte is the one byte of its number

@@ -84,32 +84,33 @@ pub one-at : {V : Type 0} (reads : List ℕ → V → ℕ → Type 0) (refuses :
     → ((s : List ℕ) → AllowsOne (reads s) (refuses s)) → AllowsOneAtEach reads refuses
 one-at reads refuses one b o =
     elim (cases_lt (length b) o)
-        as (λ _. AllowsOne (ReadsAt reads b o) (RefusesAt refuses IsBadOffset b o)) [
-  | inl past ↦
-      one-Err (ReadsAt reads b o) (RefusesAt refuses IsBadOffset b o) (BadOffset o)
+    as (λ _. AllowsOne (ReadsAt reads b o) (RefusesAt refuses IsBadOffset b o)) [
+      | inl past ↦
+          one-Err (ReadsAt reads b o) (RefusesAt refuses IsBadOffset b o) (BadOffset o)
           (inl (past, refl))
-      (λ w m r. absurd (omega (arith, past, r.inside))) (past-refuses refuses b o past)
-  | inr inside ↦
-      one-as (reads (drop o b)) (ReadsAt reads b o) (refuses (drop o b))
+          (λ w m r. absurd (omega (arith, past, r.inside))) (past-refuses refuses b o past)
+      | inr inside ↦
+          one-as (reads (drop o b)) (ReadsAt reads b o) (refuses (drop o b))
           (RefusesAt refuses IsBadOffset b o)
-      (λ v n a. record { inside = inside; value = a }) (λ e a. inr (inside, a))
-      (λ v n a. a.value) (inside-refuses refuses b o inside) (one (drop o b))
-]
+          (λ v n a. record { inside = inside; value = a }) (λ e a. inr (inside, a))
+          (λ v n a. a.value) (inside-refuses refuses b o inside) (one (drop o b))
+    ]
 
 -- a value that takes the first w bytes, which make one value
 pub one-made : {X : Type 0} (w : ℕ) (makes : List ℕ → X → Type 0) (s : List ℕ) → One (makes s)
     → AllowsOne (ReadsFixed w makes s) (RefusesShort w s)
 one-made w makes s one =
     elim (cases_lt (length s) w) as (λ _. AllowsOne (ReadsFixed w makes s) (RefusesShort w s)) [
-  | inl short ↦
-      one-Err (ReadsFixed w makes s) (RefusesShort w s) (TooBig w (length s))
+      | inl short ↦
+          one-Err (ReadsFixed w makes s) (RefusesShort w s) (TooBig w (length s))
           (record { short = short; error = refl })
-      (λ v m r. absurd (omega (arith, short, r.room))) (λ d r. same-too_big d w (length s) r.error)
-  | inr long ↦
-      one-Ok (ReadsFixed w makes s) (RefusesShort w s) one.value w
+          (λ v m r. absurd (omega (arith, short, r.room)))
+          (λ d r. same-too_big d w (length s) r.error)
+      | inr long ↦
+          one-Ok (ReadsFixed w makes s) (RefusesShort w s) one.value w
           (record { room = long; value = one.is; size = refl })
-      (λ v m r. (one.only v r.value, r.size)) (λ e r. absurd (omega (arith, long, r.short)))
-]
+          (λ v m r. (one.only v r.value, r.size)) (λ e r. absurd (omega (arith, long, r.short)))
+    ]
 
 pub one-prefix : {X : Type 0} (w : ℕ) (value_of : List ℕ → X) (s : List ℕ)
     → AllowsOne (ReadsPrefix w value_of s) (RefusesShort w s)
@@ -125,7 +126,7 @@ module _ {V : Type 0} (reads : List ℕ → V → ℕ → Type 0) (refuses : Lis
   abbrev Stops : ℕ → ℕ → Error → Type 0
   Stops count o e =
       (vs : List V) × (stop : ℕ) × (length vs < count) × ReadsAll reads s o vs stop
-          × RefusesAt refuses IsBadOffset s stop e
+      × RefusesAt refuses IsBadOffset s stop e
 
   -- the first value before the others
   abbrev put_first : V → Result (List V × ℕ) Error → Result (List V × ℕ) Error
@@ -186,10 +187,10 @@ module _ {V : Type 0} (reads : List ℕ → V → ℕ → Type 0) (refuses : Lis
           let size : b.1 ≡ n = ap (λ x. x.1) same in
           let value : b.0 ≡ v = ap (λ x. x.0) same in
           let others =
-              subst (λ k. Allows (Values count (o + k)) (Stops count (o + k)) b.2) size b.4 in
+          subst (λ k. Allows (Values count (o + k)) (Stops count (o + k)) b.2) size b.4 in
           subst (λ x. SameAnswer x (put_first v rest.answer))
-              (sym (b.5 ∙ ap (λ w. put_first w b.2) value))
-              (put_first-same v b.2 rest.answer (rest.only b.2 others))
+          (sym (b.5 ∙ ap (λ w. put_first w b.2) value))
+          (put_first-same v b.2 rest.answer (rest.only b.2 others))
       | inr b ↦ absurd (only (Err b.0) b.1)
     ];
   }
@@ -224,7 +225,7 @@ module _ {V : Type 0} (reads : List ℕ → V → ℕ → Type 0) (refuses : Lis
       → (count o : ℕ) → AllowsOne (Values count o) (Stops count o)
   one-all one zero o =
       one-Ok (Values 0 o) (Stops 0 o) [] o (refl, refl) (none-only o)
-          (λ e r. absurd (omega (arith, r.2)))
+      (λ e r. absurd (omega (arith, r.2)))
   one-all one (suc count) o =
       step-one count o (one o).answer (one o).allowed (one o).only (one-all one count)
 
@@ -235,7 +236,7 @@ pub one-array : {V : Type 0} (reads : List ℕ → V → ℕ → Type 0) (refuse
 one-array reads refuses one count =
     one-at (ReadsArray reads count) (RefusesArray reads refuses IsBadOffset count) (λ s.
     one-as (Values reads refuses s count 0) (ReadsArray reads count s)
-        (Stops reads refuses s count 0) (RefusesArray reads refuses IsBadOffset count s)
+    (Stops reads refuses s count 0) (RefusesArray reads refuses IsBadOffset count s)
     (λ vs n a. record { len = a.0; each = a.1 })
     (λ e a. record { prefix = a.0; stop = a.1; fewer = a.2; each = a.3; error = a.4 })
     (λ vs n a. (a.len, a.each))
@@ -249,7 +250,7 @@ pub one-nested : {V : Type 0} (reads : List ℕ → V → ℕ → Type 0) (refus
 one-nested reads refuses one [] = one
 one-nested reads refuses one (count ∷ counts) =
     one-array (ReadsNested reads counts) (RefusesNested reads refuses IsBadOffset counts)
-        (one-nested reads refuses one counts) count
+    (one-nested reads refuses one counts) count
 
 -- a value with its size
 abbrev Sized : {V : Type 0} → (V → ℕ → Type 0) → Counted V → ℕ → Type 0
@@ -300,7 +301,7 @@ pub reader-sized : {V : Type 0} (reads : List ℕ → V → ℕ → Type 0)
 reader-sized {V} reads refuses local within one =
     reader-within (λ s (x : Counted V) n. reads s x.value n × (x.count ≡ n)) refuses
     (λ s t x n r inside long same. (local s t x.value n r.0 inside long same, r.1))
-        (λ s x n r. within s x.value n r.0) (one-sized reads refuses one)
+    (λ s x n r. within s x.value n r.0) (one-sized reads refuses one)
 
 -- arrays of arrays
 pub local-nested : {V : Type 0} (reads : List ℕ → V → ℕ → Type 0) → IsLocal reads

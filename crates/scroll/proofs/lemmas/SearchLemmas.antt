@@ -55,7 +55,7 @@ block_at n zero s d k h = absurd (omega arith)
 block_at n (suc m) s d zero h = let e : 0 * n ≡ 0 = omega arith in rw e refl
 block_at n (suc m) s d (suc k) h =
     let e : suc k * n ≡ n + k * n = ap (λ j. j * n) (let o : suc k ≡ 1 + k = omega arith in o)
-        ∙ add-mul 1 k n ∙ (let o : 1 * n + k * n ≡ n + k * n = omega arith in o) in
+    ∙ add-mul 1 k n ∙ (let o : 1 * n + k * n ≡ n + k * n = omega arith in o) in
     block_at n m (drop n s) d k (omega arith) ∙ ap (take n) (drop-drop (k * n) n s)
     ∙ ap (λ j. take n (drop j s)) (sym e)
 
@@ -67,12 +67,17 @@ pub position_or_len-block : (p : ℕ → Bool) (n k : ℕ) (s t d : List ℕ) (b
 position_or_len-block p n k s t d blocks all inside e seen =
     let is : t ≡ take n (drop (k * n) s) = e ∙ (rw all (block_at n (length s / n) s d k inside)) in
     let fits : k * n + n ≤ length s =
-        omega (arith, row_fits k n (length s / n) n inside (omega arith),
-            div-mul-le_self (length s) n) in
+    omega (
+      arith,
+      row_fits k n (length s / n) n inside (omega arith),
+      div-mul-le_self (length s) n,
+    ) in
     let block = position_or_len-take p n (drop (k * n) s) in
     let rest = position_or_len-drop p (k * n) s seen in
-    rw is (omega (arith, length-take n (drop (k * n) s), length-drop (k * n) s, fits),
-        omega (arith, block, rest))
+    rw is (
+      omega (arith, length-take n (drop (k * n) s), length-drop (k * n) s, fits),
+      omega (arith, block, rest),
+    )
 
 pub ruleset searches = (position_or_len-le, position_or_len-rest)
 
@@ -83,8 +88,8 @@ prefix_is_ascii d s n e i = elim (cases_lt i n) [
   | inl inside ↦
       let fails = fails_before_first (is_stop d) s i 0 (omega (arith, e)) in
       let small =
-          leb-false 128 (get_or s i 0)
-              (or_parts (get_or s i 0 == d) (nat_le 128 (get_or s i 0)) fails).1 in
+      leb-false 128 (get_or s i 0)
+      (or_parts (get_or s i 0 == d) (nat_le 128 (get_or s i 0)) fails).1 in
       rw (get_or-take n s i 0 inside) small
   | inr past ↦ rw (get_or_past (take n s) i 0 (omega (arith, length-take n s))) (omega arith)
 ]
@@ -97,8 +102,8 @@ stop_is_first d s n e l = elim (cases_lt (index_of d s) n) [
       let index = index_of d s in
       let passes = passes_at_first (λ b. b == d) s 0 (omega arith) in
       let fails =
-          (or_parts (get_or s index 0 == d) (nat_le 128 (get_or s index 0))
-              (fails_before_first (is_stop d) s index 0 (omega (arith, e)))).0 in
+      (or_parts (get_or s index 0 == d) (nat_le 128 (get_or s index 0))
+      (fails_before_first (is_stop d) s index 0 (omega (arith, e)))).0 in
       absurd (grind (arith, passes, fails))
   | inr past ↦ past
 ]
@@ -143,13 +148,13 @@ mask_or p q (b ∷ bs) =
     let left : cond {A = ℕ} (p b) 1 0 < 2 = bit_small (p b) in
     let right : cond {A = ℕ} (q b) 1 0 < 2 = bit_small (q b) in
     let a : cond {A = ℕ} (p b) 1 0 + 2 * mask_l (map p bs)
-            ≡ mask_l (map p bs) * 2 ^ 1 + cond (p b) 1 0 =
-        omega arith in
+    ≡ mask_l (map p bs) * 2 ^ 1 + cond (p b) 1 0 =
+    omega arith in
     let c : cond {A = ℕ} (q b) 1 0 + 2 * mask_l (map q bs)
-            ≡ mask_l (map q bs) * 2 ^ 1 + cond (q b) 1 0 =
-        omega arith in
+    ≡ mask_l (map q bs) * 2 ^ 1 + cond (q b) 1 0 =
+    omega arith in
     rw (a, c) (or_block 1 (mask_l (map p bs)) (mask_l (map q bs)) (cond (p b) 1 0) (cond (q b) 1 0)
-        left right
+    left right
     ∙ rw (mask_or p q bs, bit_either (p b) (q b)) (omega arith))
 
 empty_mask : (p : ℕ → Bool) (bs : List ℕ) → length bs ≤ position_or_len p bs → mask_l (map p bs) ≡ 0
@@ -172,9 +177,11 @@ pub first_marked : (p : ℕ → Bool) (bs : List ℕ) (marks : ℕ) → length b
     → (count_trailing_zeros 64 marks ≡ position_or_len p bs) × (position_or_len p bs < length bs)
 first_marked p bs marks l e h =
     let index : count_trailing_zeros 64 marks ≡ position_or_len p bs =
-        ap (count_trailing_zeros 64) e ∙ trailing_mask_l p 64 bs l (omega (arith, h, e)) in
-    (index, elim (cases_lt (position_or_len p bs) (length bs))
-        [ inl inside ↦ inside | inr past ↦ absurd (h (e ∙ empty_mask p bs past)) ])
+    ap (count_trailing_zeros 64) e ∙ trailing_mask_l p 64 bs l (omega (arith, h, e)) in (
+      index,
+      elim (cases_lt (position_or_len p bs) (length bs))
+          [ inl inside ↦ inside | inr past ↦ absurd (h (e ∙ empty_mask p bs past)) ],
+    )
 
 -- the first stop among the first 64 bytes is the first of all
 pub stop_in_front : (p : ℕ → Bool) (s block : List ℕ) (marks : ℕ) → block ≡ take 64 s
@@ -184,7 +191,7 @@ stop_in_front p s block marks is e h =
     let len : length block ≤ 64 = rw is (omega (arith, length-take 64 s)) in
     let found = first_marked p block marks len e h in
     let all : position_or_len p block ≡ min 64 (position_or_len p s) =
-        rw is (position_or_len-take p 64 s) in
+    rw is (position_or_len-take p 64 s) in
     omega (arith, found.0, found.1, len, all)
 
 -- where none of the first 64 bytes is a stop, the first is behind them
@@ -193,7 +200,7 @@ pub none_in_front : (p : ℕ → Bool) (s block : List ℕ) (marks : ℕ) → 64
 none_in_front p s block marks fits is e h =
     let len : length block ≡ 64 = rw is (omega (arith, length-take 64 s, fits)) in
     let all : position_or_len p block ≡ min 64 (position_or_len p s) =
-        rw is (position_or_len-take p 64 s) in
+    rw is (position_or_len-take p 64 s) in
     omega (arith, none_marked p block marks e h, len, all)
 
 pub equal_marks : (n d : ℕ) (bs : List ℕ) → length bs ≡ n → n ≤ 64
@@ -206,12 +213,12 @@ wide_marks : (n : ℕ) (bs : List ℕ) → length bs ≡ n → n ≤ 64
     ≡ mask_l (map (nat_le 128) bs)
 wide_marks n bs l h =
     ap (λ ms. mask_l ms % 2 ^ 64)
-        (tops_compared w8 leb (replicate n 128) bs ∙ zip2_splat_left leb 128 n bs l)
+    (tops_compared w8 leb (replicate n 128) bs ∙ zip2_splat_left leb 128 n bs l)
     ∙ mask_l-mod (map (nat_le 128) bs) 64 (omega (arith, length-map bs (nat_le 128)))
 
 pub stop_marks : (n d : ℕ) (bs : List ℕ) → length bs ≡ n → n ≤ 64
     → bit_or (mask_l (map (top 7) (zip2 (λ a b. cond (eqb a b) 255 0) bs (replicate n d))) % 2 ^ 64)
-        (mask_l (map (top 7) (zip2 (λ a b. cond (leb a b) 255 0) (replicate n 128) bs)) % 2 ^ 64)
+    (mask_l (map (top 7) (zip2 (λ a b. cond (leb a b) 255 0) (replicate n 128) bs)) % 2 ^ 64)
     ≡ mask_l (map (is_stop d) bs)
 stop_marks n d bs l h =
     rw (equal_marks n d bs l h, wide_marks n bs l h) (mask_or (λ b. b == d) (nat_le 128) bs)
@@ -219,14 +226,14 @@ stop_marks n d bs l h =
 -- a block of which no byte is marked is ASCII
 pub none_wide : (n : ℕ) (bs : List ℕ) → length bs ≡ n → n ≤ 64
     → (mask_l (map (top 7) (zip2 (λ a b. cond (leb a b) 255 0) (replicate n 128) bs)) % 2 ^ 64 == 0)
-        ≡ true → IsAscii bs
+    ≡ true → IsAscii bs
 none_wide n bs l h e i =
     let none : mask_l (map (nat_le 128) bs) ≡ 0 =
-        sym (wide_marks n bs l h) ∙ eqb_yes (subst T (sym e) tt) in
+    sym (wide_marks n bs l h) ∙ eqb_yes (subst T (sym e) tt) in
     let far = leading_from_mask_l (nat_le 128) bs none in
     elim (cases_lt i (length bs)) [
       | inl inside ↦
           leb-false 128 (get_or bs i 0)
-              (fails_before_first (nat_le 128) bs i 0 (omega (arith, far)))
+          (fails_before_first (nat_le 128) bs i 0 (omega (arith, far)))
       | inr past ↦ rw (get_or_past bs i 0 past) (omega arith)
     ]

@@ -50,15 +50,15 @@ last_byte-cases : (ps : List Piece) (i : ℕ) → (last_byte ps i ≡ None) ⊎ 
 last_byte-cases [] i = inl refl
 last_byte-cases (p ∷ ps) i =
     elim (last_byte-cases ps i)
-        as (λ _. (last_byte (p ∷ ps) i ≡ None) ⊎ Any (λ q. Covers q i) (p ∷ ps)) [
-  | inr a ↦ inr (Any-cons (λ q. Covers q i) p ps a)
-  | inl e ↦
-      elim (byte_of-cases p i)
+    as (λ _. (last_byte (p ∷ ps) i ≡ None) ⊎ Any (λ q. Covers q i) (p ∷ ps)) [
+      | inr a ↦ inr (Any-cons (λ q. Covers q i) p ps a)
+      | inl e ↦
+          elim (byte_of-cases p i)
           as (λ _. (last_byte (p ∷ ps) i ≡ None) ⊎ Any (λ q. Covers q i) (p ∷ ps)) [
-    | inl n ↦ inl (rw (e, n) refl)
-    | inr c ↦ inr (0, p, omega arith, refl, c)
-  ]
-]
+            | inl n ↦ inl (rw (e, n) refl)
+            | inr c ↦ inr (0, p, omega arith, refl, c)
+          ]
+    ]
 
 either-none : (a b : Option ℕ) → (a ≡ None) ⊎ (b ≡ None) → option_or a b ≡ option_or b a
 either-none a b (inl e) = rw e (sym (option_or-none b))
@@ -74,9 +74,9 @@ seen-exchange b ps qs apart = seen-same b (ps ++ qs) (qs ++ ps) (λ i.
       | inl e ↦ inl e
       | inr y ↦
           elim (last_byte-cases ps i) as (λ _. (last_byte qs i ≡ None) ⊎ (last_byte ps i ≡ None)) [
-        | inl e ↦ inr e
-        | inr x ↦ absurd (apart i x y)
-      ]
+            | inl e ↦ inr e
+            | inr x ↦ absurd (apart i x y)
+          ]
     ])
     ∙ sym (last_byte-append qs ps i))
 
@@ -102,7 +102,7 @@ seen-stands b before after o t room apart =
     let h = before ++ (o, t) ∷ after in
     let whole = length-seen b (before ++ (o, t) ∷ after) in
     same_number_lists (take (length t) (drop o (seen b (before ++ (o, t) ∷ after)))) t
-        (grind (arith, common_steps)) (λ k l.
+    (grind (arith, common_steps)) (λ k l.
     let inside : k < length t = grind (arith, common_steps) in
     get_or-take (length t) (drop o (seen b (before ++ (o, t) ∷ after))) k 0 inside
     ∙ get_or-drop o (seen b (before ++ (o, t) ∷ after)) k 0
@@ -127,9 +127,9 @@ Inside-pieces : (n o : ℕ) (ls : List (List ℕ)) → Inside n (pieces n o ls)
 Inside-pieces n o [] = tt
 Inside-pieces n o (l ∷ ls) =
     elim (cases_lt n (o + length l)) as (λ _. Inside n (pieces n o (l ∷ ls))) [
-  | inl k ↦ rw (pieces-misfit n o l ls k) tt
-  | inr k ↦ rw (pieces-fits n o l ls k) (k, Inside-pieces n (o + length l) ls)
-]
+      | inl k ↦ rw (pieces-misfit n o l ls k) tt
+      | inr k ↦ rw (pieces-fits n o l ls k) (k, Inside-pieces n (o + length l) ls)
+    ]
 
 Inside-Step : (b : List ℕ) (cursor : ℕ) (c : Command) (a : Answer) (written : List Piece) (mid : ℕ)
     → Step b cursor c a written mid → Inside (length b) written
@@ -173,10 +173,10 @@ covers-from n o (l ∷ ls) i a = elim (cases_lt n (o + length l)) as (λ _. o �
   | inl k ↦ absurd (no-cover i (subst (Any (λ p. Covers p i)) (pieces-misfit n o l ls k) a))
   | inr k ↦
       elim (Any-cases (λ p. Covers p i) (o, l) (pieces n (o + length l) ls)
-          (subst (Any (λ p. Covers p i)) (pieces-fits n o l ls k) a)) as (λ _. o ≤ i) [
-    | inl c ↦ c.0
-    | inr b ↦ let rest = covers-from n (o + length l) ls i b in omega (arith, rest)
-  ]
+      (subst (Any (λ p. Covers p i)) (pieces-fits n o l ls k) a)) as (λ _. o ≤ i) [
+        | inl c ↦ c.0
+        | inr b ↦ let rest = covers-from n (o + length l) ls i b in omega (arith, rest)
+      ]
 ]
 
 -- nor anything after the last, where all are whole
@@ -189,11 +189,11 @@ covers-below n o (l ∷ ls) i a =
       | inl k ↦ absurd (no-cover i (subst (Any (λ p. Covers p i)) (pieces-misfit n o l ls k) a))
       | inr k ↦
           elim (Any-cases (λ p. Covers p i) (o, l) (pieces n (o + length l) ls)
-              (subst (Any (λ p. Covers p i)) (pieces-fits n o l ls k) a))
-              as (λ _. i < o + sum_by length (l ∷ ls)) [
-        | inl c ↦ omega (arith, c.1, total)
-        | inr b ↦ let rest = covers-below n (o + length l) ls i b in omega (arith, rest, total)
-      ]
+          (subst (Any (λ p. Covers p i)) (pieces-fits n o l ls k) a))
+          as (λ _. i < o + sum_by length (l ∷ ls)) [
+            | inl c ↦ omega (arith, c.1, total)
+            | inr b ↦ let rest = covers-below n (o + length l) ls i b in omega (arith, rest, total)
+          ]
     ]
 
 -- pieces of leaves that end where others begin, or before
@@ -223,21 +223,21 @@ pub pieces-apart : (n o : ℕ) (ls : List (List ℕ)) (before after : List Piece
 pieces-apart n o [] before after p e = absurd (not-nil before after p e)
 pieces-apart n o (l ∷ ls) [] after p e =
     elim (cases_lt n (o + length l)) as (λ _. Apart (p ∷ []) after) [
-  | inl k ↦ absurd (not-nil [] after p (sym (pieces-misfit n o l ls k) ∙ e))
-  | inr k ↦
-      let whole : (o, l) ∷ pieces n (o + length l) ls ≡ p ∷ after =
+      | inl k ↦ absurd (not-nil [] after p (sym (pieces-misfit n o l ls k) ∙ e))
+      | inr k ↦
+          let whole : (o, l) ∷ pieces n (o + length l) ls ≡ p ∷ after =
           sym (pieces-fits n o l ls k) ∙ e in
-      let first : (o, l) ≡ p = cc whole in
-      let rest : pieces n (o + length l) ls ≡ after = cc whole in
-      subst (λ q. Apart (q ∷ []) after) first
+          let first : (o, l) ≡ p = cc whole in
+          let rest : pieces n (o + length l) ls ≡ after = cc whole in
+          subst (λ q. Apart (q ∷ []) after) first
           (subst (Apart ((o, l) ∷ [])) rest (head-apart n o l ls))
-]
+    ]
 pieces-apart n o (l ∷ ls) (x ∷ xs) after p e =
     elim (cases_lt n (o + length l)) as (λ _. Apart (p ∷ []) after) [
-  | inl k ↦ absurd (not-nil (x ∷ xs) after p (sym (pieces-misfit n o l ls k) ∙ e))
-  | inr k ↦
-      let whole : (o, l) ∷ pieces n (o + length l) ls ≡ x ∷ (xs ++ p ∷ after) =
+      | inl k ↦ absurd (not-nil (x ∷ xs) after p (sym (pieces-misfit n o l ls k) ∙ e))
+      | inr k ↦
+          let whole : (o, l) ∷ pieces n (o + length l) ls ≡ x ∷ (xs ++ p ∷ after) =
           sym (pieces-fits n o l ls k) ∙ e in
-      let rest : pieces n (o + length l) ls ≡ xs ++ p ∷ after = cc whole in
-      pieces-apart n (o + length l) ls xs after p rest
-]
+          let rest : pieces n (o + length l) ls ≡ xs ++ p ∷ after = cc whole in
+          pieces-apart n (o + length l) ls xs after p rest
+    ]

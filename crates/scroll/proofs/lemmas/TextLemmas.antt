@@ -124,8 +124,10 @@ has-cases (Delimiter d) s = inl tt
 has-cases (DelimiterUntil d k) s = inl tt
 has-cases (Length k) s = inl tt
 has-cases (Required d) s =
-    elim (cases_lt (index_of d s) (length s)) [ inl inside ↦ inl inside
-        | inr past ↦ inr (λ inside. absurd (omega (arith, inside, past))) ]
+    elim (cases_lt (index_of d s) (length s)) [
+      | inl inside ↦ inl inside
+      | inr past ↦ inr (λ inside. absurd (omega (arith, inside, past)))
+    ]
 
 refuses-long : (ctx : StrCtx) (s : List ℕ) (d : Error) → wanted_len ctx ≤ length s
     → HasDelimiter ctx s → RefusesText ctx s d → RefusesInvalid ctx s d
@@ -149,45 +151,46 @@ one-there : (ctx : StrCtx) (s : List ℕ) → wanted_len ctx ≤ length s → Ha
     → AllowsOne (ReadsText ctx s) (RefusesText ctx s)
 one-there ctx s long there =
     elim (utf8-cases (take (text_len ctx s) s))
-        as (λ _. AllowsOne (ReadsText ctx s) (RefusesText ctx s)) [
-  | inl holds ↦
-      one-Ok (ReadsText ctx s) (RefusesText ctx s) (take (text_len ctx s) s)
+    as (λ _. AllowsOne (ReadsText ctx s) (RefusesText ctx s)) [
+      | inl holds ↦
+          one-Ok (ReadsText ctx s) (RefusesText ctx s) (take (text_len ctx s) s)
           (text_len ctx s + delimiter_len ctx)
-      (record { room = long; prefix = refl; utf8 = holds; size = refl; there = there })
-      (λ v m r. (r.prefix, r.size)) (λ e r. (refuses-long ctx s e long there r).invalid holds)
-  | inr fails ↦
-      one-Err (ReadsText ctx s) (RefusesText ctx s)
+          (record { room = long; prefix = refl; utf8 = holds; size = refl; there = there })
+          (λ v m r. (r.prefix, r.size)) (λ e r. (refuses-long ctx s e long there r).invalid holds)
+      | inr fails ↦
+          one-Err (ReadsText ctx s) (RefusesText ctx s)
           (BadInput (length s) (record { ref_ptr = (0, 0); now = codes "invalid utf8" }))
-      (inr (inl (record { room = long; invalid = fails; error = (refl, refl); there = there })))
-      (λ v m r. fails (subst IsUtf8 r.prefix r.utf8))
-      (λ d r. same-bad_input d (length s) (codes "invalid utf8")
+          (inr (inl (record { room = long; invalid = fails; error = (refl, refl); there = there })))
+          (λ v m r. fails (subst IsUtf8 r.prefix r.utf8))
+          (λ d r. same-bad_input d (length s) (codes "invalid utf8")
           (refuses-long ctx s d long there r).error)
-]
+    ]
 
 one-missing : (ctx : StrCtx) (s : List ℕ) → wanted_len ctx ≤ length s → ¬ (HasDelimiter ctx s)
     → AllowsOne (ReadsText ctx s) (RefusesText ctx s)
 one-missing ctx s long missing =
     one-Err (ReadsText ctx s) (RefusesText ctx s)
-        (BadInput (length s) (record { ref_ptr = (0, 0); now = codes "missing delimiter" }))
+    (BadInput (length s) (record { ref_ptr = (0, 0); now = codes "missing delimiter" }))
     (inr (inr (record { room = long; missing = missing; error = (refl, refl) })))
     (λ v m r. missing r.there)
     (λ d r. same-bad_input d (length s) (codes "missing delimiter")
-        (refuses-missing ctx s d long missing r).error)
+    (refuses-missing ctx s d long missing r).error)
 
 pub one-text : (ctx : StrCtx) (s : List ℕ) → AllowsOne (ReadsText ctx s) (RefusesText ctx s)
 one-text ctx s =
     elim (cases_lt (length s) (wanted_len ctx))
-        as (λ _. AllowsOne (ReadsText ctx s) (RefusesText ctx s)) [
-  | inl short ↦
-      one-Err (ReadsText ctx s) (RefusesText ctx s) (TooBig (wanted_len ctx) (length s))
+    as (λ _. AllowsOne (ReadsText ctx s) (RefusesText ctx s)) [
+      | inl short ↦
+          one-Err (ReadsText ctx s) (RefusesText ctx s) (TooBig (wanted_len ctx) (length s))
           (inl (record { short = short; error = refl }))
-      (λ v m r. absurd (omega (arith, short, r.room)))
+          (λ v m r. absurd (omega (arith, short, r.room)))
           (λ d r. same-too_big d (wanted_len ctx) (length s) (refuses-short ctx s d short r))
-  | inr long ↦ elim (has-cases ctx s) as (λ _. AllowsOne (ReadsText ctx s) (RefusesText ctx s)) [
-    | inl there ↦ one-there ctx s long there
-    | inr missing ↦ one-missing ctx s long missing
-  ]
-]
+      | inr long ↦
+          elim (has-cases ctx s) as (λ _. AllowsOne (ReadsText ctx s) (RefusesText ctx s)) [
+            | inl there ↦ one-there ctx s long there
+            | inr missing ↦ one-missing ctx s long missing
+          ]
+    ]
 
 -- a string whose delimiter the source must contain is within it
 pub within-required : (d : ℕ) → IsWithin (ReadsText (Required d))
@@ -209,7 +212,7 @@ index_of-prefix d s n h =
     let len : length (take n s) ≡ n = grind (arith, common_steps) in
     position_or_len_is (λ b. b == d) (take n s) n 0 (omega arith)
     (λ k l. let fails = fails_before_first (λ b. b == d) s k 0 (omega arith) in let same : get_or
-        (take n s) k 0 ≡ get_or s k 0 = grind (arith, common_steps) in rw same fails)
+    (take n s) k 0 ≡ get_or s k 0 = grind (arith, common_steps) in rw same fails)
     (λ l. absurd (omega arith))
 
 -- a prefix that ends with the first such byte contains it there
@@ -220,9 +223,9 @@ index_of-with d s h =
     let len : length (take (n + 1) s) ≡ n + 1 = grind (arith, common_steps) in
     position_or_len_is (λ b. b == d) (take (n + 1) s) n 0 (omega arith)
     (λ k l. let fails = fails_before_first (λ b. b == d) s k 0 (omega arith) in let same : get_or
-        (take (n + 1) s) k 0 ≡ get_or s k 0 = grind (arith, common_steps) in rw same fails)
+    (take (n + 1) s) k 0 ≡ get_or s k 0 = grind (arith, common_steps) in rw same fails)
     (λ l. let passes = passes_at_first (λ b. b == d) s 0 h in let same : get_or (take (n + 1) s) n 0
-        ≡ get_or s n 0 = grind (arith, common_steps) in rw same passes)
+    ≡ get_or s n 0 = grind (arith, common_steps) in rw same passes)
 
 -- the bytes up to and including the first zero are a C string
 pub IsCString-prefix : (s : List ℕ) → index_of 0 s < length s
@@ -249,7 +252,7 @@ pub text_without_zero : (bytes : List ℕ) → IsCString bytes
 text_without_zero bytes h =
     let none = index_of-prefix 0 bytes (length bytes - 1) (omega arith) in
     let len : length (take (length bytes - 1) bytes) ≡ length bytes - 1 =
-        grind (arith, common_steps) in
+    grind (arith, common_steps) in
     omega arith
 
 not-nul : (b : ℕ) → b ≢ 0 → (b == 0) ≡ false
@@ -269,11 +272,11 @@ pub IsCString-of_std : (bytes : List ℕ) → IsNulTerminated bytes → IsCStrin
 IsCString-of_std bytes h =
     let some = h.nonempty in
     let len : length (take (length bytes - 1) bytes) ≡ length bytes - 1 =
-        length-take-le (length bytes - 1) bytes (omega arith) in
+    length-take-le (length bytes - 1) bytes (omega arith) in
     let at : index_of 0 bytes ≡ length bytes - 1 =
     position_or_len_is (λ b. b == 0) bytes (length bytes - 1) 0 (omega arith)
     (λ k l. not-nul (get_or bytes k 0)
-        (rw (get_or-take (length bytes - 1) bytes k 0 l) at (h.no_nul k (omega (arith, l, len)))))
+    (rw (get_or-take (length bytes - 1) bytes k 0 l) at (h.no_nul k (omega (arith, l, len)))))
     (λ l. is-nul (get_or bytes (length bytes - 1) 0) h.last) in
     omega (arith, at, some)
 
@@ -281,17 +284,17 @@ IsCString-of_std bytes h =
 pub IsCString-to_std : (bytes : List ℕ) → IsCString bytes → IsNulTerminated bytes
 IsCString-to_std bytes h =
     let len : length (take (length bytes - 1) bytes) ≡ length bytes - 1 =
-        length-take-le (length bytes - 1) bytes (omega arith) in
+    length-take-le (length bytes - 1) bytes (omega arith) in
     let last : index_of 0 bytes ≡ length bytes - 1 = omega (arith, h) in
     record {
       nonempty = omega (arith, h);
       last =
           rw (← last) (passes-zero (get_or bytes (index_of 0 bytes) 0)
-              (passes_at_first (λ b. b == 0) bytes 0 (omega (arith, h))));
+          (passes_at_first (λ b. b == 0) bytes 0 (omega (arith, h))));
       no_nul =
           λ k l. rw (get_or-take (length bytes - 1) bytes k 0 (omega (arith, l, len)))
-              (fails-zero (get_or bytes k 0)
-              (fails_before_first (λ b. b == 0) bytes k 0 (omega (arith, l, len, last))));
+          (fails-zero (get_or bytes k 0)
+          (fails_before_first (λ b. b == 0) bytes k 0 (omega (arith, l, len, last))));
     }
 
 pub local-c_string : IsLocal ReadsCString
@@ -312,15 +315,17 @@ pub one-c_string : (s : List ℕ) → AllowsOne (ReadsCString s) (RefusesCString
 one-c_string s =
     let within = index_of-le 0 s in
     elim (cases_lt (index_of 0 s) (length s))
-        as (λ _. AllowsOne (ReadsCString s) (RefusesCString s)) [
+    as (λ _. AllowsOne (ReadsCString s) (RefusesCString s)) [
       | inl found ↦
           one-Ok (ReadsCString s) (RefusesCString s) (take (index_of 0 s) s) (index_of 0 s + 1)
           (record { found = found; value = refl; size = refl })
           (λ v m r. (r.value, r.size)) (λ e r. absurd (omega (arith, found, r.none)))
       | inr none ↦
           one-Err (ReadsCString s) (RefusesCString s)
-              (BadInput 0 (record { ref_ptr = (0, 0);
-              now = codes "The input doesn't contain a null byte" }))
+          (BadInput 0 (record {
+            ref_ptr = (0, 0);
+            now = codes "The input doesn't contain a null byte";
+          }))
           (record { none = omega (arith, within, none); error = (refl, refl) })
           (λ v m r. absurd (omega (arith, none, r.found)))
           (λ d r. same-bad_input d 0 (codes "The input doesn't contain a null byte") r.error)
@@ -334,9 +339,9 @@ begins-c_string s t h e =
     let split : s ≡ t ++ 0 ∷ drop (length (t ++ 0 ∷ [])) s =
     begins-split s (t ++ 0 ∷ []) e ∙ append_assoc t (0 ∷ []) (drop (length (t ++ 0 ∷ [])) s) in
     let index : index_of 0 s ≡ length t =
-        ap (index_of 0) split ∙ offset-behind 0 t (drop (length (t ++ 0 ∷ [])) s) h in
+    ap (index_of 0) split ∙ offset-behind 0 t (drop (length (t ++ 0 ∷ [])) s) h in
     let text : take (length t) s ≡ t = ap (take (length t)) split
-        ∙ take_at t (0 ∷ drop (length (t ++ 0 ∷ [])) s) (length t) refl in
+    ∙ take_at t (0 ∷ drop (length (t ++ 0 ∷ [])) s) (length t) refl in
     record {
       found = omega (arith, long, whole, index);
       value = sym (ap (λ n. take n s) index ∙ text);
@@ -360,7 +365,7 @@ is-zero b e = grind (arith, e)
 pub taken : (s text : List ℕ) (n : ℕ) → ReadsCString s text n → take n s ≡ text ++ 0 ∷ []
 taken s text n r =
     let zero : get_or s (index_of 0 s) 0 ≡ 0 =
-        is-zero (get_or s (index_of 0 s) 0) (prefix_len_stops (λ b. not (b == 0)) s 0 r.found) in
+    is-zero (get_or s (index_of 0 s) 0) (prefix_len_stops (λ b. not (b == 0)) s 0 r.found) in
     ap (λ m. take m s) r.size ∙ take_more s (index_of 0 s) 0 r.found
     ∙ ap (λ b. take (index_of 0 s) s ++ b ∷ []) zero ∙ ap (λ t. t ++ 0 ∷ []) (sym r.value)
 
@@ -380,5 +385,5 @@ written-back s text old new n m r w =
       size,
       ap (λ k. take k new) w.size ∙ ap (take (length (text ++ 0 ∷ []))) w.after
           ∙ take_at (text ++ 0 ∷ []) (drop (length (text ++ 0 ∷ [])) old) (length (text ++ 0 ∷ []))
-              refl ∙ sym whole,
+          refl ∙ sym whole,
     )

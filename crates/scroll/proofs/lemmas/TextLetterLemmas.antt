@@ -15,7 +15,7 @@ one_more : (s lo hi t b : ℕ) (bs : List ℕ) → Takes s lo hi t → last_stat
 one_more s lo hi t b bs f h = elim (f b) [
   | inl k ↦ (k.0, k.1, sym (ap (λ q. last_state q bs) k.2) ∙ h)
   | inr k ↦ let e : 48 ≡ 0 = sym (wrong bs) ∙ (sym (ap (λ q. last_state q bs) k.1) ∙ h) in
-  absurd (omega (arith, e))
+      absurd (omega (arith, e))
 ]
 
 not_wrong : (bs : List ℕ) → last_state 48 bs ≡ 0 → ⊥
@@ -36,7 +36,7 @@ letter_of_two x y bs l h m n u =
     let p : 192 + c / 64 ≡ x = omega arith in
     let q : next c ≡ y = omega arith in
     letter c (x ∷ y ∷ []) bs (low_scalar c (omega arith))
-        (two c (omega arith) (omega arith) ∙ (λ i. p i ∷ q i ∷ [])) u
+    (two c (omega arith) (omega arith) ∙ (λ i. p i ∷ q i ∷ [])) u
 
 letter_of_three : (x y z : ℕ) (bs : List ℕ) → 224 ≤ x → x < 240 → 128 ≤ y → y < 192 → 128 ≤ z
     → z < 192 → (x ≡ 224 → 160 ≤ y) → (x ≡ 237 → y < 160) → IsUtf8 bs → IsUtf8 (x ∷ y ∷ z ∷ bs)
@@ -46,12 +46,14 @@ letter_of_three x y z bs l h m n v w e0 ed u =
     let q : next (c / 64) ≡ y = omega arith in
     let r : next c ≡ z = omega arith in
     let long : 2048 ≤ c =
-        elim (cases_eq x 224) [ inl e ↦ let k = e0 e in omega arith | inr e ↦ omega arith ] in
+    elim (cases_eq x 224) [ inl e ↦ let k = e0 e in omega arith | inr e ↦ omega arith ] in
     let ok : scalar c ≡ true = elim (cases_lt x 237) [
       | inl e ↦ low_scalar c (omega arith)
       | inr e ↦
-          elim (cases_eq x 237) [ inl f ↦ let k = ed f in low_scalar c (omega arith)
-              | inr f ↦ high_scalar c (omega arith) (omega arith) ]
+          elim (cases_eq x 237) [
+            | inl f ↦ let k = ed f in low_scalar c (omega arith)
+            | inr f ↦ high_scalar c (omega arith) (omega arith)
+          ]
     ] in
     letter c (x ∷ y ∷ z ∷ []) bs ok (three c long (omega arith) ∙ (λ i. p i ∷ q i ∷ r i ∷ [])) u
 
@@ -66,11 +68,11 @@ letter_of_four x y z t bs l h m n v w a b f0 f4 u =
     let r : next (c / 64) ≡ z = rw low (omega arith) in
     let s : next c ≡ t = omega arith in
     let long : 65536 ≤ c =
-        elim (cases_eq x 240) [ inl e ↦ let k = f0 e in omega arith | inr e ↦ omega arith ] in
+    elim (cases_eq x 240) [ inl e ↦ let k = f0 e in omega arith | inr e ↦ omega arith ] in
     let short : c < 1114112 =
-        elim (cases_eq x 244) [ inl e ↦ let k = f4 e in omega arith | inr e ↦ omega arith ] in
+    elim (cases_eq x 244) [ inl e ↦ let k = f4 e in omega arith | inr e ↦ omega arith ] in
     letter c (x ∷ y ∷ z ∷ t ∷ []) bs (high_scalar c (omega arith) short)
-        (four c long ∙ (λ i. p i ∷ q i ∷ r i ∷ s i ∷ [])) u
+    (four c long ∙ (λ i. p i ∷ q i ∷ r i ∷ s i ∷ [])) u
 
 -- the rest of a letter, where the texts of up to `n` bytes are known
 module _ (n : ℕ) (texts : (bs : List ℕ) → length bs ≤ n → last_state 0 bs ≡ 0 → IsUtf8 bs) where
@@ -112,7 +114,7 @@ module _ (n : ℕ) (texts : (bs : List ℕ) → length bs ≤ n → last_state 0
       let least : x ≡ 224 → 160 ≤ y = λ (e : x ≡ 224). let g = e0 e in omega (arith, g, k.0) in
       let most : x ≡ 237 → y < 160 = λ (e : x ≡ 237). let g = ed e in omega (arith, g, k.1) in
       rest_of_three x y bs (omega arith) a b (omega (arith, k.0)) (omega (arith, k.1)) least most
-          k.2
+      k.2
 
   second_of_four : (s lo hi x : ℕ) (bs : List ℕ) → Takes s lo hi 12 → 0 < s → length bs ≤ n
       → 240 ≤ x → x < 245 → 128 ≤ lo → hi ≤ 192 → (x ≡ 240 → 144 ≤ lo) → (x ≡ 244 → hi ≤ 144)
@@ -129,19 +131,19 @@ module _ (n : ℕ) (texts : (bs : List ℕ) → length bs ≤ n → last_state 0
   after_three x bs l a b h = elim (cases_eq x 224) [
     | inl e ↦
         second_of_three 24 160 192 x bs takes_24 (omega arith) l a b (omega arith) (omega arith)
-            (λ f. omega arith) (λ (f : x ≡ 237). absurd (omega arith))
-            (sym (ap (λ x. last_state 0 (x ∷ bs)) e) ∙ h)
+        (λ f. omega arith) (λ (f : x ≡ 237). absurd (omega arith))
+        (sym (ap (λ x. last_state 0 (x ∷ bs)) e) ∙ h)
     | inr c ↦ elim (cases_eq x 237) [
       | inl e ↦
           second_of_three 30 128 160 x bs takes_30 (omega arith) l a b (omega arith) (omega arith)
-              (λ f. absurd (c f)) (λ f. omega arith) (sym (ap (λ x. last_state 0 (x ∷ bs)) e) ∙ h)
+          (λ f. absurd (c f)) (λ f. omega arith) (sym (ap (λ x. last_state 0 (x ∷ bs)) e) ∙ h)
       | inr d ↦
           let g : last_state 12 bs ≡ 0 = elim (cases_lt x 237) [
             | inl e ↦ sym (of_three_low x bs (omega arith) e) ∙ h
             | inr e ↦ sym (of_three_high x bs (omega arith) b) ∙ h
           ] in
           second_of_three 12 128 192 x bs takes_12 (omega arith) l a b (omega arith) (omega arith)
-              (λ f. absurd (c f)) (λ f. absurd (d f)) g
+          (λ f. absurd (c f)) (λ f. absurd (d f)) g
     ]
   ]
 
@@ -150,18 +152,18 @@ module _ (n : ℕ) (texts : (bs : List ℕ) → length bs ≤ n → last_state 0
   after_four x bs l a h = elim (cases_eq x 240) [
     | inl e ↦
         second_of_four 36 144 192 x bs takes_36 (omega arith) l a (omega arith) (omega arith)
-            (omega arith) (λ f. omega arith) (λ (f : x ≡ 244). absurd (omega arith))
-            (sym (ap (λ x. last_state 0 (x ∷ bs)) e) ∙ h)
+        (omega arith) (λ f. omega arith) (λ (f : x ≡ 244). absurd (omega arith))
+        (sym (ap (λ x. last_state 0 (x ∷ bs)) e) ∙ h)
     | inr c ↦ elim (cases_eq x 244) [
       | inl e ↦
           second_of_four 42 128 144 x bs takes_42 (omega arith) l a (omega arith) (omega arith)
-              (omega arith) (λ f. absurd (c f)) (λ f. omega arith)
-              (sym (ap (λ x. last_state 0 (x ∷ bs)) e) ∙ h)
+          (omega arith) (λ f. absurd (c f)) (λ f. omega arith)
+          (sym (ap (λ x. last_state 0 (x ∷ bs)) e) ∙ h)
       | inr d ↦ elim (cases_lt x 244) [
         | inl e ↦
             second_of_four 18 128 192 x bs takes_18 (omega arith) l a (omega arith) (omega arith)
-                (omega arith) (λ f. absurd (c f)) (λ f. absurd (d f))
-                (sym (of_four x bs (omega arith) e) ∙ h)
+            (omega arith) (λ f. absurd (c f)) (λ f. absurd (d f))
+            (sym (of_four x bs (omega arith) e) ∙ h)
         | inr e ↦ absurd (not_wrong bs (sym (past_f4 x bs (omega arith)) ∙ h))
       ]
     ]
@@ -172,14 +174,16 @@ module _ (n : ℕ) (texts : (bs : List ℕ) → length bs ≤ n → last_state 0
   longer x bs l h = elim (cases_lt x 128) [
     | inl a ↦
         letter x (x ∷ []) bs (low_scalar x (omega arith)) (encode_ascii x a)
-            (texts bs l (sym (moved 0 x 0x30c30c30c30c00 bs (ascii x a)) ∙ h))
+        (texts bs l (sym (moved 0 x 0x30c30c30c30c00 bs (ascii x a)) ∙ h))
     | inr a ↦ elim (cases_lt x 194) [
       | inl b ↦ absurd (not_wrong bs (sym (not_first x bs a b) ∙ h))
       | inr b ↦ elim (cases_lt x 224) [
         | inl c ↦ rest_of_two x bs l b c (sym (of_two x bs b c) ∙ h)
         | inr c ↦
-            elim (cases_lt x 240) [ inl d ↦ after_three x bs l c d h
-                | inr d ↦ after_four x bs l d h ]
+            elim (cases_lt x 240) [
+              | inl d ↦ after_three x bs l c d h
+              | inr d ↦ after_four x bs l d h
+            ]
       ]
     ]
   ]
@@ -199,8 +203,8 @@ from_0 bs h = texts_of (length bs) bs (omega arith) h
 pub wrong_front : (bs : List ℕ) (n : ℕ) → last_state 0 (take n bs) ≡ 48 → IsUtf8 bs → ⊥
 wrong_front bs n e u =
     let at : last_state 0 bs ≡ 48 =
-        sym (blocks_end n 0 (last_state 0 (take n bs)) bs (drop n bs) refl refl)
-        ∙ (ap (λ q. last_state q (drop n bs)) e ∙ wrong (drop n bs)) in
+    sym (blocks_end n 0 (last_state 0 (take n bs)) bs (drop n bs) refl refl)
+    ∙ (ap (λ q. last_state q (drop n bs)) e ∙ wrong (drop n bs)) in
     let f : 48 ≡ 0 = sym at ∙ ends_at_0 bs u in
     omega (arith, f)
 

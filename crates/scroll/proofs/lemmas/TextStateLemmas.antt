@@ -29,14 +29,18 @@ from_c0 : (P : ℕ → Type 0) (b : ℕ) → 192 ≤ b → P 0x30c30c30c30c30 �
     → P 0x30c30c30c30c18 → P 0x30c30c30c30c0c → P 0x30c30c30c30c1e
     → P 0x30c30c30c30c24 → P 0x30c30c30c30c12 → P 0x30c30c30c30c2a → P (states_after b)
 from_c0 P b l never two e0 three ed f0 four f4 =
-    rw (le-ltb b 128 (omega arith), le-ltb b 144 (omega arith), le-ltb b 160 (omega arith),
-        le-ltb b 192 l)
+    rw (
+      le-ltb b 128 (omega arith),
+      le-ltb b 144 (omega arith),
+      le-ltb b 160 (omega arith),
+      le-ltb b 192 l,
+    )
     (either P (nat_lt b 0xc2) _ _ never
-        (either P (nat_lt b 0xe0) _ _ two
-        (either P (nat_lt b 0xe1) _ _ e0 (either P (nat_lt b 0xed) _ _ three
+    (either P (nat_lt b 0xe0) _ _ two
+    (either P (nat_lt b 0xe1) _ _ e0 (either P (nat_lt b 0xed) _ _ three
     (either P (nat_lt b 0xee) _ _ ed
-        (either P (nat_lt b 0xf0) _ _ three
-        (either P (nat_lt b 0xf1) _ _ f0 (either P (nat_lt b 0xf4) _ _ four
+    (either P (nat_lt b 0xf0) _ _ three
+    (either P (nat_lt b 0xf1) _ _ f0 (either P (nat_lt b 0xf4) _ _ four
     (either P (nat_lt b 0xf5) _ _ f4 never)))))))))
 
 pub ascii : (b : ℕ) → b < 128 → states_after b ≡ 0x30c30c30c30c00
@@ -65,8 +69,8 @@ wrong (b ∷ bs) = elim (cases_lt b 128) [
         | inl e ↦ moved 48 b 0x30c0cc06306030 bs (next_a0 b d e) ∙ wrong bs
         | inr e ↦
             ap (λ s. last_state s bs)
-                (from_c0 (λ w. w / 2 ^ 48 % 64 ≡ 48) b e refl refl refl refl refl refl refl refl)
-                ∙ wrong bs
+            (from_c0 (λ w. w / 2 ^ 48 % 64 ≡ 48) b e refl refl refl refl refl refl refl refl)
+            ∙ wrong bs
       ]
     ]
   ]
@@ -79,28 +83,28 @@ wrong (b ∷ bs) = elim (cases_lt b 128) [
 abbrev pub Takes : ℕ → ℕ → ℕ → ℕ → Type 0
 Takes s lo hi t =
     (b : ℕ) → ((lo ≤ b) × (b < hi) × (next_state s b ≡ t))
-        ⊎ (((b < lo) ⊎ (hi ≤ b)) × (next_state s b ≡ 48))
+    ⊎ (((b < lo) ⊎ (hi ≤ b)) × (next_state s b ≡ 48))
 
 abbrev NotLater : ℕ → Type 0
 NotLater w =
     (w / 2 ^ 6 % 64 ≡ 48) × (w / 2 ^ 12 % 64 ≡ 48) × (w / 2 ^ 18 % 64 ≡ 48) × (w / 2 ^ 24 % 64 ≡ 48)
-        × (w / 2 ^ 30 % 64 ≡ 48) × (w / 2 ^ 36 % 64 ≡ 48) × (w / 2 ^ 42 % 64 ≡ 48)
+    × (w / 2 ^ 30 % 64 ≡ 48) × (w / 2 ^ 36 % 64 ≡ 48) × (w / 2 ^ 42 % 64 ≡ 48)
 
 not_later : (b : ℕ) → 192 ≤ b → NotLater (states_after b)
 not_later b l =
     from_c0 NotLater b l (refl, refl, refl, refl, refl, refl, refl)
-        (refl, refl, refl, refl, refl, refl, refl) (refl, refl, refl, refl, refl, refl, refl)
     (refl, refl, refl, refl, refl, refl, refl) (refl, refl, refl, refl, refl, refl, refl)
-        (refl, refl, refl, refl, refl, refl, refl)
+    (refl, refl, refl, refl, refl, refl, refl) (refl, refl, refl, refl, refl, refl, refl)
+    (refl, refl, refl, refl, refl, refl, refl)
     (refl, refl, refl, refl, refl, refl, refl) (refl, refl, refl, refl, refl, refl, refl)
 
 -- the states after a byte of a later place, or that it is none
 abbrev Kinds : ℕ → Type 0
 Kinds b =
     ((b < 128) × (states_after b ≡ 0x30c30c30c30c00))
-        ⊎ (((128 ≤ b) × (b < 144) × (states_after b ≡ 0x303301b0306030))
+    ⊎ (((128 ≤ b) × (b < 144) × (states_after b ≡ 0x303301b0306030))
     ⊎ (((144 ≤ b) × (b < 160) × (states_after b ≡ 0x30c0c1b0306030))
-        ⊎ (((160 ≤ b) × (b < 192) × (states_after b ≡ 0x30c0cc06306030))
+    ⊎ (((160 ≤ b) × (b < 192) × (states_after b ≡ 0x30c0cc06306030))
     ⊎ ((192 ≤ b) × NotLater (states_after b)))))
 
 kinds : (b : ℕ) → Kinds b
@@ -212,8 +216,14 @@ pass s lo hi t b bs f l h = elim (f b) [
 pub of_two : (b : ℕ) (bs : List ℕ) → 194 ≤ b → b < 224 → last_state 0 (b ∷ bs) ≡ last_state 6 bs
 of_two b bs l h =
     moved 0 b 0x30c30c30c30c06 bs
-        (rw (le-ltb b 128 (omega arith), le-ltb b 144 (omega arith), le-ltb b 160 (omega arith),
-        le-ltb b 192 (omega arith), le-ltb b 194 l, lt-ltb b 224 h) refl)
+    (rw (
+      le-ltb b 128 (omega arith),
+      le-ltb b 144 (omega arith),
+      le-ltb b 160 (omega arith),
+      le-ltb b 192 (omega arith),
+      le-ltb b 194 l,
+      lt-ltb b 224 h,
+    ) refl)
 
 -- a later byte, and what is no byte of UTF-8, is no first one
 pub not_first : (b : ℕ) (bs : List ℕ) → 128 ≤ b → b < 194 → last_state 0 (b ∷ bs) ≡ last_state 48 bs
@@ -225,8 +235,8 @@ not_first b bs l h = elim (cases_lt b 144) [
       | inl d ↦ moved 0 b 0x30c0cc06306030 bs (next_a0 b c d)
       | inr d ↦
           moved 0 b 0x30c30c30c30c30 bs
-              (rw (le-ltb b 128 l, le-ltb b 144 a, le-ltb b 160 c, le-ltb b 192 d, lt-ltb b 194 h)
-              refl)
+          (rw (le-ltb b 128 l, le-ltb b 144 a, le-ltb b 160 c, le-ltb b 192 d, lt-ltb b 194 h)
+          refl)
     ]
   ]
 ]
@@ -235,40 +245,62 @@ three_or_more : (b : ℕ) → 224 ≤ b
     → states_after b ≡ cond (nat_lt b 0xe1) 0x30c30c30c30c18
     (cond (nat_lt b 0xed) 0x30c30c30c30c0c (cond (nat_lt b 0xee) 0x30c30c30c30c1e
     (cond (nat_lt b 0xf0) 0x30c30c30c30c0c
-        (cond (nat_lt b 0xf1) 0x30c30c30c30c24 (cond (nat_lt b 0xf4) 0x30c30c30c30c12
+    (cond (nat_lt b 0xf1) 0x30c30c30c30c24 (cond (nat_lt b 0xf4) 0x30c30c30c30c12
     (cond (nat_lt b 0xf5) 0x30c30c30c30c2a 0x30c30c30c30c30))))))
 three_or_more b l =
-    rw (le-ltb b 128 (omega arith), le-ltb b 144 (omega arith), le-ltb b 160 (omega arith),
-        le-ltb b 192 (omega arith), le-ltb b 194 (omega arith), le-ltb b 224 l) refl
+    rw (
+      le-ltb b 128 (omega arith),
+      le-ltb b 144 (omega arith),
+      le-ltb b 160 (omega arith),
+      le-ltb b 192 (omega arith),
+      le-ltb b 194 (omega arith),
+      le-ltb b 224 l,
+    ) refl
 
 pub of_three_low : (b : ℕ) (bs : List ℕ) → 225 ≤ b → b < 237
     → last_state 0 (b ∷ bs) ≡ last_state 12 bs
 of_three_low b bs l h =
     moved 0 b 0x30c30c30c30c0c bs
-        (three_or_more b (omega arith) ∙ rw (le-ltb b 225 l, lt-ltb b 237 h) refl)
+    (three_or_more b (omega arith) ∙ rw (le-ltb b 225 l, lt-ltb b 237 h) refl)
 
 pub of_three_high : (b : ℕ) (bs : List ℕ) → 238 ≤ b → b < 240
     → last_state 0 (b ∷ bs) ≡ last_state 12 bs
 of_three_high b bs l h =
     moved 0 b 0x30c30c30c30c0c bs
-        (three_or_more b (omega arith)
-        ∙ rw (le-ltb b 225 (omega arith), le-ltb b 237 (omega arith), le-ltb b 238 l,
-        lt-ltb b 240 h) refl)
+    (three_or_more b (omega arith)
+    ∙ rw (
+      le-ltb b 225 (omega arith),
+      le-ltb b 237 (omega arith),
+      le-ltb b 238 l,
+      lt-ltb b 240 h,
+    ) refl)
 
 pub of_four : (b : ℕ) (bs : List ℕ) → 241 ≤ b → b < 244 → last_state 0 (b ∷ bs) ≡ last_state 18 bs
 of_four b bs l h =
     moved 0 b 0x30c30c30c30c12 bs
-        (three_or_more b (omega arith)
-        ∙ rw (le-ltb b 225 (omega arith), le-ltb b 237 (omega arith), le-ltb b 238 (omega arith),
-        le-ltb b 240 (omega arith), le-ltb b 241 l, lt-ltb b 244 h) refl)
+    (three_or_more b (omega arith)
+    ∙ rw (
+      le-ltb b 225 (omega arith),
+      le-ltb b 237 (omega arith),
+      le-ltb b 238 (omega arith),
+      le-ltb b 240 (omega arith),
+      le-ltb b 241 l,
+      lt-ltb b 244 h,
+    ) refl)
 
 pub past_f4 : (b : ℕ) (bs : List ℕ) → 245 ≤ b → last_state 0 (b ∷ bs) ≡ last_state 48 bs
 past_f4 b bs l =
     moved 0 b 0x30c30c30c30c30 bs
-        (three_or_more b (omega arith)
-        ∙ rw (le-ltb b 225 (omega arith), le-ltb b 237 (omega arith), le-ltb b 238 (omega arith),
-        le-ltb b 240 (omega arith), le-ltb b 241 (omega arith), le-ltb b 244 (omega arith),
-        le-ltb b 245 l) refl)
+    (three_or_more b (omega arith)
+    ∙ rw (
+      le-ltb b 225 (omega arith),
+      le-ltb b 237 (omega arith),
+      le-ltb b 238 (omega arith),
+      le-ltb b 240 (omega arith),
+      le-ltb b 241 (omega arith),
+      le-ltb b 244 (omega arith),
+      le-ltb b 245 l,
+    ) refl)
 
 -- a first byte of three bytes, and a second that its letters have
 three_first : (x y : ℕ) (bs : List ℕ) → 224 ≤ x → x < 240 → 128 ≤ y → y < 192 → (x ≡ 224 → 160 ≤ y)
@@ -303,25 +335,25 @@ past_letter c bs ok =
       | inr a ↦ elim (cases_lt c 2048) [
         | inl b ↦
             rw (two c a b) (of_two (192 + c / 64) (next c ∷ bs) (omega arith) (omega arith)
-                ∙ pass 6 128 192 0 (next c) bs takes_6 (omega arith) (omega arith))
+            ∙ pass 6 128 192 0 (next c) bs takes_6 (omega arith) (omega arith))
         | inr b ↦ elim (cases_lt c 65536) [
           | inl d ↦
               let e0 : 224 + c / 4096 ≡ 224 → 160 ≤ next (c / 64) =
-                  λ (e : 224 + c / 4096 ≡ 224). omega arith in
+              λ (e : 224 + c / 4096 ≡ 224). omega arith in
               let ed : 224 + c / 4096 ≡ 237 → next (c / 64) < 160 =
-                  λ (e : 224 + c / 4096 ≡ 237). omega arith in
+              λ (e : 224 + c / 4096 ≡ 237). omega arith in
               rw (three c b d)
               (three_first (224 + c / 4096) (next (c / 64)) (next c ∷ bs) (omega arith)
-                  (omega arith) (omega arith) (omega arith) e0 ed
+              (omega arith) (omega arith) (omega arith) e0 ed
               ∙ pass 6 128 192 0 (next c) bs takes_6 (omega arith) (omega arith))
           | inr d ↦
               let f0 : 240 + c / 262144 ≡ 240 → 144 ≤ next (c / 4096) =
-                  λ (e : 240 + c / 262144 ≡ 240). omega arith in
+              λ (e : 240 + c / 262144 ≡ 240). omega arith in
               let f4 : 240 + c / 262144 ≡ 244 → next (c / 4096) < 144 =
-                  λ (e : 240 + c / 262144 ≡ 244). omega arith in
+              λ (e : 240 + c / 262144 ≡ 244). omega arith in
               rw (four c d)
               (four_first (240 + c / 262144) (next (c / 4096)) (next (c / 64) ∷ next c ∷ bs)
-                  (omega arith) (omega arith) (omega arith) (omega arith) f0 f4
+              (omega arith) (omega arith) (omega arith) (omega arith) f0 f4
               ∙ pass 12 128 192 6 (next (c / 64)) (next c ∷ bs) takes_12 (omega arith) (omega arith)
               ∙ pass 6 128 192 0 (next c) bs takes_6 (omega arith) (omega arith))
         ]
@@ -351,16 +383,16 @@ pub block_more : (n k s t : ℕ) (bs d : List ℕ) (blocks : List (List ℕ)) (b
     → t ≡ last_state s (take (k * n) bs) → last_state t block ≡ last_state s (take ((k + 1) * n) bs)
 block_more n k s t bs d blocks block all inside is e =
     let at : block ≡ take n (drop (k * n) bs) =
-        is ∙ (rw all (block_at n (length bs / n) bs d k inside)) in
+    is ∙ (rw all (block_at n (length bs / n) bs d k inside)) in
     let more : take ((k + 1) * n) bs ≡ take (k * n) bs ++ take n (drop (k * n) bs) =
-        ap (λ m. take m bs) (add-mul k 1 n ∙ (let o : k * n + 1 * n ≡ k * n + n = omega arith in o))
-        ∙ take-add (k * n) n bs in
+    ap (λ m. take m bs) (add-mul k 1 n ∙ (let o : k * n + 1 * n ≡ k * n + n = omega arith in o))
+    ∙ take-add (k * n) n bs in
     rw (at, e) (sym (ap (last_state s) more
-        ∙ last_state-append s (take (k * n) bs) (take n (drop (k * n) bs))))
+    ∙ last_state-append s (take (k * n) bs) (take n (drop (k * n) bs))))
 
 -- the state after what follows the blocks
 pub blocks_end : (n s t : ℕ) (bs rest : List ℕ) → t ≡ last_state s (take n bs) → rest ≡ drop n bs
     → last_state t rest ≡ last_state s bs
 blocks_end n s t bs rest e is =
     rw (e, is) (sym (last_state-append s (take n bs) (drop n bs))
-        ∙ ap (last_state s) (take-append-drop n bs))
+    ∙ ap (last_state s) (take-append-drop n bs))

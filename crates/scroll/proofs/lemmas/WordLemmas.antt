@@ -37,10 +37,19 @@ pub word_lanes : (n : ℕ) → n < 2 ^ 64 → n ≡ lanes 8 (to_le_bytes w64 n)
 word_lanes n fits = omega (arith, from_le_bytes-to_le_bytes_8 n fits)
 
 pub bytes_small : (n : ℕ) → AllByRecursion (λ b. b < 256) (to_le_bytes w64 n)
-bytes_small n =
-    (omega arith, (omega arith,
-        (omega arith, (omega arith,
-        (omega arith, (omega arith, (omega arith, (omega arith, tt))))))))
+bytes_small n = (
+  omega arith,
+  (
+    omega arith,
+    (
+      omega arith,
+      (
+        omega arith,
+        (omega arith, (omega arith, (omega arith, (omega arith, tt)))),
+      ),
+    ),
+  ),
+)
 
 -- ---- the groups
 low_bits : (bs : List ℕ) → AllByRecursion (λ b. b < 256) bs
@@ -65,52 +74,52 @@ twos a b = lanes 32 (a ∷ b ∷ [])
 first_round : (a b c d e f g h : ℕ) → a < 128 → b < 128 → c < 128 → d < 128 → e < 128 → f < 128
     → g < 128 → h < 128
     → (eights a b c d e f g h + bit_and (eights a b c d e f g h) 0x007f_007f_007f_007f) %
-        18446744073709551616 / 2
+    18446744073709551616 / 2
     ≡ fours (b * 2 ^ 7 + a) (d * 2 ^ 7 + c) (f * 2 ^ 7 + e) (h * 2 ^ 7 + g)
 unfolding eights fours
 first_round a b c d e f g h p q r s t u v w =
     let even : Lanewise bit_and 8 (a ∷ b ∷ c ∷ d ∷ e ∷ f ∷ g ∷ h ∷ [])
-            (127 ∷ 0 ∷ 127 ∷ 0 ∷ 127 ∷ 0 ∷ 127 ∷ 0 ∷ []) (a ∷ 0 ∷ c ∷ 0 ∷ e ∷ 0 ∷ g ∷ 0 ∷ []) =
+    (127 ∷ 0 ∷ 127 ∷ 0 ∷ 127 ∷ 0 ∷ 127 ∷ 0 ∷ []) (a ∷ 0 ∷ c ∷ 0 ∷ e ∷ 0 ∷ g ∷ 0 ∷ []) =
     lane (omega arith) (omega arith) (keep 7 a p) (lane (omega arith) (omega arith) (and_zero_r b)
     (lane (omega arith) (omega arith) (keep 7 c r) (lane (omega arith) (omega arith) (and_zero_r d)
     (lane (omega arith) (omega arith) (keep 7 e t) (lane (omega arith) (omega arith) (and_zero_r f)
     (lane (omega arith) (omega arith) (keep 7 g v)
-        (lane (omega arith) (omega arith) (and_zero_r h) done))))))) in
+    (lane (omega arith) (omega arith) (and_zero_r h) done))))))) in
     let low : bit_and (lanes 8 (a ∷ b ∷ c ∷ d ∷ e ∷ f ∷ g ∷ h ∷ [])) 0x007f_007f_007f_007f
-            ≡ lanes 16 (a ∷ c ∷ e ∷ g ∷ []) =
-        and_lanes even ∙ omega arith in
+    ≡ lanes 16 (a ∷ c ∷ e ∷ g ∷ []) =
+    and_lanes even ∙ omega arith in
     rw low (omega arith)
 
 second_round : (a b c d : ℕ) → a < 2 ^ 14 → b < 2 ^ 14 → c < 2 ^ 14 → d < 2 ^ 14
     → (fours a b c d + bit_and (fours a b c d) 0x0000_3fff_0000_3fff * 3 % 18446744073709551616) %
-        18446744073709551616 / 4
+    18446744073709551616 / 4
     ≡ twos (b * 2 ^ 14 + a) (d * 2 ^ 14 + c)
 unfolding fours twos
 second_round a b c d p q r s =
     let even : Lanewise bit_and 16 (a ∷ b ∷ c ∷ d ∷ []) (0x3fff ∷ 0 ∷ 0x3fff ∷ 0 ∷ [])
-            (a ∷ 0 ∷ c ∷ 0 ∷ []) =
+    (a ∷ 0 ∷ c ∷ 0 ∷ []) =
     lane (omega arith) (omega arith) (keep 14 a p) (lane (omega arith) (omega arith) (and_zero_r b)
     (lane (omega arith) (omega arith) (keep 14 c r)
-        (lane (omega arith) (omega arith) (and_zero_r d) done))) in
+    (lane (omega arith) (omega arith) (and_zero_r d) done))) in
     let low : bit_and (lanes 16 (a ∷ b ∷ c ∷ d ∷ [])) 0x0000_3fff_0000_3fff
-            ≡ lanes 32 (a ∷ c ∷ []) =
-        and_lanes even ∙ omega arith in
+    ≡ lanes 32 (a ∷ c ∷ []) =
+    and_lanes even ∙ omega arith in
     rw low (omega arith)
 
 third_round : (a b : ℕ) → a < 2 ^ 28 → b < 2 ^ 28
     → bit_or (bit_and (twos a b) 0x0000_0000_0fff_ffff)
-        (bit_and (twos a b) 0x0fff_ffff_0000_0000 / 16) ≡ b * 2 ^ 28 + a
+    (bit_and (twos a b) 0x0fff_ffff_0000_0000 / 16) ≡ b * 2 ^ 28 + a
 unfolding twos
 third_round a b p q =
     let even : Lanewise bit_and 32 (a ∷ b ∷ []) (0xfff_ffff ∷ 0 ∷ []) (a ∷ 0 ∷ []) =
     lane (omega arith) (omega arith) (keep 28 a p)
-        (lane (omega arith) (omega arith) (and_zero_r b) done) in
+    (lane (omega arith) (omega arith) (and_zero_r b) done) in
     let odd : Lanewise bit_and 32 (a ∷ b ∷ []) (0 ∷ 0xfff_ffff ∷ []) (0 ∷ b ∷ []) =
     lane (omega arith) (omega arith) (and_zero_r a)
-        (lane (omega arith) (omega arith) (keep 28 b q) done) in
+    (lane (omega arith) (omega arith) (keep 28 b q) done) in
     let low : bit_and (lanes 32 (a ∷ b ∷ [])) 0x0fff_ffff ≡ a = and_lanes even ∙ omega arith in
     let high : bit_and (lanes 32 (a ∷ b ∷ [])) 0x0fff_ffff_0000_0000 / 16 ≡ b * 2 ^ 28 =
-        ap (λ n. n / 16) (and_lanes odd) ∙ omega arith in
+    ap (λ n. n / 16) (and_lanes odd) ∙ omega arith in
     rw (low, high) (or_shifted_r b 28 a p)
 
 groups_of_word : (n : ℕ) → n < 2 ^ 64
@@ -133,19 +142,19 @@ gathered_of : (a b c d e f g h : ℕ) → a < 128 → b < 128 → c < 128 → d 
     → g < 128 → h < 128
     → joined (quartered (paired (eights a b c d e f g h)))
     ≡ ((h * 2 ^ 7 + g) * 2 ^ 14 + (f * 2 ^ 7 + e)) * 2 ^ 28
-        + ((d * 2 ^ 7 + c) * 2 ^ 14 + (b * 2 ^ 7 + a))
+    + ((d * 2 ^ 7 + c) * 2 ^ 14 + (b * 2 ^ 7 + a))
 gathered_of a b c d e f g h p q r s t u v w =
     ap (λ n. joined (quartered n)) (first_round a b c d e f g h p q r s t u v w)
     ∙ ap joined (second_round (b * 2 ^ 7 + a) (d * 2 ^ 7 + c) (f * 2 ^ 7 + e) (h * 2 ^ 7 + g)
-        (omega arith) (omega arith) (omega arith) (omega arith))
+    (omega arith) (omega arith) (omega arith) (omega arith))
     ∙ third_round ((d * 2 ^ 7 + c) * 2 ^ 14 + (b * 2 ^ 7 + a))
-        ((h * 2 ^ 7 + g) * 2 ^ 14 + (f * 2 ^ 7 + e)) (omega arith) (omega arith)
+    ((h * 2 ^ 7 + g) * 2 ^ 14 + (f * 2 ^ 7 + e)) (omega arith) (omega arith)
 
 sum_of_eight : (a b c d e f g h : ℕ)
     → ((h * 2 ^ 7 + g) * 2 ^ 14 + (f * 2 ^ 7 + e)) * 2 ^ 28
-        + ((d * 2 ^ 7 + c) * 2 ^ 14 + (b * 2 ^ 7 + a))
+    + ((d * 2 ^ 7 + c) * 2 ^ 14 + (b * 2 ^ 7 + a))
     ≡ 0 + a * 1 + b * 128 + c * 16384 + d * 2097152 + e * 268435456 + f * 34359738368
-        + g * 4398046511104 + h * 562949953421312
+    + g * 4398046511104 + h * 562949953421312
 sum_of_eight a b c d e f g h = omega arith
 
 pub gathered_word : (n : ℕ) → n < 2 ^ 64
@@ -156,7 +165,7 @@ gathered_word n fits =
     let b : ℕ → ℕ = λ i. group (to_le_bytes w64 n) i in
     ap (λ m. joined (quartered (paired m))) (groups_of_word n fits)
     ∙ gathered_of (b 0) (b 1) (b 2) (b 3) (b 4) (b 5) (b 6) (b 7) (omega arith) (omega arith)
-        (omega arith) (omega arith) (omega arith) (omega arith) (omega arith) (omega arith)
+    (omega arith) (omega arith) (omega arith) (omega arith) (omega arith) (omega arith)
     ∙ sum_of_eight (b 0) (b 1) (b 2) (b 3) (b 4) (b 5) (b 6) (b 7)
 
 -- what a function makes of each byte
@@ -218,6 +227,9 @@ zeros_shifted zero k m = let a : k + 0 ≡ k = omega arith in let b : m * 1 ≡ 
     rw (a, b) (omega arith)
 zeros_shifted (suc j) k m =
     let double : m * 2 ^ suc j ≡ m * 2 ^ j * 2 =
-        ap (λ x. m * x) (pow-suc 2 j) ∙ sym (mul_assoc m (2 ^ j) 2) in
-    omega (arith, zeros_even (k + suc j) (k + j) (m * 2 ^ suc j) (m * 2 ^ j) (omega arith) double,
-        zeros_shifted j k m)
+    ap (λ x. m * x) (pow-suc 2 j) ∙ sym (mul_assoc m (2 ^ j) 2) in
+    omega (
+      arith,
+      zeros_even (k + suc j) (k + j) (m * 2 ^ suc j) (m * 2 ^ j) (omega arith) double,
+      zeros_shifted j k m,
+    )

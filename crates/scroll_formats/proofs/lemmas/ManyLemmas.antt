@@ -17,9 +17,11 @@ pub with-bytes-read : {V : Type 0} (reads : List ℕ → V → ℕ → Type 0) (
     (vs : List V) (to : ℕ) → ReadsAll (WithBytes reads) buffer from vs to
     → ReadsAll reads buffer from vs to
 with-bytes-read reads buffer from [] to h = h
-with-bytes-read reads buffer from (v ∷ vs) to h =
-    (h.0, record { inside = h.1.inside; value = h.1.value.0 },
-        with-bytes-read reads buffer (from + h.0) vs to h.2)
+with-bytes-read reads buffer from (v ∷ vs) to h = (
+  h.0,
+  record { inside = h.1.inside; value = h.1.value.0 },
+  with-bytes-read reads buffer (from + h.0) vs to h.2,
+)
 
 -- the first values, and the one after them
 more : {V : Type 0} (vs : List V) (i : ℕ) (v : V) → i < length vs → v ≡ slice_index_or vs i v
@@ -46,15 +48,16 @@ pub FailsMany-item : {V E : Type 0} (writes : V → List ℕ → List ℕ → �
     → FailsMany writes refuses gives old from vs new stop e
 FailsMany-item writes refuses gives {old} {from} vs i v {mid} {new} {stop} {e} inside is h refused =
     record {
-  values = take i vs;
-  value = v;
-  others = drop (i + 1) vs;
-  split = sym (take-append-drop (i + 1) vs) ∙ ap (λ l. l ++ drop (i + 1) vs) (more vs i v inside is)
-      ∙ append_assoc (take i vs) (v ∷ []) (drop (i + 1) vs);
-  mid = mid;
-  each = h;
-  error = refused;
-}
+      values = take i vs;
+      value = v;
+      others = drop (i + 1) vs;
+      split =
+          sym (take-append-drop (i + 1) vs) ∙ ap (λ l. l ++ drop (i + 1) vs) (more vs i v inside is)
+          ∙ append_assoc (take i vs) (v ∷ []) (drop (i + 1) vs);
+      mid = mid;
+      each = h;
+      error = refused;
+    }
 
 -- one value that was written reads back, whatever is written after it
 pub kept-one : {V : Type 0} (reads : List ℕ → V → ℕ → Type 0)
@@ -65,16 +68,22 @@ pub kept-one : {V : Type 0} (reads : List ℕ → V → ℕ → Type 0)
 kept-one reads writes v back old from new n to h moves later same =
     let text = rw moves at same in
     let here : take n (drop from later) ≡ take n (drop from new) =
-        sym (drop-take from n later) ∙ ap (drop from) text ∙ drop-take from n new in
+    sym (drop-take from n later) ∙ ap (drop from) text ∙ drop-take from n new in
     let rest = drop n (drop from later) in
     let whole : take n (drop from new) ++ rest ≡ drop from later =
-        ap (λ l. l ++ rest) (sym here) ∙ take-append-drop n (drop from later) in (
+    ap (λ l. l ++ rest) (sym here) ∙ take-append-drop n (drop from later) in (
       n,
       moves,
       record {
         inside =
-            omega (arith, h.inside, h.len, ap length text, length-take (from + n) later,
-                length-take (from + n) new);
+            omega (
+              arith,
+              h.inside,
+              h.len,
+              ap length text,
+              length-take (from + n) later,
+              length-take (from + n) new,
+            );
         value =
             subst (λ s. reads s v n) whole (back (drop from old) (drop from new) rest n h.after);
       },
@@ -90,7 +99,7 @@ changes-one keeps old from new n to h moves = record {
   before = h.before;
   after =
       rw (moves, ← drop-drop n from new, ← drop-drop n from old)
-          (keeps (drop from old) (drop from new) n h.after);
+      (keeps (drop from old) (drop from new) n h.after);
   len = h.len;
 }
 
@@ -124,7 +133,7 @@ pub changes-many : {V : Type 0} (writes : V → List ℕ → List ℕ → ℕ �
 changes-many writes keeps [] old from new to h = rw (h.0, h.1) (changes-none from old)
 changes-many writes keeps (v ∷ vs) old from new to h =
     changes-next (changes-one (keeps v) old from h.0 h.1 (from + h.1) h.2 refl)
-        (changes-many writes keeps vs h.0 (from + h.1) new to h.3)
+    (changes-many writes keeps vs h.0 (from + h.1) new to h.3)
 
 -- bytes are changed up to `size`: in the first `size` of them those before are unchanged
 pub changes-within : {from size : ℕ} {old new : List ℕ} → ChangesBetween from size old new
@@ -235,14 +244,17 @@ WritesAll-kept reads writes fits back (v ∷ vs) old from new to fit h later sam
     let at = from + h.1 in
     let le = forward writes vs mid at new to h.3 in
     let early : take at later ≡ take at mid = sym (take-take at to later le) ∙ ap (take at) same
-        ∙ take-take at to new le ∙ before writes vs mid at new to h.3 in
+    ∙ take-take at to new le ∙ before writes vs mid at new to h.3 in
     let one =
-        kept-one reads (writes v) v
-            (λ old new rest n w. back v old new rest n (All-head fits v vs fit) w) old from mid h.1
-            at h.2 refl later early in
-    (one.0, one.2, subst (λ k. ReadsAll reads later k vs to) one.1
-        (WritesAll-kept reads writes fits back vs mid at new to (All-tail fits v vs fit) h.3 later
-        same))
+    kept-one reads (writes v) v
+    (λ old new rest n w. back v old new rest n (All-head fits v vs fit) w) old from mid h.1
+    at h.2 refl later early in (
+      one.0,
+      one.2,
+      subst (λ k. ReadsAll reads later k vs to) one.1
+          (WritesAll-kept reads writes fits back vs mid at new to (All-tail fits v vs fit) h.3 later
+          same),
+    )
 
 -- they end inside the target
 pub WritesAll-inside : {V : Type 0} (writes : V → List ℕ → List ℕ → ℕ → Type 0)
@@ -254,7 +266,7 @@ WritesAll-inside writes bounded (v ∷ vs) old from new to inside h =
     let w = h.2 in
     let size = bounded v (drop from old) (drop from h.0) h.1 w.after in
     WritesAll-inside writes bounded vs h.0 (from + h.1) new to
-        (omega (arith, w.inside, w.len, size, length-drop from old)) h.3
+    (omega (arith, w.inside, w.len, size, length-drop from old)) h.3
 
 -- and these read up to the end of the bytes that are written
 pub kept-whole : {V : Type 0} (reads : List ℕ → V → ℕ → Type 0) (vs : List V) (new : List ℕ)
@@ -262,4 +274,4 @@ pub kept-whole : {V : Type 0} (reads : List ℕ → V → ℕ → Type 0) (vs : 
     → ReadsAll reads (take to new) from vs (length (take to new))
 kept-whole reads vs new from to inside kept =
     subst (λ k. ReadsAll reads (take to new) from vs k) (sym (length-take-le to new inside))
-        (kept (take to new) (take-take to to new (omega arith)))
+    (kept (take to new) (take-take to to new (omega arith)))

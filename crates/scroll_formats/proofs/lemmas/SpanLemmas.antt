@@ -9,7 +9,7 @@ pub prefix-stands : {t buffer : List ℕ} {a b : ℕ} (n : ℕ) → a ≤ length
 prefix-stands {t} {buffer} {a} {b} n inside room is to =
     let len : length t ≡ n = sym (ap length is) ∙ length-take-le n (drop a buffer) room in
     let rest : drop n (drop a buffer) ≡ drop b buffer =
-        drop-drop n a buffer ∙ ap (λ k. drop k buffer) (sym to) in
+    drop-drop n a buffer ∙ ap (λ k. drop k buffer) (sym to) in
     record {
       inside = omega (arith, inside, room, to, length-drop a buffer);
       size = omega (arith, len, to);
@@ -22,13 +22,19 @@ puts-parts : {t a b : List ℕ} {p q : ℕ} → Puts t a b p q
 puts-parts {t} {a} {b} {p} {q} h =
     let first : length (take p a) ≡ p = length-take-le p a (omega (arith, h.inside, h.size)) in
     let prefix : length (take p a ++ t) ≡ q =
-        omega (arith, first, h.size, length-append (take p a) t) in
+    omega (arith, first, h.size, length-append (take p a) t) in
     let split : b ≡ (take p a ++ t) ++ drop q a =
-        h.is ∙ sym (append_assoc (take p a) t (drop q a)) in (
+    h.is ∙ sym (append_assoc (take p a) t (drop q a)) in (
       ap (take q) split ∙ take_at (take p a ++ t) (drop q a) q prefix,
       ap (drop q) split ∙ drop_at (take p a ++ t) (drop q a) q prefix,
-      omega (arith, ap length split, length-append (take p a ++ t) (drop q a), prefix,
-          length-drop q a, h.inside),
+      omega (
+        arith,
+        ap length split,
+        length-append (take p a ++ t) (drop q a),
+        prefix,
+        length-drop q a,
+        h.inside,
+      ),
     )
 
 -- bytes that are written are there

@@ -26,33 +26,36 @@ within-zeros n s v m r = omega (arith, r.room, r.size)
 abbrev FirstNonzero : ℕ → List ℕ → Type 0
 FirstNonzero n s =
     (index : ℕ) × (index < n) × ((i : ℕ) → i < index → slice_index s i ≡ 0)
-        × (slice_index s index ≢ 0)
+    × (slice_index s index ≢ 0)
 
 first_nonzero : (n : ℕ) (s : List ℕ) → ((i : ℕ) → i < n → slice_index s i ≡ 0) ⊎ FirstNonzero n s
 first_nonzero zero s = inl (λ i l. absurd (omega (arith, l)))
 first_nonzero (suc n) s =
     elim (first_nonzero n s)
-        as (λ _. ((i : ℕ) → i < suc n → slice_index s i ≡ 0) ⊎ FirstNonzero (suc n) s) [
-  | inl all ↦
-      elim (cases_lt 0 (slice_index s n))
+    as (λ _. ((i : ℕ) → i < suc n → slice_index s i ≡ 0) ⊎ FirstNonzero (suc n) s) [
+      | inl all ↦
+          elim (cases_lt 0 (slice_index s n))
           as (λ _. ((i : ℕ) → i < suc n → slice_index s i ≡ 0) ⊎ FirstNonzero (suc n) s) [
-    | inl more ↦ inr (n, omega arith, all, λ e. absurd (omega (arith, more, e)))
-    | inr none ↦ inl (λ i l. elim (cases_lt i n) as (λ _. slice_index s i ≡ 0) [
-      | inl before ↦ all i before
-      | inr there ↦ let same : i ≡ n = omega (arith, l, there) in
-      let last : slice_index s n ≡ 0 = omega (arith, none) in ap (slice_index s) same ∙ last
-    ])
-  ]
-  | inr first ↦ inr (first.0, omega (arith, first.1), first.2, first.3)
-]
+            | inl more ↦ inr (n, omega arith, all, λ e. absurd (omega (arith, more, e)))
+            | inr none ↦ inl (λ i l. elim (cases_lt i n) as (λ _. slice_index s i ≡ 0) [
+              | inl before ↦ all i before
+              | inr there ↦ let same : i ≡ n = omega (arith, l, there) in
+                  let last : slice_index s n ≡ 0 = omega (arith, none) in
+                  ap (slice_index s) same ∙ last
+            ])
+          ]
+      | inr first ↦ inr (first.0, omega (arith, first.1), first.2, first.3)
+    ]
 
 first-same : (s : List ℕ) (a b : ℕ) → ((i : ℕ) → i < a → slice_index s i ≡ 0) → slice_index s a ≢ 0
     → ((i : ℕ) → i < b → slice_index s i ≡ 0) → slice_index s b ≢ 0 → a ≡ b
 first-same s a b before one before' one' = elim (cases_lt a b) as (λ _. a ≡ b) [
   | inl l ↦ absurd (one (before' a l))
   | inr h ↦
-      elim (cases_lt b a) as (λ _. a ≡ b) [ inl l ↦ absurd (one' (before b l))
-          | inr h' ↦ omega (arith, h, h') ]
+      elim (cases_lt b a) as (λ _. a ≡ b) [
+        | inl l ↦ absurd (one' (before b l))
+        | inr h' ↦ omega (arith, h, h')
+      ]
 ]
 
 module _ (n : ℕ) (s : List ℕ) where
@@ -63,7 +66,7 @@ module _ (n : ℕ) (s : List ℕ) where
   one-zeros = elim (cases_lt (length s) n) as (λ _. AllowsOne Taken (RefusesZeros n s)) [
     | inl short ↦
         one-Err Taken (RefusesZeros n s) (TooBig n (length s))
-            (inl (record { short = short; error = refl }))
+        (inl (record { short = short; error = refl }))
         (λ v m r. absurd (omega (arith, short, r.room)))
         (λ d r. elim r as (λ _. SameError d (TooBig n (length s))) [
           | inl r ↦ same-too_big d n (length s) r.error
@@ -72,24 +75,31 @@ module _ (n : ℕ) (s : List ℕ) where
     | inr long ↦ elim (first_nonzero n s) as (λ _. AllowsOne Taken (RefusesZeros n s)) [
       | inl all ↦
           one-Ok Taken (RefusesZeros n s) (record {}) n
-              (record { room = long; zero = all; size = refl })
+          (record { room = long; zero = all; size = refl })
           (λ v m r. (refl, r.size))
-          (λ e r. elim r as (λ _. ⊥)
-              [ inl r ↦ absurd (omega (arith, long, r.short))
-              | inr r ↦ r.nonzero (all r.index r.inside) ])
+          (λ e r. elim r as (λ _. ⊥) [
+            | inl r ↦ absurd (omega (arith, long, r.short))
+            | inr r ↦ r.nonzero (all r.index r.inside)
+          ])
       | inr first ↦
           one-Err Taken (RefusesZeros n s)
-              (BadInput first.0 (record { ref_ptr = (0, 0); now = codes "padding is not zero" }))
-          (inr (record { index = first.0; room = long; inside = first.1; before = first.2;
-              nonzero = first.3; error = (refl, refl) }))
+          (BadInput first.0 (record { ref_ptr = (0, 0); now = codes "padding is not zero" }))
+          (inr (record {
+            index = first.0;
+            room = long;
+            inside = first.1;
+            before = first.2;
+            nonzero = first.3;
+            error = (refl, refl);
+          }))
           (λ v m r. absurd (first.3 (r.zero first.0 first.1)))
           (λ d r. elim r as (λ _. SameError d
-              (BadInput first.0 (record { ref_ptr = (0, 0); now = codes "padding is not zero" }))) [
+          (BadInput first.0 (record { ref_ptr = (0, 0); now = codes "padding is not zero" }))) [
             | inl r ↦ absurd (omega (arith, long, r.short))
             | inr r ↦
                 let same = first-same s r.index first.0 r.before r.nonzero first.2 first.3 in
                 same-bad_input d first.0 (codes "padding is not zero")
-                    (subst (λ p. IsBadInput d p (codes "padding is not zero")) same r.error)
+                (subst (λ p. IsBadInput d p (codes "padding is not zero")) same r.error)
           ])
     ]
   ]

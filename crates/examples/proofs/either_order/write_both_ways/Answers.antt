@@ -11,15 +11,17 @@ pub returns : goal.returns
 returns c =
     let size = call-leaves _ _ _ (number-leaves 4 Little) c.args.size in
     let names =
-        call-leaves _ _ _ (leaves-where _ _ _ (λ _ old new e. (e ≡ NoMemory) × (new ≡ old)) _
-            (search rules) (array-leaves _ _ _ (bytes-leaves (λ (t : Bor (List ℕ)). t.now))))
-            c.args.names in
+    call-leaves _ _ _ (leaves-where _ _ _ (λ _ old new e. (e ≡ NoMemory) × (new ≡ old)) _
+    (search rules) (array-leaves _ _ _ (bytes-leaves (λ (t : Bor (List ℕ)). t.now))))
+    c.args.names in
     let apart =
-        apart-behind _ c.args.size_at c.args.names_at (number_bytes Little 4 c.args.size ∷ []) _
-            (omega (arith, c.requires.apart)) in
-    record { same = (either-order apart
-        (size _ _ _ _ c.pwrite_with.ensures.wrote c.pwrite_with.ensures.refused)
-        (names _ _ _ _ c.pwrite_with-2.ensures.wrote c.pwrite_with-2.ensures.refused)
-        (rw (← c.requires.same) at
-        (names _ _ _ _ c.pwrite_with-3.ensures.wrote c.pwrite_with-3.ensures.refused))
-        (size _ _ _ _ c.pwrite_with-4.ensures.wrote c.pwrite_with-4.ensures.refused)).0 }
+    apart-behind _ c.args.size_at c.args.names_at (number_bytes Little 4 c.args.size ∷ []) _
+    (omega (arith, c.requires.apart)) in
+    record {
+      same = (either-order apart
+          (size _ _ _ _ c.pwrite_with.ensures.wrote c.pwrite_with.ensures.refused)
+          (names _ _ _ _ c.pwrite_with-2.ensures.wrote c.pwrite_with-2.ensures.refused)
+          (rw (← c.requires.same) at
+          (names _ _ _ _ c.pwrite_with-3.ensures.wrote c.pwrite_with-3.ensures.refused))
+          (size _ _ _ _ c.pwrite_with-4.ensures.wrote c.pwrite_with-4.ensures.refused)).0;
+    }

@@ -7,6 +7,8 @@ pub returns : goal.returns
 returns c =
     let read = c.in_ok-format.ensures.read.1.value in
     let bytes = bytes-below 0 c.args.file.now c.type_inv.file in
-    record { back = sym (c.fixed_size_is_written_back.ensures.only Big c.args.file.now
-        c.in_ok-format.format 8 bytes
-        record { room = read.room; value = read.value; size = refl }) }
+    record {
+      back = sym (c.fixed_size_is_written_back.ensures.only Big c.args.file.now
+          c.in_ok-format.format 8 bytes
+          record { room = read.room; value = read.value; size = refl });
+    }

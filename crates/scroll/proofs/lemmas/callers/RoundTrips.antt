@@ -13,7 +13,12 @@ use Rattle.scroll.specs.declared.ctx.str_ctx.StrCtx.TheVariants.{Required}
 -- alike
 pub use Rattle.scroll.proofs.lemmas.TextLemmas.{offset-behind, index_of-prefixes}
 -- what was written in LEB128 reads back, and what is read are the bytes of an encoding
-pub use Rattle.scroll.proofs.lemmas.EncodingLemmas.{written_reads, reads_encoding, unsigned-form, signed-form}
+pub use Rattle.scroll.proofs.lemmas.EncodingLemmas.{
+  written_reads,
+  reads_encoding,
+  unsigned-form,
+  signed-form,
+}
 -- a list that begins with the bytes of a number begins with that number
 pub use Rattle.scroll.specs.lemmas.NumberLemmas.{number-begins, signed-begins}
 -- the bytes of the number at an offset are the bytes there
@@ -32,7 +37,7 @@ pub required-back : (d : ℕ) (s text : List ℕ) (n : ℕ) → ReadsText (Requi
     → take n s ≡ text ++ d ∷ []
 required-back d s text n r =
     let byte : get_or s (index_of d s) 0 ≡ d =
-        is-byte (get_or s (index_of d s) 0) d (passes_at_first (λ b. b == d) s 0 r.there) in
+    is-byte (get_or s (index_of d s) 0) d (passes_at_first (λ b. b == d) s 0 r.there) in
     ap (λ m. take m s) r.size ∙ take_more s (index_of d s) 0 r.there
     ∙ ap (λ b. take (index_of d s) s ++ b ∷ []) byte ∙ ap (λ t. t ++ d ∷ []) (sym r.prefix)
 
@@ -76,4 +81,4 @@ pub bytes-below : (offset : ℕ) (s : List ℕ) → ((i : ℕ) → Fits w8 (slic
     → All (λ b. b < 256) (drop offset s)
 bytes-below offset s h =
     All-from_get_or (λ b. b < 256) (drop offset s) 0
-        (λ i l. rw (get_or-drop offset s i 0) (omega (arith, (h (offset + i)).fits)))
+    (λ i l. rw (get_or-drop offset s i 0) (omega (arith, (h (offset + i)).fits)))

@@ -9,8 +9,8 @@ returns g c =
     let size = g.N.SizeWith.size c.args.ctx in
     let zeros = take-replicate {X = ℕ} size 256 0 c.requires.size in
     let told : OnOk c.write_value.result
-        (AppendsValue (g.W.Write.contents c.args.writer.now)
-        (g.W.Write.contents c.write_value.new.writer)
+    (AppendsValue (g.W.Write.contents c.args.writer.now)
+    (g.W.Write.contents c.write_value.new.writer)
     size (g.N.IntoCtx.overwrites c.args.ctx c.args.n (take size (replicate 256 0)))) =
-        grind (arith, common_steps, c.write_value.ensures) in
+    grind (arith, common_steps, c.write_value.ensures) in
     record { appended = rw zeros at told }

@@ -6,6 +6,6 @@ use Rattle.scroll.proofs.runner.run.Given as goal
 abbrev pub invariant-loop-command : goal.invariant-loop-command
 invariant-loop-command l =
     IsRun l.fn.buffer l.buffer l.fn.cursor l.cursor (take l.command-index l.commands)
-        l.fn.answers.items l.answers.items
+    l.fn.answers.items l.answers.items
     × (vec_len l.answers ≡ vec_len l.fn.answers + l.command-index)
     × (vec_capacity l.fn.answers ≤ vec_capacity l.answers)

@@ -12,9 +12,9 @@ step : (s word i v : ℕ) (bs : List ℕ) → word % 64 ≡ last_state s (take i
 step s word i v bs e h is =
     rw (is, and_mask word 6, e)
     (sym (ap (last_state s) (take_more bs i 0 h)
-        ∙ last_state-append s (take i bs) (get_or bs i 0 ∷ [])))
+    ∙ last_state-append s (take i bs) (get_or bs i 0 ∷ [])))
 
 pub loop-i-preserved : goal.loop-i-preserved
 loop-i-preserved c =
     step c.args.start c.loop-i.word c.loop-i.i c.states_after.result c.args.bytes.now
-        c.loop-i.invariant c.loop-i-test.true c.states_after.ensures
+    c.loop-i.invariant c.loop-i-test.true c.states_after.ensures

@@ -8,18 +8,18 @@ use Rattle.scroll_ffi.proofs.elf.next.Goals as goal
 pub returns-in-Ok-clause-entry : goal.returns-in-Ok-clause-entry
 returns-in-Ok-clause-entry c =
     entry_at c.in_ok-order.order c.args.file.now c.args.sections.now c.section_at.result
-        c.section_at.ensures.fields c.in_ok-order.ensures.order c.in_ok-check_part-2.ensures.room
+    c.section_at.ensures.fields c.in_ok-order.ensures.order c.in_ok-check_part-2.ensures.room
 
 pub returns-in-Ok-clause-name : goal.returns-in-Ok-clause-name
 returns-in-Ok-clause-name c =
     let same =
-        same_name c.in_ok-order.order c.args.file.now c.args.sections.now.next c.section_at.result
-            c.cread_with-name.result c.section_at.ensures.fields c.cread_with-name.ensures in
+    same_name c.in_ok-order.order c.args.file.now c.args.sections.now.next c.section_at.result
+    c.cread_with-name.result c.section_at.ensures.fields c.cread_with-name.ensures in
     name_at c.args.file.now _ c.args.sections.now c.section_at.result c.cread_with-name.result
-        c.in-Ok.len c.in-Ok.ensures.name
-        (ap (take c.args.sections.now.names_size)
-        (take_rest c.args.file.now c.args.sections.now.names_offset)) same c.section_at.ensures.len
-        (search rules) c.in_ok-check_part.ensures.room
+    c.in-Ok.len c.in-Ok.ensures.name
+    (ap (take c.args.sections.now.names_size)
+    (take_rest c.args.file.now c.args.sections.now.names_offset)) same c.section_at.ensures.len
+    (search rules) c.in_ok-check_part.ensures.room
 
 pub returns-in-Ok-clause-passes : goal.returns-in-Ok-clause-passes
 returns-in-Ok-clause-passes c = refl
@@ -37,14 +37,23 @@ returns-in-Err-clause-refused c =
     let at = c.section_at-in-Err in
     let names = ap (take x.names_size) (take_rest file x.names_offset) in
     let why =
-        subst (λ l. RefusesLen l c.cread_with-name.result x.names_offset c.in-Err.why) names
-            c.in-Err.ensures.refused in
+    subst (λ l. RefusesLen l c.cread_with-name.result x.names_offset c.in-Err.why) names
+    c.in-Err.ensures.refused in
     let named =
-        subst (λ n. RefusesLen (take x.names_size (drop x.names_offset file)) n x.names_offset
-            c.in-Err.why) c.cread_with-name.ensures why in
+    subst (λ n. RefusesLen (take x.names_size (drop x.names_offset file)) n x.names_offset
+    c.in-Err.why) c.cread_with-name.ensures why in
     inr (
-      record { order = c.in_ok-order.order; order-is = order;
-          names = c.in_ok-check_part.ensures.room; room = room; why = named; left = refl },
-      record { entry = entry_at c.in_ok-order.order file x at.result at.ensures.fields order room;
-          start = at.ensures.start; len = at.ensures.len },
+      record {
+        order = c.in_ok-order.order;
+        order-is = order;
+        names = c.in_ok-check_part.ensures.room;
+        room = room;
+        why = named;
+        left = refl;
+      },
+      record {
+        entry = entry_at c.in_ok-order.order file x at.result at.ensures.fields order room;
+        start = at.ensures.start;
+        len = at.ensures.len;
+      },
     )

@@ -17,12 +17,12 @@ returns-clause-all c =
     let len : c.resize.new.self.len ≡ n = grind (arith, common_steps, fills.fits, fills.left) in
     let there : n ≤ length new = grind (arith, common_steps, fills.fits) in
     let size : length (take c.resize.new.self.len (new ++ rest)) ≡ n =
-        grind (arith, common_steps, len, length-take-le, there) in
+    grind (arith, common_steps, len, length-take-le, there) in
     rw size (all_filled c.args.file.now n c.in_ok-left.left _ _ _
-        (take c.resize.new.self.len (new ++ rest)) c.in_ok-left.ensures.opened fills
-        (grind (arith, common_steps, len, fills.left))
+    (take c.resize.new.self.len (new ++ rest)) c.in_ok-left.ensures.opened fills
+    (grind (arith, common_steps, len, fills.left))
     (λ k d less. get_or-take c.resize.new.self.len (new ++ rest) k d (omega (arith, less, len))
-        ∙ get_or-append new rest d k (omega (arith, less, there))))
+    ∙ get_or-append new rest d k (omega (arith, less, there))))
 
 pub next-requires : goal.next-requires
 next-requires c = rw c.in_ok-filled.ensures.filled.iterator (omega (arith, c.if-filled-count.true))
@@ -36,8 +36,8 @@ returns-in_err-left-clause-refused c =
 pub returns-in_err-filled-clause-refused : goal.returns-in_err-filled-clause-refused
 returns-in_err-filled-clause-refused c =
     let (_, is, made) =
-        err_from_is_err_and c.from_residual-in_err-filled.result
-            c.from_residual-in_err-filled.ensures.1 in
+    err_from_is_err_and c.from_residual-in_err-filled.result
+    c.from_residual-in_err-filled.ensures.1 in
     let fails = c.in_err-filled.ensures in
     let first : FailsAfter c.args.file.now c.in_ok-left.left _ = record {
       k = 0;
@@ -52,11 +52,11 @@ returns-in_err-filled-clause-refused c =
 pub returns-in_err-next-clause-refused : goal.returns-in_err-next-clause-refused
 returns-in_err-next-clause-refused c =
     let (_, is, made) =
-        err_from_is_err_and c.from_residual-in_err-next.result
-            c.from_residual-in_err-next.ensures.1 in
+    err_from_is_err_and c.from_residual-in_err-next.result
+    c.from_residual-in_err-next.ensures.1 in
     let fills = c.in_ok-filled.ensures.filled in
     let why : RefusesNext c.args.file.now c.fill.new.sections c.next.new.sections
-            c.in_err-next.field-0.0 =
+    c.in_err-next.field-0.0 =
     elim c.in_err-next.ensures.refused [ inl stops ↦ inl stops.0 | inr skips ↦ inr skips.0 ]
     in
     let later : FailsAfter c.args.file.now c.in_ok-left.left _ = record {

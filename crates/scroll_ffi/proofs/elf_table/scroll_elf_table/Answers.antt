@@ -7,7 +7,7 @@ use Rattle.scroll_ffi.proofs.elf_table.scroll_elf_table.Goals as goal
 pub returns-clause-all : goal.returns-clause-all
 returns-clause-all c = λ _.
     all_before c.args.file.now c.len-found.result c.copy_from_slice.new.self
-        (drop c.len-found.result c.args.sections.now) (search rules) (search rules)
+    (drop c.len-found.result c.args.sections.now) (search rules) (search rules)
 
 pub returns-clause-room : goal.returns-clause-room
 returns-clause-room c = λ _. c.if-found-sections.false

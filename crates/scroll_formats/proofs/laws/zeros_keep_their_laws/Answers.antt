@@ -7,4 +7,4 @@ use Rattle.scroll_formats.proofs.laws.zeros_keep_their_laws.Goals as goal
 pub returns : goal.returns
 returns c n =
     reader-within (λ s (_ : Zeros) m. ReadsZeros n s m) (RefusesZeros n) (local-zeros n)
-        (within-zeros n) (one-zeros n)
+    (within-zeros n) (one-zeros n)

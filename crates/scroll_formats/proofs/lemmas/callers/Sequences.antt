@@ -16,8 +16,11 @@ use Rattle.scroll.proofs.lemmas.callers.RoundTrips.{written_reads, unsigned-form
 slice-begins : (bytes : List ℕ) (n : ℕ) → length bytes ≡ n → (rest : List ℕ)
     → ReadsSlice n (bytes ++ rest) bytes n
 slice-begins bytes n size rest =
-    record { room = omega (arith, size, length-append bytes rest);
-        value = grind (arith, common_steps, size); size = refl }
+    record {
+      room = omega (arith, size, length-append bytes rest);
+      value = grind (arith, common_steps, size);
+      size = refl;
+    }
 
 -- a text
 pub text-begins : (bytes : List ℕ) (n : ℕ) → length bytes ≡ n → IsUtf8 bytes → (rest : List ℕ)
@@ -50,11 +53,11 @@ pub c_string-begins : (text rest : List ℕ) → All (λ b. b ≢ 0) text
 c_string-begins text rest none =
     let split : (text ++ 0 ∷ []) ++ rest ≡ text ++ 0 ∷ rest = append_assoc text (0 ∷ []) rest in
     let index : index_of 0 ((text ++ 0 ∷ []) ++ rest) ≡ length text =
-        ap (index_of 0) split ∙ offset-behind 0 text rest none in
+    ap (index_of 0) split ∙ offset-behind 0 text rest none in
     record {
       found = omega (arith, index, ap length split, length-append text (0 ∷ rest));
       value =
           sym (ap (λ n. take n ((text ++ 0 ∷ []) ++ rest)) index ∙ ap (take (length text)) split
-              ∙ take_at text (0 ∷ rest) (length text) refl);
+          ∙ take_at text (0 ∷ rest) (length text) refl);
       size = omega (arith, index);
     }

@@ -7,7 +7,13 @@ use Rattle.scroll.specs.Reads.{ReadsAll}
 -- bytes that are written are there
 pub use Rattle.scroll_formats.proofs.lemmas.SpanLemmas.{prefix-stands, puts-stands}
 -- one write after another: the values that it keeps, and the bytes that it changes
-pub use Rattle.scroll_formats.proofs.lemmas.ManyLemmas.{kept-one, changes-one, changes-none, changes-next, changes-within}
+pub use Rattle.scroll_formats.proofs.lemmas.ManyLemmas.{
+  kept-one,
+  changes-one,
+  changes-none,
+  changes-next,
+  changes-within,
+}
 
 -- values that were written one after another read back, if each does
 pub ReadsAll-again : {V : Type 0} (reads : List ℕ → V → ℕ → Type 0) (bytes : V → List ℕ)
@@ -21,18 +27,18 @@ ReadsAll-again {V} reads bytes (v ∷ vs) again prefix rest =
     let first = All-head P v vs again in
     let others = flat_map bytes vs in
     let behind : drop (length prefix) (prefix ++ (bytes v ++ others) ++ rest)
-            ≡ bytes v ++ (others ++ rest) =
+    ≡ bytes v ++ (others ++ rest) =
     ap (drop (length prefix)) (append_assoc prefix (bytes v ++ others) rest)
     ∙ drop_at prefix (bytes v ++ others ++ rest) (length prefix) refl
     ∙ append_assoc (bytes v) others rest in
     let later = ReadsAll-again reads bytes vs (All-tail P v vs again) (prefix ++ bytes v) rest in
     let whole =
-        subst (λ l. ReadsAll reads (l ++ rest) (length (prefix ++ bytes v)) vs (length l))
-            (append_assoc prefix (bytes v) others) later in (
+    subst (λ l. ReadsAll reads (l ++ rest) (length (prefix ++ bytes v)) vs (length l))
+    (append_assoc prefix (bytes v) others) later in (
       length (bytes v),
       record {
         inside = let a = length-append (prefix ++ (bytes v ++ others)) rest in
-        let b = length-append prefix (bytes v ++ others) in omega (arith, a, b);
+            let b = length-append prefix (bytes v ++ others) in omega (arith, a, b);
         value = rw behind (first (others ++ rest));
       },
       subst (λ n. ReadsAll reads (prefix ++ (bytes v ++ others) ++ rest) n vs

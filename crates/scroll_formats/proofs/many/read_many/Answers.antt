@@ -18,6 +18,10 @@ pub loop-i-preserved : goal.loop-i-preserved
 loop-i-preserved g c =
     let next = c.in_default.ensures.read in (
       ReadsAll-pushed _ _ c.loop-i.invariant.0 next.2 next.1,
-      omega (arith, ap length next.1, length_push c.loop-i.values.items next.0,
-          c.loop-i.invariant.1),
+      omega (
+        arith,
+        ap length next.1,
+        length_push c.loop-i.values.items next.0,
+        c.loop-i.invariant.1,
+      ),
     )

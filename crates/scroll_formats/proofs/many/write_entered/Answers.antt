@@ -5,13 +5,20 @@ use Rattle.scroll_formats.proofs.many.write_entered.Goals as goal
 pub returns-in_err-entry-clause-refused : goal.returns-in_err-entry-clause-refused
 returns-in_err-entry-clause-refused g c =
     handed-on _ c.from_residual.result c.from_residual.ensures.1
-        (inr (refl, inl c.in_err-entry.ensures.misplaced))
+    (inr (refl, inl c.in_err-entry.ensures.misplaced))
 
 pub returns-then-is_err-clause-refused : goal.returns-then-is_err-clause-refused
 returns-then-is_err-clause-refused g c =
     let entry = c.in_ok-entry.ensures in
-    inr (refl, inr (record { entry = _; there = entry.place; is = entry.describes;
-        error = c.from.ensures }))
+    inr (
+      refl,
+      inr (record {
+        entry = _;
+        there = entry.place;
+        is = entry.describes;
+        error = c.from.ensures;
+      }),
+    )
 
 pub returns-in_err-write_kept-clause-refused : goal.returns-in_err-write_kept-clause-refused
 returns-in_err-write_kept-clause-refused g c =

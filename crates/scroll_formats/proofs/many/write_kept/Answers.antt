@@ -7,8 +7,8 @@ pub returns-clause-kept : goal.returns-clause-kept
 returns-clause-kept g c =
     let w = c.in_ok-size.ensures in
     kept-one _ _ c.args.value
-        (λ old new rest n h. (g.met.T.Kept c.lifetimes (search rules)).back c.args.ctx c.args.value
-        old new rest n c.fit.ensures h) _ _ _ _ _ w.wrote w.moves
+    (λ old new rest n h. (g.met.T.Kept c.lifetimes (search rules)).back c.args.ctx c.args.value
+    old new rest n c.fit.ensures h) _ _ _ _ _ w.wrote w.moves
 
 pub returns-clause-again : goal.returns-clause-again
 returns-clause-again g c = returns-clause-kept g c _ refl

@@ -6,4 +6,4 @@ use Rattle.scroll_formats.proofs.many.write_many.Given as goal
 abbrev pub invariant-loop-i : goal.invariant-loop-i
 invariant-loop-i g l =
     WritesAll (g.T.TryIntoCtx.writes l.ctx) l.initial.dst l.initial.offset (take l.i l.values) l.dst
-        l.offset
+    l.offset

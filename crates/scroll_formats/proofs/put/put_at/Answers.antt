@@ -9,4 +9,4 @@ returns-clause-wrote g c =
     let text = g.A.Encode.bytes c.args.order c.args.value in
     let size : c.size-size.result ≡ length text = grind (arith, common_steps) in
     rw size (puts-at text refl (grind (arith, common_steps)) c.put_behind.ensures.before
-        c.put_behind.ensures.after)
+    c.put_behind.ensures.after)

@@ -12,9 +12,15 @@ pub put_behind-requires-clause-room : goal.put_behind-requires-clause-room
 put_behind-requires-clause-room g c =
     let f = bytes (g.L.Part.format c.args.ctx.now) c.args.order in
     let long = ap (λ y. length (f y)) c.index-values-i.is in
-    omega (arith, long, c.loop-i.invariant.len, c.loop-i.auto.dst, c.requires.room,
-        length-flat_map-take f c.args.values.now c.loop-i.i c.index-values-i.result
-        c.loop-i-test.true)
+    omega (
+      arith,
+      long,
+      c.loop-i.invariant.len,
+      c.loop-i.auto.dst,
+      c.requires.room,
+      length-flat_map-take f c.args.values.now c.loop-i.i c.index-values-i.result
+          c.loop-i-test.true,
+    )
 
 pub loop-i-preserved : goal.loop-i-preserved
 loop-i-preserved g c =
@@ -29,7 +35,7 @@ loop-i-preserved g c =
     ∙ sym (flat_map_more f [] before (get_or xs c.loop-i.i x))
     ∙ ap (λ y. flat_map f before ++ f y) is in
     rw (size, more) (grow {prefix = flat_map f before} (f x) c.loop-i.invariant refl
-        c.put_behind.ensures.before c.put_behind.ensures.after)
+    c.put_behind.ensures.before c.put_behind.ensures.after)
 
 pub overflow_add-offset : goal.overflow_add-offset
 overflow_add-offset g c = grind (arith, common_steps)

@@ -8,4 +8,4 @@ use Rattle.scroll_layouts.proofs.each.put_each.Given as goal
 abbrev pub invariant-loop-i : goal.invariant-loop-i
 invariant-loop-i g l =
     Begins l.offset (flat_map (bytes (g.L.Part.format l.ctx) l.order) (take l.i l.values))
-        l.initial.dst l.dst
+    l.initial.dst l.dst

@@ -7,7 +7,7 @@ loop-at-preserved g c = (
   items-push (g.T.ReadPart.format (tt)) c.args.order c.args.bytes.now 0 c.loop-at.at
       c.in_ok-_value.next
       c.in_ok-_value._value c.loop-at.invariant.0 c.in_ok-_value.ensures.read
-          c.in_ok-_value.ensures.moves
+      c.in_ok-_value.ensures.moves
       c.if-next-at.false,
   c.in_ok-_value.ensures.inside,
 )

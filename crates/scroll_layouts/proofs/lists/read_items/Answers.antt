@@ -8,7 +8,7 @@ loop-done-preserved g c = (
   counted-push (g.T.ReadPart.format (tt)) c.args.order c.args.bytes.now 0 c.loop-done.at
       c.in_ok-_value.next c.loop-done.done
       c.in_ok-_value._value c.loop-done.invariant.0 c.in_ok-_value.ensures.read
-          c.in_ok-_value.ensures.moves
+      c.in_ok-_value.ensures.moves
       c.if-next-at.false,
   c.in_ok-_value.ensures.inside,
   search rules,

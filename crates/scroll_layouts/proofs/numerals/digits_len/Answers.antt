@@ -24,10 +24,10 @@ returns-else-digit-base-clause-len c =
     let h = c.loop-at.invariant in
     let high : c.args.base ≤ digit_value (get_or s n 0) = search rules in
     stops (λ b. nat_lt (digit_value b) c.args.base) s n (search rules) h.0
-        (is-not-below (digit_value (get_or s n 0)) c.args.base high)
+    (is-not-below (digit_value (get_or s n 0)) c.args.base high)
 
 pub returns-after-loop-at-clause-len : goal.returns-after-loop-at-clause-len
 returns-after-loop-at-clause-len c =
     let h = c.loop-at.invariant in
     stops-all (λ b. nat_lt (digit_value b) c.args.base) c.args.rest.now c.loop-at.at h.1
-        (search rules) h.0
+    (search rules) h.0

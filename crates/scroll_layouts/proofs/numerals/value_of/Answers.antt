@@ -37,6 +37,7 @@ loop-at-preserved c =
     let product : c.in-Some.shifted ≡ c.loop-at.value * c.args.base = search rules in
     let sum : c.in-Some-checked_add.next ≡ c.in-Some.shifted + c.digit-more.result = search rules in
     let same : c.loop-at.value * c.args.base ≡ digits_value c.args.base (take n s) * c.args.base =
-    ap (λ k. k * c.args.base) h.0 in
-    (omega (arith, sum, product, digit, same, digits_value_more c.args.base s n there),
-        omega (arith, there))
+    ap (λ k. k * c.args.base) h.0 in (
+      omega (arith, sum, product, digit, same, digits_value_more c.args.base s n there),
+      omega (arith, there),
+    )

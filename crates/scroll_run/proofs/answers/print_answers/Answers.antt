@@ -9,7 +9,7 @@ loop-answer-preserved g c =
     let line = c.in_ok-print_answer.ensures in
     let is = subst (λ a. IsAnswerLine a line.0) c.answer-item.is line.2 in
     lines_next c.args.answers.now c.answer-item.result c.loop-answer.answer-index _ _ line.0
-        c.loop-answer.invariant (search rules) line.1 is
+    c.loop-answer.invariant (search rules) line.1 is
 
 pub returns : goal.returns
 returns g c = record {

@@ -35,8 +35,8 @@ returns-in-Ok-eq0-clause-whole g c =
 pub returns-then-len-eq-MAX_READ-clause-taken : goal.returns-then-len-eq-MAX_READ-clause-taken
 returns-then-len-eq-MAX_READ-clause-taken g c =
     rw c.in_ok-append-in-Ok.ensures.items
-        (joined _ _ _ _ _ _ _ c.in-Ok.ensures.bound.0 c.loop.invariant.taken
-        c.in-Ok.ensures.bytes.0)
+    (joined _ _ _ _ _ _ _ c.in-Ok.ensures.bound.0 c.loop.invariant.taken
+    c.in-Ok.ensures.bytes.0)
 
 pub returns-then-len-eq-MAX_READ-clause-bound : goal.returns-then-len-eq-MAX_READ-clause-bound
 returns-then-len-eq-MAX_READ-clause-bound g c =
@@ -49,8 +49,8 @@ loop-preserved g c =
         short = grind (arith, common_steps);
         taken =
             rw (w.bytes-is, w.in_ok-append-in-Ok.ensures.items)
-                (joined _ _ _ _ _ _ _ w.in-Ok.ensures.bound.0 c.loop.invariant.taken
-                w.in-Ok.ensures.bytes.0);
+            (joined _ _ _ _ _ _ _ w.in-Ok.ensures.bound.0 c.loop.invariant.taken
+            w.in-Ok.ensures.bytes.0);
       }
       | in-Err w ↦ rw w.bytes-is record {
         short = c.loop.invariant.short;

@@ -16,36 +16,36 @@ returns-in_err-buffer g c =
 pub returns-in_default-split_first : goal.returns-in_default-split_first
 returns-in_default-split_first g c =
     one_line _ _ _ _ (ap (map (λ line. line.now)) c.in-Some.ensures.cases.0)
-        (length-map c.in-Some.rest.now (λ line. line.now) ∙ c.in_default-split_first.ensures.cases)
-        (rw c.in-Some-2.is at c.in_ok-buffer.ensures)
+    (length-map c.in-Some.rest.now (λ line. line.now) ∙ c.in_default-split_first.ensures.cases)
+    (rw c.in-Some-2.is at c.in_ok-buffer.ensures)
 
 pub returns-in_default-2 : goal.returns-in_default-2
 returns-in_default-2 g c =
     first_bad _ _ _ (ap (map (λ line. line.now)) c.in-Some.ensures.cases.0)
-        (rw c.in_default-2.is at c.in_ok-buffer.ensures)
+    (rw c.in_default-2.is at c.in_ok-buffer.ensures)
 
 pub returns-in_default-parse_cursor : goal.returns-in_default-parse_cursor
 returns-in_default-parse_cursor g c =
     let both = c.in-Some.ensures.cases.0
-        ∙ ap (λ rest. c.in-Some.first.now ∷ rest) c.in-Some-split_first.ensures.cases.0 in
+    ∙ ap (λ rest. c.in-Some.first.now ∷ rest) c.in-Some-split_first.ensures.cases.0 in
     second_bad _ _ _ _ _ (ap (map (λ line. line.now)) both)
-        (rw c.in-Some-2.is at c.in_ok-buffer.ensures) c.in_default-parse_cursor.ensures
+    (rw c.in-Some-2.is at c.in_ok-buffer.ensures) c.in_default-parse_cursor.ensures
 
 pub returns-in_err-commands : goal.returns-in_err-commands
 returns-in_err-commands g c =
     let p =
-        err_from_is_err_and c.from_residual-in_err-commands.result
-            c.from_residual-in_err-commands.ensures.1 in
+    err_from_is_err_and c.from_residual-in_err-commands.result
+    c.from_residual-in_err-commands.ensures.1 in
     let both = c.in-Some.ensures.cases.0
-        ∙ ap (λ rest. c.in-Some.first.now ∷ rest) c.in-Some-split_first.ensures.cases.0 in
+    ∙ ap (λ rest. c.in-Some.first.now ∷ rest) c.in-Some-split_first.ensures.cases.0 in
     rw (p.1, p.2) (stops_lines (g.M.Memory.refuses c.args.memory) _ _ _ _ _ _ _
-        (ap (map (λ line. line.now)) both) (rw c.in-Some-2.is at c.in_ok-buffer.ensures)
-        c.in-Some-parse_cursor.ensures c.in_err-commands.ensures)
+    (ap (map (λ line. line.now)) both) (rw c.in-Some-2.is at c.in_ok-buffer.ensures)
+    c.in-Some-parse_cursor.ensures c.in_err-commands.ensures)
 
 pub returns : goal.returns
 returns g c =
     let both = c.in-Some.ensures.cases.0
-        ∙ ap (λ rest. c.in-Some.first.now ∷ rest) c.in-Some-split_first.ensures.cases.0 in
+    ∙ ap (λ rest. c.in-Some.first.now ∷ rest) c.in-Some-split_first.ensures.cases.0 in
     λ commands held.
     record {
       first = _;

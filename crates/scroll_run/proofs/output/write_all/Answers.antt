@@ -25,12 +25,12 @@ returns-clause-prefix g c =
 pub returns-in-Ok-eq0-clause-prefix : goal.returns-in-Ok-eq0-clause-prefix
 returns-in-Ok-eq0-clause-prefix g c =
     appends_more _ _ _ _ _ _ c.in-Ok-eq0.field-0 c.loop.invariant.whole c.loop.invariant.appended
-        (rw c.in-Ok-eq0.is at c.write.ensures.bytes)
+    (rw c.in-Ok-eq0.is at c.write.ensures.bytes)
 
 pub returns-in-Err-2-clause-prefix : goal.returns-in-Err-2-clause-prefix
 returns-in-Err-2-clause-prefix g c =
     appends_prefix _ _ _ _ _ c.loop.invariant.whole
-        (Appends-kept _ _ _ _ c.loop.invariant.appended c.in-Err-2.ensures.bytes)
+    (Appends-kept _ _ _ _ c.loop.invariant.appended c.in-Err-2.ensures.bytes)
 
 pub returns-then-is_empty-clause-written : goal.returns-then-is_empty-clause-written
 returns-then-is_empty-clause-written g c =

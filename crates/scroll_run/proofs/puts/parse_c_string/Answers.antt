@@ -26,8 +26,11 @@ returns-in-Ok g c =
     let bytes = rw c.in-Some.is at c.in_ok-text.ensures in
     let text = c.in-Ok.ensures.text in
     let zero = c.in-Ok.ensures.no_zero in
-    λ p is. rw is.1 (_, refl,
-        subst (SpellsCString _) (sym is.2) (rw (text ∙ c.deref.ensures.value) bytes, rw text zero))
+    λ p is. rw is.1 (
+      _,
+      refl,
+      subst (SpellsCString _) (sym is.2) (rw (text ∙ c.deref.ensures.value) bytes, rw text zero),
+    )
 
 pub returns-in-Err-BadInput : goal.returns-in-Err-BadInput
 returns-in-Err-BadInput g c =

@@ -13,5 +13,8 @@ pub returns-in-Ok : goal.returns-in-Ok
 returns-in-Ok g c =
     let bytes = rw c.in-Some.is at c.in_ok-bytes.ensures in
     let same = ap (λ v. v.items) c.in-Ok.ensures.ok in
-    λ p is. rw is.1 (_, refl,
-        subst (SpellsText _) (sym is.2) (rw same bytes, IsUtf8-string_bytes c.in-Ok.text))
+    λ p is. rw is.1 (
+      _,
+      refl,
+      subst (SpellsText _) (sym is.2) (rw same bytes, IsUtf8-string_bytes c.in-Ok.text),
+    )

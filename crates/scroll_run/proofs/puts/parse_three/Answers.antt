@@ -16,22 +16,22 @@ each a b c (x ∷ y ∷ z ∷ more) h = (x, y, z, h.0, h.1.0, h.1.1.0)
 pub returns-in_err-order : goal.returns-in_err-order
 returns-in_err-order c =
     rw c.from_residual.ensures
-        (λ p s. let t = by_u16x3 _ _ _ _ p s in c.in_err-order.ensures t.0 t.2)
+    (λ p s. let t = by_u16x3 _ _ _ _ p s in c.in_err-order.ensures t.0 t.2)
 
 pub returns-in_err-first : goal.returns-in_err-first
 returns-in_err-first c =
     rw c.from_residual-in_err-first.ensures
-        (λ p s. let t = by_u16x3 _ _ _ _ p s in let n = each _ _ _ _ t.3 in c.in_err-first.ensures
-        n.0 n.3)
+    (λ p s. let t = by_u16x3 _ _ _ _ p s in let n = each _ _ _ _ t.3 in c.in_err-first.ensures
+    n.0 n.3)
 
 pub returns-in_err-second : goal.returns-in_err-second
 returns-in_err-second c =
     rw c.from_residual-in_err-second.ensures
-        (λ p s. let t = by_u16x3 _ _ _ _ p s in let n = each _ _ _ _ t.3 in c.in_err-second.ensures
-        n.1 n.4)
+    (λ p s. let t = by_u16x3 _ _ _ _ p s in let n = each _ _ _ _ t.3 in c.in_err-second.ensures
+    n.1 n.4)
 
 pub returns-in_err-third : goal.returns-in_err-third
 returns-in_err-third c =
     rw c.from_residual-in_err-third.ensures
-        (λ p s. let t = by_u16x3 _ _ _ _ p s in let n = each _ _ _ _ t.3 in c.in_err-third.ensures
-        n.2 n.5)
+    (λ p s. let t = by_u16x3 _ _ _ _ p s in let n = each _ _ _ _ t.3 in c.in_err-third.ensures
+    n.2 n.5)

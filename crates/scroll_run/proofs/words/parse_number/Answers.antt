@@ -12,7 +12,7 @@ use Rattle.scroll_run.proofs.words.parse_number.Goals as goal
 no_plus : (word : List ℕ) → get_or word 0 0 ≡ 43 → ¬ (IsNumeral 10 word)
 no_plus word plus n =
     not_in_digits (numerals_by_value (AllDigits 10) tells_digits) word 43 n.1
-        (λ r. omega (arith, r.0)) 0 n.0 plus
+    (λ r. omega (arith, r.0)) 0 n.0 plus
 
 -- what a word that doesn't begin with a plus parses to
 parsed : {E : Type 0} (word text : List ℕ) (r : Result ℕ E) → text ≡ word → get_or word 0 0 ≢ 43
@@ -21,7 +21,7 @@ parsed : {E : Type 0} (word text : List ℕ) (r : Result ℕ E) → text ≡ wor
     (digits_value 10 word)
 parsed word text r e plain h =
     by_cases r (parse_plain (numerals_by_value (AllDigits 10) tells_digits) 128 word r (rw e at h)
-        plain)
+    plain)
   where
     by_cases : {E : Type 0} (r : Result ℕ E)
         → OkIff r (AllDigits 10 word × (0 < length word) × (digits_value 10 word < 2 ^ 128))

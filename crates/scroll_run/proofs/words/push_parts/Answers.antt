@@ -13,8 +13,8 @@ returns-clause-parts c =
     let split = c.split-part-items.ensures in
     let end = YieldsList-end
     (YieldsList-from_slice_split _ (λ b. b == c.args.separator) c.args.text.now
-        (ap split_rest start ∙ split.rest) (ap split_done start ∙ split.done)
-        (ap split_callee start ∙ split.closure) (λ x r q k. search (rules, tests)))
+    (ap split_rest start ∙ split.rest) (ap split_done start ∙ split.done)
+    (ap split_callee start ∙ split.closure) (λ x r q k. search (rules, tests)))
     c.loop-part.yielded _ c.loop-part.yielded_by _ _ c.in-None.is c.next.ensures.steps in
     ap texts_of c.loop-part.invariant.items
     ∙ map-append (λ part. part.now) c.args.parts.now.items c.loop-part.yielded
@@ -26,8 +26,8 @@ returns-in_err-push-clause-full c =
     let split = c.split-part-items.ensures in
     let turn = YieldsList-turn
     (YieldsList-from_slice_split _ (λ b. b == c.args.separator) c.args.text.now
-        (ap split_rest start ∙ split.rest) (ap split_done start ∙ split.done)
-        (ap split_callee start ∙ split.closure) (λ x r q k. search (rules, tests)))
+    (ap split_rest start ∙ split.rest) (ap split_done start ∙ split.done)
+    (ap split_callee start ∙ split.closure) (λ x r q k. search (rules, tests)))
     c.loop-part.yielded _ c.loop-part.yielded_by _ _ _ c.in-Some.is c.next.ensures.steps in
     let full = c.in_err-push.ensures.full in
     let len = c.loop-part.invariant.len in

@@ -7,8 +7,8 @@ returns-in_err-name-clause-refused c =
     let room = c.in_ok-fields.ensures.room in
     let error = c.in_err-name.field-0.0 in
     let (y, is, made) =
-        err_from_is_err_and c.from_residual-in_err-name.result
-            c.from_residual-in_err-name.ensures.1 in
+    err_from_is_err_and c.from_residual-in_err-name.result
+    c.from_residual-in_err-name.ensures.1 in
     elim (rw room.1 at c.in_err-name.ensures.refused) [
       | inl short ↦ rw is (inl (error, made, inr (inr (inr (inl (room.0, short))))))
       | inr name ↦ rw is (inl (error, made, inr (inr (inr (inr (inl name))))))

@@ -9,14 +9,14 @@ pub invariant_of-result : goal.invariant_of-result
 invariant_of-result c =
     let within = index_of-le 0 c.args.text.now in
     let none : index_of 0 c.args.text.now ≡ length c.args.text.now =
-        omega (arith, c.narrow_index_of-index.ensures) in
+    omega (arith, c.narrow_index_of-index.ensures) in
     record { one_zero = rw c.in-Ok.ensures.held (IsCString-push c.args.text.now none) }
 
 pub returns-in-Err-clause-refused : goal.returns-in-Err-clause-refused
 returns-in-Err-clause-refused c =
     let within = index_of-le 0 c.args.text.now in
     let none : index_of 0 c.args.text.now ≡ length c.args.text.now =
-        omega (arith, c.narrow_index_of-index.ensures) in
+    omega (arith, c.narrow_index_of-index.ensures) in
     inr (none, refl)
 
 pub returns-in-Ok-clause-text : goal.returns-in-Ok-clause-text

@@ -14,6 +14,6 @@ pub returns : goal.returns
 returns g c =
     let full = IsFull-from_map _ c.requires.0 c.requires.1 g.row.N (omega arith) in
     filled_from (λ p. p.0.now.items) _ (λ p i y q e. search rules) (λ p i y q e. search rules)
-        g.row.N _ _
+    g.row.N _ _
     full (omega (arith, length-map c.requires.0 (λ x. Some x), ap length c.requires.1))
-        c.from_fn.ensures.items
+    c.from_fn.ensures.items

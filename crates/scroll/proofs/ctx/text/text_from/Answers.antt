@@ -6,7 +6,7 @@ pub returns-then-not-is_text-clause-none : goal.returns-then-not-is_text-clause-
 returns-then-not-is_text-clause-none c u =
     let s = c.args.bytes.now in
     c.if-not-is_text.ensures
-        (behind_ascii s _ c.args.ascii c.requires.ascii (take_rest s c.args.ascii) u)
+    (behind_ascii s _ c.args.ascii c.requires.ascii (take_rest s c.args.ascii) u)
 
 pub from_utf8_unchecked-requires : goal.from_utf8_unchecked-requires
 from_utf8_unchecked-requires c =

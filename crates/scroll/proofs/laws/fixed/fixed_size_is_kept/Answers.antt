@@ -15,7 +15,7 @@ returns-clause-again g c order x old new n fits h =
       room = omega (arith, whole, g.met.F.Fixed.bytes_len order x);
       value =
           subst (λ s. g.F.Fixed.makes order s 0 x) (sym h.after)
-              (g.met.F.Fixed.back order x [] rest fits);
+          (g.met.F.Fixed.back order x [] rest fits);
       size = h.size;
     }
 
@@ -26,14 +26,14 @@ returns-clause-fits g c order source x n all h =
 pub returns-clause-others : goal.returns-clause-others
 returns-clause-others g c order x old new n h =
     drop-prefix g.F.Fixed.width (g.F.Fixed.bytes order x) old new (g.met.F.Fixed.bytes_len order x)
-        h.after
+    h.after
 
 pub returns-clause-reader : goal.returns-clause-reader
 returns-clause-reader g c order =
     let w = g.F.Fixed.width in
     reader-within (ReadsFixed w (λ s. g.F.Fixed.makes order s 0)) (RefusesShort w)
     (local-made w (λ s. g.F.Fixed.makes order s 0)
-        (λ s t x same. g.met.F.Fixed.local order s 0 t 0 x same))
+    (λ s t x same. g.met.F.Fixed.local order s 0 t 0 x same))
     (λ s v n r. omega (arith, r.room, r.size))
     (λ s. one-made w (λ s. g.F.Fixed.makes order s 0) s (g.met.F.Fixed.one order s 0))
 

@@ -3,5 +3,8 @@ use Rattle.scroll.proofs.laws.leb128.signed_texts_are_kept.Goals as goal
 
 pub returns : goal.returns
 returns c =
-    record { back = encoding_back signed-form; again = encoding_again signed-form;
-        begins = encoding_begins signed-form }
+    record {
+      back = encoding_back signed-form;
+      again = encoding_again signed-form;
+      begins = encoding_begins signed-form;
+    }

@@ -3,5 +3,8 @@ use Rattle.scroll.proofs.laws.leb128.unsigned_texts_are_kept.Goals as goal
 
 pub returns : goal.returns
 returns c =
-    record { back = encoding_back unsigned-form; again = encoding_again unsigned-form;
-        begins = encoding_begins unsigned-form }
+    record {
+      back = encoding_back unsigned-form;
+      again = encoding_again unsigned-form;
+      begins = encoding_begins unsigned-form;
+    }

@@ -10,9 +10,9 @@ returns c f order source old new x m n bytes read real wrote =
     let there : float_bytes f order x ≡ take n source =
     ap (float_bytes f order) read.value
     ∙ float-back f order 0 source (bytes-fit source bytes) (omega (arith, read.room))
-        (subst NotNan read.value real)
+    (subst NotNan read.value real)
     ∙ ap (λ k. take k source) (sym read.size) in (
       wrote.size ∙ sym read.size,
       wrote.after ∙ ap (λ k. float_bytes f order x ++ drop k old) (sym read.size)
-      ∙ ap (λ l. l ++ drop n old) there,
+          ∙ ap (λ l. l ++ drop n old) there,
     )

@@ -14,7 +14,7 @@ use Rattle.scroll.proofs.laws.reads.reads_keep_their_laws.Goals as goal
 slice-reader : (n : ℕ) → IsReaderWithin (ReadsSlice n) (RefusesShort n)
 slice-reader n =
     reader-within (ReadsSlice n) (RefusesShort n) (local-slice n)
-        (λ s v size r. omega (arith, r.room, r.size)) (one-prefix n (take n))
+    (λ s v size r. omega (arith, r.room, r.size)) (one-prefix n (take n))
 
 text-reader : (ctx : StrCtx) → IsReader (ReadsText ctx) (RefusesText ctx)
 text-reader ctx = record {
@@ -42,22 +42,22 @@ returns-clause-c_string c = c_string-reader
 pub returns-clause-uleb : goal.returns-clause-uleb
 returns-clause-uleb c =
     reader-within ReadsUleb RefusesUleb local-uleb (λ s x n r. omega (arith, r.complete.0, r.size))
-        one-uleb
+    one-uleb
 
 pub returns-clause-sleb : goal.returns-clause-sleb
 returns-clause-sleb c =
     reader-within ReadsSleb RefusesSleb local-sleb (λ s x n r. omega (arith, r.complete.0, r.size))
-        one-sleb
+    one-sleb
 
 pub returns-clause-counted_uleb : goal.returns-clause-counted_uleb
 returns-clause-counted_uleb c =
     reader-sized ReadsUleb RefusesUleb local-uleb (λ s x n r. omega (arith, r.complete.0, r.size))
-        one-uleb
+    one-uleb
 
 pub returns-clause-counted_sleb : goal.returns-clause-counted_sleb
 returns-clause-counted_sleb c =
     reader-sized ReadsSleb RefusesSleb local-sleb (λ s x n r. omega (arith, r.complete.0, r.size))
-        one-sleb
+    one-sleb
 
 pub returns-clause-slices : goal.returns-clause-slices
 returns-clause-slices c n counts =

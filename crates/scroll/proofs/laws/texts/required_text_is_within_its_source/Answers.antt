@@ -21,8 +21,8 @@ returns-clause-depends c d s t text n r long same =
 pub returns-clause-arrays : goal.returns-clause-arrays
 returns-clause-arrays c d count offset s r =
     let inside : r.stop ≤ length s =
-        within-array (ReadsText (Required d)) (length r.prefix) (within-required d) s r.prefix
-            r.stop (record { len = refl; each = r.each }) in
+    within-array (ReadsText (Required d)) (length r.prefix) (within-required d) s r.prefix
+    r.stop (record { len = refl; each = r.each }) in
     elim r.error [
       | inl past ↦ absurd (omega (arith, inside, past.0))
       | inr at ↦ no-bad-offset d offset _ at.1

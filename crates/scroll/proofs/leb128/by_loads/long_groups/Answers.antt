@@ -21,7 +21,7 @@ returns-then-ninth-lt128-clause-read c =
       gives_at s 8 c.block_groups-low.result c.from.result _ (slice_get_within s 8 _ at)
           (omega arith) (λ k h. open_before s k (omega (arith, h, eight.0)))
           (get_or_from_slice_get s 8 _ 0 at) c.if-ninth-lt128.true
-              (c.block_groups-low.ensures ∙ eight.1) c.from.ensures,
+          (c.block_groups-low.ensures ∙ eight.1) c.from.ensures,
       omega arith,
     )
 
@@ -31,16 +31,18 @@ returns-in-Some-byte-clause-read c =
     let block = block_open s c.args.block c.requires.first c.requires.open in
     let ninth = get_or_from_slice_get s 8 _ 0 (sym c.in-Some.ensures.value) in
     let at : slice_get s 9 ≡ Some c.in-Some-byte.tenth =
-        sym (c.in-Some-byte.ensures.value
-            ∙ ap (λ (l : Loading). slice_get l.bytes 9) c.byte.ensures.counted) in
+    sym (c.in-Some-byte.ensures.value
+    ∙ ap (λ (l : Loading). slice_get l.bytes 9) c.byte.ensures.counted) in
     let within = slice_get_within s 9 _ at in
     let eight : (k : ℕ) → k < 8 → 128 ≤ get_or s k 0 =
-        λ k h. open_before s k (omega (arith, h, block.0)) in
+    λ k h. open_before s k (omega (arith, h, block.0)) in
     let nine : (k : ℕ) → k < 9 → 128 ≤ get_or s k 0 =
-        below_more (λ k. 128 ≤ get_or s k 0) 8 eight (omega arith) in
-    (late_end s 9 (omega (arith, within)) nine, at,
-        or_group s 8 c.block_groups-low.result c.from.result (omega arith)
-        (c.block_groups-low.ensures ∙ block.1) (rw ninth c.from.ensures))
+    below_more (λ k. 128 ≤ get_or s k 0) 8 eight (omega arith) in (
+      late_end s 9 (omega (arith, within)) nine,
+      at,
+      or_group s 8 c.block_groups-low.result c.from.result (omega arith)
+          (c.block_groups-low.ensures ∙ block.1) (rw ninth c.from.ensures),
+    )
 
 pub returns-in-None-clause-truncated : goal.returns-in-None-clause-truncated
 returns-in-None-clause-truncated c =
@@ -49,11 +51,11 @@ returns-in-None-clause-truncated c =
     let ninth = get_or_from_slice_get s 8 _ 0 (sym c.in-Some.ensures.value) in
     let within = slice_get_within s 8 _ (sym c.in-Some.ensures.value) in
     let past : length s ≤ 9 =
-        none_past s 9 (sym c.in-None.is ∙ c.byte-2.ensures.value
-            ∙ ap (λ (l : Loading). slice_get l.bytes 9) c.byte.ensures.counted) in
+    none_past s 9 (sym c.in-None.is ∙ c.byte-2.ensures.value
+    ∙ ap (λ (l : Loading). slice_get l.bytes 9) c.byte.ensures.counted) in
     let eight : (k : ℕ) → k < 8 → 128 ≤ get_or s k 0 =
-        λ k h. open_before s k (omega (arith, h, block.0)) in
+    λ k h. open_before s k (omega (arith, h, block.0)) in
     let nine : (k : ℕ) → k < 9 → 128 ≤ get_or s k 0 =
-        below_more (λ k. 128 ≤ get_or s k 0) 8 eight (omega arith) in
+    below_more (λ k. 128 ≤ get_or s k 0) 8 eight (omega arith) in
     let late = late_end s 9 (omega arith) nine in
     (omega arith, omega arith)

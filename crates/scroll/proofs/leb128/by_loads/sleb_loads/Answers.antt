@@ -5,7 +5,7 @@ pub returns-in-Some-sleb_block-clause-read : goal.returns-in-Some-sleb_block-cla
 returns-in-Some-sleb_block-clause-read c =
     let first = c.in-Some.ensures.first in
     block_reads local-sleb c.args.src.now.bytes c.in-Some.block _ _ first.0 first.1
-        c.in-Some-sleb_block.ensures.read
+    c.in-Some-sleb_block.ensures.read
 
 pub signed-requires : goal.signed-requires
 signed-requires c = (c.args.src.now.bytes, c.short_groups.ensures.read)

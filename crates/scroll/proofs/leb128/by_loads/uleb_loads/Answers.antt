@@ -5,4 +5,4 @@ pub returns-in-Some-uleb_block-clause-read : goal.returns-in-Some-uleb_block-cla
 returns-in-Some-uleb_block-clause-read c =
     let first = c.in-Some.ensures.first in
     block_reads local-uleb c.args.src.now.bytes c.in-Some.block _ _ first.0 first.1
-        c.in-Some-uleb_block.ensures.read
+    c.in-Some-uleb_block.ensures.read

@@ -6,7 +6,7 @@ pub returns-in_default-clause-truncated : goal.returns-in_default-clause-truncat
 returns-in_default-clause-truncated c =
     let past = not_there c.args.src.now c.loop-i.i c.in_default.ensures.lookup.0 in
     let whole : c.loop-i.i ≡ length c.args.src.now =
-        omega (arith, past, c.loop-i.invariant.within) in
+    omega (arith, past, c.loop-i.invariant.within) in
     let end = no_end c.args.src.now (rw whole at c.loop-i.invariant.open_so_far) in
     (omega arith, omega arith)
 
@@ -31,14 +31,14 @@ loop-i-preserved c =
       open_so_far = below_more _ _ c.loop-i.invariant.open_so_far (omega (arith, there.2));
       value =
           or_group s c.loop-i.i c.loop-i.groups c.from.result (omega arith) c.loop-i.invariant.value
-              (rw there.2 c.from.ensures);
+          (rw there.2 c.from.ensures);
     }
 
 pub returns-in-Some-get-clause-read : goal.returns-in-Some-get-clause-read
 returns-in-Some-get-clause-read c =
     let look = c.in-Some-get.ensures.lookup in
     tenth_there c.args.src.now c.loop-i.i c.loop-i.groups _ look.0 look.1 (omega arith)
-        c.loop-i.invariant.open_so_far c.loop-i.invariant.value
+    c.loop-i.invariant.open_so_far c.loop-i.invariant.value
 
 pub returns-in-None-clause-truncated : goal.returns-in-None-clause-truncated
 returns-in-None-clause-truncated c =
@@ -46,6 +46,6 @@ returns-in-None-clause-truncated c =
     let past = not_there s 9 c.in-None.ensures.lookup.0 in
     let nine : c.loop-i.i ≡ 9 = omega arith in
     let late =
-        late_end s 9 (omega (arith, c.loop-i.invariant.within))
-            (rw nine at c.loop-i.invariant.open_so_far) in
+    late_end s 9 (omega (arith, c.loop-i.invariant.within))
+    (rw nine at c.loop-i.invariant.open_so_far) in
     (omega arith, omega arith)

@@ -8,7 +8,7 @@ pub returns-then-i-count : goal.returns-then-i-count
 returns-then-i-count c =
     let a = c.args in
     let digit : c.if-i-lt9.group ≡ ten_groups a.low a.tenth % 128 ^ a.count / 128 ^ a.i % 128 =
-        elim c.if-i-lt9.branch [
+    elim c.if-i-lt9.branch [
       | then-i-lt9 w ↦
           group_digit a.low a.tenth a.count a.i _ c.requires.within w.if-i-lt9.true w.group-is
       | else-i-lt9 w ↦ w.group-is
@@ -21,7 +21,7 @@ pub returns-else-i-count : goal.returns-else-i-count
 returns-else-i-count c =
     let a = c.args in
     let digit : c.if-i-lt9.group ≡ ten_groups a.low a.tenth % 128 ^ a.count / 128 ^ a.i % 128 =
-        elim c.if-i-lt9.branch [
+    elim c.if-i-lt9.branch [
       | then-i-lt9 w ↦
           group_digit a.low a.tenth a.count a.i _ c.requires.within w.if-i-lt9.true w.group-is
       | else-i-lt9 w ↦ w.group-is

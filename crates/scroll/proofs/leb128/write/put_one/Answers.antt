@@ -12,7 +12,7 @@ returns c =
     let u = ten_groups a.low a.tenth % 128 ^ 1 in
     let room : 1 ≤ length (set a.dst.now 0 (encoded_byte u 1 0)) = rw length-set c.requires.room in
     let bytes =
-        fill_by_more (encoded_byte u 1) a.dst.now 0 0 (omega (arith, c.requires.room))
-            (λ (k : ℕ) (h : k < 0). absurd (omega (arith, h))) in
+    fill_by_more (encoded_byte u 1) a.dst.now 0 0 (omega (arith, c.requires.room))
+    (λ (k : ℕ) (h : k < 0). absurd (omega (arith, h))) in
     rw c.byte_of.ensures (encoding_written u 1 a.dst.now _ room bytes
-        (drop-set-lt 1 a.dst.now 0 _ (omega arith)))
+    (drop-set-lt 1 a.dst.now 0 _ (omega arith)))

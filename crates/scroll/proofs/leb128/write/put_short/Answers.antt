@@ -8,8 +8,8 @@ returns c =
     let a = c.args in
     let x = ten_groups a.low a.tenth in
     short_written (x % 128 ^ a.count) a.count _ _ _ a.dst.now c.requires.some c.requires.few
-        c.requires.room
+    c.requires.room
     (c.byte_of.ensures ∙ open_same x 3 a.count 0 (omega arith) (omega (arith, c.requires.some)))
     (λ (three : a.count ≡ 3). c.byte_of-2.ensures
-        ∙ open_same x 3 a.count 1 (omega arith) (omega (arith, three)))
+    ∙ open_same x 3 a.count 1 (omega arith) (omega (arith, three)))
     c.last_of_short-last.ensures

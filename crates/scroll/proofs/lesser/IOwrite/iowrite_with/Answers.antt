@@ -9,8 +9,8 @@ returns-then-size-le-SMALL g c =
     let size = g.N.SizeWith.size c.args.ctx in
     let zeros = take-replicate {X = ℕ} size 16 0 (omega arith) in
     let told : OnOk c.write_value.result
-        (AppendsValue (g.Self.Write.contents c.args.self.now)
-        (g.Self.Write.contents c.write_value.new.writer)
+    (AppendsValue (g.Self.Write.contents c.args.self.now)
+    (g.Self.Write.contents c.write_value.new.writer)
     size (g.N.IntoCtx.overwrites c.args.ctx c.args.n (take size (replicate 16 0)))) =
-        grind (arith, common_steps, c.write_value.ensures) in
+    grind (arith, common_steps, c.write_value.ensures) in
     record { appended = rw zeros at told }

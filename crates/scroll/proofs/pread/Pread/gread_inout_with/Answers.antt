@@ -21,4 +21,4 @@ loop-i-preserved g c =
 pub returns-clause-read : goal.returns-clause-read
 returns-clause-read g c =
     rw (take_all c.loop-i.i c.loop-i.inout (omega (arith, c.loop-i.invariant.len))) at
-        c.loop-i.invariant.prefix
+    c.loop-i.invariant.prefix

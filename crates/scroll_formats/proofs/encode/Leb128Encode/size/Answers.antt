@@ -5,4 +5,4 @@ use Rattle.scroll_formats.proofs.encode.Leb128Encode.size.Goals as goal
 pub returns : goal.returns
 returns g c =
     rw (length-encoding (g.V.LebNumber.form c.args.self.value c.args.self.count) c.args.self.count)
-        (search (rules, arith))
+    (search (rules, arith))

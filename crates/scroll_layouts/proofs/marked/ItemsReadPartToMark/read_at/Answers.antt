@@ -14,7 +14,7 @@ returns-clause-read g c =
     let end = c.in_ok-end.end in
     let rest = take (length s - o) (drop o s) in
     let is : rest ≡ drop o s =
-        take_all (length s - o) (drop o s) (omega (arith, length-drop o s)) in
+    take_all (length s - o) (drop o s) (omega (arith, length-drop o s)) in
     let inside = c.in_ok-end.ensures.inside in
     let long : length (take end rest) ≡ end = length-take-le end rest inside in (
       omega (arith, long, inside, ap length is, length-drop o s, c.requires),

@@ -18,7 +18,7 @@ returns g c =
     let gap : c.padding.result ≡ padding_len (len f x) m =
     c.padding.ensures.value ∙ ap (λ k. padding_len k m) (size ∙ long) in
     subst (λ k. c.put_behind.new.dst
-        ≡ (b ++ replicate k 0) ++ drop (length (b ++ replicate k 0)) c.args.dst.now) gap
+    ≡ (b ++ replicate k 0) ++ drop (length (b ++ replicate k 0)) c.args.dst.now) gap
     (gap-put b (replicate c.padding.result 0) c.args.dst.now c.put.new.dst c.put_behind.new.dst
-        c.size-size.result size
+    c.size-size.result size
     c.put.ensures c.put_behind.ensures.before c.put_behind.ensures.after)

@@ -27,7 +27,7 @@ returns-then-value-clause-refused c =
       whole = λ cut. nine-below s n there h.1 cut great;
       unfit = λ whole fits.
           too-great s n (omega (arith, c.loop-count-test.true)) there h.1 great whole.0 whole.1
-              fits;
+          fits;
       error = search rules;
     })
 

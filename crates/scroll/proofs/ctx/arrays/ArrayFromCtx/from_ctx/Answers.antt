@@ -11,7 +11,7 @@ from_fn-requires g c = (
       let this : p.0.now ≡ c.args.this.now = ap (λ (v : List ℕ × g.row.Ctx.Denot). v.0) same in
       let ctx : p.1 ≡ c.args.ctx = ap (λ (v : List ℕ × g.row.Ctx.Denot). v.1) same in
       let room : max (g.T.SizeWith.size p.1) (g.T.FromCtx.need p.1) * g.row.N ≤ length p.0.now =
-          rw (this, ctx) c.requires in
+      rw (this, ctx) c.requires in
       let next : i + 1 ≤ g.row.N = omega (arith, lt) in
       le_trans (mul-le-mul_left _ next) room),
 )
@@ -22,5 +22,5 @@ returns g c = record {
   each =
       each-made {X = List ℕ × g.row.Ctx.Denot} (λ p. (p.0.now, p.1)) _ (λ p i y q e. search rules)
       (λ s i y. g.T.FromCtx.makes s.1 (drop (g.T.SizeWith.size s.1 * i) s.0) y)
-          (λ p i y q e. search rules) _ _ g.row.N c.from_fn.ensures.items;
+      (λ p i y q e. search rules) _ _ g.row.N c.from_fn.ensures.items;
 }

@@ -11,7 +11,7 @@ loop-i-preserved g c =
     let xs = c.args.self in
     let x = get_or xs i c.index-self-i.result in
     let more : take (i + 1) xs ≡ take i xs ++ x ∷ [] =
-        (take_at_read xs i c.index-self-i.result (omega arith)).1 in
+    (take_at_read xs i c.index-self-i.result (omega arith)).1 in
     let len : length (take i xs) ≡ i = length-take-le i xs (omega arith) in
     record {
       put = rw more (OverwritesAll-next w (g.T.IntoCtx.overwrites c.args.ctx) _ (take i xs) _ x _ i

@@ -16,12 +16,12 @@ returns-then-not-fits-clause-refused g c = (
 pub loop-i-init : goal.loop-i-init
 loop-i-init g c =
     IsFilled-none (g.T.TryFromCtx.reads c.args.ctx) c.args.from.now c.new-slots.result.items
-        (search rules)
+    (search rules)
 
 pub loop-i-preserved : goal.loop-i-preserved
 loop-i-preserved g c =
     IsFilled-push (g.T.TryFromCtx.reads c.args.ctx) c.args.from.now _ _ _ _ _ _ c.loop-i.invariant
-        c.push.ensures.items c.in_ok-value.ensures.read
+    c.push.ensures.items c.in_ok-value.ensures.read
 
 pub returns-clause-read : goal.returns-clause-read
 returns-clause-read g c =
@@ -32,24 +32,26 @@ returns-clause-read g c =
 pub returns-in_err-value-clause-refused : goal.returns-in_err-value-clause-refused
 returns-in_err-value-clause-refused g c =
     let refused =
-        IsFilled-refused (g.T.TryFromCtx.reads c.args.ctx) (g.T.TryFromCtx.refuses c.args.ctx)
-            (PastEnd g.E.From.from_gives) c.args.from.now
+    IsFilled-refused (g.T.TryFromCtx.reads c.args.ctx) (g.T.TryFromCtx.refuses c.args.ctx)
+    (PastEnd g.E.From.from_gives) c.args.from.now
     _ _ g.row.N _ c.in_err-value.field-0.0 c.loop-i.invariant c.loop-i-test.true
-        c.in_err-value.ensures.refused in
+    c.in_err-value.ensures.refused in
     let p = err_from_is_err_and c.from_residual.result c.from_residual.ensures.1 in
     rw (p.1, p.2) (λ _. refused, λ no. absurd (no (c.if-not-fits.ensures.only refl)))
 
 pub push-requires : goal.push-requires
 push-requires g c =
-    let was = c.loop-i.invariant in
-    (c.if-not-fits.ensures.fits refl,
-        omega (arith, ap length was.slots, length-map was.values (λ x. Some x), was.len))
+    let was = c.loop-i.invariant in (
+      c.if-not-fits.ensures.fits refl,
+      omega (arith, ap length was.slots, length-map was.values (λ x. Some x), was.len),
+    )
 
 pub unwrap_slots-values-requires : goal.unwrap_slots-values-requires
 unwrap_slots-values-requires g c =
-    let was = c.loop-i.invariant in
-    (c.if-not-fits.ensures.fits refl,
-        (search rules, (was.values, was.slots, omega (arith, was.len))))
+    let was = c.loop-i.invariant in (
+      c.if-not-fits.ensures.fits refl,
+      (search rules, (was.values, was.slots, omega (arith, was.len))),
+    )
 
 pub new-slots-requires : goal.new-slots-requires
 new-slots-requires g c = c.if-not-fits.ensures.fits refl

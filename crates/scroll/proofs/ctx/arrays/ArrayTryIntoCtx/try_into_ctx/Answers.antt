@@ -8,14 +8,14 @@ use Rattle.scroll.proofs.ctx.arrays.ArrayTryIntoCtx.try_into_ctx.Goals as goal
 pub loop-i-init : goal.loop-i-init
 loop-i-init g c =
     IsPartWritten-none (g.T.TryIntoCtx.writes c.args.ctx) c.args.self
-        (array_into_iter_items c.into_iter-values.result) c.args.dst.now (search rules)
+    (array_into_iter_items c.into_iter-values.result) c.args.dst.now (search rules)
 
 pub loop-i-preserved : goal.loop-i-preserved
 loop-i-preserved g c =
     IsPartWritten-next (g.T.TryIntoCtx.writes c.args.ctx) c.args.self _ _ c.args.dst.now _ _ _ _ _
-        c.in-Some.value
+    c.in-Some.value
     c.loop-i.invariant c.in-Some.ensures.steps c.in_ok-offset-in-Some.ensures.wrote
-        c.in_ok-offset-in-Some.ensures.inside
+    c.in_ok-offset-in-Some.ensures.inside
 
 pub returns-then-not-fits-clause-refused : goal.returns-then-not-fits-clause-refused
 returns-then-not-fits-clause-refused g c = (
@@ -40,8 +40,8 @@ next-requires g c = (c.if-not-fits.ensures.fits refl, search rules)
 pub returns-in_err-offset-in-Some-clause-refused : goal.returns-in_err-offset-in-Some-clause-refused
 returns-in_err-offset-in-Some-clause-refused g c =
     let failed =
-        IsPartWritten-fails (g.T.TryIntoCtx.writes c.args.ctx) (g.T.TryIntoCtx.refuses c.args.ctx)
-            c.args.self _ _ c.args.dst.now _ _ _ _ c.in-Some.value _
+    IsPartWritten-fails (g.T.TryIntoCtx.writes c.args.ctx) (g.T.TryIntoCtx.refuses c.args.ctx)
+    c.args.self _ _ c.args.dst.now _ _ _ _ c.in-Some.value _
     c.loop-i.invariant c.in-Some.ensures.steps c.in_err-offset-in-Some.ensures.refused in
     let p = err_from_is_err_and c.from_residual.result c.from_residual.ensures.1 in
     rw (p.1, p.2) (λ _. failed, λ no. absurd (no (c.if-not-fits.ensures.only refl)))

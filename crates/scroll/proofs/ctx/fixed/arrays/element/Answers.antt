@@ -8,8 +8,8 @@ returns g c =
     let from = c.args.from.now in
     let offset = g.T.Fixed.width * c.args.index in
     let read =
-        subst (λ o. g.T.Fixed.makes order from o c.read_at.result)
-            (ap (λ w. w * c.args.index) c.width.ensures) c.read_at.ensures in
+    subst (λ o. g.T.Fixed.makes order from o c.read_at.result)
+    (ap (λ w. w * c.args.index) c.width.ensures) c.read_at.ensures in
     g.met.T.Fixed.local order from offset (drop offset from) 0 c.read_at.result refl read
 
 pub overflow_mul-width : goal.overflow_mul-width

@@ -8,5 +8,5 @@ returns g c = record {
   len = c.from_fn.ensures.items.long;
   each = each-made {X = List ℕ × Endian} (λ p. (p.0.now, p.1.now)) _ (λ p i y q e. search rules)
       (λ s i y. g.T.Fixed.makes s.1 (drop (g.T.Fixed.width * i) s.0) 0 y)
-          (λ p i y q e. search rules) _ _ g.row.N c.from_fn.ensures.items;
+      (λ p i y q e. search rules) _ _ g.row.N c.from_fn.ensures.items;
 }

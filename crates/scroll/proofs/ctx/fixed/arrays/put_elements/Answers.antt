@@ -17,18 +17,18 @@ loop-i-preserved g c =
     let next : w * i + w ≡ w * (i + 1) = omega (arith, mul-add w i 1) in
     let before : take (w * i) c.write_behind.new.dst ≡ take (w * i) c.loop-i.dst =
     subst (λ p. take p c.write_behind.new.dst ≡ take p c.loop-i.dst) offset
-        c.write_behind.ensures.before in
+    c.write_behind.ensures.before in
     let after : drop (w * i) c.write_behind.new.dst
-            ≡ bytes (get_or xs i d) ++ drop w (drop (w * i) c.loop-i.dst) =
+    ≡ bytes (get_or xs i d) ++ drop w (drop (w * i) c.loop-i.dst) =
     subst (λ p. drop p c.write_behind.new.dst
-        ≡ bytes (get_or xs i d) ++ drop w (drop p c.loop-i.dst)) offset
-        c.write_behind.ensures.after in
+    ≡ bytes (get_or xs i d) ++ drop w (drop p c.loop-i.dst)) offset
+    c.write_behind.ensures.after in
     let inside : i < length xs = omega arith in
     record {
       put = subst (λ p. Begins p (flat_map bytes (take (i + 1) xs)) c.args.dst.now
           c.write_behind.new.dst) next
           (grow-next bytes xs i d c.loop-i.invariant.put inside
-              (g.met.T.Fixed.bytes_len c.args.order (get_or xs i d)) before after);
+          (g.met.T.Fixed.bytes_len c.args.order (get_or xs i d)) before after);
       len = search rules;
     }
 

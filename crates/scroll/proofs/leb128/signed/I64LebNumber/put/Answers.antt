@@ -16,18 +16,18 @@ returns-clause-wrote c =
       | else-self-lt0 w ↦ tenth_above a.self _ (rw back at w.if-self-lt0.false) w.tenth-is
     ] in
     let low : c.cast_unsigned.result ≡ of_z w64 a.self =
-        c.cast_unsigned.ensures ∙ ap (of_z w64) back in
+    c.cast_unsigned.ensures ∙ ap (of_z w64) back in
     rw (low, tenth, signed_groups_form a.self a.count c.requires.spelled) at
-        c.put_groups.ensures.wrote
+    c.put_groups.ensures.wrote
 
 pub returns-clause-reads : goal.returns-clause-reads
 returns-clause-reads c =
     IfOk-weaker c.put_groups.result _ _
-        (λ n w. written_reads signed-form c.args.self c.args.count _ _ c.requires.spelled w.after)
-        (returns-clause-wrote c)
+    (λ n w. written_reads signed-form c.args.self c.args.count _ _ c.requires.spelled w.after)
+    (returns-clause-wrote c)
 
 pub returns-clause-begins : goal.returns-clause-begins
 returns-clause-begins c =
     IfOk-weaker c.put_groups.result _ _
-        (λ n w. λ s. read_is_written signed-form c.args.self c.args.count s _ _ w.after)
-        (returns-clause-wrote c)
+    (λ n w. λ s. read_is_written signed-form c.args.self c.args.count s _ _ w.after)
+    (returns-clause-wrote c)

@@ -9,6 +9,6 @@ pub returns : goal.returns
 returns c =
     let back = to_z-of_z w64 c.args.self c.ranges.self in
     let word : c.to_magnitude.result * 2 % 2 ^ 64 ≡ 2 * magnitude_bits c.args.self =
-        ap (λ x. x * 2 % 2 ^ 64) (c.to_magnitude.ensures ∙ ap magnitude_bits back)
-        ∙ twice_magnitude c.args.self c.ranges.self in
+    ap (λ x. x * 2 % 2 ^ 64) (c.to_magnitude.ensures ∙ ap magnitude_bits back)
+    ∙ twice_magnitude c.args.self c.ranges.self in
     signed_least c.args.self _ c.ranges.self (rw word at c.shortest_count.ensures)

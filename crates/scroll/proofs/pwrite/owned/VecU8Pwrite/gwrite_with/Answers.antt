@@ -10,22 +10,22 @@ pub returns-clause-wrote : goal.returns-clause-wrote
 returns-clause-wrote g c =
     let new = c.gwrite_with.new.dst in
     let same =
-        whole c.args.self.now.len new (drop (length new) c.args.self.now.items)
-            (c.gwrite_with.auto.dst ∙ c.as_mut_slice.ensures.len) in
+    whole c.args.self.now.len new (drop (length new) c.args.self.now.items)
+    (c.gwrite_with.auto.dst ∙ c.as_mut_slice.ensures.len) in
     rw same (rw c.as_mut_slice.ensures.value at c.gwrite_with.ensures.wrote)
 
 pub returns-clause-refused : goal.returns-clause-refused
 returns-clause-refused g c =
     let new = c.gwrite_with.new.dst in
     let same =
-        whole c.args.self.now.len new (drop (length new) c.args.self.now.items)
-            (c.gwrite_with.auto.dst ∙ c.as_mut_slice.ensures.len) in
+    whole c.args.self.now.len new (drop (length new) c.args.self.now.items)
+    (c.gwrite_with.auto.dst ∙ c.as_mut_slice.ensures.len) in
     rw same (rw c.as_mut_slice.ensures.value at c.gwrite_with.ensures.refused)
 
 pub returns-clause-len : goal.returns-clause-len
 returns-clause-len g c =
     let new = c.gwrite_with.new.dst in
     let same =
-        whole c.args.self.now.len new (drop (length new) c.args.self.now.items)
-            (c.gwrite_with.auto.dst ∙ c.as_mut_slice.ensures.len) in
+    whole c.args.self.now.len new (drop (length new) c.args.self.now.items)
+    (c.gwrite_with.auto.dst ∙ c.as_mut_slice.ensures.len) in
     ap length same ∙ c.gwrite_with.auto.dst ∙ ap length c.as_mut_slice.ensures.value

@@ -13,7 +13,7 @@ returns g c =
     let all = exactly (w * g.row.N)
     (flat_map (laid_bytes g.T.FixedLayout.layout c.args.order) c.args.self.now) in
     let same =
-        array-bytes-same w g.T.Fixed.width g.row.N (laid_bytes g.T.FixedLayout.layout c.args.order)
+    array-bytes-same w g.T.Fixed.width g.row.N (laid_bytes g.T.FixedLayout.layout c.args.order)
     (g.T.Fixed.bytes c.args.order) c.same.ensures.width (c.same.ensures.bytes c.args.order)
     c.args.self.now in
     c.write_prefix.ensures ∙ ap (λ l. l ++ drop (g.T.Fixed.width * g.row.N) old) (sym same)

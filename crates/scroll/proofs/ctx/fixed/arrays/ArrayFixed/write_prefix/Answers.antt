@@ -11,9 +11,9 @@ put_bytes-requires g c =
     let bytes = g.T.Fixed.bytes c.args.order in
     let size : length c.args.self ≡ g.row.N = omega arith in
     let whole =
-        exactly-elements w g.row.N bytes (g.met.T.Fixed.bytes_len c.args.order) c.args.self size in
+    exactly-elements w g.row.N bytes (g.met.T.Fixed.bytes_len c.args.order) c.args.self size in
     let long = ap length (c.in-Some.ensures ∙ sym whole)
-        ∙ length-exactly (w * g.row.N) (flat_map bytes c.args.self) in
+    ∙ length-exactly (w * g.row.N) (flat_map bytes c.args.self) in
     omega (arith, long)
 
 pub returns-in-Some : goal.returns-in-Some
@@ -22,9 +22,9 @@ returns-in-Some g c =
     let bytes = g.T.Fixed.bytes c.args.order in
     let size : length c.args.self ≡ g.row.N = omega arith in
     let whole =
-        exactly-elements w g.row.N bytes (g.met.T.Fixed.bytes_len c.args.order) c.args.self size in
+    exactly-elements w g.row.N bytes (g.met.T.Fixed.bytes_len c.args.order) c.args.self size in
     let same : c.in-Some.bytes.now ≡ exactly (w * g.row.N) (flat_map bytes c.args.self) =
-        c.in-Some.ensures ∙ sym whole in
+    c.in-Some.ensures ∙ sym whole in
     rw (same, length-exactly (w * g.row.N) (flat_map bytes c.args.self)) at c.put_bytes.ensures
 
 pub returns-in-None : goal.returns-in-None
@@ -32,6 +32,6 @@ returns-in-None g c =
     let w = g.T.Fixed.width in
     let size : length c.args.self ≡ g.row.N = omega arith in
     let whole =
-        exactly-elements w g.row.N (g.T.Fixed.bytes c.args.order)
-            (g.met.T.Fixed.bytes_len c.args.order) c.args.self size in
+    exactly-elements w g.row.N (g.T.Fixed.bytes c.args.order)
+    (g.met.T.Fixed.bytes_len c.args.order) c.args.self size in
     c.put_elements.ensures ∙ ap (λ l. l ++ drop (w * g.row.N) c.args.dst.now) (sym whole)

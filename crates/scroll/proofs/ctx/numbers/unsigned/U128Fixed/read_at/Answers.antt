@@ -7,9 +7,9 @@ use Rattle.scroll.proofs.ctx.numbers.unsigned.U128Fixed.read_at.Goals as goal
 pub returns-in-Little : goal.returns-in-Little
 returns-in-Little c =
     rw c.in-Little.is (c.from_le_bytes.ensures ∙ ap (from_le_bytes w128) c.bytes_at.ensures
-        ∙ omega (arith, number-take Little 16 16 (drop c.args.offset c.args.from.now)))
+    ∙ omega (arith, number-take Little 16 16 (drop c.args.offset c.args.from.now)))
 
 pub returns-in-Big : goal.returns-in-Big
 returns-in-Big c =
     rw c.in-Big.is (c.from_be_bytes.ensures ∙ ap (from_be_bytes w128) c.bytes_at-in-Big.ensures
-        ∙ omega (arith, number-take Big 16 16 (drop c.args.offset c.args.from.now)))
+    ∙ omega (arith, number-take Big 16 16 (drop c.args.offset c.args.from.now)))
