@@ -3,7 +3,8 @@ of WebAssembly, and headers of gzip and of tar.
 
     python3 formats.py FOLDER [COUNT]
 
-COUNT is how many messages, and how many headers, there are (400). The files in bench/inputs/ have 8.
+COUNT is how many messages, and how many headers, there are (400). The files in bench/inputs/ have 8, and so has
+crates/described/stdin, the headers of gzip.
 """
 
 import gzip

@@ -13,12 +13,7 @@ use Rattle.scroll.specs.declared.ctx.str_ctx.StrCtx.TheVariants.{Required}
 -- alike
 pub use Rattle.scroll.proofs.lemmas.TextLemmas.{offset-behind, index_of-prefixes}
 -- what was written in LEB128 reads back, and what is read are the bytes of an encoding
-pub use Rattle.scroll.proofs.lemmas.EncodingLemmas.{
-  written_reads,
-  reads_encoding,
-  unsigned-form,
-  signed-form,
-}
+pub use Rattle.scroll.proofs.lemmas.EncodingLemmas.{written_reads, reads_encoding, unsigned-form, signed-form}
 -- a list that begins with the bytes of a number begins with that number
 pub use Rattle.scroll.specs.lemmas.NumberLemmas.{number-begins, signed-begins}
 -- the bytes of the number at an offset are the bytes there

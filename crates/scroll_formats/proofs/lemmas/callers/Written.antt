@@ -7,13 +7,7 @@ use Rattle.scroll.specs.Reads.{ReadsAll}
 -- bytes that are written are there
 pub use Rattle.scroll_formats.proofs.lemmas.SpanLemmas.{prefix-stands, puts-stands}
 -- one write after another: the values that it keeps, and the bytes that it changes
-pub use Rattle.scroll_formats.proofs.lemmas.ManyLemmas.{
-  kept-one,
-  changes-one,
-  changes-none,
-  changes-next,
-  changes-within,
-}
+pub use Rattle.scroll_formats.proofs.lemmas.ManyLemmas.{kept-one, changes-one, changes-none, changes-next, changes-within}
 
 -- values that were written one after another read back, if each does
 pub ReadsAll-again : {V : Type 0} (reads : List ℕ → V → ℕ → Type 0) (bytes : V → List ℕ)
