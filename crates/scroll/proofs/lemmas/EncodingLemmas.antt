@@ -38,9 +38,9 @@ last_one s v n e some room =
     let below = div_below v (128 ^ (n - 1)) 128 positive (rw power at room) in
     (omega arith, below)
 
-digit_at : (s : List ℕ) (v n k : ℕ) → get_or s k 0 ≡ encoded_byte v n k
+encoded_group : (s : List ℕ) (v n k : ℕ) → get_or s k 0 ≡ encoded_byte v n k
     → group s k ≡ v / 128 ^ k % 128
-digit_at s v n k e = elim (cases_lt (k + 1) n) [
+encoded_group s v n k e = elim (cases_lt (k + 1) n) [
   | inl h ↦
       let t : nat_lt (k + 1) n ≡ true = grind (arith, nat_tests) in
       let f = rw t at e in
@@ -56,9 +56,9 @@ digit_is : (s : List ℕ) (n i : ℕ) → i < n → groups_value s n / 128 ^ i %
 digit_is s n i h = digit-at 128 (λ i. group s i) (λ i. omega arith) n i h
 
 -- a sum of digits is what they are the digits of
-digits_sum : (s : List ℕ) (v n : ℕ) → ((i : ℕ) → i < n → group s i ≡ v / 128 ^ i % 128)
+groups_sum : (s : List ℕ) (v n : ℕ) → ((i : ℕ) → i < n → group s i ≡ v / 128 ^ i % 128)
     → groups_value s n ≡ v % 128 ^ n
-digits_sum s v n h =
+groups_sum s v n h =
     sum_below-same _ _ n (λ i l. ap (λ g. g * 128 ^ i) (h i l)) ∙ digits-sum 128 (omega arith) n v
 
 encoded_at : (s : List ℕ) (v n k : ℕ) → n ≤ length s → ((i : ℕ) → i < length s → get_or s i 0 < 256)
@@ -108,13 +108,13 @@ from_encoding s v n has is =
     λ (k : ℕ) (h : k < n - 1). before_last s v n k (byte k (omega arith)) (omega arith) in
     let top = last_one s v n (byte (n - 1) (omega (arith, has.some))) has.some has.room in
     let e : end_of s ≡ n - 1 = end_at s (n - 1) (omega (arith, has.some)) more top.0 in
-    let digits = λ (i : ℕ) (h : i < n). digit_at s v n i (byte i h) in
+    let digits = λ (i : ℕ) (h : i < n). encoded_group s v n i (byte i h) in
     let n_is : n ≡ count_of s = omega (arith, has.some) in
     record {
       complete = (omega (arith, has.some), omega (arith, has.few));
       fits = tt;
       value =
-          sym (mod-eq_of_lt has.room) ∙ sym (digits_sum s v n digits) ∙ ap (groups_value s) n_is;
+          sym (mod-eq_of_lt has.room) ∙ sym (groups_sum s v n digits) ∙ ap (groups_value s) n_is;
       size = n_is;
     }
 

@@ -301,11 +301,11 @@ pub either-order : {old mid new mid' new' : List ℕ} {offset offset' : ℕ}
     → (new ≡ new') × (r ≡ q) × (r' ≡ q')
 either-order {old} {mid} {new} {mid'} {new'} {offset} {offset'} {leaves} {leaves'} {r} {r'} {q} {q'}
     apart w w' v' v =
-    let to_magnitude = leaves-exchange old mid new offset offset' leaves leaves' r r' apart w w' in
-    let first = one-outcome old offset' leaves' to_magnitude.0 mid' r' q' to_magnitude.1 v' in
+    let exchanged = leaves-exchange old mid new offset offset' leaves leaves' r r' apart w w' in
+    let first = one-outcome old offset' leaves' exchanged.0 mid' r' q' exchanged.1 v' in
     let second =
     one-outcome mid' offset leaves new new' r q
-    (subst (λ m. WritesLeaves m offset leaves new r) first.0 to_magnitude.2) v in
+    (subst (λ m. WritesLeaves m offset leaves new r) first.0 exchanged.2) v in
     (second.0, second.1, first.1)
 
 -- two writes of values of fixed sizes that don't overlap may be exchanged

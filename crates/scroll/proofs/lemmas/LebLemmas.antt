@@ -169,10 +169,10 @@ pub less_whole : (u p k : ℕ) → u + suc k ≡ p → negsuc k ≡ pos u -ℤ p
 less_whole u p k h = omega (arith, ints)
 
 -- the highest bit h of a number, flipped and then subtracted
-to_magnitude : (g k h : ℕ) → h ≡ 2 ^ k → h ≤ 2 ^ 62 → g < 2 * h
+flipped_sign : (g k h : ℕ) → h ≡ 2 ^ k → h ≤ 2 ^ 62 → g < 2 * h
     → to_z w64 ((bit_xor g h + (2 ^ 64 - h)) % 2 ^ 64)
     ≡ (if nat_lt g h then pos g else pos g -ℤ pos (2 * h))
-to_magnitude g k h is small room =
+flipped_sign g k h is small room =
     let total : bit_xor g h + bit_and g h * 2 ≡ g + h = xor_add_and g h in
     let form : bit_and g h ≡ g / h % 2 * h = rw (← is) at (and_pow g k) in
     let some : 0 < h = omega (arith, is, one-le-pow k 2 (omega arith)) in
@@ -216,5 +216,5 @@ signed_groups g n some few room =
     let bit : h ≡ 2 ^ (6 + 7 * (n - 1)) = sym places ∙ sym (pow-add 2 6 (7 * (n - 1))) in
     let sign : 64 * 2 ^ (7 * (n - 1)) % 2 ^ 64 ≡ h =
     ap (λ x. x % 2 ^ 64) places ∙ mod-eq_of_lt (omega (arith, most)) in
-    rw (sign, ← whole) (to_magnitude g (6 + 7 * (n - 1)) h bit (omega (arith, most))
+    rw (sign, ← whole) (flipped_sign g (6 + 7 * (n - 1)) h bit (omega (arith, most))
     (rw (← whole) at room))

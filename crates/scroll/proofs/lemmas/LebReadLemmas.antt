@@ -341,9 +341,9 @@ tenth_reads_signed s g t late at g_is small h fits =
           let sign : nat_lt (group s 9) 64 ≡ false = grind (arith, nat_tests) in
           let total : groups_value s (9 + 1) ≡ g + 127 * 2 ^ 63 = omega (arith, sum) in
           let joined : bit_or g (1 * 2 ^ 63) ≡ 1 * 2 ^ 63 + g = or_shifted_r 1 63 g low in
-          let to_magnitude : 1 * 2 ^ 63 + g ≡ 2 ^ 64 - suc (2 ^ 63 - g - 1) = omega arith in
+          let complement : 1 * 2 ^ 63 + g ≡ 2 ^ 64 - suc (2 ^ 63 - g - 1) = omega arith in
           let word : to_z w64 (1 * 2 ^ 63 + g) ≡ negsuc (2 ^ 63 - g - 1) =
-          ap (to_z w64) to_magnitude ∙ to_z-neg w64 (2 ^ 63 - g - 1) (omega arith) in
+          ap (to_z w64) complement ∙ to_z-neg w64 (2 ^ 63 - g - 1) (omega arith) in
           let signed_is : signed_of s ≡ pos (g + 127 * 2 ^ 63) -ℤ pos (128 ^ 10) =
           rw (e, sign, total) refl in
           let less = less_whole (g + 127 * 2 ^ 63) (128 ^ 10) (2 ^ 63 - g - 1) (omega arith) in (
