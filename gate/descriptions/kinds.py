@@ -330,7 +330,8 @@ class Gap(Kind):
 
     def take(self, source: bytes, at: int, order: str, known: Known) -> Tuple[bytearray, int]:
         size = self.size(known)
-        return bytearray(size), take_zeros(source, at, size)
+        end = take_zeros(source, at, size)
+        return bytearray(size), end
 
     def check(self, value: bytearray, order: str, known: Known) -> None:
         # (A value says nothing of how many there are: so many are written as what is before them says.)

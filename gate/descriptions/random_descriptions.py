@@ -3,11 +3,12 @@
 
     python3 gate/descriptions/random_descriptions.py [SEED [COUNT]]
 
-COUNT structs (8) are drawn from SEED (2) by gate/descriptions/draw.py, of 2 to 14 fields of all kinds that tools/derive
-takes, nested to depth 3; the last of twenty-four is nested to depth 10. `python3 tools/derive` prints what they need, in crates of
-some structs over the libraries as `rt lib` proves them in this repository. Each struct has functions that use it, with no proof
-by hand: a reader that says where fields stand and which error a short source is, a writer that reads a field back, a walk
-over a list, and without floats a copier. `rt check` proves each crate.
+COUNT structs (8) are drawn from SEED (34:1) by gate/descriptions/draw.py, of 2 to 14 fields of all kinds that tools/derive takes,
+nested to depth 3; the last of twenty-four is nested to depth 10. (`34:1` is the second draw from 34, whose fourth struct isn't
+proved where numbers in bytes are an `abbrev`.) `python3 tools/derive` prints what they need, in crates of some structs over the
+libraries as `rt lib` proves them in this repository. Each struct has functions that use it, with no proof by hand: a reader that
+says where fields stand and which error a short source is, a writer that reads a field back, a walk over a list, and without
+floats a copier. `rt check` proves each crate.
 
 Then values are drawn, and their bytes made, by gate/descriptions/structs.py, which knows the descriptions alone. A program of
 the same text, which promises nothing more and so is built by `rt try`, reads them, and them cut, with each number one greater
@@ -25,6 +26,7 @@ import argparse
 import contextlib
 import random
 import re
+import shutil
 import subprocess
 import sys
 import time
@@ -43,7 +45,7 @@ from edits.judge import WAITS
 from step import FOLDERS, TOP, Ran, Step, Stop, below, copy_kept, count_workers, read_crates, run_step
 
 LIBRARY = "scroll_layouts"
-SEED, COUNT = 2, 8
+SEED, COUNT = "34:1", 8
 # How often structs are drawn again, so that they have all kinds.
 AGAIN = 50
 # How many structs are in a crate at most: the more, the more memory a check takes.
@@ -75,9 +77,10 @@ class Module(NamedTuple):
         return self.made.struct.name.lower()
 
 
-def draw_all(seed: int, count: int) -> List[Module]:
+def draw_all(seed: str, count: int) -> List[Module]:
     """Draws structs of all kinds, if they are that many."""
-    for again in range(AGAIN):
+    seed, _, first = seed.partition(":")
+    for again in range(int(first or 0), AGAIN):
         modules = draw_modules(f"{seed} {again}", count)
         if count < draw.ALL or not missing_of(modules):
             break
@@ -339,7 +342,6 @@ def work(step: Step, given: argparse.Namespace) -> None:
     lie = claim_falsely(modules[-1].crate)
     top = Path(given.keep) if given.keep else step.room
     names = list(dict.fromkeys(it.crate for it in modules))
-    folders = {it: write_proved(step, top, it, [*modules, lie]) for it in names}
     program = write_program(step, top, modules)
     cases = {it.name: [*cases_of(it.made.struct, f"{given.seed} {it.name}")] for it in modules}
     inputs = write_cases(top, cases)
@@ -350,8 +352,14 @@ def work(step: Step, given: argparse.Namespace) -> None:
         step.tell(f"{name}, {time.time() - begun:.0f} s")
         return ran
 
+    def prove(name: str) -> Ran:
+        ran = run(name, write_proved(step, top, name, [*modules, lie]), "check", "--jobs", 1)
+        if not given.keep:
+            shutil.rmtree(top / name)
+        return ran
+
     with ThreadPoolExecutor(count_workers()) as pool:
-        proofs = {name: pool.submit(run, name, folder, "check", "--jobs", 1) for name, folder in folders.items()}
+        proofs = {name: pool.submit(prove, name) for name in names}
         tried = pool.submit(run, TRIED, program, "try", "--steps", 1, "--cases", inputs)
         for name, proof in proofs.items():
             judge(step, [it for it in modules if it.crate == name], lie, proof.result().said)
@@ -364,7 +372,7 @@ def work(step: Step, given: argparse.Namespace) -> None:
 
 def main() -> int:
     words = argparse.ArgumentParser(description="Proves random descriptions, and compares what the proved code reads and writes.")
-    words.add_argument("seed", type=int, nargs="?", default=SEED, help="from which the structs are drawn")
+    words.add_argument("seed", nargs="?", default=SEED, help="from which the structs are drawn")
     words.add_argument("count", type=int, nargs="?", default=COUNT, help="how many structs are drawn")
     words.add_argument("--keep", help="a new folder in which the crates stay")
     given = words.parse_args()
