@@ -32,7 +32,7 @@ KIT = re.compile(r"(?<=\*\*Rattle kit )\d+(?=\*\*)")
 MADE = r"(?s)(?<=<!-- {0}: begin -->\n).*(?=\n<!-- {0}: end -->)"
 JOB, MORE = 11, re.compile(r" \(per byte\)")
 WIDTH = 100
-MAY_BE_WIDE = re.compile(r"(?:ghost |pub )?use |//[/!]     |#\[")
+MAY_BE_WIDE = re.compile(r"(?:ghost |pub )?use |//[/!]     |#!?\[")
 
 
 def count_parts(crate: Path) -> List[str]:

@@ -91,6 +91,7 @@ impl<'a> TryFromCtx<'a, ()> for Header {
 
     ghost reads_bounded = { λ _ file header n h. Prim.search rules };
 
+    #[tactic(auto, unfolding(scroll::specs::Numbers::number))]
     fn try_from_ctx(from: &'a [u8], _ctx: ()) -> Result<(Header, usize), ElfError> {
         check_room(SIZE, from.len())?;
         let magic: u32 = from.cread_with(0, BE);

@@ -12,19 +12,19 @@ use Rattle.std.specs.Float.{Float, Format, binary32, binary64}
 
 -- `number order w s`: the number in the first `w` bytes of `s`: the sum of `s[i] * 256^i` over the
 -- `i` below `w` in the order `Little`, and of `s[i] * 256^(w - 1 - i)` in the order `Big`
-abbrev pub number : Endian → ℕ → List ℕ → ℕ
+unfoldable pub number : Endian → ℕ → List ℕ → ℕ
 number Little w s = sum_below (λ i. slice_index s i * 256 ^ i) w
 number Big w s = sum_below (λ i. slice_index s i * 256 ^ (w - 1 - i)) w
 
 -- the same in two's complement: `number order w s`, less `256^w` where it is at least half of that
-abbrev pub signed_number : Endian → ℕ → List ℕ → ℤ
+unfoldable pub signed_number : Endian → ℕ → List ℕ → ℤ
 signed_number order w s =
     if nat_lt (2 * number order w s) (256 ^ w) then pos (number order w s)
     else pos (number order w s) -ℤ pos (256 ^ w)
 
 -- `number_bytes order w x`: the `w` lowest digits of `x` to the base 256, `x / 256^i mod 256`, in
 -- the byte order
-abbrev pub number_bytes : Endian → ℕ → ℕ → List ℕ
+unfoldable pub number_bytes : Endian → ℕ → ℕ → List ℕ
 number_bytes Little w x = list_below (λ i. x / 256 ^ i % 256) w
 number_bytes Big w x = list_below (λ i. x / 256 ^ (w - 1 - i) % 256) w
 
@@ -34,7 +34,7 @@ abbrev pub twos_complement : ℕ → ℤ → ℕ
 twos_complement w x = if int_lt x (pos 0) then nat_abs (pos (256 ^ w) +ℤ x) else nat_abs x
 
 -- the `w` bytes of `x` in two's complement: those of `x`, or of `x + 256^w` where `x` is negative
-abbrev pub signed_bytes : Endian → ℕ → ℤ → List ℕ
+unfoldable pub signed_bytes : Endian → ℕ → ℤ → List ℕ
 signed_bytes order w x = number_bytes order w (twos_complement w x)
 
 -- `ReadsNumber w order`, `ReadsSigned w order`: `ReadsPrefix w` with `number order w`, with

@@ -17,7 +17,7 @@ use Rattle.std.specs.Float.Ieee.{fits}
 use lib.Ieee.Bits.{of_bits-fits}
 use Rattle.scroll.specs.Numbers.{float_width, float, float_bytes, number, number_bytes, signed_number, signed_bytes}
 use Rattle.scroll.specs.declared.endian.Endian.{Endian}
-use Rattle.scroll.specs.lemmas.NumberLemmas.{number-begins, signed-begins, float-begins, number-same, signed-same, bytes-fit, sum_below-same, sum_below-backwards, digit-at, digits-bound}
+use Rattle.scroll.specs.lemmas.NumberLemmas.{number-begins, signed-begins, float-begins, number-same, signed-same, bytes-fit, number-backwards, digit-at, digits-bound}
 use Rattle.std.proofs.lemmas.Int.{ints}
 use Rattle.scroll.specs.declared.endian.Endian.TheVariants.{Little, Big}
 use Rattle.scroll.specs.lemmas.Frames.{length-number_bytes}
@@ -288,16 +288,13 @@ byte-bound offset s h i = rw (get_or-drop offset s i 0) (omega (arith, (h (offse
 -- a number of w bytes is below 256 ^ w; of a slice `s` of bytes `type_inv.s` says that each fits
 pub number-bound : (order : Endian) (w offset : ℕ) (s : List ℕ)
     → ((i : ℕ) → Fits w8 (slice_index s i)) → number order w (drop offset s) < 256 ^ w
+unfolding number
 number-bound Little w offset s h =
     digits-bound 256 (λ i. slice_index (drop offset s) i) (byte-bound offset s h) w
 number-bound Big w offset s h =
     let t = drop offset s in
-    let back = sum_below-backwards (λ i. slice_index t i * 256 ^ (w - 1 - i)) w in
-    let to_magnitude = sum_below-same (λ i. slice_index t (w - 1 - i) * 256 ^ (w - 1 - (w - 1 - i)))
-    (λ i. slice_index t (w - 1 - i) * 256 ^ i) w
-    (λ i l. ap (λ k. slice_index t (w - 1 - i) * 256 ^ k) (omega (arith, l))) in
-    rw (back, to_magnitude) (digits-bound 256 (λ i. slice_index t (w - 1 - i))
-    (λ i. byte-bound offset s h (w - 1 - i)) w)
+    subst (λ n. n < 256 ^ w) (sym (number-backwards w t))
+    (digits-bound 256 (λ i. slice_index t (w - 1 - i)) (λ i. byte-bound offset s h (w - 1 - i)) w)
 
 -- a number that was read at an offset has the range of its width
 pub number-fits : (order : Endian) (w : ℕ) (s : List ℕ) (at x : ℕ) → All (λ b. b < 256) s
@@ -313,6 +310,7 @@ complement-fits m n h x is = (grind (arith, ints), grind (arith, ints))
 pub signed-fits : (order : Endian) (w : ℕ) (s : List ℕ) (at : ℕ) (x : ℤ) → All (λ b. b < 256) s
     → x ≡ signed_number order w (drop at s)
     → (neg_ℤ (pos (256 ^ w)) ≤ℤ (pos 2 *ℤ x)) × ((pos 2 *ℤ x) <ℤ pos (256 ^ w))
+unfolding signed_number
 signed-fits order w s at x all is = complement-fits (256 ^ w) (number order w (drop at s))
     (number-bound order w at s (bytes-fit s all)) x is
 
@@ -320,6 +318,7 @@ signed-fits order w s at x all is = complement-fits (256 ^ w) (number order w (d
 pub number-back : (order : Endian) (w offset : ℕ) (s : List ℕ)
     → ((i : ℕ) → Fits w8 (slice_index s i)) → offset + w ≤ length s
     → number_bytes order w (number order w (drop offset s)) ≡ take w (drop offset s)
+unfolding number number_bytes
 number-back Little w offset s h room =
     let t = drop offset s in
     let len : length (take w t) ≡ w =
@@ -335,17 +334,13 @@ number-back Big w offset s h room =
     let t = drop offset s in
     let len : length (take w t) ≡ w =
     length-take-le w t (omega (arith, room, length-drop offset s)) in
-    let back = sum_below-backwards (λ i. slice_index t i * 256 ^ (w - 1 - i)) w in
-    let to_magnitude = sum_below-same (λ i. slice_index t (w - 1 - i) * 256 ^ (w - 1 - (w - 1 - i)))
-    (λ i. slice_index t (w - 1 - i) * 256 ^ i) w
-    (λ i l. ap (λ k. slice_index t (w - 1 - i) * 256 ^ k) (omega (arith, l))) in
     same_number_lists (number_bytes Big w (number Big w t)) (take w t)
     (length-number_bytes Big w (number Big w t) ∙ sym len) (λ i l.
     let inside : i < w = omega (arith, l, length-number_bytes Big w (number Big w t)) in
     let twice : w - 1 - (w - 1 - i) ≡ i = omega (arith, inside) in
     get_or-map-range_with_len (λ j. number Big w t / 256 ^ (w - 1 - j) % 256) 0 w i i 0 inside
     (omega arith)
-    ∙ ap (λ n. n / 256 ^ (w - 1 - i) % 256) (back ∙ to_magnitude)
+    ∙ ap (λ n. n / 256 ^ (w - 1 - i) % 256) (number-backwards w t)
     ∙ digit-at 256 (λ j. slice_index t (w - 1 - j)) (λ j. byte-bound offset s h (w - 1 - j)) w
     (w - 1 - i) (omega (arith, inside))
     ∙ ap (λ k. slice_index t k) twice
@@ -361,6 +356,7 @@ complement-again m n h x is = grind (arith, ints)
 pub signed-back : (order : Endian) (w offset : ℕ) (s : List ℕ)
     → ((i : ℕ) → Fits w8 (slice_index s i)) → offset + w ≤ length s
     → signed_bytes order w (signed_number order w (drop offset s)) ≡ take w (drop offset s)
+unfolding signed_number signed_bytes
 signed-back order w offset s h room =
     ap (number_bytes order w) (complement-again (256 ^ w) (number order w (drop offset s))
     (number-bound order w offset s h) (signed_number order w (drop offset s)) refl)

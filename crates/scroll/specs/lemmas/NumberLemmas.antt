@@ -115,12 +115,23 @@ bytes-fit s h i = elim (cases_lt i (length s)) as (λ _. Fits w8 (slice_index s 
 -- the number in the first w bytes of a list depends only on these
 pub number-prefix : (order : Endian) (w : ℕ) (s t : List ℕ)
     → ((i : ℕ) → i < w → slice_index s i ≡ slice_index t i) → number order w s ≡ number order w t
+unfolding number
 number-prefix Little w s t h = sum_below-same _ _ w (λ i l. ap (λ b. b * 256 ^ i) (h i l))
 number-prefix Big w s t h = sum_below-same _ _ w (λ i l. ap (λ b. b * 256 ^ (w - 1 - i)) (h i l))
+
+-- a big-endian number by its digits, the lowest first
+pub number-backwards : (w : ℕ) (s : List ℕ)
+    → number Big w s ≡ sum_below (λ i. slice_index s (w - 1 - i) * 256 ^ i) w
+unfolding number
+number-backwards w s =
+    sum_below-backwards (λ i. slice_index s i * 256 ^ (w - 1 - i)) w
+    ∙ sum_below-same _ _ w
+    (λ i l. ap (λ k. slice_index s (w - 1 - i) * 256 ^ k) (omega (arith, l)))
 
 -- the number in the bytes of x
 number-number_bytes : (order : Endian) (w x : ℕ) → x < 256 ^ w
     → number order w (number_bytes order w x) ≡ x
+unfolding number number_bytes
 number-number_bytes Little w x h =
     sum_below-same _ _ w (λ i l. ap (λ b. b * 256 ^ i)
     (get_or-map-range_with_len (λ j. x / 256 ^ j % 256) 0 w i i 0 l (omega arith)))
@@ -145,6 +156,7 @@ number-begins order w x rest h =
 pub signed-begins : (order : Endian) (w : ℕ) (x : ℤ) (rest : List ℕ)
     → neg_ℤ (pos (256 ^ w)) ≤ℤ (pos 2 *ℤ x) → (pos 2 *ℤ x) <ℤ pos (256 ^ w)
     → signed_number order w (signed_bytes order w x ++ rest) ≡ x
+unfolding signed_number signed_bytes
 signed-begins order w x rest low high =
     let back = complement-back (256 ^ w) x low high
     (if int_lt x (pos 0) then nat_abs (pos (256 ^ w) +ℤ x) else nat_abs x) refl in
@@ -162,6 +174,7 @@ number-same w order s t prefix =
 
 pub signed-same : (w : ℕ) (order : Endian) (s t : List ℕ) → take w t ≡ take w s
     → signed_number order w t ≡ signed_number order w s
+unfolding signed_number
 signed-same w order s t prefix =
     ap (λ (n : ℕ). if nat_lt (2 * n) (256 ^ w) then pos n else pos n -ℤ pos (256 ^ w))
     (number-same w order s t prefix)

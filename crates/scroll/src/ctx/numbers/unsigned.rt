@@ -1,4 +1,6 @@
 // The unsigned types: `u8`, `u16`, `u32`, `u64` and `u128`.
+#![tactic(auto, unfolding(crate::specs::Numbers::number, crate::specs::Numbers::number_bytes))]
+
 ghost use Rattle.std.specs.Prelude.{◌≡◌, ◌<◌, ◌^◌, drop};
 ghost use Rattle.std.proofs.Common.{rules};
 ghost use Rattle.scroll.specs.Numbers.{number, number_bytes};
