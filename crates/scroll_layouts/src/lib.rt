@@ -5,7 +5,7 @@
 //! length of a slice. A struct names its parts by [`Shape`]; [`read_exact`] and [`write_whole`]
 //! read and write it. That what was written reads back, and that what was read is written back byte
 //! for byte, stands in what these two promise, so a caller cites no law. `src/tests/stored.rt`
-//! describes a file of a ZIP archive so.
+//! describes a file behind its lengths so.
 #![tactic(auto)]
 
 ghost use Rattle.std.specs.Prelude.{◌≡◌, ◌≤◌, ◌+◌, ◌-◌, ◌^◌, ◌++◌, length, drop, min, IfOk, IfErr, OnOk};

@@ -13,11 +13,11 @@ use std::result::Result;
 
 /// A marker that names the type of the values of a list.
 ///
-/// From `crates/scroll_layouts/src/tests/lists.rt`, whose lists are of a struct:
+/// From `crates/scroll_layouts/src/tests/many.rt`, a list of files:
 ///
 /// ```rust
-/// impl<'a> Listed<'a> for ItemKind {
-///     type Item = Item<'a>;
+/// impl<'a> Listed<'a> for StoredFiles {
+///     type Item = StoredFile<'a>;
 /// }
 /// ```
 pub trait Listed<'a> {

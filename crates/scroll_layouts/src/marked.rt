@@ -18,11 +18,11 @@ use std::result::Result;
 
 /// A list that ends with a mark, which stands where no value begins.
 ///
-/// From `crates/scroll_layouts/src/tests/lists.rt`, whose lists end with a zero:
+/// From `crates/scroll_layouts/src/tests/many.rt`, a list of files that says its own mark:
 ///
 /// ```rust
-/// impl<'a> Marked<'a> for ItemKind {
-///     type End = ItemKind;
+/// impl<'a> Marked<'a> for StoredFiles {
+///     type End = StoredFiles;
 /// }
 /// ```
 pub trait Marked<'a>: Listed<'a> {

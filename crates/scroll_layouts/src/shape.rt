@@ -12,37 +12,37 @@ use std::result::Result;
 /// A struct that needs no context, `()`, is a [`Part`] and a [`ReadPart`] in it. An enum, whose tag
 /// comes before it, is one in [`Given`] that tag; it is a [`Choice`](crate::Choice).
 ///
-/// From `crates/scroll_layouts/src/tests/mixed.rt`, a name behind its length:
+/// From `crates/scroll_layouts/src/tests/walk/derived.rt`, a field behind its length:
 ///
 /// ```rust
-/// impl<'a> Shape for Name<'a> {
+/// impl<'a> Shape for MessageField<'a> {
 ///     type Ctx = ();
 ///
-///     type Inner = Headed<(), usize, NameLen>;
+///     type Inner = MessageFieldCtx;
 ///
-///     type Parts = NameParts<'a>;
+///     type Parts = MessageFieldParts<'a>;
 ///
-///     ghost parts_of = { λ x. (record { 0 = (x.kind, x.len) }, x.name) };
+///     ghost parts_of = { λ x. (record { 0 = x.number }, (x.len, x.«data»)) };
 ///
-///     ghost of_parts = { λ p. record { kind = p.0.0.0; len = p.0.0.1; name = p.1 } };
+///     ghost of_parts = { λ p. record { number = p.0.0; len = p.1.0; «data» = p.1.1 } };
 ///
 ///     ghost again = { λ x. refl };
 ///
-///     ghost inner_of = { λ _. record { 0 = tt; 1 = record {}; 2 = record {} } };
+///     ghost inner_of = { λ _. (tt, record { 0 = tt; 1 = record {}; 2 = record {} }) };
 ///
-///     fn split(&self) -> NameParts<'a> {
-///         (Run((self.kind, self.len)), self.name)
+///     fn split(&self) -> MessageFieldParts<'a> {
+///         (Run(self.number), (self.len, self.data))
 ///     }
 ///
-///     fn join(parts: NameParts<'a>) -> Name<'a> {
-///         let (Run((kind, len)), name) = parts;
-///         Name { kind, len, name }
+///     fn join(parts: MessageFieldParts<'a>) -> MessageField<'a> {
+///         let (Run(number), (len, data)) = parts;
+///         MessageField { number, len, data }
 ///     }
 ///
-///     fn inner(_ctx: &()) -> Headed<(), usize, NameLen>
-///         ensures { result ≡ ⟦<Name<'a> as Shape>⟧.inner_of _ctx.now }
+///     fn inner(_ctx: &()) -> MessageFieldCtx
+///         ensures { result ≡ ⟦<MessageField<'a> as Shape>⟧.inner_of _ctx.now }
 ///     {
-///         Headed((), NameLen, PhantomData)
+///         ((), Headed((), MessageFieldSays, PhantomData))
 ///     }
 /// }
 /// ```

@@ -9,10 +9,10 @@ use scroll::ctx::TryFromCtx;
 
 /// A kind of mark.
 ///
-/// From `crates/scroll_layouts/src/tests/lists.rt`, whose lists end with a zero byte:
+/// From `crates/scroll_layouts/src/tests/many.rt`, whose lists end with a zero byte:
 ///
 /// ```rust
-/// impl EndMark for ItemKind {
+/// impl EndMark for StoredFiles {
 ///     ghost mark = { bytes_mark (0 ∷ []) };
 ///
 ///     fn mark_size(from: &[u8]) -> Option<usize>

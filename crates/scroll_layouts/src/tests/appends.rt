@@ -1,10 +1,9 @@
 // Structs of any size that are appended to a vector, and read where they were appended.
-ghost use Rattle.std.specs.Prelude.{◌≡◌, ◌<◌, ◌≤◌, ◌+◌, length, take, drop, IfOk, IfErr, OnOk, OnErr};
+ghost use Rattle.std.specs.Prelude.{◌≡◌, IfOk};
 
-use crate::tests::handshake::Message;
 use crate::tests::stored::StoredFile;
 use crate::{Borrowed, Part, Run, Uleb, append_each, append_whole, read_whole};
-use scroll::{BE, Endian, Error, LE, Pread, Result};
+use scroll::{Error, LE, Pread, Result};
 
 /// Appends a file, and reads it where it stands: its contents are the same.
 pub fn appended_contents<'a>(out: &'a mut Vec<u8>, file: &StoredFile) -> Result<&'a [u8]>
@@ -53,14 +52,4 @@ pub fn first_contents<'a>(
     append_each::<(), Error, StoredFile>(out, &[first, second], LE, &())?;
     let again: StoredFile = out.as_slice().pread_with(at, LE)?;
     Ok(again.contents)
-}
-
-/// Appends a message, with its inner struct, and reads it: its suites are the same.
-pub fn appended_suites<'a>(out: &'a mut Vec<u8>, message: &Message) -> Result<&'a [u8]>
-    ensures { IfOk result (λ suites. suites.now ≡ message.now.hello.suites.now) }
-{
-    let at = out.len();
-    append_whole::<(), Error, Message>(out, message, BE, &())?;
-    let again: Message = out.as_slice().pread_with(at, BE)?;
-    Ok(again.hello.suites)
 }

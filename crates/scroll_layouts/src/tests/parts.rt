@@ -8,7 +8,6 @@ ghost use Rattle.scroll_layouts.specs.Errors.{IsNot};
 
 use crate::tests::fixed::Point;
 use crate::tests::results::{check_eq, check_error};
-use crate::tests::zip::STORED;
 use crate::{Field, Head, Headed, Low, Packed, Run, When, is, read_whole};
 use scroll::cstr::CStr;
 use scroll::{BE, Error, LE, Result};
@@ -70,6 +69,9 @@ fn arrays_of_each_kind(rt: HostRuntime) -> result::Result<(), Fail> {
     Ok(())
 }
 
+// The time of a file that `zipfile` stored: hours, minutes and pairs of seconds.
+static TIME: [u8; 2] = [92, 100];
+
 static WORD: [u8; 4] = [120, 86, 52, 18];
 
 static LONG_WORD: [u8; 8] = [171, 205, 239, 18, 52, 86, 120, 154];
@@ -82,9 +84,8 @@ type LongWordCtx = Packed<u64, Low<u8, Low<u32, ()>>>;
 
 #[test]
 fn fields_of_bits_in_each_word(rt: HostRuntime) -> result::Result<(), Fail> {
-    // The time of a stored file: hours, minutes and pairs of seconds.
     let ctx: TimeCtx = Packed(PhantomData, Low(31, Low(63, ())));
-    let (time, _) = read_whole::<TimeCtx, Error, ((u16, u8), u8)>(&STORED[10..], LE, &ctx)?;
+    let (time, _) = read_whole::<TimeCtx, Error, ((u16, u8), u8)>(&TIME, LE, &ctx)?;
     check_eq(&rt, time, ((12, 34), 28));
     let ctx: WordCtx = Packed(PhantomData, Low(255, Low(4095, ())));
     let (word, _) = read_whole::<WordCtx, Error, ((u32, u16), u8)>(&WORD, LE, &ctx)?;

@@ -1,0 +1,209 @@
+// Printed by tools/derive from walk.rt.
+ghost use Rattle.std.specs.Prelude.{◌≡◌, ◌<◌, ◌^◌};
+ghost use Rattle.std.proofs.Common.{refl, rules};
+ghost use Rattle.scroll.specs.lemmas.Frames.{WritesPrefix-keeps};
+ghost use Rattle.scroll_layouts.specs.Formats.{refuses};
+ghost use Rattle.scroll_layouts.specs.Wholes.{KeepsWhole, ReadsExact, WritesWhole};
+
+use super::{CStr, FieldKind, Message, MessageField};
+use crate::{
+    Head, Headed, Items, Listed, Part, ReadPart, Run, Shape, Uleb, read_exact, write_whole,
+};
+use scroll::ctx::{TryFromCtx, TryIntoCtx};
+use scroll::{Endian, Error};
+use std::marker::PhantomData;
+use std::result::Result;
+
+type MessageFieldHead = Uleb;
+
+type MessageFieldNext = usize;
+
+#[derive(Drop)]
+pub struct MessageFieldSays;
+
+impl Head<MessageFieldHead, Error> for MessageFieldSays {
+    type Next = MessageFieldNext;
+
+    ghost holds = { λ _ h. Unit {0} };
+
+    ghost fails = { λ _ h e. ⊥ };
+
+    ghost next = { λ _ h. h.value };
+
+    fn obey(&self, _head: &MessageFieldHead) -> Result<(), Error> {
+        Ok(())
+    }
+
+    fn next(&self, head: &MessageFieldHead) -> MessageFieldNext {
+        head.value as usize
+    }
+}
+
+type MessageFieldRest<'a> = (MessageFieldHead, &'a [u8]);
+
+type MessageFieldParts<'a> = (Run<u8>, MessageFieldRest<'a>);
+
+type MessageFieldCtx = ((), Headed<(), MessageFieldNext, MessageFieldSays>);
+
+impl<'a> Shape for MessageField<'a> {
+    type Ctx = ();
+
+    type Inner = MessageFieldCtx;
+
+    type Parts = MessageFieldParts<'a>;
+
+    ghost parts_of = { λ x. (record { 0 = x.number }, (x.len, x.«data»)) };
+
+    ghost of_parts = { λ p. record { number = p.0.0; len = p.1.0; «data» = p.1.1 } };
+
+    ghost again = { λ x. refl };
+
+    ghost inner_of = { λ _. (tt, record { 0 = tt; 1 = record {}; 2 = record {} }) };
+
+    fn split(&self) -> MessageFieldParts<'a> {
+        (Run(self.number), (self.len, self.data))
+    }
+
+    fn join(parts: MessageFieldParts<'a>) -> MessageField<'a> {
+        let (Run(number), (len, data)) = parts;
+        MessageField { number, len, data }
+    }
+
+    fn inner(_ctx: &()) -> MessageFieldCtx
+        ensures { result ≡ ⟦<MessageField<'a> as Shape>⟧.inner_of _ctx.now }
+    {
+        ((), Headed((), MessageFieldSays, PhantomData))
+    }
+}
+
+impl<'a> TryFromCtx<'a, Endian> for MessageField<'a> {
+    type Error = Error;
+
+    ghost reads = { ReadsExact (⟦<MessageField<'a> as ReadPart<'a, (), Error>>⟧.format tt) };
+
+    ghost refuses = { λ order s.
+        refuses (⟦<MessageField<'a> as ReadPart<'a, (), Error>>⟧.format tt) order s 0 };
+
+    ghost reads_bounded = { λ order s x n h. Prim.search rules };
+
+    #[inline(always)]
+    fn try_from_ctx(from: &'a [u8], ctx: Endian) -> Result<(MessageField<'a>, usize), Error> {
+        read_exact::<(), Error, MessageField<'a>>(from, ctx, &())
+    }
+}
+
+impl<'a> TryIntoCtx<Endian> for MessageField<'a> {
+    type Error = Error;
+
+    ghost writes = { WritesWhole (⟦<MessageField<'a> as Part<(), Error>>⟧.format tt) };
+
+    ghost refuses = { KeepsWhole (λ e d. d ≡ e)
+        (⟦<MessageField<'a> as Part<(), Error>>⟧.format tt) };
+
+    ghost writes_bounded = { λ order x old new n h. Prim.search rules };
+
+    ghost writes_keeps = { λ order x old new n h. WritesPrefix-keeps _ old new n h.wrote };
+
+    #[inline(always)]
+    fn try_into_ctx(self, dst: &mut [u8], ctx: Endian) -> Result<usize, Error> {
+        write_whole::<(), Error, MessageField<'a>>(&self, dst, ctx, &())
+    }
+}
+
+impl<'a> Listed<'a> for FieldKind {
+    type Item = MessageField<'a>;
+}
+
+type MessageHead = Run<u16>;
+
+type MessageNext = ((), usize);
+
+#[derive(Drop)]
+pub struct MessageSays;
+
+impl Head<MessageHead, Error> for MessageSays {
+    type Next = MessageNext;
+
+    ghost holds = { λ _ h. Unit {0} };
+
+    ghost fails = { λ _ h e. ⊥ };
+
+    ghost next = { λ _ h. (tt, h.0) };
+
+    fn obey(&self, _head: &MessageHead) -> Result<(), Error> {
+        Ok(())
+    }
+
+    fn next(&self, head: &MessageHead) -> MessageNext {
+        ((), head.0 as usize)
+    }
+}
+
+type MessageParts<'a> = (MessageHead, (CStr<'a>, Items<'a, FieldKind>));
+
+type MessageCtx = Headed<(), MessageNext, MessageSays>;
+
+impl<'a> Shape for Message<'a> {
+    type Ctx = ();
+
+    type Inner = MessageCtx;
+
+    type Parts = MessageParts<'a>;
+
+    ghost parts_of = { λ x. (record { 0 = x.size }, (x.name, x.fields)) };
+
+    ghost of_parts = { λ p. record { size = p.0.0; name = p.1.0; fields = p.1.1 } };
+
+    ghost again = { λ x. refl };
+
+    ghost inner_of = { λ _. record { 0 = tt; 1 = record {}; 2 = record {} } };
+
+    fn split(&self) -> MessageParts<'a> {
+        (Run(self.size), (self.name, self.fields))
+    }
+
+    fn join(parts: MessageParts<'a>) -> Message<'a> {
+        let (Run(size), (name, fields)) = parts;
+        Message { size, name, fields }
+    }
+
+    fn inner(_ctx: &()) -> MessageCtx
+        ensures { result ≡ ⟦<Message<'a> as Shape>⟧.inner_of _ctx.now }
+    {
+        Headed((), MessageSays, PhantomData)
+    }
+}
+
+impl<'a> TryFromCtx<'a, Endian> for Message<'a> {
+    type Error = Error;
+
+    ghost reads = { ReadsExact (⟦<Message<'a> as ReadPart<'a, (), Error>>⟧.format tt) };
+
+    ghost refuses = { λ order s.
+        refuses (⟦<Message<'a> as ReadPart<'a, (), Error>>⟧.format tt) order s 0 };
+
+    ghost reads_bounded = { λ order s x n h. Prim.search rules };
+
+    #[inline(always)]
+    fn try_from_ctx(from: &'a [u8], ctx: Endian) -> Result<(Message<'a>, usize), Error> {
+        read_exact::<(), Error, Message<'a>>(from, ctx, &())
+    }
+}
+
+impl<'a> TryIntoCtx<Endian> for Message<'a> {
+    type Error = Error;
+
+    ghost writes = { WritesWhole (⟦<Message<'a> as Part<(), Error>>⟧.format tt) };
+
+    ghost refuses = { KeepsWhole (λ e d. d ≡ e)
+        (⟦<Message<'a> as Part<(), Error>>⟧.format tt) };
+
+    ghost writes_bounded = { λ order x old new n h. Prim.search rules };
+
+    ghost writes_keeps = { λ order x old new n h. WritesPrefix-keeps _ old new n h.wrote };
+
+    #[inline(always)]
+    fn try_into_ctx(self, dst: &mut [u8], ctx: Endian) -> Result<usize, Error> {
+        write_whole::<(), Error, Message<'a>>(&self, dst, ctx, &())
+    }
+}
