@@ -26,7 +26,8 @@ TRAITS = {"Cread", "Cwrite", "IOread", "IOwrite", "LocateError", "MeasureWith", 
 
 def examples_of(library: str) -> Iterator[Tuple[str, List[str]]]:
     """The name and the lines of each example of a library; docs/FROM-RUST.md is the first one's."""
-    sources = [it for it in sorted((TOP / "crates" / library / "src").rglob("*.rt")) if "tests" not in it.parts]
+    src = TOP / "crates" / library / "src"
+    sources = [it for it in sorted(src.rglob("*.rt")) if "tests" not in it.relative_to(src).parts]
     for path in [*sources, *([TOP / "docs" / "FROM-RUST.md"] if library == LIBRARIES[0] else [])]:
         for block in markdown.read(path).blocks:
             if block.language == "rust" and not block.source and any("assert" in it for it in block.code):

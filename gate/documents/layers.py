@@ -45,7 +45,7 @@ def wrong_proofs(crate: str, others: Set[str]) -> Iterator[str]:
 def used_modules(crate: str) -> Dict[str, Set[str]]:
     """Returns for each module of a crate the modules whose items it imports, but for those that it stands below."""
     src = TOP / "crates" / crate / "src"
-    texts = {"::".join(file.relative_to(src).with_suffix("").parts): text for file, text in files_of(crate, "src") if "tests" not in str(file)}
+    texts = {"::".join(file.relative_to(src).with_suffix("").parts): text for file, text in files_of(crate, "src") if "tests" not in str(file.relative_to(src))}
     used: Dict[str, Set[str]] = {}
     for module, text in texts.items():
         paths = [f"{it[0]}::{name.strip()}" for it in USE.findall(text) for name in it[1].split(",")]

@@ -37,7 +37,8 @@ MAY_BE_WIDE = re.compile(r"(?:ghost |pub )?use |//[/!]     |#!?\[")
 
 def count_parts(crate: Path) -> List[str]:
     """Returns the lines that aren't empty of code, without tests and what tools/derive prints, of definitions and of proof."""
-    code = [it for it in crate.glob("src/**/*.rt") if "tests" not in it.parts and it.name not in ("tests.rt", "derived.rt")]
+    files = {it: it.relative_to(crate).parts for it in crate.glob("src/**/*.rt")}
+    code = [it for it, parts in files.items() if "tests" not in parts and it.name not in ("tests.rt", "derived.rt")]
     return [count_lines(code), *(count_lines(antt_files(crate / it)) for it in ("specs", "proofs"))]
 
 
