@@ -11,6 +11,7 @@ pub mod TextStateLemmas
 pub mod TextLetterLemmas
 pub mod HistoryLemmas
 pub mod StepLemmas
+pub mod StreamLemmas
 pub mod StandLemmas
 pub mod LebLemmas
 pub mod LebReadLemmas

@@ -24,7 +24,7 @@ signed_number order w s =
 
 -- `number_bytes order w x`: the `w` lowest digits of `x` to the base 256, `x / 256^i mod 256`, in
 -- the byte order
-unfoldable pub number_bytes : Endian → ℕ → ℕ → List ℕ
+abbrev pub number_bytes : Endian → ℕ → ℕ → List ℕ
 number_bytes Little w x = list_below (λ i. x / 256 ^ i % 256) w
 number_bytes Big w x = list_below (λ i. x / 256 ^ (w - 1 - i) % 256) w
 
@@ -34,7 +34,7 @@ abbrev pub twos_complement : ℕ → ℤ → ℕ
 twos_complement w x = if int_lt x (pos 0) then nat_abs (pos (256 ^ w) +ℤ x) else nat_abs x
 
 -- the `w` bytes of `x` in two's complement: those of `x`, or of `x + 256^w` where `x` is negative
-unfoldable pub signed_bytes : Endian → ℕ → ℤ → List ℕ
+abbrev pub signed_bytes : Endian → ℕ → ℤ → List ℕ
 signed_bytes order w x = number_bytes order w (twos_complement w x)
 
 -- `ReadsNumber w order`, `ReadsSigned w order`: `ReadsPrefix w` with `number order w`, with

@@ -103,6 +103,7 @@ fn read_large<R: Read, Ctx: Copy, N: FromCtx<Ctx> + SizeWith<Ctx>>(
 
 // Reads as many bytes as `scratch` has, and makes a value of them.
 #[inline(always)]
+#[tactic(auto, using(crate::proofs::lemmas::StreamLemmas::taken))]
 fn read_value<R: Read, Ctx: Copy, N: FromCtx<Ctx>>(
     reader: &mut R,
     scratch: &mut [u8],

@@ -110,7 +110,6 @@ both {a} {b} {xs} {ys} e r = ap (λ n. n ∷ xs) e ∙ ap (λ l. b ∷ l) r
 
 little_halves : (x : ℕ) → to_le_bytes w64 (x % 18446744073709551616)
     ++ to_le_bytes w64 (x / 18446744073709551616) ≡ number_bytes Little 16 x
-unfolding number_bytes
 little_halves x =
     let low0 : x % 18446744073709551616 % 256 ≡ x / 1 % 256 = omega arith in
     let low1 : (x % 18446744073709551616) / 256 % 256 ≡ x / 256 % 256 = omega arith in
@@ -174,7 +173,6 @@ swapped n = ap reverse (be_bytes_8 (to_le_bytes w64 n) (swap_bytes w64 n) refl (
 pub big_halves : (x a b : ℕ) → a ≡ swap_bytes w64 (x / 18446744073709551616)
     → b ≡ swap_bytes w64 (x % 18446744073709551616)
     → to_le_bytes w64 a ++ to_le_bytes w64 b ≡ number_bytes Big 16 x
-unfolding number_bytes
 big_halves x a b first second =
     let high : to_le_bytes w64 a ≡ to_be_bytes w64 (x / 18446744073709551616) =
     ap (to_le_bytes w64) first ∙ swapped (x / 18446744073709551616) in
@@ -215,7 +213,7 @@ begins-number order w x s fits e =
 pub begins-signed : (order : Endian) (w : ℕ) (x : ℤ) (s : List ℕ)
     → neg_ℤ (pos (256 ^ w)) ≤ℤ (pos 2 *ℤ x) → (pos 2 *ℤ x) <ℤ pos (256 ^ w)
     → take (length (signed_bytes order w x)) s ≡ signed_bytes order w x → ReadsSigned w order s x w
-unfolding signed_number signed_bytes
+unfolding signed_number
 begins-signed order w x s low high e =
     let back =
     complement-back (256 ^ w) x low high
@@ -246,7 +244,6 @@ float-back f order index s h room real =
 
 -- a byte is the one byte of its number
 byte-same : (order : Endian) (x : ℕ) → x < 256 → number_bytes order 1 x ≡ x ∷ []
-unfolding number_bytes
 byte-same Little x h = let same : x / 256 ^ 0 % 256 ≡ x = omega (arith, h) in ap (λ b. b ∷ []) same
 byte-same Big x h = let same : x / 256 ^ (1 - 1 - 0) % 256 ≡ x = omega (arith, h) in
     ap (λ b. b ∷ []) same

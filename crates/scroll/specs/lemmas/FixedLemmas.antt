@@ -318,7 +318,7 @@ signed-fits order w s at x all is = complement-fits (256 ^ w) (number order w (d
 pub number-back : (order : Endian) (w offset : ℕ) (s : List ℕ)
     → ((i : ℕ) → Fits w8 (slice_index s i)) → offset + w ≤ length s
     → number_bytes order w (number order w (drop offset s)) ≡ take w (drop offset s)
-unfolding number number_bytes
+unfolding number
 number-back Little w offset s h room =
     let t = drop offset s in
     let len : length (take w t) ≡ w =
@@ -356,7 +356,7 @@ complement-again m n h x is = grind (arith, ints)
 pub signed-back : (order : Endian) (w offset : ℕ) (s : List ℕ)
     → ((i : ℕ) → Fits w8 (slice_index s i)) → offset + w ≤ length s
     → signed_bytes order w (signed_number order w (drop offset s)) ≡ take w (drop offset s)
-unfolding signed_number signed_bytes
+unfolding signed_number
 signed-back order w offset s h room =
     ap (number_bytes order w) (complement-again (256 ^ w) (number order w (drop offset s))
     (number-bound order w offset s h) (signed_number order w (drop offset s)) refl)

@@ -74,12 +74,10 @@ WritesArray-bounded writes bound vs old new n h =
 
 -- there are `w` bytes
 pub length-number_bytes : (order : Endian) (w x : ℕ) → length (number_bytes order w x) ≡ w
-unfolding number_bytes
 length-number_bytes Little w x = length-map-range_with_len (λ i. x / 256 ^ i % 256) 0 w
 length-number_bytes Big w x = length-map-range_with_len (λ i. x / 256 ^ (w - 1 - i) % 256) 0 w
 
 pub length-signed_bytes : (order : Endian) (w : ℕ) (x : ℤ) → length (signed_bytes order w x) ≡ w
-unfolding signed_bytes
 length-signed_bytes order w x = length-number_bytes order w _
 
 -- bytes that are written at the start leave the bytes after them unchanged

@@ -131,7 +131,7 @@ number-backwards w s =
 -- the number in the bytes of x
 number-number_bytes : (order : Endian) (w x : ℕ) → x < 256 ^ w
     → number order w (number_bytes order w x) ≡ x
-unfolding number number_bytes
+unfolding number
 number-number_bytes Little w x h =
     sum_below-same _ _ w (λ i l. ap (λ b. b * 256 ^ i)
     (get_or-map-range_with_len (λ j. x / 256 ^ j % 256) 0 w i i 0 l (omega arith)))
@@ -156,7 +156,7 @@ number-begins order w x rest h =
 pub signed-begins : (order : Endian) (w : ℕ) (x : ℤ) (rest : List ℕ)
     → neg_ℤ (pos (256 ^ w)) ≤ℤ (pos 2 *ℤ x) → (pos 2 *ℤ x) <ℤ pos (256 ^ w)
     → signed_number order w (signed_bytes order w x ++ rest) ≡ x
-unfolding signed_number signed_bytes
+unfolding signed_number
 signed-begins order w x rest low high =
     let back = complement-back (256 ^ w) x low high
     (if int_lt x (pos 0) then nat_abs (pos (256 ^ w) +ℤ x) else nat_abs x) refl in

@@ -30,7 +30,6 @@ fn put_prefix<const WIDTH: usize>(dst: &mut [u8], bytes: [u8; WIDTH])
 
 // Writes the bytes of a number of sixteen bytes to the start of a target, in two halves. Writing
 // all sixteen at once would gather them byte by byte, which takes ten times as long.
-#[tactic(auto, unfolding(crate::specs::Numbers::number_bytes))]
 #[inline]
 fn put_sixteen(dst: &mut [u8], number: u128, order: Endian)
     requires { 16 ≤ length dst.old }

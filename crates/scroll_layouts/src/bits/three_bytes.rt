@@ -7,7 +7,7 @@ use crate::{BitFields, U24, Word};
 use scroll::{Endian, Error};
 use std::result::Result;
 
-#[tactic(auto, unfolding(scroll::specs::Numbers::number, scroll::specs::Numbers::number_bytes))]
+#[tactic(auto, unfolding(scroll::specs::Numbers::number))]
 impl Word for U24 {
     ghost size_of = { 3 };
 

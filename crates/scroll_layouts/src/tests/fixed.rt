@@ -14,7 +14,6 @@ use std::io;
 pub type Foo = Run<(i64, u32)>;
 
 /// Reads the next twelve bytes of a source.
-#[tactic(auto, unfolding(scroll::specs::Numbers::number, scroll::specs::Numbers::signed_number))]
 pub fn read_foo(source: &mut &[u8], order: Endian) -> io::Result<Foo>
     ensures foo { IfOk result (λ x. x.0.0 ≡ signed_number order 8 (take 12 source.old.now)) }
     ensures bar { IfOk result (λ x. x.0.1 ≡ number order 4 (drop 8 (take 12 source.old.now))) }
@@ -41,7 +40,7 @@ pub fn foo_at(from: &[u8], at: usize, order: Endian) -> Foo
 }
 
 /// Writes a value at an offset, where it has room, and reads it there.
-#[tactic(auto, unfolding(scroll::specs::Numbers::number, scroll::specs::Numbers::signed_number, scroll::specs::Numbers::number_bytes, scroll::specs::Numbers::signed_bytes))]
+#[tactic(auto, unfolding(scroll::specs::Numbers::number, scroll::specs::Numbers::signed_number))]
 pub fn foo_again(target: &mut [u8], foo: Foo, at: usize, order: Endian) -> Foo
     requires { at + 12 ≤ length target.old }
     ensures same { result.0 ≡ foo.0 }

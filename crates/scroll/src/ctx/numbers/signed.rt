@@ -1,6 +1,6 @@
 // The signed types, in two's complement: `i8`, `i16`, `i32`, `i64` and `i128`, each by the unsigned
 // type of its width.
-#![tactic(auto, unfolding(crate::specs::Numbers::signed_number, crate::specs::Numbers::signed_bytes))]
+#![tactic(auto, unfolding(crate::specs::Numbers::signed_number))]
 
 ghost use Rattle.std.specs.Prelude.{◌≡◌, ◌^◌, drop, pos, neg_ℤ, ◌≤ℤ◌, ◌<ℤ◌, ◌*ℤ◌};
 ghost use Rattle.std.proofs.Common.{rules};

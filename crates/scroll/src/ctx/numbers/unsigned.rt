@@ -1,5 +1,5 @@
 // The unsigned types: `u8`, `u16`, `u32`, `u64` and `u128`.
-#![tactic(auto, unfolding(crate::specs::Numbers::number, crate::specs::Numbers::number_bytes))]
+#![tactic(auto, unfolding(crate::specs::Numbers::number))]
 
 ghost use Rattle.std.specs.Prelude.{◌≡◌, ◌<◌, ◌^◌, drop};
 ghost use Rattle.std.proofs.Common.{rules};
