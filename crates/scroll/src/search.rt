@@ -5,7 +5,7 @@ ghost use Rattle.scroll.specs.Texts.{index_of, is_stop};
 
 mod stops;
 
-use crate::search::stops::{At, AtOrNotAscii, StopsIn};
+use crate::search::stops::{ByteOrNotAscii, OneByte, StopsIn};
 
 /// Returns the offset of the first delimiter, or the length of the source if there is none.
 ///
@@ -19,7 +19,7 @@ pub(crate) fn index_of(delimiter: u8, source: &[u8]) -> usize
     let Some(block) = source.first_chunk::<64>() else {
         return near_index_of(delimiter, source);
     };
-    let marks = At(delimiter).marks(block);
+    let marks = OneByte(delimiter).marks(block);
     if marks != 0 {
         return marks.trailing_zeros() as usize;
     }
@@ -39,7 +39,7 @@ pub(crate) fn near_index_of(delimiter: u8, source: &[u8]) -> usize
 pub(crate) fn narrow_index_of(delimiter: u8, source: &[u8]) -> usize
     ensures { result ≡ index_of delimiter source.now }
 {
-    first(At(delimiter), source)
+    first(OneByte(delimiter), source)
 }
 
 // Returns what `index_of` does, by a call, 64 bytes at a time.
@@ -48,11 +48,11 @@ pub(crate) fn narrow_index_of(delimiter: u8, source: &[u8]) -> usize
 fn far_index_of(delimiter: u8, source: &[u8]) -> usize
     ensures { result ≡ index_of delimiter source.now }
 {
-    if let Some(index) = first_in_blocks::<64, At>(At(delimiter), source) {
+    if let Some(index) = first_in_blocks::<64, OneByte>(OneByte(delimiter), source) {
         return index;
     }
     let wide = source.len() / 64 * 64;
-    wide + first(At(delimiter), &source[wide..])
+    wide + first(OneByte(delimiter), &source[wide..])
 }
 
 /// Returns the offset of the first byte that is the delimiter or isn't ASCII, or the length of the
@@ -61,7 +61,7 @@ pub(crate) fn first_stop(delimiter: u8, source: &[u8]) -> usize
     ensures index { result ≡ position_or_len (is_stop delimiter) source.now }
     ensures within { result ≤ length source.now }
 {
-    first(AtOrNotAscii(delimiter), source)
+    first(ByteOrNotAscii(delimiter), source)
 }
 
 // Returns the offset of the first stop, or the length of the source if there is none.

@@ -6,7 +6,7 @@ use Rattle.std.specs.Bool.{MatchBool}
 use Rattle.std.specs.Str.{IsUtf8, IsAscii}
 use lib.Utf8.{scalar, encode, next, low_scalar}
 use Rattle.scroll.specs.TextStates.{last_state}
-use Rattle.scroll.proofs.lemmas.TextStateLemmas.{Takes, takes_6, takes_12, takes_18, takes_24, takes_30, takes_36, takes_42, moved, ascii, two, three, four, of_two, not_first, of_three_low, of_three_high, of_four, past_f4, wrong, ends_at_0, ascii_at_0, blocks_end}
+use Rattle.scroll.proofs.lemmas.TextStateLemmas.{Takes, takes_6, takes_12, takes_18, takes_24, takes_30, takes_36, takes_42, after_byte, ascii, two, three, four, of_two, not_first, of_three_low, of_three_high, of_four, past_f4, wrong, ends_at_0, ascii_at_0, blocks_end}
 
 -- ---- from states to letters
 
@@ -174,7 +174,7 @@ module _ (n : ℕ) (texts : (bs : List ℕ) → length bs ≤ n → last_state 0
   longer x bs l h = elim (cases_lt x 128) [
     | inl a ↦
         letter x (x ∷ []) bs (low_scalar x (omega arith)) (encode_ascii x a)
-        (texts bs l (sym (moved 0 x 0x30c30c30c30c00 bs (ascii x a)) ∙ h))
+        (texts bs l (sym (after_byte 0 x 0x30c30c30c30c00 bs (ascii x a)) ∙ h))
     | inr a ↦ elim (cases_lt x 194) [
       | inl b ↦ absurd (not_wrong bs (sym (not_first x bs a b) ∙ h))
       | inr b ↦ elim (cases_lt x 224) [

@@ -16,9 +16,9 @@ last_state-append s [] ys = refl
 last_state-append s (x ∷ xs) ys = last_state-append (next_state s x) xs ys
 
 -- the state after a byte, where the states after it are known
-pub moved : (s b w : ℕ) (bs : List ℕ) → states_after b ≡ w
+pub after_byte : (s b w : ℕ) (bs : List ℕ) → states_after b ≡ w
     → last_state s (b ∷ bs) ≡ last_state (w / 2 ^ s % 64) bs
-moved s b w bs e = ap (λ v. last_state (v / 2 ^ s % 64) bs) e
+after_byte s b w bs e = ap (λ v. last_state (v / 2 ^ s % 64) bs) e
 
 either : (P : ℕ → Type 0) (t : Bool) (x y : ℕ) → P x → P y → P (cond t x y)
 either P true x y p q = p
@@ -60,13 +60,13 @@ next_a0 b l h =
 pub wrong : (bs : List ℕ) → last_state 48 bs ≡ 48
 wrong [] = refl
 wrong (b ∷ bs) = elim (cases_lt b 128) [
-  | inl a ↦ moved 48 b 0x30c30c30c30c00 bs (ascii b a) ∙ wrong bs
+  | inl a ↦ after_byte 48 b 0x30c30c30c30c00 bs (ascii b a) ∙ wrong bs
   | inr a ↦ elim (cases_lt b 144) [
-    | inl c ↦ moved 48 b 0x303301b0306030 bs (next_80 b a c) ∙ wrong bs
+    | inl c ↦ after_byte 48 b 0x303301b0306030 bs (next_80 b a c) ∙ wrong bs
     | inr c ↦ elim (cases_lt b 160) [
-      | inl d ↦ moved 48 b 0x30c0c1b0306030 bs (next_90 b c d) ∙ wrong bs
+      | inl d ↦ after_byte 48 b 0x30c0c1b0306030 bs (next_90 b c d) ∙ wrong bs
       | inr d ↦ elim (cases_lt b 192) [
-        | inl e ↦ moved 48 b 0x30c0cc06306030 bs (next_a0 b d e) ∙ wrong bs
+        | inl e ↦ after_byte 48 b 0x30c0cc06306030 bs (next_a0 b d e) ∙ wrong bs
         | inr e ↦
             ap (λ s. last_state s bs)
             (from_c0 (λ w. w / 2 ^ 48 % 64 ≡ 48) b e refl refl refl refl refl refl refl refl)
@@ -215,7 +215,7 @@ pass s lo hi t b bs f l h = elim (f b) [
 
 pub of_two : (b : ℕ) (bs : List ℕ) → 194 ≤ b → b < 224 → last_state 0 (b ∷ bs) ≡ last_state 6 bs
 of_two b bs l h =
-    moved 0 b 0x30c30c30c30c06 bs
+    after_byte 0 b 0x30c30c30c30c06 bs
     (rw (
       le-ltb b 128 (omega arith),
       le-ltb b 144 (omega arith),
@@ -228,13 +228,13 @@ of_two b bs l h =
 -- a later byte, and what is no byte of UTF-8, is no first one
 pub not_first : (b : ℕ) (bs : List ℕ) → 128 ≤ b → b < 194 → last_state 0 (b ∷ bs) ≡ last_state 48 bs
 not_first b bs l h = elim (cases_lt b 144) [
-  | inl a ↦ moved 0 b 0x303301b0306030 bs (next_80 b l a)
+  | inl a ↦ after_byte 0 b 0x303301b0306030 bs (next_80 b l a)
   | inr a ↦ elim (cases_lt b 160) [
-    | inl c ↦ moved 0 b 0x30c0c1b0306030 bs (next_90 b a c)
+    | inl c ↦ after_byte 0 b 0x30c0c1b0306030 bs (next_90 b a c)
     | inr c ↦ elim (cases_lt b 192) [
-      | inl d ↦ moved 0 b 0x30c0cc06306030 bs (next_a0 b c d)
+      | inl d ↦ after_byte 0 b 0x30c0cc06306030 bs (next_a0 b c d)
       | inr d ↦
-          moved 0 b 0x30c30c30c30c30 bs
+          after_byte 0 b 0x30c30c30c30c30 bs
           (rw (le-ltb b 128 l, le-ltb b 144 a, le-ltb b 160 c, le-ltb b 192 d, lt-ltb b 194 h)
           refl)
     ]
@@ -260,13 +260,13 @@ three_or_more b l =
 pub of_three_low : (b : ℕ) (bs : List ℕ) → 225 ≤ b → b < 237
     → last_state 0 (b ∷ bs) ≡ last_state 12 bs
 of_three_low b bs l h =
-    moved 0 b 0x30c30c30c30c0c bs
+    after_byte 0 b 0x30c30c30c30c0c bs
     (three_or_more b (omega arith) ∙ rw (le-ltb b 225 l, lt-ltb b 237 h) refl)
 
 pub of_three_high : (b : ℕ) (bs : List ℕ) → 238 ≤ b → b < 240
     → last_state 0 (b ∷ bs) ≡ last_state 12 bs
 of_three_high b bs l h =
-    moved 0 b 0x30c30c30c30c0c bs
+    after_byte 0 b 0x30c30c30c30c0c bs
     (three_or_more b (omega arith)
     ∙ rw (
       le-ltb b 225 (omega arith),
@@ -277,7 +277,7 @@ of_three_high b bs l h =
 
 pub of_four : (b : ℕ) (bs : List ℕ) → 241 ≤ b → b < 244 → last_state 0 (b ∷ bs) ≡ last_state 18 bs
 of_four b bs l h =
-    moved 0 b 0x30c30c30c30c12 bs
+    after_byte 0 b 0x30c30c30c30c12 bs
     (three_or_more b (omega arith)
     ∙ rw (
       le-ltb b 225 (omega arith),
@@ -290,7 +290,7 @@ of_four b bs l h =
 
 pub past_f4 : (b : ℕ) (bs : List ℕ) → 245 ≤ b → last_state 0 (b ∷ bs) ≡ last_state 48 bs
 past_f4 b bs l =
-    moved 0 b 0x30c30c30c30c30 bs
+    after_byte 0 b 0x30c30c30c30c30 bs
     (three_or_more b (omega arith)
     ∙ rw (
       le-ltb b 225 (omega arith),
@@ -331,7 +331,7 @@ past_letter : (c : ℕ) (bs : List ℕ) → scalar c ≡ true
 past_letter c bs ok =
     let range = scalar_cases c ok in
     elim (cases_lt c 128) [
-      | inl a ↦ rw (encode_ascii c a) (moved 0 c 0x30c30c30c30c00 bs (ascii c a))
+      | inl a ↦ rw (encode_ascii c a) (after_byte 0 c 0x30c30c30c30c00 bs (ascii c a))
       | inr a ↦ elim (cases_lt c 2048) [
         | inl b ↦
             rw (two c a b) (of_two (192 + c / 64) (next c ∷ bs) (omega arith) (omega arith)
@@ -375,7 +375,7 @@ ends_at_0 bs u = ap (last_state 0) (sym u.1.1) ∙ past_letters u.0 u.1.0
 pub ascii_at_0 : (bs : List ℕ) → IsAscii bs → last_state 0 bs ≡ 0
 ascii_at_0 [] h = refl
 ascii_at_0 (b ∷ bs) h =
-    moved 0 b 0x30c30c30c30c00 bs (ascii b (h 0)) ∙ ascii_at_0 bs (λ i. h (suc i))
+    after_byte 0 b 0x30c30c30c30c00 bs (ascii b (h 0)) ∙ ascii_at_0 bs (λ i. h (suc i))
 
 -- the state after one block more
 pub block_more : (n k s t : ℕ) (bs d : List ℕ) (blocks : List (List ℕ)) (block : List ℕ)

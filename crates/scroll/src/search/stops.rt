@@ -22,17 +22,17 @@ pub(crate) trait StopsIn<const N: usize>: Stops {
 
 /// Stops at one byte.
 #[derive(Clone, Copy)]
-pub(crate) struct At(pub(crate) u8);
+pub(crate) struct OneByte(pub(crate) u8);
 
 /// Stops at one byte, and at every byte that isn't ASCII.
 #[derive(Clone, Copy)]
-pub(crate) struct AtOrNotAscii(pub(crate) u8);
+pub(crate) struct ByteOrNotAscii(pub(crate) u8);
 
-impl Stops for At {
+impl Stops for OneByte {
     ghost stops = { λ at b. b == at.0 };
 }
 
-impl<const N: usize> StopsIn<N> for At {
+impl<const N: usize> StopsIn<N> for OneByte {
     #[inline(always)]
     fn marks(self, block: &[u8; N]) -> u64 {
         Simd::from_array(*block)
@@ -41,11 +41,11 @@ impl<const N: usize> StopsIn<N> for At {
     }
 }
 
-impl Stops for AtOrNotAscii {
+impl Stops for ByteOrNotAscii {
     ghost stops = { λ at. is_stop at.0 };
 }
 
-impl<const N: usize> StopsIn<N> for AtOrNotAscii {
+impl<const N: usize> StopsIn<N> for ByteOrNotAscii {
     #[inline(always)]
     fn marks(self, block: &[u8; N]) -> u64 {
         let bytes = Simd::from_array(*block);
