@@ -5,7 +5,7 @@
 
 COUNT structs (8) are drawn from SEED (34:1) by gate/descriptions/draw.py, of 2 to 14 fields of all kinds that tools/derive takes,
 nested to depth 3; the last of twenty-four is nested to depth 10. (`34:1` is the second draw from 34, whose fourth struct isn't
-proved where numbers in bytes are an `abbrev`.) `python3 tools/derive` prints what they need, in crates of some structs over the
+proved where `number` is an `abbrev`.) `python3 tools/derive` prints what they need, in crates of some structs over the
 libraries as `rt lib` proves them in this repository. Each struct has functions that use it, with no proof by hand: a reader that
 says where fields stand and which error a short source is, a writer that reads a field back, a walk over a list, and without
 floats a copier. `rt check` proves each crate.
