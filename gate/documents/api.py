@@ -43,6 +43,7 @@ ITEM = re.compile(r"(?P<indent>(?:    )?)(?P<open>pub )?(?:final |const |unsafe 
 VARIANT = re.compile(r"    (?:pub )?(?P<name>[A-Za-z_]\w*)[,({:]?.*")
 CLAUSE = re.compile(r"\s+(requires|ensures|succeeds) (?:(\w+) )?\{")
 LINK = re.compile(r"\[(`[^`]+`)\](?:\([\w:]+\))?")
+NUMBER = re.compile(r"\d+")
 
 
 class Entry(NamedTuple):
@@ -182,8 +183,9 @@ def paragraphs(entry: Entry, to: Dict[str, str]) -> List[str]:
     for piece in re.split(r"(?ms)^(```.*?^```)$|\n\n+", text):
         at = text.find(piece, at) if piece else at
         if (piece or "").startswith("```"):
-            if not re.match(r"Example: |.*\[Example\]", found[-1]):
-                found[-1] += f" [Example]({entry.file}#L{entry.said_at + text.count(chr(10), 0, at)})."
+            if not re.match(r"Example: |.*\[Example\]", "".join(found[-1:])):
+                link = f"[Example]({entry.file}#L{entry.said_at + text.count(chr(10), 0, at)})."
+                found[-1:] = [" ".join([*found[-1:], link])]
         elif (piece or "").strip():
             # (an item of a list that is continued stands on one line too)
             said = re.sub(r"\n(?![-|]) *", " ", piece.strip("\n"))
@@ -192,16 +194,19 @@ def paragraphs(entry: Entry, to: Dict[str, str]) -> List[str]:
 
 
 def by_numbers(those: List[Entry]) -> List[Entry]:
-    """Returns the variants, those that differ in one number alone as one, such as numbers of 8, 16 and 32 bits."""
+    """Returns the variants of an enum; three or more that differ in one number alone are one, such as numbers of 8, 16 and 32 bits."""
     groups: Dict[str, List[Entry]] = {}
     for e in those:
         text = " ".join(e.said)
-        groups.setdefault(re.sub(r"\d+", "#", text) if len(re.findall(r"\d+", text)) == 1 and e.depth == 0 else f"{e.file}#{e.line}", []).append(e)
+        groups.setdefault(NUMBER.sub("#", text) if len(NUMBER.findall(text)) == 1 else str(e.line), []).append(e)
     found: List[Entry] = []
     for text, group in groups.items():
-        numbers = [re.findall(r"\d+", " ".join(e.said))[0] for e in group] if len(group) > 2 else []
-        said = [text.replace("#", f"{', '.join(numbers[:-1])} or {numbers[-1]}")] if numbers else []
-        found += [group[0]._replace(title=", ".join(e.title for e in group), said=said)] if said else group
+        if len(group) < 3:
+            found += group
+            continue
+        *most, last = (NUMBER.findall(" ".join(e.said))[0] for e in group)
+        said = text.replace("#", f"{', '.join(most)} or {last}")
+        found.append(group[0]._replace(title=", ".join(e.title for e in group), said=[said]))
     return found
 
 
@@ -211,8 +216,7 @@ def page() -> str:
     parts = [HEAD.strip("\n")]
     for section, those in sections.items():
         parts.append(f"## {section}")
-        runs = [[*run] for _, run in groupby(those, key=lambda e: (e.depth == 0 and e.file, e.depth == 0))]
-        for e in (e for run in runs for e in (by_numbers(run) if run[0].depth == 0 else run)):
+        for e in (e for is_variant, run in groupby(those, key=lambda e: e.depth == 0) for e in (by_numbers([*run]) if is_variant else run)):
             said, code = paragraphs(e, to), f"[`{e.code}`]({e.file}#L{e.line})" if e.code else ""
             if is_headed(e):
                 parts += [f"{'#' * e.depth} {e.title}", *filter(None, [code]), *said]
