@@ -1,9 +1,10 @@
 """Makes docs/API.md from the doc comments of the libraries: each public module, trait, type, constant and function, and each
-implementation that has a comment of its own, with their comments as they stand; a function has its signature too. A link to an item
-leads to its heading. The page is a check.
+implementation that has a comment of its own, with their comments as they stand, but for the examples, to which links lead; a
+function has its signature too, which is a link to its place in the source. A link to an item leads to its heading. The page is a check.
 """
 
 import re
+from itertools import groupby
 from pathlib import Path
 from typing import Dict, Iterator, List, NamedTuple
 
@@ -15,8 +16,8 @@ PAGE = TOP / "docs" / "API.md"
 HEAD = """# API
 
 Each public item of the libraries `scroll`, `scroll_formats` and `scroll_layouts`, from its doc comments. Offsets and sizes are in bytes. A call whose name ends in `_with` takes a context; the one without takes the default of the context's type, which
-for numbers is the machine's byte order. The gate runs the examples. [PROVED.md](PROVED.md) links to the clauses of its promises,
-and [GUIDE.md](GUIDE.md#the-clauses-of-each-call) names those of the calls.
+for numbers is the machine's byte order. A signature leads to its contract. The gate runs the examples. [PROVED.md](PROVED.md) links to
+the clauses of its promises, and [GUIDE.md](GUIDE.md#the-clauses-of-each-call) names those of the calls.
 """
 # The sections: what each is, and its files; those of the other libraries begin with their names.
 FORMATS, LAYOUTS = LIBRARIES[1:]
@@ -42,15 +43,19 @@ ITEM = re.compile(r"(?P<indent>(?:    )?)(?P<open>pub )?(?:final |const |unsafe 
 VARIANT = re.compile(r"    (?:pub )?(?P<name>[A-Za-z_]\w*)[,({:]?.*")
 CLAUSE = re.compile(r"\s+(requires|ensures|succeeds) (?:(\w+) )?\{")
 LINK = re.compile(r"\[(`[^`]+`)\](?:\([\w:]+\))?")
+NUMBER = re.compile(r"\d+")
 
 
 class Entry(NamedTuple):
-    """An item: how deep it stands, its heading, its signature, and its comment."""
+    """An item: how deep it stands, its heading, its signature, its comment, its file, the lines of the item and of its comment."""
 
     depth: int
     title: str
     code: str
     said: List[str]
+    file: str
+    line: int
+    said_at: int
 
 
 def name_of(kind: str, rest: str) -> str:
@@ -93,13 +98,17 @@ def name_of_file(path: Path) -> str:
 def entries(path: Path) -> Iterator[Entry]:
     """Returns what a file says: its module's comment first."""
     lines = path.read_text(encoding="utf-8").split("\n")
+    file = f"../{path.relative_to(TOP).as_posix()}"
     module = [line[3:].removeprefix(" ") for line in lines if line.startswith("//!")]
     if module:
-        yield Entry(3, f"`{name_of_file(path).replace('/', '::')}`", "", module)
+        first = next(at for at, line in enumerate(lines, 1) if line.startswith("//!"))
+        yield Entry(3, f"`{name_of_file(path).replace('/', '::')}`", "", module, file, first, first)
     said: List[str] = []
+    said_at = 0
     owner, kind, is_open = "", "", False
     for at, line in enumerate(lines):
         if line.strip().startswith("///"):
+            said_at = said_at if said else at + 1
             said.append(line.strip()[3:].removeprefix(" "))
             continue
         if line.strip().startswith("#["):
@@ -117,12 +126,12 @@ def entries(path: Path) -> Iterator[Entry]:
             owner += f": {bound[1]}" if bound else ""
             if said and is_open:
                 code = signature(lines, at) if kind in ("fn", "type", "const") else ""
-                yield Entry(3 if kind != "impl" else 4, f"`{owner}`", code, said)
+                yield Entry(3 if kind != "impl" else 4, f"`{owner}`", code, said, file, at + 1, said_at)
         elif item and said and item["kind"] == "fn" and (item["open"] or kind in ("trait", "impl")):
             name = name_of("fn", item["rest"])
-            yield Entry(4, f"`{owner.split(' for ')[-1].split('<')[0]}::{name}`", signature(lines, at), said)
+            yield Entry(4, f"`{owner.split(' for ')[-1].split('<')[0]}::{name}`", signature(lines, at), said, file, at + 1, said_at)
         elif said and kind in ("enum", "struct") and is_open and VARIANT.fullmatch(line):
-            yield Entry(0, f"`{line.strip().rstrip(',{').strip()}`", "", said)
+            yield Entry(0, f"`{line.strip().rstrip(',{').strip().removeprefix('pub ')}`", "", said, file, at + 1, said_at)
         said = []
 
 
@@ -166,16 +175,38 @@ def linked(text: str, owner: str, to: Dict[str, str]) -> str:
 
 
 def paragraphs(entry: Entry, to: Dict[str, str]) -> List[str]:
-    """Returns the paragraphs of a comment, each on one line, its lists and its examples; of a client's example its file."""
+    """Returns the paragraphs of a comment, each on one line, and its lists; of an example a link, and of a client's its file."""
     owner = entry.title.strip("`").split("::")[0]
     found: List[str] = []
-    for piece in re.split(r"(?ms)^(```.*?^```)$|\n\n+", "\n".join(entry.said)):
+    text = "\n".join(entry.said)
+    at = 0
+    for piece in re.split(r"(?ms)^(```.*?^```)$|\n\n+", text):
+        at = text.find(piece, at) if piece else at
         if (piece or "").startswith("```"):
-            found += [] if found and found[-1].startswith("Example: ") else [piece]
+            if not re.match(r"Example: |.*\[Example\]", "".join(found[-1:])):
+                link = f"[Example]({entry.file}#L{entry.said_at + text.count(chr(10), 0, at)})."
+                found[-1:] = [" ".join([*found[-1:], link])]
         elif (piece or "").strip():
             # (an item of a list that is continued stands on one line too)
-            text = re.sub(r"\n(?![-|]) *", " ", piece.strip("\n"))
-            found.append(linked(re.sub(r"^From (`crates/[^`]+`).*:$", r"Example: \1.", text), owner, to))
+            said = re.sub(r"\n(?![-|]) *", " ", piece.strip("\n"))
+            found.append(linked(re.sub(r"^From (`crates/[^`]+`).*:$", r"Example: \1.", said), owner, to))
+    return found
+
+
+def by_numbers(those: List[Entry]) -> List[Entry]:
+    """Returns the variants of an enum; three or more that differ in one number alone are one, such as numbers of 8, 16 and 32 bits."""
+    groups: Dict[str, List[Entry]] = {}
+    for e in those:
+        text = " ".join(e.said)
+        groups.setdefault(NUMBER.sub("#", text) if len(NUMBER.findall(text)) == 1 else str(e.line), []).append(e)
+    found: List[Entry] = []
+    for text, group in groups.items():
+        if len(group) < 3:
+            found += group
+            continue
+        *most, last = (NUMBER.findall(" ".join(e.said))[0] for e in group)
+        said = text.replace("#", f"{', '.join(most)} or {last}")
+        found.append(group[0]._replace(title=", ".join(e.title for e in group), said=[said]))
     return found
 
 
@@ -185,9 +216,15 @@ def page() -> str:
     parts = [HEAD.strip("\n")]
     for section, those in sections.items():
         parts.append(f"## {section}")
-        for e in those:
-            said, code = paragraphs(e, to), [f"`{e.code}`"] if e.code else []
-            parts += [f"{'#' * e.depth} {e.title}", *code, *said] if is_headed(e) else [f"- {', '.join([e.title, *code])}: {' '.join(said)}"]
+        for e in (e for is_variant, run in groupby(those, key=lambda e: e.depth == 0) for e in (by_numbers([*run]) if is_variant else run)):
+            said, code = paragraphs(e, to), f"[`{e.code}`]({e.file}#L{e.line})" if e.code else ""
+            if is_headed(e):
+                parts += [f"{'#' * e.depth} {e.title}", *filter(None, [code]), *said]
+            else:
+                # (a function's name stands in its signature, with its owner)
+                name = e.title.strip("`")
+                head = re.sub(rf"\b{name.rpartition('::')[2]}\b", name, code, count=1) if code else e.title
+                parts.append(f"- {head}: {' '.join(said)}")
     return re.sub(r"(?m)(^- .*)\n\n(?=- )", r"\1\n", "\n\n".join(parts)) + "\n"
 
 

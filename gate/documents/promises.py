@@ -7,6 +7,7 @@ named clauses are cited is printed without them. The line `promise:` of an edit 
 """
 
 import re
+from itertools import groupby
 from typing import Dict, List, NamedTuple, Optional
 
 from documents.declarations import Declarations
@@ -17,6 +18,8 @@ from step import TOP, Step
 PAGE = TOP / "docs" / "PROVED.md"
 SOURCE = TOP / "gate" / "documents" / "promises.txt"
 BEGIN, END = "<!-- promises: begin -->\n", "<!-- promises: end -->\n"
+# So many clauses of a promise are a list of their own, with an item for each file.
+MANY = 8
 CITED = re.compile(r"(?P<name>[\w:<>]+)(?: of (?P<of>\[T; N\]|[&\w:\[\]]+))?(?: (?P<clauses>\w+(?:, \w+)*))?")
 
 
@@ -95,7 +98,10 @@ def item(promise: Promise, edits: int, declared: Declarations) -> str:
     by = [cited(it, declared) for it in re.split(r"; (?!N\])", promise.by)]
     tests = [", ".join(f"`{it}`" for it in promise.tests)] if promise.tests else []
     head = f"- **{promise.name}**" + (f" ({edits})" if edits else "") + (f": {promise.says}" if promise.says else "")
-    return f"{head}: {'; '.join(by + tests)}"
+    if len(by) < MANY:
+        return f"{head}: {'; '.join(by + tests)}"
+    files = ["; ".join(those) for _, those in groupby(by, key=lambda it: it.partition("](")[2].partition("#")[0])]
+    return "\n  - ".join([f"{head}:", *files, *tests])
 
 
 def try_all(step: Step, is_writing: bool) -> None:

@@ -1,6 +1,6 @@
 """Makes the columns of lines in crates/README.md from the files of the clients, and compares them: each client is a check, and
-so is that the page names each crate. README has the lines of code and of proof in its table of formats, with those of the
-descriptions in catalogue/; it also has the version of the kit, which `rt version` prints, and how fast whole jobs are, from the
+so is that the page names each crate. README has the table of formats, with how many lines the descriptions in
+catalogue/ and the clients have, at least and at most, and those of proof; it also has the version of the kit, which `rt version` prints, and how fast whole jobs are, from the
 table in docs/SPEED.md. The product's contracts and comments, and each crate's definitions and proofs, have at most 100 columns;
 imports, the strings of tests and examples in comments may have more.
 """
@@ -29,7 +29,7 @@ FORMATS = {
 OTHERS = {"examples", "lib", "shapes", "tests"}
 # Where README has the version of the kit, and what is made of rows; the columns of SPEED's jobs; and what a job's name has besides.
 KIT = re.compile(r"(?<=\*\*Rattle kit )\d+(?=\*\*)")
-MADE = r"(?s)(?<=<!-- {0}: begin -->\n).*(?=\n<!-- {0}: end -->)"
+MADE = r"(?s)(?<=<!-- {0} -->\n).*?(?=\n<!-- end -->)"
 JOB, MORE = 11, re.compile(r" \(per byte\)")
 WIDTH = 100
 MAY_BE_WIDE = re.compile(r"(?:ghost |pub )?use |//[/!]     |#!?\[")
@@ -64,13 +64,20 @@ def count_lines(files: Iterable[Path]) -> str:
 
 
 def formats(clients: List[List[str]]) -> str:
-    """Returns the table of the formats, of which the clients have the rows of crates/README.md."""
-    found = {it.name.removesuffix(".rt.txt"): count_lines([it]) for it in (TOP / "catalogue").glob("*.rt.txt")}
-    made = {it[0].strip("`"): it[2] + f" ({it[4]})" * (it[4] != "0") for it in clients}
-    lines = ["| for | catalogue | clients |", "|---|---|---|"]
+    """Returns the table of the formats and what is said of their lines; the clients have the rows of crates/README.md."""
+    found = {it.name.removesuffix(".rt.txt"): int(count_lines([it])) for it in (TOP / "catalogue").glob("*.rt.txt")}
+    made = {it[0].strip("`"): (int(it[2]), it[4]) for it in clients}
+    described, by_hand = ([of[it] for it in of if it not in OTHERS] for of in (found, made))
+    proved = ", ".join(f"`{it}` {made[it][1]}" for it in sorted(made) if made[it][1] != "0" and it not in OTHERS)
+    lines = [
+        f"The [catalogue](crates/README.md): {min(described)} to {max(described)} lines, none of proof; in bold, clients: "
+        f"{min(by_hand)[0]} to {max(by_hand)[0]} by hand, of proof {proved}.\n",
+        "| for | formats |",
+        "|---|---|",
+    ]
     for area, names in FORMATS.items():
-        cells = [", ".join(f"`{it}` {of[it]}" for it in names.split() if it in of) for of in (found, made)]
-        lines.append(f"| {area} | {' | '.join(cells)} |".replace("  ", " "))
+        cells = [f"`{it}`" if it in found else f"**{it}**" for it in names.split() if it in {*found, *made}]
+        lines.append(f"| {area} | {', '.join(cells)} |")
     left = {*found, *made} - OTHERS - {*" ".join(FORMATS.values()).split()}
     return "\n".join([*lines, *(f"| no area for {it} |" for it in sorted(left))])
 
@@ -79,7 +86,7 @@ def jobs() -> str:
     """Returns what is said of the fastest job and of the slowest."""
     found = [(float(it[4]), MORE.sub("", it[0])) for _, it in markdown.read(SPEED).rows() if len(it) == JOB and it[0] != "job"]
     low, high = (f"{ratio:.2f} ({job})" for ratio, job in (min(found), max(found)))
-    return f"A whole job takes {low} to {high} times as long as with the fastest peer, which [SPEED](docs/SPEED.md) names."
+    return f"A whole job takes {low} to {high} times as long as the fastest peer's ([SPEED](docs/SPEED.md))."
 
 
 def try_readme(step: Step, is_writing: bool) -> None:

@@ -14,8 +14,8 @@ impl<'a> Source for &'a [u8] {
     ghost bytes = { λ source. source.now };
 }
 
-/// A type that can be read from a source `S`: each type that implements [`TryFromCtx`], and no
-/// other.
+/// A type that can be read from a source `S`: from a byte slice, each type that implements
+/// [`TryFromCtx`].
 ///
 /// It is the bound of [`Pread`](crate::Pread)'s methods, which can't name that trait's lifetime.
 /// Implement `TryFromCtx` for a type of your own; it then has this trait too.
