@@ -1,6 +1,5 @@
 -- What one command appends, in the contracts of a run's private functions.
 use Rattle.std.specs.Prelude.{◌≡◌, ◌++◌, ℕ, List, [], ◌∷◌, Result, Ok, Err}
-use Rattle.scroll.specs.Errors.{IsBadOffset}
 use Rattle.scroll.specs.Runs.{ReadsHere, RefusesHere, moved}
 use Rattle.scroll.specs.declared.error.Error.{Error}
 use Rattle.scroll.specs.declared.runner.Answer.{Answer}
@@ -14,15 +13,15 @@ pub record AppendsAnswer (old new : List Answer) (says : Answer → Type 0) : Ty
   pub items : new ≡ old ++ answer ∷ []
   pub said : says answer
 
--- `AnswersRead reads refuses buffer cursor at a after`: the result `a` of one read, as these
--- relations say, and the cursor `after` it
-abbrev pub AnswersRead : (List ℕ → Value → ℕ → Type 0) → (List ℕ → Error → Type 0) → List ℕ → ℕ
-    → Place → Answer → ℕ → Type 0
-AnswersRead reads refuses buffer cursor at (answer.Read x) after =
+-- `AnswersRead reads refuses past_end buffer cursor at a after`: the result `a` of one read, as
+-- these relations say, and the cursor `after` it
+abbrev pub AnswersRead : (List ℕ → Value → ℕ → Type 0) → (List ℕ → Error → Type 0)
+    → (ℕ → Error → Type 0) → List ℕ → ℕ → Place → Answer → ℕ → Type 0
+AnswersRead reads refuses past_end buffer cursor at (answer.Read x) after =
     ReadsHere reads buffer cursor at x after
-AnswersRead reads refuses buffer cursor at (answer.Refused e) after =
-    RefusesHere refuses IsBadOffset buffer cursor at e after
-AnswersRead reads refuses buffer cursor at (answer.Wrote n) after = ⊥
+AnswersRead reads refuses past_end buffer cursor at (answer.Refused e) after =
+    RefusesHere refuses past_end buffer cursor at e after
+AnswersRead reads refuses past_end buffer cursor at (answer.Wrote n) after = ⊥
 
 -- `answer_of r`: the answer to a write that returns `r`
 abbrev pub answer_of : Result ℕ Error → Answer

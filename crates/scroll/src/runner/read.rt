@@ -1,22 +1,23 @@
 // The reads of a run.
-ghost use Rattle.std.specs.Prelude.{◌≡◌, ◌<◌, ◌+◌, ℕ, ℤ, [], ◌∷◌, vec_len, vec_capacity, IfOk, IfErr, IsOk, OnOk, OnErr};
+ghost use Rattle.std.specs.Prelude.{◌≡◌, ◌≢◌, ◌<◌, ◌+◌, ℕ, ℤ, [], ◌∷◌, vec_len, vec_capacity, IfOk, IfErr, IsOk, Ok, OnOk, OnErr};
 ghost use Rattle.scroll.specs.Steps.{AppendsAnswer, AnswersRead};
 ghost use Rattle.scroll.specs.Runs.{Copies, ReadStep};
 ghost use Rattle.scroll.specs.Arrays.{ReadsArray, RefusesArray};
-ghost use Rattle.scroll.specs.Bytes.{ReadsFixed, RefusesShort};
 ghost use Rattle.scroll.specs.Errors.{IsBadOffset};
 ghost use Rattle.scroll.specs.Reads.{ReadsBetween, RefusesAt};
 ghost use Rattle.scroll.specs.Texts.{ReadsText, RefusesText};
+ghost use Rattle.scroll.specs.declared.error.Error.TheVariants.{NoMemory};
 ghost use Rattle.scroll.specs.declared.runner.Kind.TheVariants as kind;
 ghost use Rattle.scroll.specs.declared.runner.Value.TheVariants as value;
 
 use super::{Answer, Kind, Place, Value, Width};
 use crate::cstr::{CStr, CString};
-use crate::ctx::{Plain, StrCtx};
+use crate::ctx::StrCtx;
 use crate::endian::Endian;
 use crate::error::{Error, Result};
 use crate::leb128::{Sleb128, Uleb128};
 use crate::pread::Pread;
+use crate::source::ReadFrom;
 use std::alloc::{AllocError, Global};
 use std::result;
 
@@ -24,7 +25,7 @@ use std::result;
 // the size of the value, once that has been copied. Only an allocation failure returns an error,
 // and then nothing has changed.
 //
-// Each kind has a function of its own, which appends its answer: a result for all kinds would be as
+// Each kind appends its own answer, by `read_at` or `copy_at`: a result for all kinds would be as
 // large as the largest error, and be copied. All but the reads of C strings are inlined.
 #[inline(always)]
 pub(crate) fn read(
@@ -46,161 +47,21 @@ pub(crate) fn read(
 {
     match *kind {
         Kind::Number(width, order) => read_number(buffer, cursor, place, width, order, answers),
-        Kind::Text(ctx) => return read_text(alloc, buffer, cursor, place, ctx, answers),
-        Kind::Bytes(len) => return read_bytes(alloc, buffer, cursor, place, len, answers),
+        Kind::Text(ctx) => {
+            let copy = |text: &str| String::from_str(alloc, text);
+            return copy_at(buffer, cursor, place, ctx, copy, Value::Text, answers);
+        }
+        Kind::Bytes(len) => {
+            let copy = |bytes: &[u8]| Vec::from_slice(alloc, bytes);
+            return copy_at(buffer, cursor, place, len, copy, Value::Bytes, answers);
+        }
         Kind::CStr => return read_c_str(alloc, buffer, cursor, place, answers),
         Kind::CString => return read_c_string(alloc, buffer, cursor, place, answers),
-        Kind::Uleb => read_uleb(buffer, cursor, place, answers),
-        Kind::Sleb => read_sleb(buffer, cursor, place, answers),
-        Kind::U8x0(order) => read_none(buffer, cursor, place, order, answers),
-        Kind::U16x3(order) => read_three(buffer, cursor, place, order, answers),
+        Kind::Uleb => read_at(buffer, cursor, place, (), Value::Uleb, answers),
+        Kind::Sleb => read_at(buffer, cursor, place, (), Value::Sleb, answers),
+        Kind::U8x0(order) => read_at(buffer, cursor, place, order, no_bytes, answers),
+        Kind::U16x3(order) => read_at(buffer, cursor, place, order, Value::U16x3, answers),
         Kind::Textx2(ctx) => return read_texts(alloc, buffer, cursor, place, ctx, answers),
-    }
-    Ok(())
-}
-
-#[inline(always)]
-fn read_uleb(buffer: &[u8], cursor: &mut usize, place: Place, answers: &mut Vec<Answer>)
-    requires { vec_len answers.old < vec_capacity answers.old }
-    ensures answered { AppendsAnswer answers.old.items answers.new.items (λ a.
-        ReadStep buffer.now cursor.old place kind.Uleb a cursor.new) }
-    ensures len { vec_len answers.new ≡ vec_len answers.old + 1 }
-    ensures capacity { vec_capacity answers.new ≡ vec_capacity answers.old }
-{
-    let mut end = place.offset(*cursor);
-    let read: Result<Uleb128> = buffer.gread_with(&mut end, ());
-    match read {
-        Ok(x) => {
-            *cursor = place.cursor_after(*cursor, end);
-            answers.push_reserved(Answer::Read(Value::Uleb(x)));
-        }
-        Err(error) => answers.push_reserved(Answer::Refused(error)),
-    }
-}
-
-#[inline(always)]
-fn read_sleb(buffer: &[u8], cursor: &mut usize, place: Place, answers: &mut Vec<Answer>)
-    requires { vec_len answers.old < vec_capacity answers.old }
-    ensures answered { AppendsAnswer answers.old.items answers.new.items (λ a.
-        ReadStep buffer.now cursor.old place kind.Sleb a cursor.new) }
-    ensures len { vec_len answers.new ≡ vec_len answers.old + 1 }
-    ensures capacity { vec_capacity answers.new ≡ vec_capacity answers.old }
-{
-    let mut end = place.offset(*cursor);
-    let read: Result<Sleb128> = buffer.gread_with(&mut end, ());
-    match read {
-        Ok(x) => {
-            *cursor = place.cursor_after(*cursor, end);
-            answers.push_reserved(Answer::Read(Value::Sleb(x)));
-        }
-        Err(error) => answers.push_reserved(Answer::Refused(error)),
-    }
-}
-
-#[inline(always)]
-fn read_none(
-    buffer: &[u8],
-    cursor: &mut usize,
-    place: Place,
-    order: Endian,
-    answers: &mut Vec<Answer>,
-)
-    requires { vec_len answers.old < vec_capacity answers.old }
-    ensures answered { AppendsAnswer answers.old.items answers.new.items (λ a.
-        ReadStep buffer.now cursor.old place (kind.U8x0 order) a cursor.new) }
-    ensures len { vec_len answers.new ≡ vec_len answers.old + 1 }
-    ensures capacity { vec_capacity answers.new ≡ vec_capacity answers.old }
-{
-    let mut end = place.offset(*cursor);
-    let read: Result<[u8; 0]> = buffer.gread_with(&mut end, order);
-    match read {
-        Ok(_none) => {
-            *cursor = place.cursor_after(*cursor, end);
-            answers.push_reserved(Answer::Read(Value::U8x0));
-        }
-        Err(error) => answers.push_reserved(Answer::Refused(error)),
-    }
-}
-
-#[inline(always)]
-fn read_three(
-    buffer: &[u8],
-    cursor: &mut usize,
-    place: Place,
-    order: Endian,
-    answers: &mut Vec<Answer>,
-)
-    requires { vec_len answers.old < vec_capacity answers.old }
-    ensures answered { AppendsAnswer answers.old.items answers.new.items (λ a.
-        ReadStep buffer.now cursor.old place (kind.U16x3 order) a cursor.new) }
-    ensures len { vec_len answers.new ≡ vec_len answers.old + 1 }
-    ensures capacity { vec_capacity answers.new ≡ vec_capacity answers.old }
-{
-    let mut end = place.offset(*cursor);
-    let read: Result<[u16; 3]> = buffer.gread_with(&mut end, order);
-    match read {
-        Ok(xs) => {
-            *cursor = place.cursor_after(*cursor, end);
-            answers.push_reserved(Answer::Read(Value::U16x3(xs)));
-        }
-        Err(error) => answers.push_reserved(Answer::Refused(error)),
-    }
-}
-
-#[inline(always)]
-fn read_text(
-    alloc: Global,
-    buffer: &[u8],
-    cursor: &mut usize,
-    place: Place,
-    ctx: StrCtx,
-    answers: &mut Vec<Answer>,
-) -> result::Result<(), AllocError>
-    requires { vec_len answers.old < vec_capacity answers.old }
-    ensures answered { OnOk result (AppendsAnswer answers.old.items answers.new.items (λ a.
-        ReadStep buffer.now cursor.old place (kind.Text ctx) a cursor.new)) }
-    ensures len { OnOk result (vec_len answers.new ≡ vec_len answers.old + 1) }
-    ensures capacity { vec_capacity answers.new ≡ vec_capacity answers.old }
-    ensures kept { OnErr result (answers.new.items ≡ answers.old.items) }
-    ensures stays { OnErr result (cursor.new ≡ cursor.old) }
-{
-    let mut end = place.offset(*cursor);
-    match buffer.gread_with::<&str>(&mut end, ctx) {
-        Ok(text) => {
-            let copy = String::from_str(alloc, text)?;
-            *cursor = place.cursor_after(*cursor, end);
-            answers.push_reserved(Answer::Read(Value::Text(copy)));
-        }
-        Err(error) => answers.push_reserved(Answer::Refused(error)),
-    }
-    Ok(())
-}
-
-#[inline(always)]
-fn read_bytes(
-    alloc: Global,
-    buffer: &[u8],
-    cursor: &mut usize,
-    place: Place,
-    len: usize,
-    answers: &mut Vec<Answer>,
-) -> result::Result<(), AllocError>
-    requires { vec_len answers.old < vec_capacity answers.old }
-    ensures answered { OnOk result (AppendsAnswer answers.old.items answers.new.items (λ a.
-        ReadStep buffer.now cursor.old place (kind.Bytes len) a cursor.new)) }
-    ensures len { OnOk result (vec_len answers.new ≡ vec_len answers.old + 1) }
-    ensures capacity { vec_capacity answers.new ≡ vec_capacity answers.old }
-    ensures kept { OnErr result (answers.new.items ≡ answers.old.items) }
-    ensures stays { OnErr result (cursor.new ≡ cursor.old) }
-{
-    let mut end = place.offset(*cursor);
-    match buffer.gread_with::<&[u8]>(&mut end, len) {
-        Ok(bytes) => {
-            let copy = Vec::from_slice(alloc, bytes)?;
-            *cursor = place.cursor_after(*cursor, end);
-            answers.push_reserved(Answer::Read(Value::Bytes(copy)));
-        }
-        Err(error) => answers.push_reserved(Answer::Refused(error)),
     }
     Ok(())
 }
@@ -221,16 +82,8 @@ fn read_c_str(
     ensures kept { OnErr result (answers.new.items ≡ answers.old.items) }
     ensures stays { OnErr result (cursor.new ≡ cursor.old) }
 {
-    let mut end = place.offset(*cursor);
-    match buffer.gread_with::<CStr>(&mut end, ()) {
-        Ok(text) => {
-            let copy = Vec::from_slice(alloc, text.to_bytes())?;
-            *cursor = place.cursor_after(*cursor, end);
-            answers.push_reserved(Answer::Read(Value::CStr(copy)));
-        }
-        Err(error) => answers.push_reserved(Answer::Refused(error)),
-    }
-    Ok(())
+    let copy = |text: CStr| Vec::from_slice(alloc, text.to_bytes());
+    copy_at(buffer, cursor, place, (), copy, Value::CStr, answers)
 }
 
 #[inline(never)]
@@ -249,18 +102,8 @@ fn read_c_string(
     ensures kept { OnErr result (answers.new.items ≡ answers.old.items) }
     ensures stays { OnErr result (cursor.new ≡ cursor.old) }
 {
-    let mut end = place.offset(*cursor);
-    let read: Result<CString> = buffer.gread_with(&mut end, &alloc);
-    match read {
-        Ok(text) => {
-            let copy = Vec::from_slice(alloc, text.as_bytes())?;
-            *cursor = place.cursor_after(*cursor, end);
-            answers.push_reserved(Answer::Read(Value::CStr(copy)));
-        }
-        Err(Error::NoMemory) => return Err(AllocError),
-        Err(error) => answers.push_reserved(Answer::Refused(error)),
-    }
-    Ok(())
+    let copy = |text: CString| Vec::from_slice(alloc, text.as_bytes());
+    copy_at(buffer, cursor, place, &alloc, copy, Value::CStr, answers)
 }
 
 #[inline(always)]
@@ -293,7 +136,7 @@ fn read_texts(
     Ok(())
 }
 
-// Runs the read of a number. Each width has a function of its own, as each kind has.
+// Runs the read of a number.
 #[inline(always)]
 fn read_number(
     buffer: &[u8],
@@ -310,73 +153,109 @@ fn read_number(
     ensures capacity { vec_capacity answers.new ≡ vec_capacity answers.old }
 {
     match width {
-        Width::U8 => read_unsigned::<u8>(buffer, cursor, place, order, answers),
-        Width::I8 => read_signed::<i8>(buffer, cursor, place, order, answers),
-        Width::U16 => read_unsigned::<u16>(buffer, cursor, place, order, answers),
-        Width::I16 => read_signed::<i16>(buffer, cursor, place, order, answers),
-        Width::U32 => read_unsigned::<u32>(buffer, cursor, place, order, answers),
-        Width::I32 => read_signed::<i32>(buffer, cursor, place, order, answers),
-        Width::U64 => read_unsigned::<u64>(buffer, cursor, place, order, answers),
-        Width::I64 => read_signed::<i64>(buffer, cursor, place, order, answers),
-        Width::U128 => read_unsigned::<u128>(buffer, cursor, place, order, answers),
-        Width::I128 => read_signed::<i128>(buffer, cursor, place, order, answers),
+        Width::U8 => read_at(buffer, cursor, place, order, unsigned::<u8>, answers),
+        Width::I8 => read_at(buffer, cursor, place, order, signed::<i8>, answers),
+        Width::U16 => read_at(buffer, cursor, place, order, unsigned::<u16>, answers),
+        Width::I16 => read_at(buffer, cursor, place, order, signed::<i16>, answers),
+        Width::U32 => read_at(buffer, cursor, place, order, unsigned::<u32>, answers),
+        Width::I32 => read_at(buffer, cursor, place, order, signed::<i32>, answers),
+        Width::U64 => read_at(buffer, cursor, place, order, unsigned::<u64>, answers),
+        Width::I64 => read_at(buffer, cursor, place, order, signed::<i64>, answers),
+        Width::U128 => read_at(buffer, cursor, place, order, unsigned::<u128>, answers),
+        Width::I128 => read_at(buffer, cursor, place, order, signed::<i128>, answers),
     }
 }
 
+// Reads a value of any type, and appends the answer, with what `as_value` makes of it.
 #[inline(always)]
-fn read_unsigned<N: Plain + Into<u128>>(
-    buffer: &[u8],
-    cursor: &mut usize,
-    place: Place,
-    order: Endian,
-    answers: &mut Vec<Answer>,
-)
-    requires { vec_len answers.old < vec_capacity answers.old }
+fn read_at<
+    S: Pread<Ctx, Error>,
+    Ctx: Copy,
+    N: ReadFrom<S, Ctx, Error = Error>,
+    F: FnOnce(N) -> Value,
+>(buffer: S, cursor: &mut usize, place: Place, ctx: Ctx, as_value: F, answers: &mut Vec<Answer>)
+    requires room { vec_len answers.old < vec_capacity answers.old }
+    requires callable { F.IsAlwaysCallable as_value }
     ensures answered { AppendsAnswer answers.old.items answers.new.items (λ a.
-        AnswersRead (λ source x size. (n : N) × (wide : ℕ) × N.converts n wide
-        × (x ≡ value.Unsigned wide)
-        × ReadsFixed N.width (λ source. N.makes order source 0) source n size)
-        (RefusesShort N.width) buffer.now cursor.old place a cursor.new) }
+        AnswersRead (λ source x size. (n : N) × F.post as_value n x × N.reads ctx source n size)
+        (N.refuses ctx) S.past_end (S.bytes buffer) cursor.old place a cursor.new) }
     ensures len { vec_len answers.new ≡ vec_len answers.old + 1 }
     ensures capacity { vec_capacity answers.new ≡ vec_capacity answers.old }
 {
     let mut end = place.offset(*cursor);
-    let read: Result<N> = buffer.gread_with(&mut end, order);
-    match read {
+    match buffer.gread_with::<N>(&mut end, ctx) {
         Ok(n) => {
             *cursor = place.cursor_after(*cursor, end);
-            answers.push_reserved(Answer::Read(Value::Unsigned(n.into())));
+            answers.push_reserved(Answer::Read(as_value(n)));
         }
         Err(error) => answers.push_reserved(Answer::Refused(error)),
     }
 }
 
+// Reads a value of any type, and appends the answer, with what `as_value` makes of its copy. The
+// read or the copy may find no memory, and then nothing has changed.
 #[inline(always)]
-fn read_signed<N: Plain + Into<i128>>(
-    buffer: &[u8],
+fn copy_at<
+    S: Pread<Ctx, Error>,
+    Ctx: Copy,
+    N: ReadFrom<S, Ctx, Error = Error>,
+    C,
+    F: FnOnce(N) -> result::Result<C, AllocError>,
+    G: FnOnce(C) -> Value,
+>(
+    buffer: S,
     cursor: &mut usize,
     place: Place,
-    order: Endian,
+    ctx: Ctx,
+    copy: F,
+    as_value: G,
     answers: &mut Vec<Answer>,
-)
-    requires { vec_len answers.old < vec_capacity answers.old }
-    ensures answered { AppendsAnswer answers.old.items answers.new.items (λ a.
-        AnswersRead (λ source x size. (n : N) × (wide : ℤ) × N.converts n wide
-        × (x ≡ value.Signed wide)
-        × ReadsFixed N.width (λ source. N.makes order source 0) source n size)
-        (RefusesShort N.width) buffer.now cursor.old place a cursor.new) }
-    ensures len { vec_len answers.new ≡ vec_len answers.old + 1 }
+) -> result::Result<(), AllocError>
+    requires room { vec_len answers.old < vec_capacity answers.old }
+    requires copies { F.IsAlwaysCallable copy }
+    requires callable { G.IsAlwaysCallable as_value }
+    ensures answered { OnOk result (AppendsAnswer answers.old.items answers.new.items (λ a.
+        AnswersRead (λ source x size. (n : N) × (copied : C) × F.post copy n (Ok copied)
+        × G.post as_value copied x × N.reads ctx source n size)
+        (λ source e. N.refuses ctx source e × (e ≢ NoMemory)) S.past_end (S.bytes buffer)
+        cursor.old place a cursor.new)) }
+    ensures len { OnOk result (vec_len answers.new ≡ vec_len answers.old + 1) }
     ensures capacity { vec_capacity answers.new ≡ vec_capacity answers.old }
+    ensures kept { OnErr result (answers.new.items ≡ answers.old.items) }
+    ensures stays { OnErr result (cursor.new ≡ cursor.old) }
 {
     let mut end = place.offset(*cursor);
-    let read: Result<N> = buffer.gread_with(&mut end, order);
-    match read {
+    match buffer.gread_with::<N>(&mut end, ctx) {
         Ok(n) => {
+            let copied = copy(n)?;
             *cursor = place.cursor_after(*cursor, end);
-            answers.push_reserved(Answer::Read(Value::Signed(n.into())));
+            answers.push_reserved(Answer::Read(as_value(copied)));
         }
+        Err(Error::NoMemory) => return Err(AllocError),
         Err(error) => answers.push_reserved(Answer::Refused(error)),
     }
+    Ok(())
+}
+
+#[inline(always)]
+fn unsigned<N: Into<u128>>(number: N) -> Value
+    ensures { (wide : ℕ) × N.converts number wide × (result ≡ value.Unsigned wide) }
+{
+    Value::Unsigned(number.into())
+}
+
+#[inline(always)]
+fn signed<N: Into<i128>>(number: N) -> Value
+    ensures { (wide : ℤ) × N.converts number wide × (result ≡ value.Signed wide) }
+{
+    Value::Signed(number.into())
+}
+
+#[inline(always)]
+fn no_bytes(_none: [u8; 0]) -> Value
+    ensures { result ≡ value.U8x0 }
+{
+    Value::U8x0
 }
 
 // Reads an array of two strings, and takes it apart, since a `match` can't bind an array of

@@ -13,7 +13,7 @@ use crate::error::Error;
 use crate::slice;
 
 // Runs a write, and appends its answer, for which there is room. A write at the cursor advances it
-// by the size of the value. Each type has a function of its own, as in a read.
+// by the size of the value. Each type appends its own answer, as each kind does in a read.
 #[inline(always)]
 pub(crate) fn write(
     buffer: &mut [u8],
