@@ -261,7 +261,7 @@ class Crate:
                 item.refuse("has a name that the printed text has: give it another")
             if (item.is_kept or item.is_part) and ("items" in item.notes or "given" in item.notes or self.is_fixed(item)):
                 word = "Kept" if item.is_kept else "Part"
-                item.refuse(f"takes no `{word}`: it is of a fixed size, or isn't written alone")
+                item.refuse(f"takes no `{word}`, being of a fixed size or not written alone: write `#[derive(Pread, Pwrite)]`")
             if "items" in item.notes and (item.fields or item.is_enum or item.lifetime):
                 item.refuse(f"names a list: write `struct {item.name};`")
             if not item.fields and "items" not in item.notes:
