@@ -26,28 +26,18 @@ def read(name: str) -> str:
 
 class Back(NamedTuple):
     """What is read back of a value: its type, its path, which is empty for the whole, and what of it must be equal. Of an
-    optional value it is a part of what is there, and something else where nothing is."""
+    optional value that borrows, it is what is seen of it."""
 
     type: str
     path: str
     form: str = "{}"
-    part: str = ""
-    other: str = ""
+    seen: str = ""
     is_rare: bool = False
 
     def clause(self, value: str) -> str:
         """Returns what a user's function ensures."""
-        result, whole = self.form.format("x"), value + self.path
-        if self.other:
-            return f"(w : _) → {whole} ≡ Some w → {result} ≡ {self.form.format(f'w{self.part}')}"
-        return f"{result} ≡ {self.form.format(whole)}"
-
-    def code(self) -> str:
-        """Returns the end of its body."""
-        if not self.other:
-            return f"    Ok(again{self.path})\n"
-        arms = f"        Some(it) => Ok(it{self.part}),\n        None => Ok({self.other}),\n"
-        return f"    match again{self.path} {{\n{arms}    }}\n"
+        said = f"option_map (λ v. v{self.seen}) {{}}" if self.seen else self.form
+        return f"{said.format('x')} ≡ {said.format(value + self.path)}"
 
 
 def said_number(struct: Struct, name: str) -> str:
@@ -158,17 +148,15 @@ def is_plain(kind: Kind) -> bool:
 
 def back_of(of: Field) -> Optional[Back]:
     """Returns what a user reads back of a field."""
-    kind, path = of.kind, f".{of.name}"
+    kind, path, is_optional = of.kind, f".{of.name}", bool(of.condition)
     if isinstance(kind, (Filled, Slice)) or (isinstance(kind, Ended) and kind.byte >= 0):
-        return Back(kind.type, path, "{}.now", other=of.condition and ('""' if "str" in kind.type else "&[]") or "")
+        return Back(of.type, path, "{}.now", ".now" if is_optional else "", is_optional)
     if isinstance(kind, (Leb, Numeral)):
-        type_ = "i64" if kind.is_signed else "u64"
-        return Back(type_, path, part=".value", other="0") if of.condition else Back(type_, f"{path}.value")
+        return Back(of.type, path, is_rare=True) if is_optional else Back("i64" if kind.is_signed else "u64", f"{path}.value")
     if isinstance(kind, (Table, Listing)):
         part = ".bytes" if isinstance(kind, Table) else ".0"
-        whole = Back("&'a [u8]", path + part, "{}.now")
-        return whole._replace(path=path, part=part, other="&[]") if of.condition else whole
-    if of.condition or isinstance(kind, Tagged):
+        return Back(of.type, path, "", f"{part}.now", True) if is_optional else Back("&'a [u8]", path + part, "{}.now")
+    if is_optional or isinstance(kind, Tagged):
         return Back(of.type, path, is_rare=True) if is_plain(kind) else None
     if isinstance(kind, Number):
         inner, leaf = kind.of.parts[-1] if isinstance(kind.of, Group) and kind.of.is_struct else ("", kind.of)
@@ -182,7 +170,7 @@ def back_of(of: Field) -> Optional[Back]:
 def draw_back(struct: Struct) -> Optional[Back]:
     """Returns what a user reads back of a field that can be."""
     found, rng = [back for back in map(back_of, struct.fields) if back], random.Random(struct.print())
-    rare = [it for it in found if it.is_rare or it.other]
+    rare = [it for it in found if it.is_rare]
     return rng.choice(rare if rare and rng.random() < 0.6 else found) if found else None
 
 
@@ -217,7 +205,8 @@ pub fn again_{name}{life}(target: &{life[1:3]} mut [u8], value: {struct.name}, o
 {{
     slice::gwrite_with(target, value, &mut 0, order)?;
     let again: {struct.name} = (&*target).pread_with(0, order)?;
-{back.code()}}}
+    Ok(again{back.path})
+}}
 """.replace("& mut", "&mut")
     if made.top.mark == KEPT:
         has_life = "'a" in made.top.type

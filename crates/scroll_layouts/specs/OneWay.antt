@@ -1,7 +1,7 @@
 -- Formats that read a source in one way. All values that it has are the same, and it has no value
 -- and an error. So what was written and is read again is the same, and lists of such values are
 -- walked where they lie.
-use Rattle.std.specs.Prelude.{◌≡◌, ◌-◌, ◌&&◌, ⊤, ℕ, Bool, true, false, Option, Some, None}
+use Rattle.std.specs.Prelude.{◌≡◌, ◌-◌, ◌&&◌, ⊤, ℕ, Bool, true, false, Option, Some, None, option_map}
 use Rattle.scroll_layouts.specs.Layouts.{same_fields}
 use Rattle.scroll_layouts.specs.Formats.{Format, run, counted, zeros, last, shape, pair, headed, padded, within, behind, ordered, leaf, choice, when, len}
 use Rattle.scroll_layouts.specs.declared.choice.Choice.{Choice}
@@ -45,6 +45,17 @@ same_option P (Some x) None = ⊥
 same_option P None (Some y) = ⊥
 same_option P None None = ⊤
 
+-- `same_seen b see x y P`: what is seen of two optional values is equal; or, if `b` is false, `P`
+abbrev pub same_seen : {X Y : Type 0} → Bool → (X → Y) → Option X → Option X → Type 0 → Type 0
+same_seen true see x y P = option_map see x ≡ option_map see y
+same_seen false see x y P = P
+
+-- two optional values are the same. Of what is borrowed that is an equation, as `search` wants it
+abbrev pub same_optional : {E X : Type 0} → Format E X → (X → X → Type 0) → Option X → Option X
+    → Type 0
+same_optional (last f get) P x y = same_seen (plain f) get x y (same_option P x y)
+same_optional f P x y = same_option P x y
+
 -- `same f x y`: each part of the one value is that of the other; where `plain` is true of a struct,
 -- a choice or an optional value, the two are equal
 abbrev pub same : {E X : Type 0} → Format E X → X → X → Type 0
@@ -63,7 +74,7 @@ same (ordered o f) x y = same f x y
 same (leaf l) x y = l.leaf_same x y
 same (choice gives b f g) x y =
     same_if (plain f && plain g) x y (same_choice (same f) (same g) x y)
-same (when gives b f) x y = same_if (plain f) x y (same_option (same f) x y)
+same (when gives b f) x y = same_if (plain f) x y (same_optional f (same f) x y)
 
 -- `told f`: heads whose parts are the same say the same of what follows them
 abbrev pub told : {E X : Type 0} → Format E X → Type 0

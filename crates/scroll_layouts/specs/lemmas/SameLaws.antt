@@ -3,11 +3,11 @@
 use Rattle.std.proofs.Common.{◌≡◌, ℕ, ◌+◌, ◌-◌, ◌<◌, List, refl, sym, ap, subst, ◌∙◌, arith}
 use Rattle.std.proofs.lemmas.Bool.{true≢false, and_parts}
 use Rattle.std.specs.List.{All}
-use Rattle.std.specs.Prelude.{◌&&◌, Bool, true, false, Option, Some, None}
+use Rattle.std.specs.Prelude.{◌&&◌, Bool, true, false, Option, Some, None, ⊤}
 use Rattle.scroll.specs.declared.endian.Endian.{Endian}
 use Rattle.scroll_formats.specs.Zeros.{padding_len}
 use Rattle.scroll_layouts.specs.Formats.{Format, run, counted, zeros, last, shape, pair, headed, padded, within, behind, ordered, leaf, choice, when, reads, len}
-use Rattle.scroll_layouts.specs.OneWay.{plain, same, same_if, same_choice, same_option, told, one_way}
+use Rattle.scroll_layouts.specs.OneWay.{plain, same, same_if, same_choice, same_seen, same_option, same_optional, told, one_way}
 use Rattle.scroll_layouts.specs.declared.choice.Choice.{Choice}
 use Rattle.scroll_layouts.specs.declared.choice.Choice.TheVariants.{First, Second}
 use Rattle.scroll_layouts.specs.lemmas.EqualLemmas.{pair-is}
@@ -50,12 +50,48 @@ choice-is f g (Second x) (First y) h is = absurd h
 choice-is f g (Second x) (Second y) h is =
     ap Second (same-is g (and_parts (plain f) (plain g) is).1 x y h)
 
-option-is : {E X : Type 0} (f : Format E X) (x y : Option X) → same_option (same f) x y
-    → plain f ≡ true → x ≡ y
-option-is f (Some x) (Some y) h is = ap Some (same-is f is x y h)
-option-is f (Some x) None h is = absurd h
-option-is f None (Some y) h is = absurd h
-option-is f None None h is = refl
+-- optional values that are there, and ones that aren't, are the same
+seen-some : {X Y : Type 0} {x y : X} {P : Type 0} (b : Bool) (see : X → Y)
+    → (b ≡ true → see x ≡ see y) → P → same_seen b see (Some x) (Some y) P
+seen-some true see is h = ap Some (is refl)
+seen-some false see is h = h
+
+some-same : {E X : Type 0} (f : Format E X) (x y : X) → same f x y
+    → same_optional f (same f) (Some x) (Some y)
+some-same (run gives p) x y h = h
+some-same (counted gives n) x y h = h
+some-same (zeros gives n unique) x y h = h
+some-same (last f get) x y h = seen-some (plain f) get (λ is. same-is f is (get x) (get y) h) h
+some-same (shape f get unique) x y h = h
+some-same (pair f g) x y h = h
+some-same (headed f holds fails next rest) x y h = h
+some-same (padded gives m f) x y h = h
+some-same (within gives n f) x y h = h
+some-same (behind gives n f rest) x y h = h
+some-same (ordered o f) x y h = h
+some-same (leaf l) x y h = h
+some-same (choice gives b f g) x y h = h
+some-same (when gives b f) x y h = h
+
+seen-none : {X Y : Type 0} (b : Bool) (see : X → Y) → same_seen b see None None ⊤
+seen-none true see = refl
+seen-none false see = tt
+
+none-same : {E X : Type 0} (f : Format E X) → same_optional f (same f) None None
+none-same (run gives p) = tt
+none-same (counted gives n) = tt
+none-same (zeros gives n unique) = tt
+none-same (last f get) = seen-none (plain f) get
+none-same (shape f get unique) = tt
+none-same (pair f g) = tt
+none-same (headed f holds fails next rest) = tt
+none-same (padded gives m f) = tt
+none-same (within gives n f) = tt
+none-same (behind gives n f rest) = tt
+none-same (ordered o f) = tt
+none-same (leaf l) = tt
+none-same (choice gives b f g) = tt
+none-same (when gives b f) = tt
 
 -- a source has one length at an offset, and its values are the same
 one : {E X : Type 0} (f : Format E X) → told f → (order : Endian) (s : List ℕ) (at : ℕ) (x y : X)
@@ -121,11 +157,14 @@ one (choice gives b f g) t order s at (Second x) (Second y) all h k =
     let both : (len g x ≡ len g y) × same g x y = one g t.1 order s at x y all h.1 k.1 in
     (both.0, if-same (plain f && plain g) (choice-is f g (Second x) (Second y) both.1) both.1)
 one (when gives b f) t order s at (Some x) (Some y) all h k =
-    let both : (len f x ≡ len f y) × same f x y = one f t order s at x y all h.1 k.1 in
-    (both.0, if-same (plain f) (option-is f (Some x) (Some y) both.1) both.1)
+    let both : (len f x ≡ len f y) × same f x y = one f t order s at x y all h.1 k.1 in (
+      both.0,
+      if-same (plain f) (λ is. ap Some (same-is f is x y both.1)) (some-same f x y both.1),
+    )
 one (when gives b f) t order s at (Some x) None all h k = absurd (true≢false (sym h.0 ∙ k))
 one (when gives b f) t order s at None (Some y) all h k = absurd (true≢false (sym k.0 ∙ h))
-one (when gives b f) t order s at None None all h k = (refl, if-same (plain f) (λ is. refl) tt)
+one (when gives b f) t order s at None None all h k =
+    (refl, if-same (plain f) (λ is. refl) (none-same f))
 
 pub one-len : {E X : Type 0} (f : Format E X) → told f → (order : Endian) (s : List ℕ) (at : ℕ)
     (x y : X) → All (λ b. b < 256) s → reads f order s at x → reads f order s at y
