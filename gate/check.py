@@ -179,13 +179,15 @@ def list_steps(groups: Sequence[str], workers: int) -> List[Step]:
         steps.append(Step(CI, workers, tree="ci"))
         steps.append(Step("python3 gate/documents/compare.py", 1))
     steps.append(Step(proofs, half))
+    if "stands" in groups:
+        # (the long ones first, so that short ones are left for the end)
+        steps += [Step(f"python3 gate/descriptions/{it}.py", half, (proofs,)) for it in ("catalogue", "random_descriptions")]
     for at, name in enumerate(edited):
         # (embed.py builds the library whose files edits/refused.py copies; the first crate has most of the edits)
         needs = (proofs, EMBED) if crates[name].is_static and "stands" in groups else (proofs,)
         steps.append(Step(f"python3 gate/edits/refused.py {name}", half if at else workers, needs))
     if "stands" in groups:
         steps += [Step(it, 1, (proofs,)) for it in (EMBED, "python3 gate/documents/readme.py", "python3 gate/edits/misuse.py")]
-        steps += [Step(f"python3 gate/descriptions/{it}.py", half, (proofs,)) for it in ("random_descriptions", "catalogue")]
         steps.append(Step("python3 gate/descriptions/clients.py", 1))
     if edited:
         steps.append(Step("python3 gate/sessions/limits.py --edits", 1, (proofs,)))
