@@ -71,45 +71,20 @@ pub long_end : (words : List (Bor (List ℕ))) → 2 < length words → (what : 
     → SpellsKind (texts_of words) what
     → (ctx : StrCtx) × SpellsEnd (texts_of (take (length words - 1) (drop 1 words))) ctx
 long_end [] long what s = absurd (omega (arith, long))
-long_end (u ∷ more) long (kind.Number w order) s = let n = counted (u ∷ more) _ s in
-    absurd (omega (arith, n, long))
 long_end (u ∷ more) long (kind.Text ctx) s = (ctx, behind u more s.0 ctx s.1 s.2)
 long_end (u ∷ more) long (kind.Bytes len) s = let n = counted (u ∷ more) _ s.1 in
     absurd (omega (arith, n, long))
-long_end (u ∷ more) long kind.CStr s = let n = counted (u ∷ more) _ s in
-    absurd (omega (arith, n, long))
-long_end (u ∷ more) long kind.CString s = let n = counted (u ∷ more) _ s in
-    absurd (omega (arith, n, long))
-long_end (u ∷ more) long kind.Uleb s = let n = counted (u ∷ more) _ s in
-    absurd (omega (arith, n, long))
-long_end (u ∷ more) long kind.Sleb s = let n = counted (u ∷ more) _ s in
-    absurd (omega (arith, n, long))
-long_end (u ∷ more) long (kind.U8x0 order) s = let n = counted (u ∷ more) _ s in
-    absurd (omega (arith, n, long))
-long_end (u ∷ more) long (kind.U16x3 order) s = let n = counted (u ∷ more) _ s in
-    absurd (omega (arith, n, long))
 long_end (u ∷ more) long (kind.Textx2 ctx) s = (ctx, behind u more s.0 ctx s.1 s.2)
+long_end (u ∷ more) long what s = let n = counted (u ∷ more) _ s in absurd (omega (arith, n, long))
 
 -- three words or more spell texts alone
 pub no_kind : (words : List (Bor (List ℕ))) → 2 < length words
     → (get_or words 0 no_word).now ≢ codes "str" → (get_or words 0 no_word).now ≢ codes "strx2"
     → (what : Kind) → ¬ (SpellsKind (texts_of words) what)
 no_kind [] long text texts what = absurd (omega (arith, long))
-no_kind (u ∷ more) long text texts (kind.Number w order) = λ s. let n = counted (u ∷ more) _ s in
-    omega (arith, n, long)
 no_kind (u ∷ more) long text texts (kind.Text ctx) = λ s. let e = s.1 in text cc
 no_kind (u ∷ more) long text texts (kind.Bytes len) = λ s. let n = counted (u ∷ more) _ s.1 in
     omega (arith, n, long)
-no_kind (u ∷ more) long text texts kind.CStr = λ s. let n = counted (u ∷ more) _ s in
-    omega (arith, n, long)
-no_kind (u ∷ more) long text texts kind.CString = λ s. let n = counted (u ∷ more) _ s in
-    omega (arith, n, long)
-no_kind (u ∷ more) long text texts kind.Uleb = λ s. let n = counted (u ∷ more) _ s in
-    omega (arith, n, long)
-no_kind (u ∷ more) long text texts kind.Sleb = λ s. let n = counted (u ∷ more) _ s in
-    omega (arith, n, long)
-no_kind (u ∷ more) long text texts (kind.U8x0 order) = λ s. let n = counted (u ∷ more) _ s in
-    omega (arith, n, long)
-no_kind (u ∷ more) long text texts (kind.U16x3 order) = λ s. let n = counted (u ∷ more) _ s in
-    omega (arith, n, long)
 no_kind (u ∷ more) long text texts (kind.Textx2 ctx) = λ s. let e = s.1 in texts cc
+no_kind (u ∷ more) long text texts what = λ s. let n = counted (u ∷ more) _ s in
+    omega (arith, n, long)

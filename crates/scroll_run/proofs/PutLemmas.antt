@@ -84,17 +84,13 @@ pub by_u16x3 : (a b c d : List ℕ) (p : Put) → SpellsPut (codes "u16x3" ∷ a
     → (order : Endian) × (xs : List ℕ) × (a ≡ order_word order)
     × AllZip (SpellsNumber (2 ^ 16)) (b ∷ c ∷ d ∷ []) xs
 by_u16x3 a b c d (put.Number x order) s = let e = s.2 in absurd cc
-by_u16x3 a b c d (put.Text text) s = let e = s.1 in absurd cc
-by_u16x3 a b c d (put.Bytes bytes) s = let e = s.1 in absurd cc
-by_u16x3 a b c d (put.CStr text) s = let e = s.1 in absurd cc
-by_u16x3 a b c d (put.Uleb x) s = let e = s.1 in absurd cc
-by_u16x3 a b c d (put.Sleb x) s = let e = s.1 in absurd cc
 by_u16x3 a b c d (put.U16x3 xs order) s =
     let e = s.3 in
     let first : a ≡ order_word order = cc in
     let rest : s.0 ∷ s.1 ∷ s.2 ∷ [] ≡ b ∷ c ∷ d ∷ [] = cc in
     (order, xs, first, subst (λ ws. AllZip (SpellsNumber (2 ^ 16)) ws xs) rest s.4)
 by_u16x3 a b c d (put.Bytesx2 x y) s = let e = s.2 in absurd cc
+by_u16x3 a b c d p s = let e = s.1 in absurd cc
 
 -- the word of a number type has at most four bytes
 short_width : (w : Width) (a : List ℕ) → a ≡ width_word w → length a ≤ 4
@@ -116,11 +112,6 @@ by_bytesx2 b c (put.Number x order) s =
     let e : codes "bytesx2" ≡ width_word s.0 = cc in
     let n = short_width s.0 _ e in
     absurd (omega (arith, n))
-by_bytesx2 b c (put.Text text) s = let e = s.1 in absurd cc
-by_bytesx2 b c (put.Bytes bytes) s = let e = s.1 in absurd cc
-by_bytesx2 b c (put.CStr text) s = let e = s.1 in absurd cc
-by_bytesx2 b c (put.Uleb x) s = let e = s.1 in absurd cc
-by_bytesx2 b c (put.Sleb x) s = let e = s.1 in absurd cc
 by_bytesx2 b c (put.U16x3 xs order) s = let e = s.3 in absurd cc
 by_bytesx2 b c (put.Bytesx2 x y) s =
     let e = s.2 in
@@ -131,29 +122,22 @@ by_bytesx2 b c (put.Bytesx2 x y) s =
       subst (λ w. SpellsBytes w x.now) first s.3,
       subst (λ w. SpellsBytes w y.now) second s.4,
     )
+by_bytesx2 b c p s = let e = s.1 in absurd cc
 
 -- three words that spell neither a number nor two slices
 pub no_three : (a b c : List ℕ)
     → ((q : Number × Endian) → ¬ (SpellsPut (a ∷ b ∷ c ∷ []) (put.Number q.0 q.1)))
     → a ≢ codes "bytesx2" → (p : Put) → ¬ (SpellsPut (a ∷ b ∷ c ∷ []) p)
 no_three a b c none name (put.Number x order) = λ s. none (x, order) s
-no_three a b c none name (put.Text text) = λ s. let n : 3 ≡ 2 = ap length s.1 in omega (arith, n)
-no_three a b c none name (put.Bytes bytes) = λ s. let n : 3 ≡ 2 = ap length s.1 in omega (arith, n)
-no_three a b c none name (put.CStr text) = λ s. let n : 3 ≡ 2 = ap length s.1 in omega (arith, n)
-no_three a b c none name (put.Uleb x) = λ s. let n : 3 ≡ 2 = ap length s.1 in omega (arith, n)
-no_three a b c none name (put.Sleb x) = λ s. let n : 3 ≡ 2 = ap length s.1 in omega (arith, n)
 no_three a b c none name (put.U16x3 xs order) = λ s. let n : 3 ≡ 5 = ap length s.3 in
     omega (arith, n)
 no_three a b c none name (put.Bytesx2 x y) = λ s. name (ap (λ ws. get_or ws 0 []) s.2)
+no_three a b c none name p = λ s. let n : 3 ≡ 2 = ap length s.1 in omega (arith, n)
 
 -- words that are neither two, three nor five spell no value
 pub no_count : (words : List (Bor (List ℕ))) → length words ≢ 2 → length words ≢ 3
     → length words ≢ 5 → (p : Put) → ¬ (SpellsPut (texts_of words) p)
 no_count words two three five (put.Number x order) = λ s. three (counted words _ s.2)
-no_count words two three five (put.Text text) = λ s. two (counted words _ s.1)
-no_count words two three five (put.Bytes bytes) = λ s. two (counted words _ s.1)
-no_count words two three five (put.CStr text) = λ s. two (counted words _ s.1)
-no_count words two three five (put.Uleb x) = λ s. two (counted words _ s.1)
-no_count words two three five (put.Sleb x) = λ s. two (counted words _ s.1)
 no_count words two three five (put.U16x3 xs order) = λ s. five (counted words _ s.3)
 no_count words two three five (put.Bytesx2 x y) = λ s. three (counted words _ s.2)
+no_count words two three five p = λ s. two (counted words _ s.1)
