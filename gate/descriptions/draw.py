@@ -272,6 +272,8 @@ class Draw(random.Random):
         if how == "mark" and self.chance(40):
             made.mark, made.zeros = b"", self.randint(1, 2)
             self.kinds.append(ZERO_MARK)
+        if self.error and not isinstance(item, Inner):
+            made.error = f", {self.error.note}"
         self.items.append(made)
         return made
 

@@ -382,11 +382,13 @@ class Listing(Kind):
         self.name, self.item, self.how, self.count, self.mark = name, item, how, count, mark
         # A mark that is a number in LEB128, or two, which are zero, however padded.
         self.zeros = 0
+        # The note that names an error, of a list of numbers.
+        self.error = ""
 
     def print(self) -> str:
         """Prints the struct that has the list's name."""
         ends = f", ends = {[*self.mark]}" if self.mark else f", ends = {ZEROS[self.zeros]}" if self.zeros else ""
-        return f"{MARK}// #[scroll(items = {self.item.type.partition('<')[0]}{ends})]\npub struct {self.name};\n"
+        return f"{MARK}// #[scroll(items = {self.item.type.partition('<')[0]}{ends}{self.error})]\npub struct {self.name};\n"
 
     def draw(self, rng: random.Random, order: str, known: Known) -> bytes:
         count = self.count.draw(known) if self.how == "values" else rng.randint(0, 3)
@@ -445,4 +447,4 @@ class Listing(Kind):
             raise bad(end, "another length than its values")
 
     def lines(self, path: str) -> List[str]:
-        return [f"let made = mix_bytes(made, {path}.0);"]
+        return [f"let made = mix_bytes(made, {path}.bytes);"]

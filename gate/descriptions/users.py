@@ -26,18 +26,31 @@ def read(name: str) -> str:
 
 class Back(NamedTuple):
     """What is read back of a value: its type, its path, which is empty for the whole, and what of it must be equal. Of an
-    optional value that borrows, it is what is seen of it."""
+    optional value it is a part of what is there, and something else where nothing is; or what is seen of all of it."""
 
     type: str
     path: str
     form: str = "{}"
+    part: str = ""
+    other: str = ""
     seen: str = ""
     is_rare: bool = False
 
     def clause(self, value: str) -> str:
         """Returns what a user's function ensures."""
-        said = f"option_map (λ v. v{self.seen}) {{}}" if self.seen else self.form
-        return f"{said.format('x')} ≡ {said.format(value + self.path)}"
+        result, whole = self.form.format("x"), value + self.path
+        if self.other:
+            return f"(w : _) → {whole} ≡ Some w → {result} ≡ {self.form.format(f'w{self.part}')}"
+        if self.seen:
+            return f"option_map (λ v. v{self.seen}) x ≡ option_map (λ v. v{self.seen}) {whole}"
+        return f"{result} ≡ {self.form.format(whole)}"
+
+    def code(self) -> str:
+        """Returns the end of its body."""
+        if not self.other:
+            return f"    Ok(again{self.path})\n"
+        arms = f"        Some(it) => Ok(it{self.part}),\n        None => Ok({self.other}),\n"
+        return f"    match again{self.path} {{\n{arms}    }}\n"
 
 
 def said_number(struct: Struct, name: str) -> str:
@@ -77,7 +90,7 @@ def size_of(struct: Struct, of: Field) -> Optional[str]:
     elif isinstance(kind, (Filled, Numeral)):
         size = str(kind.width)
     elif isinstance(kind, Listing):
-        size = f"(length {path}.0.now)"
+        size = f"(length {path}.bytes.now)"
     size = said_sum(struct, of.within) if of.within else size
     return f"({size} + padding_len {size} {of.padded})" if size and of.padded else size
 
@@ -148,15 +161,19 @@ def is_plain(kind: Kind) -> bool:
 
 def back_of(of: Field) -> Optional[Back]:
     """Returns what a user reads back of a field."""
-    kind, path, is_optional = of.kind, f".{of.name}", bool(of.condition)
+    kind, path = of.kind, f".{of.name}"
+    if of.condition and isinstance(kind, (Filled, Listing)):
+        # (what `match` takes out of such an option isn't found)
+        return Back(of.type, path, seen=".now" if isinstance(kind, Filled) else ".bytes.now", is_rare=True)
     if isinstance(kind, (Filled, Slice)) or (isinstance(kind, Ended) and kind.byte >= 0):
-        return Back(of.type, path, "{}.now", ".now" if is_optional else "", is_optional)
+        return Back(kind.type, path, "{}.now", other=of.condition and ('""' if "str" in kind.type else "&[]") or "")
     if isinstance(kind, (Leb, Numeral)):
-        return Back(of.type, path, is_rare=True) if is_optional else Back("i64" if kind.is_signed else "u64", f"{path}.value")
+        type_ = "i64" if kind.is_signed else "u64"
+        return Back(type_, path, part=".value", other="0") if of.condition else Back(type_, f"{path}.value")
     if isinstance(kind, (Table, Listing)):
-        part = ".bytes" if isinstance(kind, Table) else ".0"
-        return Back(of.type, path, "", f"{part}.now", True) if is_optional else Back("&'a [u8]", path + part, "{}.now")
-    if is_optional or isinstance(kind, Tagged):
+        whole = Back("&'a [u8]", f"{path}.bytes", "{}.now")
+        return whole._replace(path=path, part=".bytes", other="&[]") if of.condition else whole
+    if of.condition or isinstance(kind, Tagged):
         return Back(of.type, path, is_rare=True) if is_plain(kind) else None
     if isinstance(kind, Number):
         inner, leaf = kind.of.parts[-1] if isinstance(kind.of, Group) and kind.of.is_struct else ("", kind.of)
@@ -170,7 +187,7 @@ def back_of(of: Field) -> Optional[Back]:
 def draw_back(struct: Struct) -> Optional[Back]:
     """Returns what a user reads back of a field that can be."""
     found, rng = [back for back in map(back_of, struct.fields) if back], random.Random(struct.print())
-    rare = [it for it in found if it.is_rare]
+    rare = [it for it in found if it.is_rare or it.other]
     return rng.choice(rare if rare and rng.random() < 0.6 else found) if found else None
 
 
@@ -205,8 +222,7 @@ pub fn again_{name}{life}(target: &{life[1:3]} mut [u8], value: {struct.name}, o
 {{
     slice::gwrite_with(target, value, &mut 0, order)?;
     let again: {struct.name} = (&*target).pread_with(0, order)?;
-    Ok(again{back.path})
-}}
+{back.code()}}}
 """.replace("& mut", "&mut")
     if made.top.mark == KEPT:
         has_life = "'a" in made.top.type
@@ -225,9 +241,9 @@ pub fn keep_{name}{life}(to: &mut [u8], value: {made.top.type}, at: usize, order
     if walked:
         values = "values_to_mark" if walked.kind.how == "mark" else "values"
         text += f"""
-pub fn count_{name}(value: {struct.name}, order: Endian) -> usize {{
+pub fn count_{name}(value: {struct.name}) -> usize {{
     let mut count: usize = 0;
-    for _ in value.{walked.name}.{values}::<{error}>(order) {{
+    for _ in value.{walked.name}.{values}() {{
         count = count.saturating_add(1);
     }}
     count

@@ -5,7 +5,7 @@ from pathlib import Path
 from typing import Any, Dict, Iterator, List, Set, Tuple
 
 from items import Item, SourceFile
-from model import Crate, Enum, ListType
+from model import Crate, Enum
 from names import CHOICE, CODE, GHOST
 from printing import Printer
 from readers import read_form
@@ -51,6 +51,10 @@ def print_file(crate: Crate, file: SourceFile, items: List[Tuple[Item, Any]]) ->
     # (a C string is that of the crate or of std, as the file imports it)
     own: Set[str] = {"CStr", *(item.name for item, _ in items)}
     modules: Dict[str, str] = {}
+    # What an `impl` block imports: at the top, a type would lead back to itself by what says what its lists are.
+    inner: Dict[str, str] = {}
+    # (the lists that a type is printed around)
+    around: Set[str] = set()
     for item, form in items:
         if form is None:
             texts.append(record_text(crate.record(item)))
@@ -58,22 +62,41 @@ def print_file(crate: Crate, file: SourceFile, items: List[Tuple[Item, Any]]) ->
         printer = Printer(form)
         texts += printer.print()
         own |= {*form.used}
-        if form.error and form.error.module and not isinstance(form, ListType):
+        if form.error and form.error.module:
             own.add(form.error.name)
             modules[form.error.module] = alias_of(form.error.name)
         modules["Rattle.scroll.specs.declared.endian.Endian.TheVariants"] = "endian_is"
         if isinstance(form, Enum):
-            modules[f"{crate.declared(item)}.TheVariants"] = alias_of(item.name)
-        for name in printer.names:
+            inner[alias_of(item.name)] = f"{crate.declared(item)}.TheVariants as {alias_of(item.name)}"
+        lists = crate.lists.get((file.path, item.name), [])
+        for name in (*printer.names, *(f"{it}Part" for it in lists)):
             if name in own or name in [it.name for it in file.items]:
                 item.refuse(f"has a type {name} printed, whose name another has")
+        texts += [Printer.print_part(it) for it in lists if it not in around]
+        around |= {*lists}
+    here = ".".join(["Rattle", crate.name, "specs.declared", *crate.module(file.path), "derived"])
+    inner |= {f"{it}Part": f"{here}.{it}Part.{{{it}Part}}" for it in around}
+    texts = [with_imports(it, inner) for it in texts]
     body = "\n".join(row for line in "\n\n".join(texts).split("\n") for row in lay_out(line))
     return "\n".join([f"{HEAD}{Path(file.path).name}.", *imports(crate, own, modules, body), "", body, ""])
 
 
+def clauses(text: str) -> str:
+    """Returns the ghost members and the clauses of a text."""
+    return "\n".join(re.findall(r"ghost \w+ = \{.*?(?=\n\n|\Z)|ensures \{.*?(?=\n    \{)", text, re.S))
+
+
+def with_imports(text: str, inner: Dict[str, str]) -> str:
+    """Returns an item with what its block imports."""
+    ghost = clauses(text)
+    found = [said for name, said in inner.items() if re.search(rf"(?<![\w.]){name}\b", ghost)]
+    lines = "".join(f"    ghost use {it};\n" for it in found)
+    return re.sub(r"^(impl[^{]*\{\n)", rf"\1{lines}\n", text, count=1) if found else text
+
+
 def imports(crate: Crate, own: Set[str], modules: Dict[str, str], body: str) -> Iterator[str]:
     """Returns the lines that import what a text names."""
-    ghost = "\n".join(re.findall(r"ghost \w+ = \{.*?(?=\n\n|\Z)|ensures \{.*?(?=\n    \{)", body, re.S))
+    ghost = clauses(body)
     for module, names in GHOST.items():
         found = [it for it in names if is_said(it, ghost)]
         if found:

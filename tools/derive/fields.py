@@ -4,7 +4,7 @@ import re
 from typing import TYPE_CHECKING, Dict, Tuple, Type as TypeOf
 
 from fixed_types import PLAIN, Array, Fixed, Record, is_counter
-from forms import NOTHING, Number, Part, numbers, one, there
+from forms import NOTHING, Number, Part, around_list, numbers, one, there
 from items import Note, RawField, Type
 from model import Enum, ListType, Struct
 from names import HOMES
@@ -173,6 +173,8 @@ class ListOf(Kind):
             self.at.refuse(f"is a list of {element.text}: {said}")
         form = self.reader.inner(self.at, element)
         called, (inside, *_) = self.reader.call(self.ctx)
+        if form.ends and self.ctx.text != "ToMark":
+            self.at.refuse(f"is a list within a length or by a count, and {element.text} has a mark: take `ctx = ToMark`")
         if self.ctx.text == "ToMark":
             if not form.ends:
                 self.at.refuse(f"is a list up to a mark, and {element.text} has no `ends = ..`, which says its mark")
@@ -181,7 +183,10 @@ class ListOf(Kind):
             part = self.one("Count", around("Count", self.reader.count(self.at, inside)))
         else:
             part = super().make()
-        return part
+        found = self.reader.crate.lists.setdefault((self.reader.item.path, self.reader.item.name), [])
+        if element.name not in found:
+            found.append(element.name)
+        return around_list(part, element.name)
 
 
 class FixedSize(Kind):

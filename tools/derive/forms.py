@@ -67,6 +67,8 @@ class Part:
     is_exact: bool = True
     # Whether it is an enum, or has one.
     has_enum: bool = False
+    # The kind of list that it is, if it is one.
+    listed: str = ""
     # Fields of a fixed size, which are this part; or the parts that it is, of which there may be several, and types that are
     # printed for it, with their names.
     fields: Sequence[Tuple[str, Fixed]] = ()
@@ -139,15 +141,29 @@ def bits(word: str, fields: Sequence[Tuple[str, str]], masks: Sequence[int]) -> 
     return made
 
 
+def around_list(part: Part, kind: str) -> Part:
+    """A list, in the type that is printed around it."""
+    split, join = f"ListOf({kind}Part({part.split}), PhantomData)", f"ListOf({kind}Part({part.join}), _)"
+    ghost = record(record(part.ghost), "record {}")
+    return replace(part, type=f"ListOf<'a, {kind}Part<'a>>", ghost=ghost, split=split, join=join, listed=kind)
+
+
 def there(part: Part, name: str, condition: Value) -> Part:
     """A field that is there on a condition."""
     return optional(part.around("When", part.type, *condition), name)
 
 
 def optional(part: Part, name: str) -> Part:
-    """A field that may be absent. One of a fixed size is put into a part, and taken out of it."""
+    """A field that may be absent. One of a fixed size, or a list, is put into a part, and taken out of it."""
     made = replace(part, type=f"Option<{part.type}>", ghost=f"x.{label(name)}", split=f"self.{name}", join=local(name))
     made.numbers, made.fields = [], ()
+    if part.listed:
+        outer, inner = f"Some(ListOf({part.listed}Part(list), PhantomData))", f"Some(ListOf({part.listed}Part(list), _))"
+        made.ghost = f"option_map {{U = ListOf {part.listed}Part}} (λ v. {record(record('v'), 'record {}')}) {made.ghost}"
+        made.before = f"\n        let {made.join} = match {made.split} {{ Some(list) => {outer}, None => None }};"
+        made.after = f"\n        let {made.join} = match {made.join} {{ {inner} => Some(list), None => None }};"
+        made.split = made.join
+        return made
     if not part.fields:
         return made
     inside, of = (record("v"), "Field") if isinstance(part.fields[0][1], Record) else ("v", "Run")

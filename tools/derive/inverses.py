@@ -6,7 +6,8 @@ from typing import Iterator, List, Tuple
 
 from text import is_whole, label, split_top
 
-WRAPPED = re.compile(r"option_map \(λ v\. (.*)\) (\S+)")
+# (the type of a list as a part is written, since it can't be found by the prover)
+WRAPPED = re.compile(r"option_map (?:\{U = (.*?)\} )?\(λ v\. (.*)\) (\S+)")
 
 
 @dataclass(frozen=True)
@@ -29,9 +30,12 @@ def leaves_of(said: str, path: str) -> Iterator[Leaf]:
             if name:
                 yield from leaves_of(value, f"{path}.{name}")
     elif found := WRAPPED.fullmatch(said):
-        [inside] = leaves_of(found[1], "v")
-        lemma = "record-again" if "record" in found[1].partition("=")[2] else "number-again"
-        yield Leaf(found[2], f"option_map (λ v. {inside.taken}) {path}", f"{lemma} {found[2]}")
+        type_, part, value = found.groups()
+        [inside] = leaves_of(part, "v")
+        lemma = "record-again" if "record" in part.partition("=")[2] else "number-again"
+        if type_:
+            lemma = f"option-again {{B = {type_}}} (λ v. {part}) (λ v. {inside.taken}) (λ v. refl)"
+        yield Leaf(value, f"option_map (λ v. {inside.taken}) {path}", f"{lemma} {value}")
     else:
         yield Leaf(said, path, "")
 

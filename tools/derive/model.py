@@ -51,10 +51,6 @@ class Form:
     def type(self) -> str:
         return self.item.name + ("<'a>" if self.item.lifetime else "")
 
-    @property
-    def has_any_error(self) -> bool:
-        return False
-
 
 @dataclass
 class Struct(Form):
@@ -210,16 +206,10 @@ class Enum(Form):
 
 @dataclass
 class ListType(Form):
-    """A struct without fields that names the values of a list: their type, what ends a list of them, and what they are if they
-    are structs of any size or enums."""
+    """A struct without fields that names the values of a list: their type, and what ends a list of them."""
 
     of: str
     ends: str
-    form: Optional[Form] = None
-
-    @property
-    def has_any_error(self) -> bool:
-        return not self.form
 
 
 class Crate:
@@ -232,6 +222,8 @@ class Crate:
             raise Refused(str(folder), 0, "there is no src/ in this folder, so it is no crate")
         self.files: Dict[str, SourceFile] = {}
         self.forms: Dict[int, Any] = {}
+        # The lists that are parts of each struct or enum, by its file and its name.
+        self.lists: Dict[Tuple[str, str], List[str]] = {}
         for path in sorted(source.rglob("*.rt")):
             if path.name != "derived.rt":
                 try:

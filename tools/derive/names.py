@@ -15,9 +15,12 @@ GHOST: Dict[str, Sequence[str]] = {
     "Rattle.scroll_layouts.specs.Errors": ("GivesBadInput", "IsNot"),
     "Rattle.scroll_layouts.specs.Formats": ("refuses", "shape"),
     "Rattle.scroll_layouts.specs.ListEnds": ("bytes_mark",),
+    "Rattle.scroll_layouts.specs.Lists": ("CountedItems",),
+    "Rattle.scroll_layouts.specs.Marks": ("CountedMarked",),
     "Rattle.scroll_layouts.specs.Wholes": ("KeepsWhole", "ReadsBack", "ReadsExact", "ReadsWhole", "WritesWhole"),
-    "Rattle.scroll_layouts.specs.lemmas.EqualLemmas": ("number-again", "parts-unique", "record-again"),
+    "Rattle.scroll_layouts.specs.lemmas.EqualLemmas": ("number-again", "option-again", "parts-unique", "record-again"),
     "Rattle.scroll_layouts.specs.lemmas.WholeLemmas": ("whole-kept",),
+    "Rattle.scroll_layouts.specs.declared.items.ListOf": ("ListOf",),
     "Rattle.scroll_layouts.specs.declared.choice.Choice.TheVariants": ("First", "Second"),
 }
 CHOICE = "scroll_layouts::Choice"
@@ -27,9 +30,10 @@ CODE: Dict[str, Sequence[str]] = {
     "scroll_formats": ("Kept", "SmallError", "Table", "Zeros"),
     CHOICE: ("First", "Second"),
     "scroll_layouts": tuple(
-        "Behind Choice Choose Count Decimal EndMark Ends Field Filled Given Head Headed Hexadecimal Items "
-        "Listed Low Marked NameEnd Octal Ordered Packed Padded Part ReadPart Run Shape Sleb Split ToMark TwoZeroUlebs U24 Uleb Vlq "
-        "When Within ZeroUleb Zigzag begins_with is kept_exact kept_whole read_exact read_whole shifted write_whole".split()
+        "Behind Choice Choose Count Decimal EndMark Ends Field Filled Given Head Headed Hexadecimal IsList Items "
+        "ListOf ListPart Listed Low Marked NameEnd Octal Ordered Packed Padded Part ReadPart Run Shape Sleb Split "
+        "ToMark TwoZeroUlebs U24 Uleb Unmarked Vlq When Within ZeroUleb Zigzag begins_with is kept_exact kept_whole "
+        "read_exact read_whole shifted write_whole".split()
     ),
     "std::marker": ("PhantomData",),
     "std::result": ("Result",),

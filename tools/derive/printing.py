@@ -143,13 +143,37 @@ class Printer:
             self.print_calls()
 
     def print_list(self) -> None:
-        """Prints the type of a list's values, and what ends one."""
+        """Prints which bytes are a list, the type of its values, and what ends one."""
         form: ListType = self.form
-        self.texts.append(f"impl<'a> Listed<'a> for {self.name} {{\n    type Item = {form.of};\n}}")
         is_bytes = form.ends.startswith("[")
-        if form.ends:
-            end = self.name if is_bytes else form.ends
-            self.texts.append(f"impl<'a> Marked<'a> for {self.name} {{\n    type End = {end};\n}}")
+        end = self.name if is_bytes else form.ends
+        always = form.of.replace("'a", "'static")
+        values = f"(⟦<{always} as ReadPart<'static, (), {self.error}>>⟧.format tt) order s"
+        if end:
+            trait, more = "Marked", f"    type End = {end};\n\n"
+            said = f"CountedMarked ⟦<{end} as EndMark>⟧.mark\n        {values} (length s) n"
+        else:
+            trait, more, said = "Unmarked", "", f"CountedItems\n        {values} 0 (length s) n"
+        self.texts += [
+            f"impl IsList for {self.name} {{\n    ghost is_list = {{ λ order s n. {said} }};\n}}",
+            f"""impl<'a> Listed<'a> for {self.name} {{
+    type Error = {self.error};
+
+    type Item = {form.of};
+
+    ghost item = {{ ⟦<{form.of} as ReadPart<'a, (), {self.error}>>⟧.format tt }};
+
+    #[inline(always)]
+    fn read_item(from: &'a [u8], offset: usize, order: Endian) -> Result<({form.of}, usize), {self.error}> {{
+        <{form.of} as ReadPart<'a, (), {self.error}>>::read_at(from, offset, order, &())
+    }}
+}}""",
+            f"""impl<'a> {trait}<'a> for {self.name} {{
+{more}    ghost from_values = {{ λ order s n h. h }};
+
+    ghost into_values = {{ λ order s n h. h }};
+}}""",
+        ]
         if is_bytes:
             mark = f"bytes_mark ({' ∷ '.join([*form.ends[1:-1].split(', '), '[]'])})"
             self.texts.append(
@@ -164,6 +188,28 @@ class Printer:
     }}
 }}"""
             )
+
+    @staticmethod
+    def print_part(name: str) -> str:
+        """Prints the type around a list of some kind that is a part of structs."""
+        return f"""#[derive(Drop)]
+pub struct {name}Part<'a>(pub Items<'a, {name}>);
+
+impl<'a> ListPart<'a> for {name}Part<'a> {{
+    type Kind = {name};
+
+    ghost seen = {{ λ x. x.0.bytes.now }};
+
+    #[inline(always)]
+    fn of(bytes: &'a [u8], order: Endian, count: usize) -> {name}Part<'a> {{
+        {name}Part(Items::of(bytes, order, count))
+    }}
+
+    #[inline(always)]
+    fn parts(&self) -> (&'a [u8], Endian, usize) {{
+        (self.0.bytes, self.0.order, self.0.count)
+    }}
+}}"""
 
     def print_calls(self) -> None:
         """Prints what the calls that read and write take."""

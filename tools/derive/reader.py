@@ -58,7 +58,7 @@ class Reader:
 
     def check_error(self, at: RawField, form: Form) -> None:
         own, other = (it.name if it else "scroll::Error" for it in (self.error, form.error))
-        if own != other and not form.has_any_error:
+        if own != other:
             at.refuse(f"is of {form.item.name}, whose error is {other}, not {own}: write one `error = ..` before both")
 
     # Numbers

@@ -237,7 +237,7 @@ class EnumReader(Reader):
 
 
 class ListReader(Reader):
-    words = ("items", "ends")
+    words = ("items", "ends", "error")
 
     def read(self) -> ListType:
         """Reads a struct that names the values of a list."""
@@ -257,10 +257,12 @@ class ListReader(Reader):
         if isinstance(form, ListType) or form.given or (isinstance(form, Enum) and not form.is_own):
             item.refuse(f"is a list of {of.text}, which is given a number: put it into a struct with that", note)
         self.error = form.error
-        return replace(self.list(form.type), form=form)
+        return self.list(form.type)
 
     def check_error(self, at: RawField, form: Form) -> None:
-        """(A list has the error of its values.)"""
+        """(A list has the error of its values, if it names none.)"""
+        if "error" in self.item.notes:
+            super().check_error(at, form)
 
     def list(self, of: str) -> ListType:
         return ListType(self.item, self.error, self.used, of, self.read_ends())

@@ -44,12 +44,12 @@ pub fn read_table<'a>(
 {
     let mut at = *offset;
     let mut declarations = Vec::new(alloc);
-    match append_until::<TableError, Declarations>(&mut declarations, bytes, &mut at, LE) {
+    match append_until::<Declarations>(&mut declarations, bytes, &mut at, LE) {
         Ok(list) => {
             *offset = at;
             Ok(Table {
                 declarations,
-                bytes: list.0,
+                bytes: list.bytes,
             })
         }
         Err(located) => Err(located.error),

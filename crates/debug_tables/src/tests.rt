@@ -7,7 +7,6 @@ use scroll_formats::write_many;
 use scroll_layouts::{Items, Uleb};
 use std::alloc::Global;
 use std::fmt::Debug;
-use std::marker::PhantomData;
 use std::process::Abort;
 
 // The section of `struct pair { int a; int b; } p;`, from
@@ -117,8 +116,8 @@ fn numbers_of(attribute: &Attribute) -> Numbers {
 // Checks the first attributes of a declaration, and returns how many it has.
 fn check_attributes(rt: &impl Abort, declaration: &Declaration, wanted: &[Numbers]) -> usize {
     let mut count: usize = 0;
-    let mut values = declaration.attributes.values_to_mark::<TableError>(LE);
-    for _ in 0..declaration.attributes.0.len() {
+    let mut values = declaration.attributes.values_to_mark();
+    for _ in 0..declaration.attributes.bytes.len() {
         let Some(attribute) = values.next() else {
             break;
         };
@@ -217,23 +216,26 @@ const TWO: &str = "Err(Read(BadInput { size: 2, msg: \"another length than its v
 
 const FOUR: &str = "Err(Read(BadInput { size: 4, msg: \"another length than its values\" }))";
 
-const MANY: &str = "Some(At { offset: 5, error: Read(TooBig { size: 1, len: 0 }) })";
+const MANY: &str = "Some(At { offset: 5, error: Read(TooBig { size: 5, len: 3 }) })";
 
 // Returns a declaration with these attributes.
-fn declaration_of(attributes: &[u8]) -> Declaration<'_> {
-    Declaration {
+fn declaration_of(attributes: &[u8], order: Endian) -> Result<Declaration<'_>, TableError> {
+    Ok(Declaration {
         code: Uleb::shortest(1),
         tag: Uleb::shortest(0x11),
         children: Children::No,
-        attributes: Items(attributes, PhantomData),
-    }
+        attributes: Items::to_mark(attributes, order)?,
+    })
 }
 
-// Checks a write of a declaration: what it returns, what it leaves, and what reads back.
+// Checks a write of a declaration: what it returns, and what reads back.
 fn check_list(rt: &impl Abort, alloc: Global, attributes: &[u8], order: Endian, wanted: &str) {
     let mut target = [0xee; 16];
     let mut at = 1;
-    let wrote = target.gwrite_with(declaration_of(attributes), &mut at, order);
+    let wrote = match declaration_of(attributes, LE) {
+        Ok(declaration) => target.gwrite_with(declaration, &mut at, order),
+        Err(error) => Err(error),
+    };
     check_printed(rt, alloc, wrote, wanted);
     check_eq(rt, target[0], 0xee);
     if at == 1 {
@@ -242,15 +244,15 @@ fn check_list(rt: &impl Abort, alloc: Global, attributes: &[u8], order: Endian, 
     }
     let read: Result<Declaration, TableError> = target.pread_with(1, order);
     let read = read.expect(rt, "a declaration");
-    assert!(rt; *read.attributes.0 == *attributes, "got {read:?}");
+    assert!(rt; *read.attributes.bytes == *attributes, "got {read:?}");
 }
 
-// Checks the error of a write of a list of declarations, of which the second has no list.
+// Checks the error of a write of two declarations, of which the second has no room.
 fn check_many(rt: &impl Abort, alloc: Global) {
     let mut target = [0xee; 8];
     let mut at = 0;
-    let declarations = [declaration_of(&[0, 0]), declaration_of(&[0xff])];
-    let wrote = write_many(&mut target, &declarations, &mut at, LE);
+    let declaration = declaration_of(&[0, 0], LE).expect(rt, "a declaration");
+    let wrote = write_many(&mut target, &[declaration, declaration], &mut at, LE);
     check_printed(rt, alloc, wrote.err(), MANY);
     check_eq(rt, at, 5);
     check_eq(rt, target, [1, 0x11, 0, 0, 0, 0xee, 0xee, 0xee]);

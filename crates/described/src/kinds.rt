@@ -33,7 +33,7 @@ impl Copies for Answers {
     fn copy(from: &[u8], to: &mut [u8]) -> Option<(usize, u64)> {
         let message = read_message(from).ok()?;
         let mut found = u64::from(message.header.id);
-        for record in message.records.values::<Error>(BE) {
+        for record in message.records.values() {
             found = found.wrapping_add(u64::from(record.time));
         }
         let size = write_message(to, message).ok()?;
@@ -48,7 +48,7 @@ impl Copies for Modules {
     fn copy(from: &[u8], to: &mut [u8]) -> Option<(usize, u64)> {
         let module = read_module(from).ok()?;
         let mut found: u64 = 0;
-        for section in module.sections.values::<Error>(LE) {
+        for section in module.sections.values() {
             found = found.wrapping_add(section.size.value);
         }
         let size = write_module(to, module).ok()?;

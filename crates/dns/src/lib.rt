@@ -56,10 +56,10 @@ pub fn write_message<'a>(target: &mut [u8], message: Message<'a>) -> Result<usiz
 
 /// Returns the offset in the message at which a name goes on, if it ends with a pointer.
 pub fn pointer(name: &Name) -> Option<u16>
-    ensures { IfSome result (PointsTo name.now.labels.0.now) }
+    ensures { IfSome result (PointsTo name.now.labels.bytes.now) }
 {
-    let bytes = name.labels.0;
-    let mut labels = name.labels.values_to_mark::<Error>(BE);
+    let bytes = name.labels.bytes;
+    let mut labels = name.labels.values_to_mark();
     for _label in 0..bytes.len() {
         if labels.next().is_none() {
             break;

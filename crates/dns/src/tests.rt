@@ -22,7 +22,11 @@ fn an_answer_is_read_and_written(rt: HostRuntime) {
         (header.wants_recursion, header.has_recursion, header.answers),
         (1, 1, 1)
     );
-    let record: Resource = message.records.0.pread_with(0, BE).expect(&rt, "a record");
+    let record: Resource = message
+        .records
+        .bytes
+        .pread_with(0, BE)
+        .expect(&rt, "a record");
     assert!(rt; pointer(&record.name) == Some(12));
     assert!(rt; matches!(&record.data, Data::Address(it) if it.bytes == [192, 0, 2, 1]));
     let mut target = [0xff; 46];

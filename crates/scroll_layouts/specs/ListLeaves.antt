@@ -8,7 +8,7 @@ use Rattle.scroll.specs.declared.error.Error.{Error}
 use Rattle.scroll_layouts.specs.Errors.{NoRoom, GivesBadInput}
 use Rattle.scroll_layouts.specs.Formats.{Format, Leaf}
 use Rattle.scroll_layouts.specs.Lists.{SomeItems, CountedItems, RefusesItems, RefusesCounted}
-use Rattle.scroll_layouts.specs.Marks.{Mark, MarkedItems, RefusesMarked}
+use Rattle.scroll_layouts.specs.Marks.{Mark, MarkedItems, RefusesMarked, RefusesToMark}
 use Rattle.scroll_layouts.specs.OneWay.{told, one_way}
 use Rattle.scroll_layouts.specs.lemmas.ListClashes.{within-clash, counted-clash, marked-clash}
 use Rattle.scroll_layouts.specs.lemmas.ListLemmas.{counted-one}
@@ -67,7 +67,7 @@ held T C P R ends clash other = record {
 -- and the message `another length than its count`
 abbrev pub list_within : {E X : Type 0} → (Error → E → Type 0) → Format E X → ℕ → Leaf E (List ℕ)
 list_within gives f n = held ⊤ (one_way f)
-    (λ order x. (n ≡ length x) × SomeItems f order x 0 (length x))
+    (λ order x. (n ≡ length x) × ∥ SomeItems f order x 0 (length x) ∥₁)
     (λ order s e. NoRoom gives n s e
     ⊎ ((n ≤ length s) × RefusesItems gives f order (take n s) e))
     (λ t order s x y all inside within begins starts h k. sym h.0 ∙ k.0)
@@ -79,7 +79,8 @@ list_within gives f n = held ⊤ (one_way f)
 -- a list of `n` values. One that has bytes after them is `BadInput` with the offset where they end
 -- and the message `another length than its values`
 abbrev pub list_of : {E X : Type 0} → (Error → E → Type 0) → Format E X → ℕ → Leaf E (List ℕ)
-list_of gives f n = held (told f) (one_way f) (λ order x. CountedItems f order x 0 (length x) n)
+list_of gives f n = held (told f) (one_way f)
+    (λ order x. ∥ CountedItems f order x 0 (length x) n ∥₁)
     (λ order s e. RefusesCounted gives f order n s e)
     (λ t order s. counted-one f t order s n)
     (counted-clash gives f n)
@@ -92,10 +93,8 @@ list_of gives f n = held (told f) (one_way f) (λ order x. CountedItems f order 
 abbrev pub list_until : {E X : Type 0} → (Error → E → Type 0) → Mark → Format E X
     → Leaf E (List ℕ)
 list_until gives mark f = held (told f) (one_way f)
-    (λ order x. MarkedItems mark f order x (length x))
+    (λ order x. ∥ MarkedItems mark f order x (length x) ∥₁)
     (λ order s e. RefusesMarked gives mark f order s e)
     (λ t order s. marked-one mark f t order s)
     (marked-clash gives mark f)
-    (λ order x e. RefusesMarked gives mark f order x e
-    ⊎ ((end : ℕ) × MarkedItems mark f order x end × (end ≢ length x)
-    × GivesBadInput gives end (codes "another length than its values") e))
+    (RefusesToMark gives mark f)

@@ -33,9 +33,10 @@ abbrev pub YieldsItem : {E X : Type 0} → Format E X → Endian → List ℕ �
     → Type 0
 YieldsItem f order s (Some x) rest =
     reads f order s 0 x × (1 ≤ len f x) × (len f x ≤ length s) × (rest ≡ drop (len f x) s)
-    × (one_way f → SomeItems f order s 0 (length s) → SomeItems f order rest 0 (length rest))
+    × (one_way f → ∥ SomeItems f order s 0 (length s) ∥₁
+    → ∥ SomeItems f order rest 0 (length rest) ∥₁)
 YieldsItem f order s None rest =
-    (rest ≡ s) × (one_way f → SomeItems f order s 0 (length s) → length s ≡ 0)
+    (rest ≡ s) × (one_way f → ∥ SomeItems f order s 0 (length s) ∥₁ → length s ≡ 0)
 
 -- the value at the offset `stop` is refused; or it has no byte, which is `BadInput` with the offset
 -- and the message `a value has no bytes`

@@ -1,8 +1,9 @@
 -- Lists that end with a mark, such as a zero byte in the place of a value.
-use Rattle.std.specs.Prelude.{◌≡◌, ◌+◌, ◌<◌, ◌≤◌, ◌⊎◌, ◌++◌, ℕ, List, [], ◌∷◌, length, take, drop, Option, Some, None}
+use Rattle.std.specs.Prelude.{◌≡◌, ◌≢◌, ◌+◌, ◌<◌, ◌≤◌, ◌⊎◌, ◌++◌, ℕ, List, [], ◌∷◌, length, take, drop, codes, Option, Some, None}
 use Rattle.scroll.specs.declared.endian.Endian.{Endian}
 use Rattle.scroll.specs.declared.error.Error.{Error}
 use Rattle.scroll.specs.declared.error.Error.TheVariants.{NoMemory, BadOffset}
+use Rattle.scroll_layouts.specs.Errors.{GivesBadInput}
 use Rattle.scroll_layouts.specs.Formats.{Format, reads, len}
 use Rattle.scroll_layouts.specs.Lists.{StopsAtItem}
 use Rattle.scroll_layouts.specs.OneWay.{one_way}
@@ -33,6 +34,13 @@ pub record SomeBefore {E X : Type 0} (mark : Mark) (f : Format E X) (order : End
   pub values : List X
   pub each : ItemsBefore mark f order s 0 values to
 
+-- `ItemsBefore` of `n` values
+pub record CountedBefore {E X : Type 0} (mark : Mark) (f : Format E X) (order : Endian)
+    (s : List ℕ) (to n : ℕ) : Type 0 where
+  pub values : List X
+  pub each : ItemsBefore mark f order s 0 values to
+  pub count : length values ≡ n
+
 -- a mark stands between two offsets
 pub record MarkEnds (mark : Mark) (s : List ℕ) (at end : ℕ) : Type 0 where
   pub size : ℕ
@@ -50,6 +58,11 @@ pub record MarkedList {E X : Type 0} (mark : Mark) (f : Format E X) (order : End
 abbrev pub MarkedItems : {E X : Type 0} → Mark → Format E X → Endian → List ℕ → ℕ → Type 0
 MarkedItems {E} {X} mark f order s end = (values : List X) × MarkedList mark f order s values end
 
+-- with `n` values and a mark
+abbrev pub CountedMarked : {E X : Type 0} → Mark → Format E X → Endian → List ℕ → ℕ → ℕ → Type 0
+CountedMarked {E} {X} mark f order s end n =
+    (values : List X) × MarkedList mark f order s values end × (length values ≡ n)
+
 -- after some values, where no mark stands, the next one is refused or has no byte
 pub record RefusesMarked {E X : Type 0} (gives : Error → E → Type 0) (mark : Mark)
     (f : Format E X) (order : Endian) (s : List ℕ) (e : E) : Type 0 where
@@ -57,6 +70,15 @@ pub record RefusesMarked {E X : Type 0} (gives : Error → E → Type 0) (mark :
   pub before : SomeBefore mark f order s stop
   pub other : mark.size (drop stop s) ≡ None
   pub error : StopsAtItem gives f order s stop e
+
+-- bytes aren't a list up to a mark: a value before it is refused; or they have some after it, which
+-- is `BadInput` with the offset where it ends and the message `another length than its values`
+abbrev pub RefusesToMark : {E X : Type 0} → (Error → E → Type 0) → Mark → Format E X → Endian
+    → List ℕ → E → Type 0
+RefusesToMark gives mark f order s e =
+    RefusesMarked gives mark f order s e
+    ⊎ ((end : ℕ) × MarkedItems mark f order s end × (end ≢ length s)
+    × GivesBadInput gives end (codes "another length than its values") e)
 
 -- the values of the list `bytes` are appended to `old`
 abbrev pub AppendsList : {E X : Type 0} → Mark → Format E X → Endian → List ℕ → List X → List X
@@ -91,8 +113,8 @@ abbrev pub YieldsMarked : {E X : Type 0} → Mark → Format E X → Endian → 
 YieldsMarked mark f order s (Some x) rest =
     (mark.size s ≡ None) × reads f order s 0 x × (1 ≤ len f x) × (len f x ≤ length s)
     × (rest ≡ drop (len f x) s)
-    × (one_way f → MarkedItems mark f order s (length s)
-    → MarkedItems mark f order rest (length rest))
+    × (one_way f → ∥ MarkedItems mark f order s (length s) ∥₁
+    → ∥ MarkedItems mark f order rest (length rest) ∥₁)
 YieldsMarked mark f order s None rest =
     (rest ≡ s)
-    × (one_way f → MarkedItems mark f order s (length s) → mark.size s ≡ Some (length s))
+    × (one_way f → ∥ MarkedItems mark f order s (length s) ∥₁ → mark.size s ≡ Some (length s))

@@ -22,6 +22,7 @@ mod each;
 mod fills;
 mod fixed;
 mod head;
+mod items;
 mod leb128;
 mod lists;
 mod marked;
@@ -53,8 +54,9 @@ pub use crate::each::write_list;
 pub use crate::fills::Filled;
 pub use crate::fixed::{Field, FixedLayout, Number, SameLayout};
 pub use crate::head::{Head, Headed, is};
+pub use crate::items::{IsList, Items, ListOf, ListPart, Listed, Unmarked};
 pub use crate::leb128::{Sleb, Uleb, Zigzag};
-pub use crate::lists::{Count, Items, Listed};
+pub use crate::lists::Count;
 pub use crate::marked::{
     EndMark, Marked, MarkedValues, NameEnd, ToMark, TwoZeroUlebs, ZeroUleb, append_until,
     begins_with,

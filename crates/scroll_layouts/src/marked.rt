@@ -1,8 +1,9 @@
 // Lists that end with a mark.
 ghost use Rattle.std.specs.Prelude.{◌≡◌, ◌≢◌, ◌≤◌, ◌<◌, ◌+◌, ◌-◌, ◌^◌, ◌++◌, ◌⊎◌, [], ◌∷◌, List, ℕ, Some, None, Option, length, take, drop, min, codes, IfOk, IfErr, IfSome, IfNone, OnOk};
+ghost use Rattle.scroll.specs.declared.endian.Endian.{Endian};
 ghost use Rattle.scroll_layouts.specs.Formats.{leaf, last, len, reads, refuses};
 ghost use Rattle.scroll_layouts.specs.ListLeaves.{list_until};
-ghost use Rattle.scroll_layouts.specs.Marks.{Mark, MarkEnds, MarkedItems, RefusesMarked};
+ghost use Rattle.scroll_layouts.specs.Marks.{Mark, MarkEnds, CountedMarked, RefusesMarked};
 
 mod ends;
 mod until;
@@ -11,23 +12,35 @@ mod values;
 pub use self::ends::{EndMark, NameEnd, TwoZeroUlebs, ZeroUleb, begins_with};
 pub use self::until::append_until;
 pub use self::values::MarkedValues;
-use crate::{Items, Listed, Part, ReadPart};
+use crate::{ListOf, ListPart, Listed, Part, ReadPart};
 use scroll::{Endian, Error};
 use std::marker::PhantomData;
 use std::result::Result;
 
-/// A list that ends with a mark, which stands where no value begins.
+/// A marker of lists of values of any size up to a mark, which stands where no value begins.
 ///
 /// From `crates/scroll_layouts/src/tests/many.rt`, a list of files that says its own mark:
 ///
 /// ```rust
 /// impl<'a> Marked<'a> for StoredFiles {
 ///     type End = StoredFiles;
+///
+///     ghost from_values = { λ order s n h. h };
+///
+///     ghost into_values = { λ order s n h. h };
 /// }
 /// ```
 pub trait Marked<'a>: Listed<'a> {
     /// What ends a list.
     type End: EndMark;
+
+    // Values and a mark behind them are a list.
+    ghost from_values: { (order : Endian) (s : List ℕ) (n : ℕ)
+        → CountedMarked Self.End.mark Self.item order s (length s) n → Self.is_list order s n };
+
+    // A list is values and a mark behind them.
+    ghost into_values: { (order : Endian) (s : List ℕ) (n : ℕ) → Self.is_list order s n
+        → CountedMarked Self.End.mark Self.item order s (length s) n };
 }
 
 /// The context of a list that ends with its mark.
@@ -38,18 +51,21 @@ pub struct ToMark;
 /// is [`Error::BadInput`] with its offset in the list and the message `a value has no bytes`. A
 /// write of a list with bytes after its mark is one with the offset where the mark ends and the
 /// message `another length than its values`.
-impl<'a, E: From<Error>, K: Marked<'a>> Part<ToMark, E> for Items<'a, K>
+impl<'a, K: Marked<'a>, L: ListPart<'a, Kind = K>> Part<ToMark, K::Error> for ListOf<'a, L>
 where
-    K::Item: ReadPart<'a, (), E>,
+    K::Error: From<Error>,
 {
     ghost format = { λ _.
-        last (leaf (list_until E.from_gives K.End.mark (K.Item.format tt))) (λ x. x.0.now) };
+        last (leaf (list_until K.Error.from_gives K.End.mark K.item)) (λ x. L.seen x.0) };
 
-    fn check(&self, order: Endian, _ctx: &ToMark) -> Result<(), E> {
-        let bytes = self.0;
-        let end = find_end::<E, K>(bytes, order)?;
+    fn check(&self, order: Endian, _ctx: &ToMark) -> Result<(), K::Error> {
+        let (bytes, known, _count) = self.0.parts();
+        if order == known {
+            return Ok(());
+        }
+        let (end, _count) = find_end::<K>(bytes, order)?;
         if end != bytes.len() {
-            return Err(E::from(Error::BadInput {
+            return Err(K::Error::from(Error::BadInput {
                 size: end,
                 msg: "another length than its values",
             }));
@@ -58,22 +74,22 @@ where
     }
 
     fn size(&self, _order: Endian, _ctx: &ToMark) -> usize {
-        self.0.len()
+        self.0.parts().0.len()
     }
 
     #[inline(always)]
     fn put(&self, dst: &mut [u8], _order: Endian, _ctx: &ToMark) {
-        let bytes = self.0;
+        let (bytes, _order, _count) = self.0.parts();
         dst[..bytes.len()].copy_from_slice(bytes);
     }
 }
 
-impl<'a, E: From<Error>, K: Marked<'a>> ReadPart<'a, ToMark, E> for Items<'a, K>
+impl<'a, K: Marked<'a>, L: ListPart<'a, Kind = K>> ReadPart<'a, ToMark, K::Error> for ListOf<'a, L>
 where
-    K::Item: ReadPart<'a, (), E>,
+    K::Error: From<Error>,
 {
     ghost format = { λ _.
-        last (leaf (list_until E.from_gives K.End.mark (K.Item.format tt))) (λ x. x.0.now) };
+        last (leaf (list_until K.Error.from_gives K.End.mark K.item)) (λ x. L.seen x.0) };
 
     #[inline(always)]
     fn read_at(
@@ -81,53 +97,56 @@ where
         offset: usize,
         order: Endian,
         _ctx: &ToMark,
-    ) -> Result<(Items<'a, K>, usize), E> {
+    ) -> Result<(ListOf<'a, L>, usize), K::Error> {
         let rest = &from[offset..];
-        let end = find_end::<E, K>(rest, order)?;
-        Ok((Items(&rest[..end], PhantomData), offset + end))
+        let (end, count) = find_end::<K>(rest, order)?;
+        let list = L::of(&rest[..end], order, count);
+        Ok((ListOf(list, PhantomData), offset + end))
     }
 }
 
-// Returns where the mark ends that stands after some values.
+// Returns where the mark ends that stands after some values, and how many these are.
 #[inline(always)]
-fn find_end<'a, E: From<Error>, K: Marked<'a>>(bytes: &'a [u8], order: Endian) -> Result<usize, E>
+pub(crate) fn find_end<'a, K: Marked<'a>>(
+    bytes: &'a [u8],
+    order: Endian,
+) -> Result<(usize, usize), K::Error>
 where
-    K::Item: ReadPart<'a, (), E>,
-    ensures read { IfOk result (MarkedItems K.End.mark (K.Item.format tt) order bytes.now) }
-    ensures inside { IfOk result (λ end. end ≤ length bytes.now) }
+    K::Error: From<Error>,
+    ensures read { IfOk result (λ r.
+        CountedMarked K.End.mark K.item order bytes.now r.0 r.1) }
+    ensures inside { IfOk result (λ r. r.0 ≤ length bytes.now) }
     ensures refused { IfErr result
-        (RefusesMarked E.from_gives K.End.mark (K.Item.format tt) order bytes.now) }
+        (RefusesMarked K.Error.from_gives K.End.mark K.item order bytes.now) }
 {
     let mut at = 0;
+    let mut count = 0;
     loop {
         if let Some(end) = end_at::<K::End>(bytes, at) {
-            return Ok(end);
+            return Ok((end, count));
         }
-        let next = skip::<E, K::Item>(bytes, at, order)?;
+        let next = skip::<K>(bytes, at, order)?;
         if next == at {
-            return Err(E::from(Error::BadInput {
+            return Err(K::Error::from(Error::BadInput {
                 size: at,
                 msg: "a value has no bytes",
             }));
         }
         at = next;
+        count += 1;
     }
 }
 
 // Returns where the value ends that stands at an offset.
 #[inline(always)]
-fn skip<'a, E, T: ReadPart<'a, (), E>>(
-    bytes: &'a [u8],
-    at: usize,
-    order: Endian,
-) -> Result<usize, E>
+fn skip<'a, K: Listed<'a>>(bytes: &'a [u8], at: usize, order: Endian) -> Result<usize, K::Error>
     requires { at ≤ length bytes.now }
-    ensures read { IfOk result (λ next. (x : T) × reads (T.format tt) order bytes.now at x
-        × (next ≡ at + len (T.format tt) x)) }
+    ensures read { IfOk result (λ next. (x : K.Item) × reads K.item order bytes.now at x
+        × (next ≡ at + len K.item x)) }
     ensures inside { IfOk result (λ next. next ≤ length bytes.now) }
-    ensures refused { IfErr result (refuses (T.format tt) order bytes.now at) }
+    ensures refused { IfErr result (refuses K.item order bytes.now at) }
 {
-    match T::read_at(bytes, at, order, &()) {
+    match K::read_item(bytes, at, order) {
         Ok((_, next)) => Ok(next),
         Err(error) => Err(error),
     }

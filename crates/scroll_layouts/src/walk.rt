@@ -5,54 +5,51 @@ ghost use Rattle.std.specs.List.{All};
 ghost use Rattle.scroll_layouts.specs.Formats.{reads, refuses, len};
 ghost use Rattle.scroll_layouts.specs.Lists.{SomeItems, YieldsItem};
 
-use crate::{Items, Listed, ReadPart};
+use crate::{Items, Listed, Unmarked};
 use scroll::Endian;
 use std::marker::PhantomData;
 
 /// The values of a list that are left, in order. Of a list that was read none fails if its values
 /// are read in one way (`one_way` of their format), so they end where its bytes do.
 #[derive(Drop)]
-pub struct Values<'a, E, T> {
+pub struct Values<'a, E, K> {
     /// The bytes that are left.
     pub bytes: &'a [u8],
     /// The order in which they are read.
     pub order: Endian,
-    of: PhantomData<(E, T)>,
+    of: PhantomData<(E, K)>,
 }
 
-impl<'a, K: Listed<'a>> Items<'a, K> {
+impl<'a, K: Unmarked<'a>> Items<'a, K> {
     /// Returns the values of a list within a length or by a count, which are read where they lie,
     /// without memory.
     #[inline(always)]
-    pub fn values<E>(&self, order: Endian) -> Values<'a, E, K::Item>
-    where
-        K::Item: ReadPart<'a, (), E>,
-        ensures bytes { result.bytes.now ≡ self.now.0.now }
-        ensures order { result.order ≡ order }
-        ensures list { SomeItems (K.Item.format tt) order self.now.0.now 0 (length self.now.0.now)
-            → SomeItems (K.Item.format tt) result.order result.bytes.now 0
-            (length result.bytes.now) }
+    pub fn values(&self) -> Values<'a, K::Error, K>
+        ensures bytes { result.bytes.now ≡ self.now.bytes.now }
+        ensures order { result.order ≡ self.now.order }
+        ensures list { ∥ SomeItems K.item result.order result.bytes.now 0
+            (length result.bytes.now) ∥₁ }
     {
         Values {
-            bytes: self.0,
-            order,
+            bytes: self.bytes,
+            order: self.order,
             of: PhantomData,
         }
     }
 }
 
-impl<'a, E: Drop, T: ReadPart<'a, (), E>> Iterator for Values<'a, E, T> {
-    type Item = T;
+impl<'a, E: Drop, K: Listed<'a, Error = E>> Iterator for Values<'a, E, K> {
+    type Item = K::Item;
 
     ghost next_gives = { λ old found new. (new.order ≡ old.order)
-        × YieldsItem (T.format tt) old.order old.bytes.now found new.bytes.now };
+        × YieldsItem K.item old.order old.bytes.now found new.bytes.now };
 
     ghost remaining = { λ it. at_most (length it.bytes.now) };
 
     #[inline(always)]
-    fn next(&mut self) -> Option<T> {
+    fn next(&mut self) -> Option<K::Item> {
         below(self.bytes);
-        match T::read_at(self.bytes, 0, self.order, &()) {
+        match K::read_item(self.bytes, 0, self.order) {
             Ok((value, size)) => {
                 if size == 0 {
                     return None;

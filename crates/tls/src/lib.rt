@@ -9,12 +9,13 @@
 #![tactic(auto)]
 
 ghost use Rattle.std.specs.Prelude.{◌≡◌, drop, IfOk, IfErr, IfSome};
+ghost use Rattle.std.specs.Option.{IsSomeAnd};
 ghost use Rattle.scroll.specs.Errors.{IsBadOffset};
 ghost use Rattle.scroll.specs.Numbers.{number};
 ghost use Rattle.scroll.specs.Reads.{ReadsSome, RefusesAt};
 ghost use Rattle.scroll.specs.Writes.{WritesAt, RefusesWriteAt};
 ghost use Rattle.scroll.specs.declared.endian.Endian.TheVariants.{Big};
-ghost use Rattle.tls.specs.Hello.{NamesServer};
+ghost use Rattle.tls.specs.Hello.{HasServer, NamesServer};
 
 mod hello;
 #[cfg(test)]
@@ -57,16 +58,33 @@ pub fn write_hello<'a>(target: &mut [u8], message: Handshake<'a>) -> Result<usiz
 /// Returns the name of the server that a ClientHello asks for: that of the first of its extensions
 /// that has one.
 pub fn server_name<'a>(hello: &ClientHello<'a>) -> Option<&'a str>
-    ensures { IfSome result (λ name. NamesServer
-        (⟦<Extension<'a> as TryFromCtx<'a, Endian>>⟧.reads Big) hello.now.extensions name.now) }
+    ensures { IfSome result (λ name. IsSomeAnd hello.now.extensions (λ list. NamesServer
+        (⟦<Extension<'a> as TryFromCtx<'a, Endian>>⟧.reads Big) list.each.bytes.now name.now)) }
 {
-    let list = hello.extensions?.each.0;
+    first_server(hello.extensions?.each.bytes)
+}
+
+// Returns the name in the first extension that has one.
+fn first_server<'a>(list: &'a [u8]) -> Option<&'a str>
+    ensures { IfSome result (λ name. NamesServer
+        (⟦<Extension<'a> as TryFromCtx<'a, Endian>>⟧.reads Big) list.now name.now) }
+{
     let mut offset = 0;
     for _turn in 0..list.len() {
         let extension: Extension<'a> = list.gread_with(&mut offset, BE).ok()?;
-        if let ExtensionBody::Server(names) = extension.body {
-            return Some(names.host.name);
+        if let Some(name) = server_of(&extension) {
+            return Some(name);
         }
     }
     None
+}
+
+// Returns the name of a server, if an extension has it.
+fn server_of<'a>(extension: &Extension<'a>) -> Option<&'a str>
+    ensures { IfSome result (λ name. HasServer extension.now name.now) }
+{
+    match extension.body {
+        ExtensionBody::Server(names) => Some(names.host.name),
+        _ => None,
+    }
 }

@@ -50,18 +50,18 @@ impl<'a> TryIntoCtx<()> for Module<'a> {
     type Error = Error;
 
     ghost writes = { λ _ x. WritesWhole (⟦<Module<'a> as Part<Given<usize>, Error>>⟧.format
-        (record { 0 = length x.sections.0.now + 8 })) Little x };
+        (record { 0 = length x.sections.bytes.now + 8 })) Little x };
 
     ghost refuses = { λ _ x. KeepsWhole (λ e d. d ≡ e)
         (⟦<Module<'a> as Part<Given<usize>, Error>>⟧.format
-        (record { 0 = length x.sections.0.now + 8 })) Little x };
+        (record { 0 = length x.sections.bytes.now + 8 })) Little x };
 
     ghost writes_bounded = { λ _ x old new n h. Prim.search rules };
 
     ghost writes_keeps = { λ _ x old new n h. WritesPrefix-keeps _ old new n h.wrote };
 
     fn try_into_ctx(self, dst: &mut [u8], _ctx: ()) -> Result<usize> {
-        let len = self.sections.0.len() + 8;
+        let len = self.sections.bytes.len() + 8;
         write_whole::<Given<usize>, Error, Module<'a>>(&self, dst, LE, &Given(len))
     }
 }

@@ -31,7 +31,7 @@ fn a_module_is_read_and_written(rt: HostRuntime) {
     for (id, size) in &SECTIONS {
         let section: Section = module
             .sections
-            .0
+            .bytes
             .gread_with(&mut at, LE)
             .expect(&rt, "a section");
         assert!(rt; section.id == *id && size_of(&section.contents) == *size);
@@ -47,7 +47,7 @@ fn exports_are_walked(rt: HostRuntime) {
     let Contents::Exports(exports) = section.contents else {
         panic!(rt; "another section");
     };
-    let mut found = exports.each.values::<Error>(LE);
+    let mut found = exports.each.values();
     for (name, kind) in &[("add", 0), ("memory", 2)] {
         let export = found.next().expect(&rt, "another export");
         assert!(rt; export.name.text == *name && export.kind == *kind);

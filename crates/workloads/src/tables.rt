@@ -76,9 +76,9 @@ fn add_declaration(digest: &mut Digest, declaration: &Declaration) {
     add_number(digest, &declaration.code);
     add_number(digest, &declaration.tag);
     digest.add(u64::from(matches!(declaration.children, Children::Yes)));
-    digest.add(declaration.attributes.0.len() as u64);
-    let mut attributes = declaration.attributes.values_to_mark::<TableError>(LE);
-    for _ in 0..declaration.attributes.0.len() {
+    digest.add(declaration.attributes.bytes.len() as u64);
+    let mut attributes = declaration.attributes.values_to_mark();
+    for _ in 0..declaration.attributes.bytes.len() {
         let Some(attribute) = attributes.next() else {
             break;
         };

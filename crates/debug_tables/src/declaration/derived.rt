@@ -1,13 +1,13 @@
 // Printed by tools/derive from declaration.rt.
-ghost use Rattle.std.specs.Prelude.{◌≡◌, ◌≢◌, ◌<◌, ◌^◌, ◌⊎◌, nat_eq};
+ghost use Rattle.std.specs.Prelude.{◌≡◌, ◌≢◌, ◌<◌, ◌^◌, ◌⊎◌, length, nat_eq};
 ghost use Rattle.std.proofs.Common.{refl, rules};
 ghost use Rattle.scroll.specs.lemmas.Frames.{WritesPrefix-keeps};
 ghost use Rattle.scroll_layouts.specs.Formats.{refuses, shape};
+ghost use Rattle.scroll_layouts.specs.Marks.{CountedMarked};
 ghost use Rattle.scroll_layouts.specs.Wholes.{KeepsWhole, ReadsExact, WritesWhole};
 ghost use Rattle.scroll_layouts.specs.lemmas.EqualLemmas.{parts-unique};
 ghost use Rattle.scroll_layouts.specs.declared.choice.Choice.TheVariants.{First, Second};
 ghost use Rattle.debug_tables.specs.declared.declaration.TableError.TheVariants as table_error_is;
-ghost use Rattle.debug_tables.specs.declared.declaration.Children.TheVariants as children_is;
 
 use super::{Attribute, Attributes, Children, Declaration, Declarations, TableError};
 use scroll::ctx::{TryFromCtx, TryIntoCtx};
@@ -15,8 +15,9 @@ use scroll::{Endian, Error};
 use scroll_formats::Zeros;
 use scroll_layouts::Choice::{First, Second};
 use scroll_layouts::{
-    Choice, Choose, Head, Headed, Items, Listed, Marked, Part, ReadPart, Run, Shape, Sleb, Split,
-    ToMark, TwoZeroUlebs, Uleb, When, ZeroUleb, read_exact, write_whole,
+    Choice, Choose, EndMark, Head, Headed, IsList, Items, ListOf, ListPart, Listed, Marked, Part,
+    ReadPart, Run, Shape, Sleb, Split, ToMark, TwoZeroUlebs, Uleb, When, ZeroUleb, read_exact,
+    write_whole,
 };
 use std::marker::PhantomData;
 use std::result::Result;
@@ -121,12 +122,34 @@ impl TryIntoCtx<Endian> for Attribute {
     }
 }
 
+impl IsList for Attributes {
+    ghost is_list = { λ order s n. CountedMarked ⟦<TwoZeroUlebs as EndMark>⟧.mark
+        (⟦<Attribute as ReadPart<'static, (), TableError>>⟧.format tt) order s (length s) n };
+}
+
 impl<'a> Listed<'a> for Attributes {
+    type Error = TableError;
+
     type Item = Attribute;
+
+    ghost item = { ⟦<Attribute as ReadPart<'a, (), TableError>>⟧.format tt };
+
+    #[inline(always)]
+    fn read_item(
+        from: &'a [u8],
+        offset: usize,
+        order: Endian,
+    ) -> Result<(Attribute, usize), TableError> {
+        <Attribute as ReadPart<'a, (), TableError>>::read_at(from, offset, order, &())
+    }
 }
 
 impl<'a> Marked<'a> for Attributes {
     type End = TwoZeroUlebs;
+
+    ghost from_values = { λ order s n h. h };
+
+    ghost into_values = { λ order s n h. h };
 }
 
 type ChildrenHead = Run<u8>;
@@ -162,6 +185,8 @@ type ChildrenParts = (ChildrenHead, Choice<Zeros, Zeros>);
 type ChildrenCtx = Headed<(), ChildrenNext, ChildrenSays>;
 
 impl Split for Children {
+    ghost use Rattle.debug_tables.specs.declared.declaration.Children.TheVariants as children_is;
+
     type Parts = ChildrenParts;
 
     ghost parts_of = { elim [
@@ -190,7 +215,9 @@ impl Split for Children {
 impl Part<(), TableError> for Children {
     ghost format = { λ _. shape (⟦<ChildrenParts as Part<ChildrenCtx, TableError>>⟧.format
         (record { 0 = tt; 1 = record {}; 2 = record {} })) ⟦<Children as Split>⟧.parts_of
-        (parts-unique ⟦<Children as Split>⟧.parts_of ⟦<Children as Split>⟧.of_parts ⟦<Children as Split>⟧.again) };
+        (parts-unique ⟦<Children as Split>⟧.parts_of
+        ⟦<Children as Split>⟧.of_parts
+        ⟦<Children as Split>⟧.again) };
 
     fn check(&self, order: Endian, _ctx: &()) -> Result<(), TableError> {
         let parts = self.split();
@@ -215,7 +242,9 @@ impl Part<(), TableError> for Children {
 impl<'a> ReadPart<'a, (), TableError> for Children {
     ghost format = { λ _. shape (⟦<ChildrenParts as ReadPart<'a, ChildrenCtx, TableError>>⟧.format
         (record { 0 = tt; 1 = record {}; 2 = record {} })) ⟦<Children as Split>⟧.parts_of
-        (parts-unique ⟦<Children as Split>⟧.parts_of ⟦<Children as Split>⟧.of_parts ⟦<Children as Split>⟧.again) };
+        (parts-unique ⟦<Children as Split>⟧.parts_of
+        ⟦<Children as Split>⟧.of_parts
+        ⟦<Children as Split>⟧.again) };
 
     #[inline(always)]
     fn read_at(
@@ -271,7 +300,7 @@ impl TryIntoCtx<Endian> for Children {
     }
 }
 
-type DeclarationParts<'a> = (Uleb, (Uleb, (Children, Items<'a, Attributes>)));
+type DeclarationParts<'a> = (Uleb, (Uleb, (Children, ListOf<'a, AttributesPart<'a>>)));
 
 type DeclarationCtx = ((), ((), ((), ToMark)));
 
@@ -282,13 +311,16 @@ impl<'a> Shape for Declaration<'a> {
 
     type Parts = DeclarationParts<'a>;
 
-    ghost parts_of = { λ x. (x.code, (x.tag, (x.children, x.attributes))) };
+    ghost parts_of = { λ x. (
+      x.code,
+      (x.tag, (x.children, record { 0 = record { 0 = x.attributes }; 1 = record {} })),
+    ) };
 
     ghost of_parts = { λ p. record {
       code = p.0;
       tag = p.1.0;
       children = p.1.1.0;
-      attributes = p.1.1.1;
+      attributes = p.1.1.1.0.0;
     } };
 
     ghost again = { λ x. refl };
@@ -296,11 +328,20 @@ impl<'a> Shape for Declaration<'a> {
     ghost inner_of = { λ _. (tt, (tt, (tt, record {}))) };
 
     fn split(&self) -> DeclarationParts<'a> {
-        (self.code, (self.tag, (self.children, self.attributes)))
+        (
+            self.code,
+            (
+                self.tag,
+                (
+                    self.children,
+                    ListOf(AttributesPart(self.attributes), PhantomData),
+                ),
+            ),
+        )
     }
 
     fn join(parts: DeclarationParts<'a>) -> Declaration<'a> {
-        let (code, (tag, (children, attributes))) = parts;
+        let (code, (tag, (children, ListOf(AttributesPart(attributes), _)))) = parts;
         Declaration {
             code,
             tag,
@@ -350,10 +391,51 @@ impl<'a> TryIntoCtx<Endian> for Declaration<'a> {
     }
 }
 
+#[derive(Drop)]
+pub struct AttributesPart<'a>(pub Items<'a, Attributes>);
+
+impl<'a> ListPart<'a> for AttributesPart<'a> {
+    type Kind = Attributes;
+
+    ghost seen = { λ x. x.0.bytes.now };
+
+    #[inline(always)]
+    fn of(bytes: &'a [u8], order: Endian, count: usize) -> AttributesPart<'a> {
+        AttributesPart(Items::of(bytes, order, count))
+    }
+
+    #[inline(always)]
+    fn parts(&self) -> (&'a [u8], Endian, usize) {
+        (self.0.bytes, self.0.order, self.0.count)
+    }
+}
+
+impl IsList for Declarations {
+    ghost is_list = { λ order s n. CountedMarked ⟦<ZeroUleb as EndMark>⟧.mark
+        (⟦<Declaration<'static> as ReadPart<'static, (), TableError>>⟧.format tt) order s (length s) n };
+}
+
 impl<'a> Listed<'a> for Declarations {
+    type Error = TableError;
+
     type Item = Declaration<'a>;
+
+    ghost item = { ⟦<Declaration<'a> as ReadPart<'a, (), TableError>>⟧.format tt };
+
+    #[inline(always)]
+    fn read_item(
+        from: &'a [u8],
+        offset: usize,
+        order: Endian,
+    ) -> Result<(Declaration<'a>, usize), TableError> {
+        <Declaration<'a> as ReadPart<'a, (), TableError>>::read_at(from, offset, order, &())
+    }
 }
 
 impl<'a> Marked<'a> for Declarations {
     type End = ZeroUleb;
+
+    ghost from_values = { λ order s n h. h };
+
+    ghost into_values = { λ order s n h. h };
 }

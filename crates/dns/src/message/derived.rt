@@ -1,15 +1,16 @@
 // Printed by tools/derive from message.rt.
-ghost use Rattle.std.specs.Prelude.{◌≡◌, ◌<◌, ◌≤◌, ◌+◌, ◌^◌, codes, nat_eq};
+ghost use Rattle.std.specs.Prelude.{◌≡◌, ◌<◌, ◌≤◌, ◌+◌, ◌^◌, length, codes, nat_eq};
 ghost use Rattle.std.proofs.Common.{refl, rules};
 ghost use Rattle.scroll.specs.Arrays.{MakesArray};
 ghost use Rattle.scroll.specs.Errors.{IsBadInput};
 ghost use Rattle.scroll.specs.Numbers.{number};
 ghost use Rattle.scroll.specs.lemmas.Frames.{WritesPrefix-keeps};
 ghost use Rattle.scroll_layouts.specs.Formats.{refuses};
+ghost use Rattle.scroll_layouts.specs.Lists.{CountedItems};
+ghost use Rattle.scroll_layouts.specs.Marks.{CountedMarked};
 ghost use Rattle.scroll_layouts.specs.Wholes.{KeepsWhole, ReadsExact, WritesWhole};
 ghost use Rattle.scroll_layouts.specs.declared.choice.Choice.TheVariants.{First, Second};
 ghost use Rattle.scroll.specs.declared.endian.Endian.TheVariants as endian_is;
-ghost use Rattle.dns.specs.declared.message.Data.TheVariants as data_is;
 
 use super::{
     Address, Data, Header, Label, Labels, LongAddress, Mail, Message, Name, Question, Questions,
@@ -19,8 +20,9 @@ use scroll::ctx::{Record, TryFromCtx, TryIntoCtx, Written};
 use scroll::{BE, Endian, Error};
 use scroll_layouts::Choice::{First, Second};
 use scroll_layouts::{
-    Choice, Choose, Count, Field, Given, Head, Headed, Items, Listed, Low, Marked, NameEnd,
-    Ordered, Packed, Part, ReadPart, Run, Shape, ToMark, Within, read_exact, write_whole,
+    Choice, Choose, Count, EndMark, Field, Given, Head, Headed, IsList, Items, ListOf, ListPart,
+    Listed, Low, Marked, NameEnd, Ordered, Packed, Part, ReadPart, Run, Shape, ToMark, Unmarked,
+    Within, read_exact, write_whole,
 };
 use std::marker::PhantomData;
 use std::result::Result;
@@ -56,7 +58,10 @@ impl Head<MessageHead, Error> for MessageSays {
     }
 }
 
-type MessageParts<'a> = (MessageHead, (Items<'a, Questions>, Items<'a, Resources>));
+type MessageParts<'a> = (
+    MessageHead,
+    (ListOf<'a, QuestionsPart<'a>>, ListOf<'a, ResourcesPart<'a>>),
+);
 
 type MessageCtx = Ordered<Headed<(), MessageNext, MessageSays>>;
 
@@ -67,9 +72,15 @@ impl<'a> Shape for Message<'a> {
 
     type Parts = MessageParts<'a>;
 
-    ghost parts_of = { λ x. (x.header, (x.questions, x.records)) };
+    ghost parts_of = { λ x. (
+      x.header,
+      (
+        record { 0 = record { 0 = x.questions }; 1 = record {} },
+        record { 0 = record { 0 = x.records }; 1 = record {} },
+      ),
+    ) };
 
-    ghost of_parts = { λ p. record { header = p.0; questions = p.1.0; records = p.1.1 } };
+    ghost of_parts = { λ p. record { header = p.0; questions = p.1.0.0.0; records = p.1.1.0.0 } };
 
     ghost again = { λ x. refl };
 
@@ -79,11 +90,18 @@ impl<'a> Shape for Message<'a> {
     } };
 
     fn split(&self) -> MessageParts<'a> {
-        (self.header, (self.questions, self.records))
+        (
+            self.header,
+            (
+                ListOf(QuestionsPart(self.questions), PhantomData),
+                ListOf(ResourcesPart(self.records), PhantomData),
+            ),
+        )
     }
 
     fn join(parts: MessageParts<'a>) -> Message<'a> {
-        let (header, (questions, records)) = parts;
+        let (header, (ListOf(QuestionsPart(questions), _), ListOf(ResourcesPart(records), _))) =
+            parts;
         Message {
             header,
             questions,
@@ -129,6 +147,44 @@ impl<'a> TryIntoCtx<Endian> for Message<'a> {
     #[inline(always)]
     fn try_into_ctx(self, dst: &mut [u8], ctx: Endian) -> Result<usize, Error> {
         write_whole::<(), Error, Message<'a>>(&self, dst, ctx, &())
+    }
+}
+
+#[derive(Drop)]
+pub struct QuestionsPart<'a>(pub Items<'a, Questions>);
+
+impl<'a> ListPart<'a> for QuestionsPart<'a> {
+    type Kind = Questions;
+
+    ghost seen = { λ x. x.0.bytes.now };
+
+    #[inline(always)]
+    fn of(bytes: &'a [u8], order: Endian, count: usize) -> QuestionsPart<'a> {
+        QuestionsPart(Items::of(bytes, order, count))
+    }
+
+    #[inline(always)]
+    fn parts(&self) -> (&'a [u8], Endian, usize) {
+        (self.0.bytes, self.0.order, self.0.count)
+    }
+}
+
+#[derive(Drop)]
+pub struct ResourcesPart<'a>(pub Items<'a, Resources>);
+
+impl<'a> ListPart<'a> for ResourcesPart<'a> {
+    type Kind = Resources;
+
+    ghost seen = { λ x. x.0.bytes.now };
+
+    #[inline(always)]
+    fn of(bytes: &'a [u8], order: Endian, count: usize) -> ResourcesPart<'a> {
+        ResourcesPart(Items::of(bytes, order, count))
+    }
+
+    #[inline(always)]
+    fn parts(&self) -> (&'a [u8], Endian, usize) {
+        (self.0.bytes, self.0.order, self.0.count)
     }
 }
 
@@ -301,7 +357,7 @@ impl Shape for Header {
     }
 }
 
-type NameParts<'a> = Items<'a, Labels>;
+type NameParts<'a> = ListOf<'a, LabelsPart<'a>>;
 
 type NameCtx = ToMark;
 
@@ -312,20 +368,20 @@ impl<'a> Shape for Name<'a> {
 
     type Parts = NameParts<'a>;
 
-    ghost parts_of = { λ x. x.labels };
+    ghost parts_of = { λ x. record { 0 = record { 0 = x.labels }; 1 = record {} } };
 
-    ghost of_parts = { λ p. record { labels = p } };
+    ghost of_parts = { λ p. record { labels = p.0.0 } };
 
     ghost again = { λ x. refl };
 
     ghost inner_of = { λ _. record {} };
 
     fn split(&self) -> NameParts<'a> {
-        self.labels
+        ListOf(LabelsPart(self.labels), PhantomData)
     }
 
     fn join(parts: NameParts<'a>) -> Name<'a> {
-        let labels = parts;
+        let ListOf(LabelsPart(labels), _) = parts;
         Name { labels }
     }
 
@@ -336,12 +392,53 @@ impl<'a> Shape for Name<'a> {
     }
 }
 
+#[derive(Drop)]
+pub struct LabelsPart<'a>(pub Items<'a, Labels>);
+
+impl<'a> ListPart<'a> for LabelsPart<'a> {
+    type Kind = Labels;
+
+    ghost seen = { λ x. x.0.bytes.now };
+
+    #[inline(always)]
+    fn of(bytes: &'a [u8], order: Endian, count: usize) -> LabelsPart<'a> {
+        LabelsPart(Items::of(bytes, order, count))
+    }
+
+    #[inline(always)]
+    fn parts(&self) -> (&'a [u8], Endian, usize) {
+        (self.0.bytes, self.0.order, self.0.count)
+    }
+}
+
+impl IsList for Labels {
+    ghost is_list = { λ order s n. CountedMarked ⟦<NameEnd as EndMark>⟧.mark
+        (⟦<Label<'static> as ReadPart<'static, (), Error>>⟧.format tt) order s (length s) n };
+}
+
 impl<'a> Listed<'a> for Labels {
+    type Error = Error;
+
     type Item = Label<'a>;
+
+    ghost item = { ⟦<Label<'a> as ReadPart<'a, (), Error>>⟧.format tt };
+
+    #[inline(always)]
+    fn read_item(
+        from: &'a [u8],
+        offset: usize,
+        order: Endian,
+    ) -> Result<(Label<'a>, usize), Error> {
+        <Label<'a> as ReadPart<'a, (), Error>>::read_at(from, offset, order, &())
+    }
 }
 
 impl<'a> Marked<'a> for Labels {
     type End = NameEnd;
+
+    ghost from_values = { λ order s n h. h };
+
+    ghost into_values = { λ order s n h. h };
 }
 
 type LabelHead = Run<u8>;
@@ -410,8 +507,32 @@ impl<'a> Shape for Label<'a> {
     }
 }
 
+impl IsList for Questions {
+    ghost is_list = { λ order s n. CountedItems
+        (⟦<Question<'static> as ReadPart<'static, (), Error>>⟧.format tt) order s 0 (length s) n };
+}
+
 impl<'a> Listed<'a> for Questions {
+    type Error = Error;
+
     type Item = Question<'a>;
+
+    ghost item = { ⟦<Question<'a> as ReadPart<'a, (), Error>>⟧.format tt };
+
+    #[inline(always)]
+    fn read_item(
+        from: &'a [u8],
+        offset: usize,
+        order: Endian,
+    ) -> Result<(Question<'a>, usize), Error> {
+        <Question<'a> as ReadPart<'a, (), Error>>::read_at(from, offset, order, &())
+    }
+}
+
+impl<'a> Unmarked<'a> for Questions {
+    ghost from_values = { λ order s n h. h };
+
+    ghost into_values = { λ order s n h. h };
 }
 
 type QuestionParts<'a> = (Name<'a>, Run<(u16, u16)>);
@@ -483,8 +604,32 @@ impl<'a> TryIntoCtx<Endian> for Question<'a> {
     }
 }
 
+impl IsList for Resources {
+    ghost is_list = { λ order s n. CountedItems
+        (⟦<Resource<'static> as ReadPart<'static, (), Error>>⟧.format tt) order s 0 (length s) n };
+}
+
 impl<'a> Listed<'a> for Resources {
+    type Error = Error;
+
     type Item = Resource<'a>;
+
+    ghost item = { ⟦<Resource<'a> as ReadPart<'a, (), Error>>⟧.format tt };
+
+    #[inline(always)]
+    fn read_item(
+        from: &'a [u8],
+        offset: usize,
+        order: Endian,
+    ) -> Result<(Resource<'a>, usize), Error> {
+        <Resource<'a> as ReadPart<'a, (), Error>>::read_at(from, offset, order, &())
+    }
+}
+
+impl<'a> Unmarked<'a> for Resources {
+    ghost from_values = { λ order s n h. h };
+
+    ghost into_values = { λ order s n h. h };
 }
 
 type ResourceHead = Run<(u16, u16, u32, u16)>;
@@ -610,7 +755,7 @@ type DataParts<'a> = Choice<
                 Name<'a>,
                 Choice<
                     Mail<'a>,
-                    Choice<Items<'a, Texts>, Choice<Run<Field<LongAddress>>, &'a [u8]>>,
+                    Choice<ListOf<'a, TextsPart<'a>>, Choice<Run<Field<LongAddress>>, &'a [u8]>>,
                 >,
             >,
         >,
@@ -629,6 +774,8 @@ type DataCtx = Choose<
 >;
 
 impl<'a> Shape for Data<'a> {
+    ghost use Rattle.dns.specs.declared.message.Data.TheVariants as data_is;
+
     type Ctx = (u16, usize);
 
     type Inner = DataCtx;
@@ -641,7 +788,7 @@ impl<'a> Shape for Data<'a> {
       | data_is.Alias v0 ↦ Second (Second (First v0))
       | data_is.Pointer v0 ↦ Second (Second (Second (First v0)))
       | data_is.Mail v0 ↦ Second (Second (Second (Second (First v0))))
-      | data_is.Texts v0 ↦ Second (Second (Second (Second (Second (First v0)))))
+      | data_is.Texts v0 ↦ Second (Second (Second (Second (Second (First (record { 0 = record { 0 = v0 }; 1 = record {} }))))))
       | data_is.LongAddress v0 ↦ Second (Second (Second (Second (Second (Second (First (record { 0 = record { 0 = v0 } })))))))
       | data_is.Other v0 ↦ Second (Second (Second (Second (Second (Second (Second v0))))))
     ] };
@@ -652,7 +799,7 @@ impl<'a> Shape for Data<'a> {
       | Second (Second (First p)) ↦ data_is.Alias p
       | Second (Second (Second (First p))) ↦ data_is.Pointer p
       | Second (Second (Second (Second (First p)))) ↦ data_is.Mail p
-      | Second (Second (Second (Second (Second (First p))))) ↦ data_is.Texts p
+      | Second (Second (Second (Second (Second (First p))))) ↦ data_is.Texts p.0.0
       | Second (Second (Second (Second (Second (Second (First p)))))) ↦ data_is.LongAddress p.0.0
       | Second (Second (Second (Second (Second (Second (Second p)))))) ↦ data_is.Other p
     ] };
@@ -701,7 +848,10 @@ impl<'a> Shape for Data<'a> {
             Data::Alias(v0) => Second(Second(First(*v0))),
             Data::Pointer(v0) => Second(Second(Second(First(*v0)))),
             Data::Mail(v0) => Second(Second(Second(Second(First(*v0))))),
-            Data::Texts(v0) => Second(Second(Second(Second(Second(First(*v0)))))),
+            Data::Texts(v0) => Second(Second(Second(Second(Second(First(ListOf(
+                TextsPart(*v0),
+                PhantomData,
+            ))))))),
             Data::LongAddress(v0) => Second(Second(Second(Second(Second(Second(First(Run(Field(
                 *v0,
             ))))))))),
@@ -716,7 +866,9 @@ impl<'a> Shape for Data<'a> {
             Second(Second(First(v0))) => Data::Alias(v0),
             Second(Second(Second(First(v0)))) => Data::Pointer(v0),
             Second(Second(Second(Second(First(v0))))) => Data::Mail(v0),
-            Second(Second(Second(Second(Second(First(v0)))))) => Data::Texts(v0),
+            Second(Second(Second(Second(Second(First(ListOf(TextsPart(v0), _))))))) => Data::Texts(
+                v0,
+            ),
             Second(Second(Second(Second(Second(Second(First(Run(Field(v0))))))))) =>
                 Data::LongAddress(v0),
             Second(Second(Second(Second(Second(Second(Second(v0))))))) => Data::Other(v0),
@@ -751,6 +903,25 @@ impl<'a> Shape for Data<'a> {
                 ),
             ),
         )
+    }
+}
+
+#[derive(Drop)]
+pub struct TextsPart<'a>(pub Items<'a, Texts>);
+
+impl<'a> ListPart<'a> for TextsPart<'a> {
+    type Kind = Texts;
+
+    ghost seen = { λ x. x.0.bytes.now };
+
+    #[inline(always)]
+    fn of(bytes: &'a [u8], order: Endian, count: usize) -> TextsPart<'a> {
+        TextsPart(Items::of(bytes, order, count))
+    }
+
+    #[inline(always)]
+    fn parts(&self) -> (&'a [u8], Endian, usize) {
+        (self.0.bytes, self.0.order, self.0.count)
     }
 }
 
@@ -867,8 +1038,28 @@ impl<'a> Shape for Mail<'a> {
     }
 }
 
+impl IsList for Texts {
+    ghost is_list = { λ order s n. CountedItems
+        (⟦<Text<'static> as ReadPart<'static, (), Error>>⟧.format tt) order s 0 (length s) n };
+}
+
 impl<'a> Listed<'a> for Texts {
+    type Error = Error;
+
     type Item = Text<'a>;
+
+    ghost item = { ⟦<Text<'a> as ReadPart<'a, (), Error>>⟧.format tt };
+
+    #[inline(always)]
+    fn read_item(from: &'a [u8], offset: usize, order: Endian) -> Result<(Text<'a>, usize), Error> {
+        <Text<'a> as ReadPart<'a, (), Error>>::read_at(from, offset, order, &())
+    }
+}
+
+impl<'a> Unmarked<'a> for Texts {
+    ghost from_values = { λ order s n h. h };
+
+    ghost into_values = { λ order s n h. h };
 }
 
 type TextHead = Run<u8>;

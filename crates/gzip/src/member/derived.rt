@@ -1,10 +1,11 @@
 // Printed by tools/derive from member.rt.
-ghost use Rattle.std.specs.Prelude.{◌≡◌, ◌≢◌, ◌<◌, ◌≤◌, ◌/◌, ◌%◌, ◌^◌, ◌⊎◌, [], ◌∷◌, drop, codes, nat_eq, option_map};
+ghost use Rattle.std.specs.Prelude.{◌≡◌, ◌≢◌, ◌<◌, ◌≤◌, ◌/◌, ◌%◌, ◌^◌, ◌⊎◌, [], ◌∷◌, length, drop, codes, nat_eq, option_map};
 ghost use Rattle.std.proofs.Common.{refl, rules};
 ghost use Rattle.scroll.specs.Errors.{IsBadInput};
 ghost use Rattle.scroll.specs.Numbers.{number};
 ghost use Rattle.scroll.specs.lemmas.Frames.{WritesPrefix-keeps};
 ghost use Rattle.scroll_layouts.specs.Formats.{refuses};
+ghost use Rattle.scroll_layouts.specs.Lists.{CountedItems};
 ghost use Rattle.scroll_layouts.specs.Wholes.{KeepsWhole, ReadsExact, WritesWhole};
 ghost use Rattle.scroll_layouts.specs.lemmas.EqualLemmas.{number-again};
 ghost use Rattle.scroll.specs.declared.endian.Endian.TheVariants as endian_is;
@@ -13,7 +14,8 @@ use super::{CStr, Extra, ExtraField, ExtraFields, Header, Trailer};
 use scroll::ctx::{Record, TryFromCtx, TryIntoCtx, Written};
 use scroll::{Endian, Error, LE};
 use scroll_layouts::{
-    Head, Headed, Items, Listed, Ordered, Part, ReadPart, Run, Shape, When, read_exact, write_whole,
+    Head, Headed, IsList, Items, ListOf, ListPart, Listed, Ordered, Part, ReadPart, Run, Shape,
+    Unmarked, When, read_exact, write_whole,
 };
 use std::marker::PhantomData;
 use std::result::Result;
@@ -273,7 +275,7 @@ impl Head<ExtraHead, Error> for ExtraSays {
     }
 }
 
-type ExtraParts<'a> = (ExtraHead, Items<'a, ExtraFields>);
+type ExtraParts<'a> = (ExtraHead, ListOf<'a, ExtraFieldsPart<'a>>);
 
 type ExtraCtx = Headed<(), ExtraNext, ExtraSays>;
 
@@ -284,20 +286,26 @@ impl<'a> Shape for Extra<'a> {
 
     type Parts = ExtraParts<'a>;
 
-    ghost parts_of = { λ x. (record { 0 = x.len }, x.fields) };
+    ghost parts_of = { λ x. (
+      record { 0 = x.len },
+      record { 0 = record { 0 = x.fields }; 1 = record {} },
+    ) };
 
-    ghost of_parts = { λ p. record { len = p.0.0; fields = p.1 } };
+    ghost of_parts = { λ p. record { len = p.0.0; fields = p.1.0.0 } };
 
     ghost again = { λ x. refl };
 
     ghost inner_of = { λ _. record { 0 = tt; 1 = record {}; 2 = record {} } };
 
     fn split(&self) -> ExtraParts<'a> {
-        (Run(self.len), self.fields)
+        (
+            Run(self.len),
+            ListOf(ExtraFieldsPart(self.fields), PhantomData),
+        )
     }
 
     fn join(parts: ExtraParts<'a>) -> Extra<'a> {
-        let (Run(len), fields) = parts;
+        let (Run(len), ListOf(ExtraFieldsPart(fields), _)) = parts;
         Extra { len, fields }
     }
 
@@ -308,8 +316,51 @@ impl<'a> Shape for Extra<'a> {
     }
 }
 
+#[derive(Drop)]
+pub struct ExtraFieldsPart<'a>(pub Items<'a, ExtraFields>);
+
+impl<'a> ListPart<'a> for ExtraFieldsPart<'a> {
+    type Kind = ExtraFields;
+
+    ghost seen = { λ x. x.0.bytes.now };
+
+    #[inline(always)]
+    fn of(bytes: &'a [u8], order: Endian, count: usize) -> ExtraFieldsPart<'a> {
+        ExtraFieldsPart(Items::of(bytes, order, count))
+    }
+
+    #[inline(always)]
+    fn parts(&self) -> (&'a [u8], Endian, usize) {
+        (self.0.bytes, self.0.order, self.0.count)
+    }
+}
+
+impl IsList for ExtraFields {
+    ghost is_list = { λ order s n. CountedItems
+        (⟦<ExtraField<'static> as ReadPart<'static, (), Error>>⟧.format tt) order s 0 (length s) n };
+}
+
 impl<'a> Listed<'a> for ExtraFields {
+    type Error = Error;
+
     type Item = ExtraField<'a>;
+
+    ghost item = { ⟦<ExtraField<'a> as ReadPart<'a, (), Error>>⟧.format tt };
+
+    #[inline(always)]
+    fn read_item(
+        from: &'a [u8],
+        offset: usize,
+        order: Endian,
+    ) -> Result<(ExtraField<'a>, usize), Error> {
+        <ExtraField<'a> as ReadPart<'a, (), Error>>::read_at(from, offset, order, &())
+    }
+}
+
+impl<'a> Unmarked<'a> for ExtraFields {
+    ghost from_values = { λ order s n h. h };
+
+    ghost into_values = { λ order s n h. h };
 }
 
 type ExtraFieldHead = Run<([u8; 2], u16)>;

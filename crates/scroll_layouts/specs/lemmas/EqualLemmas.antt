@@ -25,6 +25,12 @@ pub record-again : {A : Type 0} (o : Option A) → option_map (λ r. r.0.0)
 record-again (Some a) = refl
 record-again None = refl
 
+-- an optional value that was made another part
+pub option-again : {A B : Type 0} (into : A → B) (out : B → A) → ((a : A) → out (into a) ≡ a)
+    → (o : Option A) → option_map out (option_map into o) ≡ o
+option-again into out same (Some a) = ap Some (same a)
+option-again into out same None = refl
+
 -- equal numbers, with the length of their encodings
 pub counted-is : {V : Type 0} (x y : Counted V) → x.value ≡ y.value → x.count ≡ y.count → x ≡ y
 counted-is x y h k =

@@ -1,5 +1,7 @@
 -- A source hasn't both a list and an error. The lemmas are proved, and promise nothing.
 use Rattle.std.proofs.Common.{◌≡◌, ℕ, ◌+◌, ◌<◌, ◌≤◌, ◌⊎◌, List, [], ◌∷◌, length, take, drop, sym, ap, subst, ◌∙◌, inl, inr, arith}
+use Rattle.std.proofs.Math.Logic.{∥∥₁_elim}
+use Rattle.std.proofs.Props.{props}
 use Rattle.std.proofs.lemmas.List.Elements.{All-take}
 use Rattle.std.specs.List.{All}
 use Rattle.std.specs.Prelude.{None}
@@ -41,7 +43,7 @@ items-clash gives f t order s at (x ∷ xs) (y ∷ ys) to stop e all h k l r =
 pub within-clash : {E X : Type 0} (gives : Error → E → Type 0) (f : Format E X) (n : ℕ)
     → one_way f → (order : Endian) (s x : List ℕ) (e : E) → All (λ b. b < 256) s
     → length x ≤ length s → x ≡ take (length x) s
-    → (n ≡ length x) × SomeItems f order x 0 (length x)
+    → (n ≡ length x) × ∥ SomeItems f order x 0 (length x) ∥₁
     → NoRoom gives n s e ⊎ ((n ≤ length s) × RefusesItems gives f order (take n s) e) → ⊥
 within-clash gives f n t order s x e all inside begins h (inl r) =
     omega (arith, inside, h.0, r.short)
@@ -50,8 +52,8 @@ within-clash gives f n t order s x e all inside begins h (inr r) =
     let there = subst (λ l. RefusesItems gives f order l e) same r.1 in
     let below : All (λ b. b < 256) x =
     subst (λ l. All (λ b. b < 256) l) same (All-take (λ b. b < 256) n s all) in
-    items-clash gives f t order x 0 h.1.values there.before.values (length x) there.stop e below
-    h.1.each there.before.each there.more there.error
+    ∥∥₁_elim h.1 (hlevel props) (λ k. items-clash gives f t order x 0 k.values there.before.values
+    (length x) there.stop e below k.each there.before.each there.more there.error)
 
 -- after fewer values, at whose end none can be read, there aren't more
 count-clash : {E X : Type 0} (gives : Error → E → Type 0) (f : Format E X) → one_way f
@@ -68,13 +70,14 @@ count-clash gives f t order s at (x ∷ xs) (y ∷ ys) to stop e all h k l r =
 
 pub counted-clash : {E X : Type 0} (gives : Error → E → Type 0) (f : Format E X) (n : ℕ)
     → one_way f → (order : Endian) (s x : List ℕ) (e : E) → All (λ b. b < 256) s
-    → length x ≤ length s → x ≡ take (length x) s → CountedItems f order x 0 (length x) n
+    → length x ≤ length s → x ≡ take (length x) s → ∥ CountedItems f order x 0 (length x) n ∥₁
     → RefusesCounted gives f order n s e → ⊥
-counted-clash gives f n t order s x e all inside begins h r =
+counted-clash gives f n t order s x e all inside begins some r =
+    ∥∥₁_elim some (hlevel props) (λ h.
     count-clash gives f t order s 0 h.values r.before.values (length x) r.stop e all
     (items-grown f order s 0 h.values (length x) all inside
     (subst (λ l. Items f order l 0 h.values (length x)) begins h.each))
-    r.before.each (omega (arith, r.before.count, r.fewer, h.count)) r.error
+    r.before.each (omega (arith, r.before.count, r.fewer, h.count)) r.error)
 
 -- after values, at whose end no mark stands and no value can be read, there is no mark
 mark-clash : {E X : Type 0} (gives : Error → E → Type 0) (mark : Mark) (f : Format E X)
@@ -97,9 +100,10 @@ mark-clash gives mark f t order s at (x ∷ xs) (y ∷ ys) to stop end e all h m
 
 pub marked-clash : {E X : Type 0} (gives : Error → E → Type 0) (mark : Mark) (f : Format E X)
     → one_way f → (order : Endian) (s x : List ℕ) (e : E) → All (λ b. b < 256) s
-    → length x ≤ length s → x ≡ take (length x) s → MarkedItems mark f order x (length x)
+    → length x ≤ length s → x ≡ take (length x) s → ∥ MarkedItems mark f order x (length x) ∥₁
     → RefusesMarked gives mark f order s e → ⊥
-marked-clash gives mark f t order s x e all inside begins h r =
+marked-clash gives mark f t order s x e all inside begins some r =
+    ∥∥₁_elim some (hlevel props) (λ h.
     let there = marked-there mark f order s x h.0 all inside begins h.1 in
     mark-clash gives mark f t order s 0 h.0 r.before.values there.stop r.stop (length x) e all
-    there.each there.ends r.before.each r.other r.error
+    there.each there.ends r.before.each r.other r.error)

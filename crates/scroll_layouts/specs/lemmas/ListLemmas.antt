@@ -1,5 +1,7 @@
 -- Lists that are read value by value. The lemmas are proved, and promise nothing.
 use Rattle.std.proofs.Common.{◌≡◌, ◌≢◌, ℕ, ◌+◌, ◌<◌, ◌≤◌, ◌++◌, List, [], ◌∷◌, length, take, sym, ap, subst, ◌∙◌, arith, length-append}
+use Rattle.std.proofs.Math.Logic.{∥∥₁_elim}
+use Rattle.std.proofs.Props.{props}
 use Rattle.std.proofs.lemmas.List.{length-take-le}
 use Rattle.std.proofs.lemmas.List.Elements.{All-take}
 use Rattle.std.specs.List.{All}
@@ -19,15 +21,6 @@ push f order s at [] mid x h r some =
     (subst (λ k. reads f order s k x) (sym h) r, some, ap (λ k. k + len f x) h)
 push f order s at (y ∷ ys) mid x h r some =
     (h.0, h.1, push f order s (at + len f y) ys mid x h.2 r some)
-
-pub items-push : {E X : Type 0} (f : Format E X) (order : Endian) (s : List ℕ) (at mid to : ℕ)
-    (x : X) → SomeItems f order s at mid → reads f order s mid x → to ≡ mid + len f x → to ≢ mid
-    → SomeItems f order s at to
-items-push f order s at mid to x h r is other = record {
-  values = h.values ++ x ∷ [];
-  each = subst (λ k. Items f order s at (h.values ++ x ∷ []) k) (sym is)
-      (push f order s at h.values mid x h.each r (omega (arith, is, other)));
-}
 
 pub counted-push : {E X : Type 0} (f : Format E X) (order : Endian) (s : List ℕ)
     (at mid to n : ℕ) (x : X) → CountedItems f order s at mid n → reads f order s mid x
@@ -99,12 +92,19 @@ items-one f t order s at (x ∷ xs) (y ∷ ys) to stop all h k l =
 -- a source begins with one list of so many values
 pub counted-one : {E X : Type 0} (f : Format E X) → told f → (order : Endian) (s : List ℕ) (n : ℕ)
     (x y : List ℕ) → All (λ b. b < 256) s → length x ≤ length s → length y ≤ length s
-    → x ≡ take (length x) s → y ≡ take (length y) s → CountedItems f order x 0 (length x) n
-    → CountedItems f order y 0 (length y) n → length x ≡ length y
-counted-one f t order s n x y all inside within begins starts h k =
+    → x ≡ take (length x) s → y ≡ take (length y) s
+    → ∥ CountedItems f order x 0 (length x) n ∥₁ → ∥ CountedItems f order y 0 (length y) n ∥₁
+    → length x ≡ length y
+counted-one f t order s n x y all inside within begins starts some others =
+    ∥∥₁_elim some (hlevel props) (λ h. ∥∥₁_elim others (hlevel props) (λ k.
     items-one f t order s 0 h.values k.values (length x) (length y) all
     (items-grown f order s 0 h.values (length x) all inside
     (subst (λ l. Items f order l 0 h.values (length x)) begins h.each))
     (items-grown f order s 0 k.values (length y) all within
     (subst (λ l. Items f order l 0 k.values (length y)) starts k.each))
-    (h.count ∙ sym k.count)
+    (h.count ∙ sym k.count)))
+
+-- values of a number are some
+pub counted-some : {E X : Type 0} {f : Format E X} {order : Endian} {s : List ℕ} {at to n : ℕ}
+    → CountedItems f order s at to n → SomeItems f order s at to
+counted-some h = record { values = h.values; each = h.each }

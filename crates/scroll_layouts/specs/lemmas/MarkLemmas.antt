@@ -1,12 +1,14 @@
 -- Lists that end with a mark are read value by value. The lemmas are proved, and promise nothing.
-use Rattle.std.proofs.Common.{◌≡◌, ◌≢◌, ℕ, ◌+◌, ◌-◌, ◌<◌, ◌≤◌, ◌++◌, List, [], ◌∷◌, length, take, drop, sym, ap, subst, ◌∙◌, arith, length-drop}
+use Rattle.std.proofs.Common.{◌≡◌, ◌≢◌, ℕ, ◌+◌, ◌-◌, ◌<◌, ◌≤◌, ◌++◌, List, [], ◌∷◌, length, take, drop, sym, ap, subst, ◌∙◌, arith, length-drop, length-append}
+use Rattle.std.proofs.Math.Logic.{∥∥₁_elim, ∥∥₁_map}
+use Rattle.std.proofs.Props.{props}
 use Rattle.std.proofs.lemmas.List.{drop-drop, length-take-le, take-take, take_all}
 use Rattle.std.proofs.lemmas.List.Elements.{All-take}
 use Rattle.std.specs.List.{All}
 use Rattle.std.specs.Prelude.{Option, Some, None}
 use Rattle.scroll.specs.declared.endian.Endian.{Endian}
 use Rattle.scroll_layouts.specs.Formats.{Format, reads, len}
-use Rattle.scroll_layouts.specs.Marks.{Mark, MarkEnds, ItemsBefore, SomeBefore, MarkedList, MarkedItems}
+use Rattle.scroll_layouts.specs.Marks.{Mark, MarkEnds, ItemsBefore, CountedBefore, MarkedList, MarkedItems, CountedMarked}
 use Rattle.scroll_layouts.specs.OneWay.{told, one_way}
 use Rattle.scroll_layouts.specs.lemmas.FormatLaws.{inside, moved}
 use Rattle.scroll_layouts.specs.lemmas.Parts.{same-part}
@@ -27,12 +29,14 @@ push mark f order s at (y ∷ ys) mid x h other r some =
     (h.0, h.1, h.2, push mark f order s (at + len f y) ys mid x h.3 other r some)
 
 pub before-push : {E X : Type 0} (mark : Mark) (f : Format E X) (order : Endian) (s : List ℕ)
-    (mid to : ℕ) (x : X) → SomeBefore mark f order s mid → mark.size (drop mid s) ≡ None
-    → reads f order s mid x → to ≡ mid + len f x → to ≢ mid → SomeBefore mark f order s to
-before-push mark f order s mid to x h none r is other = record {
+    (mid to n : ℕ) (x : X) → CountedBefore mark f order s mid n → mark.size (drop mid s) ≡ None
+    → reads f order s mid x → to ≡ mid + len f x → to ≢ mid
+    → CountedBefore mark f order s to (n + 1)
+before-push mark f order s mid to n x h none r is other = record {
   values = h.values ++ x ∷ [];
   each = subst (λ k. ItemsBefore mark f order s 0 (h.values ++ x ∷ []) k) (sym is)
       (push mark f order s 0 h.values mid x h.each none r (omega (arith, is, other)));
+  count = length-append h.values (x ∷ []) ∙ ap (λ k. k + 1) h.count;
 }
 
 -- values end behind where they begin
@@ -83,11 +87,11 @@ mark-same mark s t to end room same m = record {
 }
 
 -- a list up to its mark is one in the bytes up to the end of the mark
-pub marked-cut : {E X : Type 0} (mark : Mark) (f : Format E X) (order : Endian) (s : List ℕ)
+pub list-cut : {E X : Type 0} (mark : Mark) (f : Format E X) (order : Endian) (s : List ℕ)
     (values : List X) (end : ℕ) → All (λ b. b < 256) s → end ≤ length s
     → MarkedList mark f order s values end
     → MarkedList mark f order (take end s) values (length (take end s))
-marked-cut mark f order s values end all le h =
+list-cut mark f order s values end all le h =
     let long : length (take end s) ≡ end = length-take-le end s le in
     let same : take end (take end s) ≡ take end s = take-take end end s (omega arith) in
     let room : end ≤ length (take end s) = omega (arith, long) in
@@ -98,6 +102,12 @@ marked-cut mark f order s values end all le h =
       ends = subst (MarkEnds mark (take end s) h.stop) (sym long)
           (mark-same mark s (take end s) h.stop end room same h.ends);
     }
+
+pub marked-cut : {E X : Type 0} (mark : Mark) (f : Format E X) (order : Endian) (s : List ℕ)
+    (end n : ℕ) → All (λ b. b < 256) s → end ≤ length s → CountedMarked mark f order s end n
+    → CountedMarked mark f order (take end s) (length (take end s)) n
+marked-cut mark f order s end n all le h =
+    (h.0, list-cut mark f order s h.0 end all le h.1, h.2)
 
 pub no-mark : (r : Option ℕ) (n : ℕ) → r ≡ None → r ≡ Some n → ⊥
 no-mark r n none some = cc
@@ -140,9 +150,10 @@ same-size r n m is there = cc
 
 pub marked-one : {E X : Type 0} (mark : Mark) (f : Format E X) → told f → (order : Endian)
     (s x y : List ℕ) → All (λ b. b < 256) s → length x ≤ length s → length y ≤ length s
-    → x ≡ take (length x) s → y ≡ take (length y) s → MarkedItems mark f order x (length x)
-    → MarkedItems mark f order y (length y) → length x ≡ length y
-marked-one mark f t order s x y all inside within begins starts h k =
+    → x ≡ take (length x) s → y ≡ take (length y) s → ∥ MarkedItems mark f order x (length x) ∥₁
+    → ∥ MarkedItems mark f order y (length y) ∥₁ → length x ≡ length y
+marked-one mark f t order s x y all inside within begins starts some others =
+    ∥∥₁_elim some (hlevel props) (λ h. ∥∥₁_elim others (hlevel props) (λ k.
     let a = marked-there mark f order s x h.0 all inside begins h.1 in
     let b = marked-there mark f order s y k.0 all within starts k.1 in
     let stops : a.stop ≡ b.stop =
@@ -151,7 +162,12 @@ marked-one mark f t order s x y all inside within begins starts h k =
     let sizes : a.ends.size ≡ b.ends.size =
     same-size (mark.size (drop b.stop s)) a.ends.size b.ends.size
     (subst (λ o. mark.size (drop o s) ≡ Some a.ends.size) stops a.ends.there) b.ends.there in
-    omega (arith, stops, sizes, a.ends.whole, b.ends.whole)
+    omega (arith, stops, sizes, a.ends.whole, b.ends.whole)))
+
+-- values of a number are some
+pub counted-marked : {E X : Type 0} {mark : Mark} {f : Format E X} {order : Endian} {s : List ℕ}
+    {end n : ℕ} → CountedMarked mark f order s end n → MarkedItems mark f order s end
+counted-marked h = (h.0, h.1)
 
 -- the rest of a list after its first value, as a list of its own
 rest-before : {E X : Type 0} (mark : Mark) (f : Format E X) (order : Endian) (s : List ℕ)
@@ -172,46 +188,55 @@ rest-before mark f order s at (x ∷ xs) to n all le h here =
           (rest-before mark f order s (at + len f x) xs to n all (omega (arith, le)) h.3 inner),
     )
 
+-- the rest of a list after a value that was read at its start
+marked-rest : {E X : Type 0} (mark : Mark) (f : Format E X) → one_way f → (order : Endian)
+    (s : List ℕ) (y : X) (n : ℕ) → All (λ b. b < 256) s → mark.size s ≡ None
+    → reads f order s 0 y → n ≡ len f y → (xs : List X) (stop : ℕ)
+    → ItemsBefore mark f order s 0 xs stop → MarkEnds mark s stop (length s)
+    → MarkedItems mark f order (drop n s) (length (drop n s))
+marked-rest mark f t order s y n all other k is [] stop each m =
+    absurd (no-mark (mark.size s) m.size other
+    (subst (λ o. mark.size (drop o s) ≡ Some m.size) (sym each) m.there))
+marked-rest mark f t order s y n all other k is (x ∷ xs) stop each m =
+    let same : n ≡ len f x = is ∙ one-len f (tells f t) order s 0 y x all k each.1 in
+    let here : n ≤ length s = omega (arith, same, inside f order s 0 x (omega arith) each.1) in
+    let from : ItemsBefore mark f order s n xs stop =
+    subst (λ o. ItemsBefore mark f order s o xs stop) (omega (arith, same)) each.3 in
+    let later : n ≤ stop = ends mark f order s n xs stop from in
+    let there : drop (stop - n) (drop n s) ≡ drop stop s =
+    drop-drop (stop - n) n s ∙ ap (λ o. drop o s) (omega (arith, later)) in (
+      xs,
+      record {
+        stop = stop - n;
+        each = subst (λ o. ItemsBefore mark f order (drop n s) o xs (stop - n)) (omega arith)
+            (rest-before mark f order s n xs stop n all (omega arith) from here);
+        ends = record {
+          size = m.size;
+          there = ap (λ l. mark.size l) there ∙ m.there;
+          whole = omega (arith, m.whole, later, length-drop n s);
+        };
+      },
+    )
+
 -- a value was read at the start of a list, where no mark stands: it is the first one, and the rest
 -- is a list
 pub marked-next : {E X : Type 0} (mark : Mark) (f : Format E X) → one_way f → (order : Endian)
     (s : List ℕ) (y : X) (n : ℕ) → All (λ b. b < 256) s → mark.size s ≡ None
-    → reads f order s 0 y → n ≡ len f y → MarkedItems mark f order s (length s)
-    → MarkedItems mark f order (drop n s) (length (drop n s))
-marked-next mark f t order s y n all other k is h = next h.0 h.1.stop h.1.each h.1.ends where
-  next : (xs : List _) (stop : ℕ) → ItemsBefore mark f order s 0 xs stop
-      → MarkEnds mark s stop (length s) → MarkedItems mark f order (drop n s) (length (drop n s))
-  next [] stop each m = absurd (no-mark (mark.size s) m.size other
-      (subst (λ o. mark.size (drop o s) ≡ Some m.size) (sym each) m.there))
-  next (x ∷ xs) stop each m =
-      let same : n ≡ len f x = is ∙ one-len f (tells f t) order s 0 y x all k each.1 in
-      let here : n ≤ length s = omega (arith, same, inside f order s 0 x (omega arith) each.1) in
-      let from : ItemsBefore mark f order s n xs stop =
-      subst (λ o. ItemsBefore mark f order s o xs stop) (omega (arith, same)) each.3 in
-      let later : n ≤ stop = ends mark f order s n xs stop from in
-      let there : drop (stop - n) (drop n s) ≡ drop stop s =
-      drop-drop (stop - n) n s ∙ ap (λ o. drop o s) (omega (arith, later)) in (
-        xs,
-        record {
-          stop = stop - n;
-          each = subst (λ o. ItemsBefore mark f order (drop n s) o xs (stop - n)) (omega arith)
-              (rest-before mark f order s n xs stop n all (omega arith) from here);
-          ends = record {
-            size = m.size;
-            there = ap (λ l. mark.size l) there ∙ m.there;
-            whole = omega (arith, m.whole, later, length-drop n s);
-          };
-        },
-      )
+    → reads f order s 0 y → n ≡ len f y → ∥ MarkedItems mark f order s (length s) ∥₁
+    → ∥ MarkedItems mark f order (drop n s) (length (drop n s)) ∥₁
+marked-next mark f t order s y n all other k is some =
+    ∥∥₁_map some
+    (λ h. marked-rest mark f t order s y n all other k is h.0 h.1.stop h.1.each h.1.ends)
 
 -- a list with no first value is a mark
 pub marked-none : {E X : Type 0} (mark : Mark) (f : Format E X) (order : Endian) (s : List ℕ)
     → ((x : X) → mark.size s ≡ None → reads f order s 0 x → 1 ≤ len f x → ⊥)
-    → MarkedItems mark f order s (length s) → mark.size s ≡ Some (length s)
-marked-none mark f order s none h = first h.0 h.1.stop h.1.each h.1.ends where
-  first : (xs : List _) (stop : ℕ) → ItemsBefore mark f order s 0 xs stop
-      → MarkEnds mark s stop (length s) → mark.size s ≡ Some (length s)
-  first [] stop each m =
-      subst (λ o. mark.size (drop o s) ≡ Some m.size) (sym each) m.there
-      ∙ ap Some (omega (arith, each, m.whole))
-  first (x ∷ xs) stop each m = absurd (none x each.0 each.1 each.2)
+    → ∥ MarkedItems mark f order s (length s) ∥₁ → mark.size s ≡ Some (length s)
+marked-none mark f order s none some =
+    ∥∥₁_elim some (hlevel props) (λ h. first h.0 h.1.stop h.1.each h.1.ends) where
+      first : (xs : List _) (stop : ℕ) → ItemsBefore mark f order s 0 xs stop
+          → MarkEnds mark s stop (length s) → mark.size s ≡ Some (length s)
+      first [] stop each m =
+          subst (λ o. mark.size (drop o s) ≡ Some m.size) (sym each) m.there
+          ∙ ap Some (omega (arith, each, m.whole))
+      first (x ∷ xs) stop each m = absurd (none x each.0 each.1 each.2)

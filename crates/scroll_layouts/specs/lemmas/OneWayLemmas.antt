@@ -1,5 +1,7 @@
 -- What follows where a source is read in one way. The lemmas are proved, and promise nothing.
 use Rattle.std.proofs.Common.{◌≡◌, ℕ, ◌+◌, ◌<◌, ◌≤◌, ◌-◌, List, [], ◌∷◌, length, take, drop, sym, ap, subst, ◌∙◌, arith, length-drop, inl, inr}
+use Rattle.std.proofs.Math.Logic.{∥∥₁_elim, ∥∥₁_map}
+use Rattle.std.proofs.Props.{props}
 use Rattle.std.proofs.lemmas.Bool.{true≢false}
 use Rattle.std.proofs.lemmas.List.{get_or-take, get_or-replicate, drop-drop}
 use Rattle.std.specs.List.{All}
@@ -112,9 +114,10 @@ rest-items f order s at (x ∷ xs) n all le h here =
 
 -- a value was read at the start of a list: it is the first one, and the rest is a list
 pub list-next : {E X : Type 0} (f : Format E X) → one_way f → (order : Endian) (s : List ℕ) (y : X)
-    (n : ℕ) → All (λ b. b < 256) s → SomeItems f order s 0 (length s) → 0 < length s
-    → reads f order s 0 y → n ≡ len f y → SomeItems f order (drop n s) 0 (length (drop n s))
-list-next f t order s y n all h some k is = next h.values h.each where
+    (n : ℕ) → All (λ b. b < 256) s → ∥ SomeItems f order s 0 (length s) ∥₁ → 0 < length s
+    → reads f order s 0 y → n ≡ len f y
+    → ∥ SomeItems f order (drop n s) 0 (length (drop n s)) ∥₁
+list-next f t order s y n all list some k is = ∥∥₁_map list (λ h. next h.values h.each) where
   next : (xs : List _) → Items f order s 0 xs (length s)
       → SomeItems f order (drop n s) 0 (length (drop n s))
   next [] each = absurd (omega (arith, some, each))
@@ -132,22 +135,24 @@ list-next f t order s y n all h some k is = next h.values h.each where
 
 -- a list in which a value without bytes is read, or one is refused, has none
 pub list-none : {E X : Type 0} (f : Format E X) → one_way f → (order : Endian) (s : List ℕ) (y : X)
-    → All (λ b. b < 256) s → reads f order s 0 y → len f y ≡ 0 → SomeItems f order s 0 (length s)
-    → length s ≡ 0
-list-none f t order s y all k none h = first h.values h.each where
-  first : (xs : List _) → Items f order s 0 xs (length s) → length s ≡ 0
-  first [] each = sym each
-  first (x ∷ xs) each = absurd (omega (
-    arith,
-    one-len f (tells f t) order s 0 y x all k each.0,
-    each.1,
-    none,
-  ))
+    → All (λ b. b < 256) s → reads f order s 0 y → len f y ≡ 0
+    → ∥ SomeItems f order s 0 (length s) ∥₁ → length s ≡ 0
+list-none f t order s y all k none list =
+    ∥∥₁_elim list (hlevel props) (λ h. first h.values h.each) where
+      first : (xs : List _) → Items f order s 0 xs (length s) → length s ≡ 0
+      first [] each = sym each
+      first (x ∷ xs) each = absurd (omega (
+        arith,
+        one-len f (tells f t) order s 0 y x all k each.0,
+        each.1,
+        none,
+      ))
 
 pub list-refused : {E X : Type 0} (f : Format E X) → one_way f → (order : Endian) (s : List ℕ)
-    (e : E) → All (λ b. b < 256) s → refuses f order s 0 e → SomeItems f order s 0 (length s)
-    → length s ≡ 0
-list-refused f t order s e all r h = first h.values h.each where
-  first : (xs : List _) → Items f order s 0 xs (length s) → length s ≡ 0
-  first [] each = sym each
-  first (x ∷ xs) each = absurd (no-clash f t order s 0 x e all each.0 r)
+    (e : E) → All (λ b. b < 256) s → refuses f order s 0 e
+    → ∥ SomeItems f order s 0 (length s) ∥₁ → length s ≡ 0
+list-refused f t order s e all r list =
+    ∥∥₁_elim list (hlevel props) (λ h. first h.values h.each) where
+      first : (xs : List _) → Items f order s 0 xs (length s) → length s ≡ 0
+      first [] each = sym each
+      first (x ∷ xs) each = absurd (no-clash f t order s 0 x e all each.0 r)

@@ -3,11 +3,11 @@
 use Rattle.std.proofs.Common.{◌≡◌, ℕ, ◌+◌, ◌-◌, ◌<◌, List, refl, sym, ap, subst, ◌∙◌, arith}
 use Rattle.std.proofs.lemmas.Bool.{true≢false, and_parts}
 use Rattle.std.specs.List.{All}
-use Rattle.std.specs.Prelude.{◌&&◌, Bool, true, false, Option, Some, None, ⊤}
+use Rattle.std.specs.Prelude.{◌&&◌, Bool, true, false, Some, None, ⊤}
 use Rattle.scroll.specs.declared.endian.Endian.{Endian}
 use Rattle.scroll_formats.specs.Zeros.{padding_len}
 use Rattle.scroll_layouts.specs.Formats.{Format, run, counted, zeros, last, shape, pair, headed, padded, within, behind, ordered, leaf, choice, when, reads, len}
-use Rattle.scroll_layouts.specs.OneWay.{plain, same, same_if, same_choice, same_seen, same_option, same_optional, told, one_way}
+use Rattle.scroll_layouts.specs.OneWay.{plain, same, same_if, same_choice, same_seen, same_optional, told, one_way}
 use Rattle.scroll_layouts.specs.declared.choice.Choice.{Choice}
 use Rattle.scroll_layouts.specs.declared.choice.Choice.TheVariants.{First, Second}
 use Rattle.scroll_layouts.specs.lemmas.EqualLemmas.{pair-is}

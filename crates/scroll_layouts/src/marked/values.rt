@@ -1,15 +1,16 @@
 // Lists up to a mark that were read are walked where they lie, and no value fails.
-ghost use Rattle.std.specs.Prelude.{◌≡◌, ◌≤◌, ◌<◌, length, Some, None};
+ghost use Rattle.std.specs.Prelude.{◌≡◌, ◌≤◌, ◌<◌, length, Some, None, IfOk, IfErr};
 ghost use Rattle.std.specs.Iterator.{at_most};
 ghost use Rattle.std.specs.List.{All};
 ghost use Rattle.scroll_layouts.specs.Formats.{reads, refuses, len};
-ghost use Rattle.scroll_layouts.specs.Marks.{MarkedItems, YieldsMarked};
+ghost use Rattle.scroll_layouts.specs.Marks.{MarkedItems, CountedMarked, RefusesToMark, YieldsMarked};
 
-use super::end_at;
+use super::{end_at, find_end};
 use crate::walk::below;
-use crate::{Items, Marked, ReadPart};
-use scroll::Endian;
+use crate::{Items, Marked};
+use scroll::{Endian, Error};
 use std::marker::PhantomData;
+use std::result::Result;
 
 /// The values of a list that are left, in order, up to its mark. Of a list that was read none
 /// fails if its values are read in one way (`one_way` of their format).
@@ -23,33 +24,53 @@ pub struct MarkedValues<'a, E, K> {
 }
 
 impl<'a, K: Marked<'a>> Items<'a, K> {
+    /// Reads values and the mark that ends them, and returns their list.
+    ///
+    /// The errors are those of the values; a value without bytes is [`Error::BadInput`] with its
+    /// offset and the message `a value has no bytes`. Bytes after the mark are one with the offset
+    /// where it ends and the message `another length than its values`.
+    #[inline(always)]
+    pub fn to_mark(bytes: &'a [u8], order: Endian) -> Result<Items<'a, K>, K::Error>
+    where
+        K::Error: From<Error>,
+        ensures bytes { IfOk result (λ list. list.bytes.now ≡ bytes.now) }
+        ensures order { IfOk result (λ list. list.order ≡ order) }
+        ensures list { IfOk result (λ list. CountedMarked K.End.mark K.item order
+            bytes.now (length bytes.now) list.count) }
+        ensures refused { IfErr result (RefusesToMark K.Error.from_gives K.End.mark
+            K.item order bytes.now) }
+    {
+        let (end, count) = find_end::<K>(bytes, order)?;
+        if end != bytes.len() {
+            return Err(K::Error::from(Error::BadInput {
+                size: end,
+                msg: "another length than its values",
+            }));
+        }
+        Ok(Items::of(bytes, order, count))
+    }
+
     /// Returns the values of a list up to its mark, which are read where they lie, without memory.
     #[inline(always)]
-    pub fn values_to_mark<E>(&self, order: Endian) -> MarkedValues<'a, E, K>
-    where
-        K::Item: ReadPart<'a, (), E>,
-        ensures bytes { result.bytes.now ≡ self.now.0.now }
-        ensures order { result.order ≡ order }
-        ensures list { MarkedItems K.End.mark (K.Item.format tt) order self.now.0.now
-            (length self.now.0.now) → MarkedItems K.End.mark (K.Item.format tt) result.order
-            result.bytes.now (length result.bytes.now) }
+    pub fn values_to_mark(&self) -> MarkedValues<'a, K::Error, K>
+        ensures bytes { result.bytes.now ≡ self.now.bytes.now }
+        ensures order { result.order ≡ self.now.order }
+        ensures list { ∥ MarkedItems K.End.mark K.item result.order result.bytes.now
+            (length result.bytes.now) ∥₁ }
     {
         MarkedValues {
-            bytes: self.0,
-            order,
+            bytes: self.bytes,
+            order: self.order,
             of: PhantomData,
         }
     }
 }
 
-impl<'a, E: Drop, K: Marked<'a>> Iterator for MarkedValues<'a, E, K>
-where
-    K::Item: ReadPart<'a, (), E>,
-{
+impl<'a, E: Drop, K: Marked<'a, Error = E>> Iterator for MarkedValues<'a, E, K> {
     type Item = K::Item;
 
     ghost next_gives = { λ old found new. (new.order ≡ old.order)
-        × YieldsMarked K.End.mark (K.Item.format tt) old.order old.bytes.now found
+        × YieldsMarked K.End.mark K.item old.order old.bytes.now found
         new.bytes.now };
 
     ghost remaining = { λ it. at_most (length it.bytes.now) };
@@ -60,7 +81,7 @@ where
             return None;
         }
         below(self.bytes);
-        match <K::Item as ReadPart<'a, (), E>>::read_at(self.bytes, 0, self.order, &()) {
+        match K::read_item(self.bytes, 0, self.order) {
             Ok((value, size)) => {
                 if size == 0 {
                     return None;

@@ -76,8 +76,8 @@ fn many_files(rt: HostRuntime) -> Result<(), Fail> {
     let last: Vec<StoredFile> = read_to_end(rt.alloc(), &archive[..42], &mut offset, LE)?;
     check_eq(&rt, (last.len(), offset), (1, 42));
     let mut until: Vec<StoredFile> = Vec::new(rt.alloc());
-    let list = append_until::<Error, StoredFiles>(&mut until, &archive, &mut 0, LE)?;
-    check_eq(&rt, (until.len(), list.0.len()), (2, 43));
+    let list = append_until::<StoredFiles>(&mut until, &archive, &mut 0, LE)?;
+    check_eq(&rt, (until.len(), list.bytes.len()), (2, 43));
     Ok(())
 }
 

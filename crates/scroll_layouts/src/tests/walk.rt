@@ -1,13 +1,13 @@
 // Lists whose values are walked where they lie: fields behind a length in LEB128, and names.
 mod derived;
 
-ghost use Rattle.std.specs.Prelude.{◌≡◌, IfOk, IfNone};
+ghost use Rattle.std.specs.Prelude.{◌≡◌, IfOk, IfNone, option_map};
 ghost use Rattle.scroll.specs.Numbers.{number};
 ghost use Rattle.scroll.specs.declared.endian.Endian.TheVariants.{Little};
 
 use crate::{Items, Uleb};
 use scroll::cstr::CStr;
-use scroll::{Error, LE, Pread, Result};
+use scroll::{LE, Pread, Result, slice};
 use std::result;
 use std::test::Fail;
 
@@ -36,22 +36,41 @@ pub struct Message<'a> {
     pub fields: Items<'a, FieldKind>,
 }
 
+/// A message whose fields may be absent.
+// #[derive(Pread, Pwrite)]
+#[derive(Clone, Copy)]
+pub struct Reply<'a> {
+    pub size: u16,
+    // #[scroll(if = size != 0, ctx = size as usize)]
+    pub fields: Option<Items<'a, FieldKind>>,
+}
+
 /// Returns the number of a message's first field. There is none only where the fields have no byte.
 pub fn first_number(source: &[u8]) -> Result<Option<u8>>
     ensures { IfOk result (λ found. IfNone found (number Little 2 source.now ≡ 0)) }
 {
     let message: Message = source.pread_with(0, LE)?;
-    match message.fields.values::<Error>(LE).next() {
+    match message.fields.values().next() {
         Some(field) => Ok(Some(field.number)),
         None => Ok(None),
     }
+}
+
+/// Writes a reply, and reads it back: its fields are the same.
+pub fn fields_again<'a>(target: &'a mut [u8], reply: Reply) -> Result<Option<Items<'a, FieldKind>>>
+    ensures { IfOk result (λ fields. option_map (λ v. v.bytes.now) fields
+        ≡ option_map (λ v. v.bytes.now) reply.entry.fields) }
+{
+    slice::gwrite_with(target, reply, &mut 0, LE)?;
+    let again: Reply = (&*target).pread_with(0, LE)?;
+    Ok(again.fields)
 }
 
 /// Adds up the lengths of a message's fields. No field is refused.
 pub fn add_lengths(source: &[u8]) -> Result<u64> {
     let message: Message = source.pread_with(0, LE)?;
     let mut sum: u64 = 0;
-    for field in message.fields.values::<Error>(LE) {
+    for field in message.fields.values() {
         sum = sum.wrapping_add(field.data.len() as u64);
     }
     Ok(sum)

@@ -1,14 +1,14 @@
 // Printed by tools/derive from hello.rt.
-ghost use Rattle.std.specs.Prelude.{◌≡◌, ◌≢◌, ◌<◌, ◌≤◌, ◌^◌, codes, nat_eq};
+ghost use Rattle.std.specs.Prelude.{◌≡◌, ◌≢◌, ◌<◌, ◌≤◌, ◌^◌, length, codes, nat_eq};
 ghost use Rattle.std.proofs.Common.{refl, rules};
 ghost use Rattle.scroll.specs.Errors.{IsBadInput};
 ghost use Rattle.scroll.specs.lemmas.Frames.{WritesPrefix-keeps};
 ghost use Rattle.scroll_layouts.specs.Errors.{IsNot};
 ghost use Rattle.scroll_layouts.specs.Formats.{refuses};
+ghost use Rattle.scroll_layouts.specs.Lists.{CountedItems};
 ghost use Rattle.scroll_layouts.specs.Wholes.{KeepsWhole, ReadsExact, WritesWhole};
 ghost use Rattle.scroll_layouts.specs.declared.choice.Choice.TheVariants.{First, Second};
 ghost use Rattle.scroll.specs.declared.endian.Endian.TheVariants as endian_is;
-ghost use Rattle.tls.specs.declared.hello.ExtensionBody.TheVariants as extension_body_is;
 
 use super::{
     ClientHello, Extension, ExtensionBody, ExtensionList, Extensions, Handshake, HostName,
@@ -18,8 +18,8 @@ use scroll::ctx::{TryFromCtx, TryIntoCtx};
 use scroll::{BE, Endian, Error};
 use scroll_layouts::Choice::{First, Second};
 use scroll_layouts::{
-    Behind, Choice, Choose, Given, Head, Headed, Items, Listed, Ordered, Packed, Part, ReadPart,
-    Run, Shape, U24, Within, is, read_exact, write_whole,
+    Behind, Choice, Choose, Given, Head, Headed, IsList, Items, ListOf, ListPart, Listed, Ordered,
+    Packed, Part, ReadPart, Run, Shape, U24, Unmarked, Within, is, read_exact, write_whole,
 };
 use std::marker::PhantomData;
 use std::result::Result;
@@ -205,7 +205,10 @@ impl Head<ClientHelloHead2, Error> for ClientHelloSays2 {
     }
 }
 
-type ClientHelloRest2<'a> = (ClientHelloHead2, (Items<'a, Numbers>, ClientHelloRest3<'a>));
+type ClientHelloRest2<'a> = (
+    ClientHelloHead2,
+    (ListOf<'a, NumbersPart<'a>>, ClientHelloRest3<'a>),
+);
 
 type ClientHelloHead = Run<(u16, [u8; 32], u8)>;
 
@@ -259,7 +262,10 @@ impl<'a> Shape for ClientHello<'a> {
           x.session,
           (
             record { 0 = x.suites_len },
-            (x.suites, (record { 0 = x.compressions_len }, x.compressions)),
+            (
+              record { 0 = record { 0 = x.suites }; 1 = record {} },
+              (record { 0 = x.compressions_len }, x.compressions),
+            ),
           ),
         ),
       ),
@@ -272,7 +278,7 @@ impl<'a> Shape for ClientHello<'a> {
       session_len = p.0.0.0.2;
       session = p.0.1.0;
       suites_len = p.0.1.1.0.0;
-      suites = p.0.1.1.1.0;
+      suites = p.0.1.1.1.0.0.0;
       compressions_len = p.0.1.1.1.1.0.0;
       compressions = p.0.1.1.1.1.1;
       extensions = p.1;
@@ -290,7 +296,10 @@ impl<'a> Shape for ClientHello<'a> {
                     self.session,
                     (
                         Run(self.suites_len),
-                        (self.suites, (Run(self.compressions_len), self.compressions)),
+                        (
+                            ListOf(NumbersPart(self.suites), PhantomData),
+                            (Run(self.compressions_len), self.compressions),
+                        ),
                     ),
                 ),
             ),
@@ -302,7 +311,13 @@ impl<'a> Shape for ClientHello<'a> {
         let (
             (
                 Run((version, random, session_len)),
-                (session, (Run(suites_len), (suites, (Run(compressions_len), compressions)))),
+                (
+                    session,
+                    (
+                        Run(suites_len),
+                        (ListOf(NumbersPart(suites), _), (Run(compressions_len), compressions)),
+                    ),
+                ),
             ),
             extensions,
         ) = parts;
@@ -326,8 +341,47 @@ impl<'a> Shape for ClientHello<'a> {
     }
 }
 
+#[derive(Drop)]
+pub struct NumbersPart<'a>(pub Items<'a, Numbers>);
+
+impl<'a> ListPart<'a> for NumbersPart<'a> {
+    type Kind = Numbers;
+
+    ghost seen = { λ x. x.0.bytes.now };
+
+    #[inline(always)]
+    fn of(bytes: &'a [u8], order: Endian, count: usize) -> NumbersPart<'a> {
+        NumbersPart(Items::of(bytes, order, count))
+    }
+
+    #[inline(always)]
+    fn parts(&self) -> (&'a [u8], Endian, usize) {
+        (self.0.bytes, self.0.order, self.0.count)
+    }
+}
+
+impl IsList for Numbers {
+    ghost is_list = { λ order s n. CountedItems
+        (⟦<Run<u16> as ReadPart<'static, (), Error>>⟧.format tt) order s 0 (length s) n };
+}
+
 impl<'a> Listed<'a> for Numbers {
+    type Error = Error;
+
     type Item = Run<u16>;
+
+    ghost item = { ⟦<Run<u16> as ReadPart<'a, (), Error>>⟧.format tt };
+
+    #[inline(always)]
+    fn read_item(from: &'a [u8], offset: usize, order: Endian) -> Result<(Run<u16>, usize), Error> {
+        <Run<u16> as ReadPart<'a, (), Error>>::read_at(from, offset, order, &())
+    }
+}
+
+impl<'a> Unmarked<'a> for Numbers {
+    ghost from_values = { λ order s n h. h };
+
+    ghost into_values = { λ order s n h. h };
 }
 
 type ExtensionListHead = Run<u16>;
@@ -355,7 +409,7 @@ impl Head<ExtensionListHead, Error> for ExtensionListSays {
     }
 }
 
-type ExtensionListParts<'a> = (ExtensionListHead, Items<'a, Extensions>);
+type ExtensionListParts<'a> = (ExtensionListHead, ListOf<'a, ExtensionsPart<'a>>);
 
 type ExtensionListCtx = Headed<(), ExtensionListNext, ExtensionListSays>;
 
@@ -366,20 +420,26 @@ impl<'a> Shape for ExtensionList<'a> {
 
     type Parts = ExtensionListParts<'a>;
 
-    ghost parts_of = { λ x. (record { 0 = x.len }, x.each) };
+    ghost parts_of = { λ x. (
+      record { 0 = x.len },
+      record { 0 = record { 0 = x.each }; 1 = record {} },
+    ) };
 
-    ghost of_parts = { λ p. record { len = p.0.0; each = p.1 } };
+    ghost of_parts = { λ p. record { len = p.0.0; each = p.1.0.0 } };
 
     ghost again = { λ x. refl };
 
     ghost inner_of = { λ _. record { 0 = tt; 1 = record {}; 2 = record {} } };
 
     fn split(&self) -> ExtensionListParts<'a> {
-        (Run(self.len), self.each)
+        (
+            Run(self.len),
+            ListOf(ExtensionsPart(self.each), PhantomData),
+        )
     }
 
     fn join(parts: ExtensionListParts<'a>) -> ExtensionList<'a> {
-        let (Run(len), each) = parts;
+        let (Run(len), ListOf(ExtensionsPart(each), _)) = parts;
         ExtensionList { len, each }
     }
 
@@ -390,8 +450,51 @@ impl<'a> Shape for ExtensionList<'a> {
     }
 }
 
+#[derive(Drop)]
+pub struct ExtensionsPart<'a>(pub Items<'a, Extensions>);
+
+impl<'a> ListPart<'a> for ExtensionsPart<'a> {
+    type Kind = Extensions;
+
+    ghost seen = { λ x. x.0.bytes.now };
+
+    #[inline(always)]
+    fn of(bytes: &'a [u8], order: Endian, count: usize) -> ExtensionsPart<'a> {
+        ExtensionsPart(Items::of(bytes, order, count))
+    }
+
+    #[inline(always)]
+    fn parts(&self) -> (&'a [u8], Endian, usize) {
+        (self.0.bytes, self.0.order, self.0.count)
+    }
+}
+
+impl IsList for Extensions {
+    ghost is_list = { λ order s n. CountedItems
+        (⟦<Extension<'static> as ReadPart<'static, (), Error>>⟧.format tt) order s 0 (length s) n };
+}
+
 impl<'a> Listed<'a> for Extensions {
+    type Error = Error;
+
     type Item = Extension<'a>;
+
+    ghost item = { ⟦<Extension<'a> as ReadPart<'a, (), Error>>⟧.format tt };
+
+    #[inline(always)]
+    fn read_item(
+        from: &'a [u8],
+        offset: usize,
+        order: Endian,
+    ) -> Result<(Extension<'a>, usize), Error> {
+        <Extension<'a> as ReadPart<'a, (), Error>>::read_at(from, offset, order, &())
+    }
+}
+
+impl<'a> Unmarked<'a> for Extensions {
+    ghost from_values = { λ order s n h. h };
+
+    ghost into_values = { λ order s n h. h };
 }
 
 type ExtensionHead = Run<(u16, u16)>;
@@ -499,6 +602,8 @@ type ExtensionBodyCtx = Choose<
 >;
 
 impl<'a> Shape for ExtensionBody<'a> {
+    ghost use Rattle.tls.specs.declared.hello.ExtensionBody.TheVariants as extension_body_is;
+
     type Ctx = (u16, usize);
 
     type Inner = ExtensionBodyCtx;
@@ -728,7 +833,7 @@ impl Head<LongListHead, Error> for LongListSays {
     }
 }
 
-type LongListParts<'a> = (LongListHead, Items<'a, Numbers>);
+type LongListParts<'a> = (LongListHead, ListOf<'a, NumbersPart<'a>>);
 
 type LongListCtx = Headed<(), LongListNext, LongListSays>;
 
@@ -739,20 +844,23 @@ impl<'a> Shape for LongList<'a> {
 
     type Parts = LongListParts<'a>;
 
-    ghost parts_of = { λ x. (record { 0 = x.len }, x.each) };
+    ghost parts_of = { λ x. (
+      record { 0 = x.len },
+      record { 0 = record { 0 = x.each }; 1 = record {} },
+    ) };
 
-    ghost of_parts = { λ p. record { len = p.0.0; each = p.1 } };
+    ghost of_parts = { λ p. record { len = p.0.0; each = p.1.0.0 } };
 
     ghost again = { λ x. refl };
 
     ghost inner_of = { λ _. record { 0 = tt; 1 = record {}; 2 = record {} } };
 
     fn split(&self) -> LongListParts<'a> {
-        (Run(self.len), self.each)
+        (Run(self.len), ListOf(NumbersPart(self.each), PhantomData))
     }
 
     fn join(parts: LongListParts<'a>) -> LongList<'a> {
-        let (Run(len), each) = parts;
+        let (Run(len), ListOf(NumbersPart(each), _)) = parts;
         LongList { len, each }
     }
 
@@ -788,7 +896,7 @@ impl Head<ShortListHead, Error> for ShortListSays {
     }
 }
 
-type ShortListParts<'a> = (ShortListHead, Items<'a, Numbers>);
+type ShortListParts<'a> = (ShortListHead, ListOf<'a, NumbersPart<'a>>);
 
 type ShortListCtx = Headed<(), ShortListNext, ShortListSays>;
 
@@ -799,20 +907,23 @@ impl<'a> Shape for ShortList<'a> {
 
     type Parts = ShortListParts<'a>;
 
-    ghost parts_of = { λ x. (record { 0 = x.len }, x.each) };
+    ghost parts_of = { λ x. (
+      record { 0 = x.len },
+      record { 0 = record { 0 = x.each }; 1 = record {} },
+    ) };
 
-    ghost of_parts = { λ p. record { len = p.0.0; each = p.1 } };
+    ghost of_parts = { λ p. record { len = p.0.0; each = p.1.0.0 } };
 
     ghost again = { λ x. refl };
 
     ghost inner_of = { λ _. record { 0 = tt; 1 = record {}; 2 = record {} } };
 
     fn split(&self) -> ShortListParts<'a> {
-        (Run(self.len), self.each)
+        (Run(self.len), ListOf(NumbersPart(self.each), PhantomData))
     }
 
     fn join(parts: ShortListParts<'a>) -> ShortList<'a> {
-        let (Run(len), each) = parts;
+        let (Run(len), ListOf(NumbersPart(each), _)) = parts;
         ShortList { len, each }
     }
 
@@ -848,7 +959,7 @@ impl Head<ProtocolListHead, Error> for ProtocolListSays {
     }
 }
 
-type ProtocolListParts<'a> = (ProtocolListHead, Items<'a, Protocols>);
+type ProtocolListParts<'a> = (ProtocolListHead, ListOf<'a, ProtocolsPart<'a>>);
 
 type ProtocolListCtx = Headed<(), ProtocolListNext, ProtocolListSays>;
 
@@ -859,20 +970,23 @@ impl<'a> Shape for ProtocolList<'a> {
 
     type Parts = ProtocolListParts<'a>;
 
-    ghost parts_of = { λ x. (record { 0 = x.len }, x.each) };
+    ghost parts_of = { λ x. (
+      record { 0 = x.len },
+      record { 0 = record { 0 = x.each }; 1 = record {} },
+    ) };
 
-    ghost of_parts = { λ p. record { len = p.0.0; each = p.1 } };
+    ghost of_parts = { λ p. record { len = p.0.0; each = p.1.0.0 } };
 
     ghost again = { λ x. refl };
 
     ghost inner_of = { λ _. record { 0 = tt; 1 = record {}; 2 = record {} } };
 
     fn split(&self) -> ProtocolListParts<'a> {
-        (Run(self.len), self.each)
+        (Run(self.len), ListOf(ProtocolsPart(self.each), PhantomData))
     }
 
     fn join(parts: ProtocolListParts<'a>) -> ProtocolList<'a> {
-        let (Run(len), each) = parts;
+        let (Run(len), ListOf(ProtocolsPart(each), _)) = parts;
         ProtocolList { len, each }
     }
 
@@ -883,8 +997,51 @@ impl<'a> Shape for ProtocolList<'a> {
     }
 }
 
+#[derive(Drop)]
+pub struct ProtocolsPart<'a>(pub Items<'a, Protocols>);
+
+impl<'a> ListPart<'a> for ProtocolsPart<'a> {
+    type Kind = Protocols;
+
+    ghost seen = { λ x. x.0.bytes.now };
+
+    #[inline(always)]
+    fn of(bytes: &'a [u8], order: Endian, count: usize) -> ProtocolsPart<'a> {
+        ProtocolsPart(Items::of(bytes, order, count))
+    }
+
+    #[inline(always)]
+    fn parts(&self) -> (&'a [u8], Endian, usize) {
+        (self.0.bytes, self.0.order, self.0.count)
+    }
+}
+
+impl IsList for Protocols {
+    ghost is_list = { λ order s n. CountedItems
+        (⟦<Protocol<'static> as ReadPart<'static, (), Error>>⟧.format tt) order s 0 (length s) n };
+}
+
 impl<'a> Listed<'a> for Protocols {
+    type Error = Error;
+
     type Item = Protocol<'a>;
+
+    ghost item = { ⟦<Protocol<'a> as ReadPart<'a, (), Error>>⟧.format tt };
+
+    #[inline(always)]
+    fn read_item(
+        from: &'a [u8],
+        offset: usize,
+        order: Endian,
+    ) -> Result<(Protocol<'a>, usize), Error> {
+        <Protocol<'a> as ReadPart<'a, (), Error>>::read_at(from, offset, order, &())
+    }
+}
+
+impl<'a> Unmarked<'a> for Protocols {
+    ghost from_values = { λ order s n h. h };
+
+    ghost into_values = { λ order s n h. h };
 }
 
 type ProtocolHead = Run<u8>;

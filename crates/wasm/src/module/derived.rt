@@ -1,16 +1,15 @@
 // Printed by tools/derive from module.rt.
-ghost use Rattle.std.specs.Prelude.{◌≡◌, ◌≢◌, ◌<◌, ◌≤◌, ◌^◌, ◌⊎◌, [], ◌∷◌, codes, nat_eq};
+ghost use Rattle.std.specs.Prelude.{◌≡◌, ◌≢◌, ◌<◌, ◌≤◌, ◌^◌, ◌⊎◌, [], ◌∷◌, length, codes, nat_eq};
 ghost use Rattle.std.proofs.Common.{refl, rules};
 ghost use Rattle.scroll.specs.Errors.{IsBadInput};
 ghost use Rattle.scroll.specs.lemmas.Frames.{WritesPrefix-keeps};
 ghost use Rattle.scroll_layouts.specs.Errors.{IsNot};
 ghost use Rattle.scroll_layouts.specs.Formats.{refuses, shape};
+ghost use Rattle.scroll_layouts.specs.Lists.{CountedItems};
 ghost use Rattle.scroll_layouts.specs.Wholes.{KeepsWhole, ReadsExact, WritesWhole};
 ghost use Rattle.scroll_layouts.specs.lemmas.EqualLemmas.{parts-unique};
 ghost use Rattle.scroll_layouts.specs.declared.choice.Choice.TheVariants.{First, Second};
 ghost use Rattle.scroll.specs.declared.endian.Endian.TheVariants as endian_is;
-ghost use Rattle.wasm.specs.declared.module.Contents.TheVariants as contents_is;
-ghost use Rattle.wasm.specs.declared.module.Imported.TheVariants as imported_is;
 
 use super::{
     Contents, Custom, Export, ExportList, Exports, FunctionType, FunctionTypes, Import, ImportList,
@@ -22,8 +21,9 @@ use scroll::{Endian, Error, LE};
 use scroll_formats::{Table, Zeros};
 use scroll_layouts::Choice::{First, Second};
 use scroll_layouts::{
-    Behind, Choice, Choose, Count, Given, Head, Headed, Items, Listed, Ordered, Part, ReadPart,
-    Run, Shape, Split, Uleb, When, Within, is, read_exact, write_whole,
+    Behind, Choice, Choose, Count, Given, Head, Headed, IsList, Items, ListOf, ListPart, Listed,
+    Ordered, Part, ReadPart, Run, Shape, Split, Uleb, Unmarked, When, Within, is, read_exact,
+    write_whole,
 };
 use std::marker::PhantomData;
 use std::result::Result;
@@ -64,7 +64,7 @@ impl Head<ModuleHead, Error> for ModuleSays {
 
 type ModuleBefore = (ModuleHead, Zeros);
 
-type ModuleParts<'a> = (ModuleBefore, Items<'a, Sections>);
+type ModuleParts<'a> = (ModuleBefore, ListOf<'a, SectionsPart<'a>>);
 
 type ModuleCtx = Ordered<Behind<Headed<(), ModuleNext, ModuleSays>>>;
 
@@ -75,9 +75,12 @@ impl<'a> Shape for Module<'a> {
 
     type Parts = ModuleParts<'a>;
 
-    ghost parts_of = { λ x. ((record { 0 = (x.magic, x.version) }, record {}), x.sections) };
+    ghost parts_of = { λ x. (
+      (record { 0 = (x.magic, x.version) }, record {}),
+      record { 0 = record { 0 = x.sections }; 1 = record {} },
+    ) };
 
-    ghost of_parts = { λ p. record { magic = p.0.0.0.0; version = p.0.0.0.1; sections = p.1 } };
+    ghost of_parts = { λ p. record { magic = p.0.0.0.0; version = p.0.0.0.1; sections = p.1.0.0 } };
 
     ghost again = { λ x. refl };
 
@@ -87,11 +90,14 @@ impl<'a> Shape for Module<'a> {
     } };
 
     fn split(&self) -> ModuleParts<'a> {
-        ((Run((self.magic, self.version)), Zeros), self.sections)
+        (
+            (Run((self.magic, self.version)), Zeros),
+            ListOf(SectionsPart(self.sections), PhantomData),
+        )
     }
 
     fn join(parts: ModuleParts<'a>) -> Module<'a> {
-        let ((Run((magic, version)), _), sections) = parts;
+        let ((Run((magic, version)), _), ListOf(SectionsPart(sections), _)) = parts;
         Module {
             magic,
             version,
@@ -106,8 +112,51 @@ impl<'a> Shape for Module<'a> {
     }
 }
 
+#[derive(Drop)]
+pub struct SectionsPart<'a>(pub Items<'a, Sections>);
+
+impl<'a> ListPart<'a> for SectionsPart<'a> {
+    type Kind = Sections;
+
+    ghost seen = { λ x. x.0.bytes.now };
+
+    #[inline(always)]
+    fn of(bytes: &'a [u8], order: Endian, count: usize) -> SectionsPart<'a> {
+        SectionsPart(Items::of(bytes, order, count))
+    }
+
+    #[inline(always)]
+    fn parts(&self) -> (&'a [u8], Endian, usize) {
+        (self.0.bytes, self.0.order, self.0.count)
+    }
+}
+
+impl IsList for Sections {
+    ghost is_list = { λ order s n. CountedItems
+        (⟦<Section<'static> as ReadPart<'static, (), Error>>⟧.format tt) order s 0 (length s) n };
+}
+
 impl<'a> Listed<'a> for Sections {
+    type Error = Error;
+
     type Item = Section<'a>;
+
+    ghost item = { ⟦<Section<'a> as ReadPart<'a, (), Error>>⟧.format tt };
+
+    #[inline(always)]
+    fn read_item(
+        from: &'a [u8],
+        offset: usize,
+        order: Endian,
+    ) -> Result<(Section<'a>, usize), Error> {
+        <Section<'a> as ReadPart<'a, (), Error>>::read_at(from, offset, order, &())
+    }
+}
+
+impl<'a> Unmarked<'a> for Sections {
+    ghost from_values = { λ order s n h. h };
+
+    ghost into_values = { λ order s n h. h };
 }
 
 type SectionHead2 = Uleb;
@@ -242,6 +291,8 @@ type ContentsCtx = Choose<
 >;
 
 impl<'a> Shape for Contents<'a> {
+    ghost use Rattle.wasm.specs.declared.module.Contents.TheVariants as contents_is;
+
     type Ctx = (u8, usize);
 
     type Inner = ContentsCtx;
@@ -460,7 +511,7 @@ impl Head<TypesHead, Error> for TypesSays {
     }
 }
 
-type TypesParts<'a> = (TypesHead, Items<'a, FunctionTypes>);
+type TypesParts<'a> = (TypesHead, ListOf<'a, FunctionTypesPart<'a>>);
 
 type TypesCtx = Headed<(), TypesNext, TypesSays>;
 
@@ -471,20 +522,23 @@ impl<'a> Shape for Types<'a> {
 
     type Parts = TypesParts<'a>;
 
-    ghost parts_of = { λ x. (x.count, x.each) };
+    ghost parts_of = { λ x. (x.count, record { 0 = record { 0 = x.each }; 1 = record {} }) };
 
-    ghost of_parts = { λ p. record { count = p.0; each = p.1 } };
+    ghost of_parts = { λ p. record { count = p.0; each = p.1.0.0 } };
 
     ghost again = { λ x. refl };
 
     ghost inner_of = { λ _. record { 0 = tt; 1 = record {}; 2 = record {} } };
 
     fn split(&self) -> TypesParts<'a> {
-        (self.count, self.each)
+        (
+            self.count,
+            ListOf(FunctionTypesPart(self.each), PhantomData),
+        )
     }
 
     fn join(parts: TypesParts<'a>) -> Types<'a> {
-        let (count, each) = parts;
+        let (count, ListOf(FunctionTypesPart(each), _)) = parts;
         Types { count, each }
     }
 
@@ -495,8 +549,51 @@ impl<'a> Shape for Types<'a> {
     }
 }
 
+#[derive(Drop)]
+pub struct FunctionTypesPart<'a>(pub Items<'a, FunctionTypes>);
+
+impl<'a> ListPart<'a> for FunctionTypesPart<'a> {
+    type Kind = FunctionTypes;
+
+    ghost seen = { λ x. x.0.bytes.now };
+
+    #[inline(always)]
+    fn of(bytes: &'a [u8], order: Endian, count: usize) -> FunctionTypesPart<'a> {
+        FunctionTypesPart(Items::of(bytes, order, count))
+    }
+
+    #[inline(always)]
+    fn parts(&self) -> (&'a [u8], Endian, usize) {
+        (self.0.bytes, self.0.order, self.0.count)
+    }
+}
+
+impl IsList for FunctionTypes {
+    ghost is_list = { λ order s n. CountedItems
+        (⟦<FunctionType<'static> as ReadPart<'static, (), Error>>⟧.format tt) order s 0 (length s) n };
+}
+
 impl<'a> Listed<'a> for FunctionTypes {
+    type Error = Error;
+
     type Item = FunctionType<'a>;
+
+    ghost item = { ⟦<FunctionType<'a> as ReadPart<'a, (), Error>>⟧.format tt };
+
+    #[inline(always)]
+    fn read_item(
+        from: &'a [u8],
+        offset: usize,
+        order: Endian,
+    ) -> Result<(FunctionType<'a>, usize), Error> {
+        <FunctionType<'a> as ReadPart<'a, (), Error>>::read_at(from, offset, order, &())
+    }
+}
+
+impl<'a> Unmarked<'a> for FunctionTypes {
+    ghost from_values = { λ order s n h. h };
+
+    ghost into_values = { λ order s n h. h };
 }
 
 type FunctionTypeHead3 = Uleb;
@@ -663,7 +760,7 @@ impl Head<ImportsHead, Error> for ImportsSays {
     }
 }
 
-type ImportsParts<'a> = (ImportsHead, Items<'a, ImportList>);
+type ImportsParts<'a> = (ImportsHead, ListOf<'a, ImportListPart<'a>>);
 
 type ImportsCtx = Headed<(), ImportsNext, ImportsSays>;
 
@@ -674,20 +771,20 @@ impl<'a> Shape for Imports<'a> {
 
     type Parts = ImportsParts<'a>;
 
-    ghost parts_of = { λ x. (x.count, x.each) };
+    ghost parts_of = { λ x. (x.count, record { 0 = record { 0 = x.each }; 1 = record {} }) };
 
-    ghost of_parts = { λ p. record { count = p.0; each = p.1 } };
+    ghost of_parts = { λ p. record { count = p.0; each = p.1.0.0 } };
 
     ghost again = { λ x. refl };
 
     ghost inner_of = { λ _. record { 0 = tt; 1 = record {}; 2 = record {} } };
 
     fn split(&self) -> ImportsParts<'a> {
-        (self.count, self.each)
+        (self.count, ListOf(ImportListPart(self.each), PhantomData))
     }
 
     fn join(parts: ImportsParts<'a>) -> Imports<'a> {
-        let (count, each) = parts;
+        let (count, ListOf(ImportListPart(each), _)) = parts;
         Imports { count, each }
     }
 
@@ -698,8 +795,51 @@ impl<'a> Shape for Imports<'a> {
     }
 }
 
+#[derive(Drop)]
+pub struct ImportListPart<'a>(pub Items<'a, ImportList>);
+
+impl<'a> ListPart<'a> for ImportListPart<'a> {
+    type Kind = ImportList;
+
+    ghost seen = { λ x. x.0.bytes.now };
+
+    #[inline(always)]
+    fn of(bytes: &'a [u8], order: Endian, count: usize) -> ImportListPart<'a> {
+        ImportListPart(Items::of(bytes, order, count))
+    }
+
+    #[inline(always)]
+    fn parts(&self) -> (&'a [u8], Endian, usize) {
+        (self.0.bytes, self.0.order, self.0.count)
+    }
+}
+
+impl IsList for ImportList {
+    ghost is_list = { λ order s n. CountedItems
+        (⟦<Import<'static> as ReadPart<'static, (), Error>>⟧.format tt) order s 0 (length s) n };
+}
+
 impl<'a> Listed<'a> for ImportList {
+    type Error = Error;
+
     type Item = Import<'a>;
+
+    ghost item = { ⟦<Import<'a> as ReadPart<'a, (), Error>>⟧.format tt };
+
+    #[inline(always)]
+    fn read_item(
+        from: &'a [u8],
+        offset: usize,
+        order: Endian,
+    ) -> Result<(Import<'a>, usize), Error> {
+        <Import<'a> as ReadPart<'a, (), Error>>::read_at(from, offset, order, &())
+    }
+}
+
+impl<'a> Unmarked<'a> for ImportList {
+    ghost from_values = { λ order s n h. h };
+
+    ghost into_values = { λ order s n h. h };
 }
 
 type ImportParts<'a> = (Name<'a>, (Name<'a>, Imported));
@@ -785,6 +925,8 @@ type ImportedParts = (
 type ImportedCtx = Headed<(), ImportedNext, ImportedSays>;
 
 impl Split for Imported {
+    ghost use Rattle.wasm.specs.declared.module.Imported.TheVariants as imported_is;
+
     type Parts = ImportedParts;
 
     ghost parts_of = { elim [
@@ -821,7 +963,9 @@ impl Split for Imported {
 impl Part<(), Error> for Imported {
     ghost format = { λ _. shape (⟦<ImportedParts as Part<ImportedCtx, Error>>⟧.format
         (record { 0 = tt; 1 = record {}; 2 = record {} })) ⟦<Imported as Split>⟧.parts_of
-        (parts-unique ⟦<Imported as Split>⟧.parts_of ⟦<Imported as Split>⟧.of_parts ⟦<Imported as Split>⟧.again) };
+        (parts-unique ⟦<Imported as Split>⟧.parts_of
+        ⟦<Imported as Split>⟧.of_parts
+        ⟦<Imported as Split>⟧.again) };
 
     fn check(&self, order: Endian, _ctx: &()) -> Result<(), Error> {
         let parts = self.split();
@@ -846,7 +990,9 @@ impl Part<(), Error> for Imported {
 impl<'a> ReadPart<'a, (), Error> for Imported {
     ghost format = { λ _. shape (⟦<ImportedParts as ReadPart<'a, ImportedCtx, Error>>⟧.format
         (record { 0 = tt; 1 = record {}; 2 = record {} })) ⟦<Imported as Split>⟧.parts_of
-        (parts-unique ⟦<Imported as Split>⟧.parts_of ⟦<Imported as Split>⟧.of_parts ⟦<Imported as Split>⟧.again) };
+        (parts-unique ⟦<Imported as Split>⟧.parts_of
+        ⟦<Imported as Split>⟧.of_parts
+        ⟦<Imported as Split>⟧.again) };
 
     #[inline(always)]
     fn read_at(
@@ -996,7 +1142,7 @@ impl Head<IndicesHead, Error> for IndicesSays {
     }
 }
 
-type IndicesParts<'a> = (IndicesHead, Items<'a, IndexList>);
+type IndicesParts<'a> = (IndicesHead, ListOf<'a, IndexListPart<'a>>);
 
 type IndicesCtx = Headed<(), IndicesNext, IndicesSays>;
 
@@ -1007,20 +1153,20 @@ impl<'a> Shape for Indices<'a> {
 
     type Parts = IndicesParts<'a>;
 
-    ghost parts_of = { λ x. (x.count, x.each) };
+    ghost parts_of = { λ x. (x.count, record { 0 = record { 0 = x.each }; 1 = record {} }) };
 
-    ghost of_parts = { λ p. record { count = p.0; each = p.1 } };
+    ghost of_parts = { λ p. record { count = p.0; each = p.1.0.0 } };
 
     ghost again = { λ x. refl };
 
     ghost inner_of = { λ _. record { 0 = tt; 1 = record {}; 2 = record {} } };
 
     fn split(&self) -> IndicesParts<'a> {
-        (self.count, self.each)
+        (self.count, ListOf(IndexListPart(self.each), PhantomData))
     }
 
     fn join(parts: IndicesParts<'a>) -> Indices<'a> {
-        let (count, each) = parts;
+        let (count, ListOf(IndexListPart(each), _)) = parts;
         Indices { count, each }
     }
 
@@ -1031,8 +1177,47 @@ impl<'a> Shape for Indices<'a> {
     }
 }
 
+#[derive(Drop)]
+pub struct IndexListPart<'a>(pub Items<'a, IndexList>);
+
+impl<'a> ListPart<'a> for IndexListPart<'a> {
+    type Kind = IndexList;
+
+    ghost seen = { λ x. x.0.bytes.now };
+
+    #[inline(always)]
+    fn of(bytes: &'a [u8], order: Endian, count: usize) -> IndexListPart<'a> {
+        IndexListPart(Items::of(bytes, order, count))
+    }
+
+    #[inline(always)]
+    fn parts(&self) -> (&'a [u8], Endian, usize) {
+        (self.0.bytes, self.0.order, self.0.count)
+    }
+}
+
+impl IsList for IndexList {
+    ghost is_list = { λ order s n. CountedItems
+        (⟦<Uleb as ReadPart<'static, (), Error>>⟧.format tt) order s 0 (length s) n };
+}
+
 impl<'a> Listed<'a> for IndexList {
+    type Error = Error;
+
     type Item = Uleb;
+
+    ghost item = { ⟦<Uleb as ReadPart<'a, (), Error>>⟧.format tt };
+
+    #[inline(always)]
+    fn read_item(from: &'a [u8], offset: usize, order: Endian) -> Result<(Uleb, usize), Error> {
+        <Uleb as ReadPart<'a, (), Error>>::read_at(from, offset, order, &())
+    }
+}
+
+impl<'a> Unmarked<'a> for IndexList {
+    ghost from_values = { λ order s n h. h };
+
+    ghost into_values = { λ order s n h. h };
 }
 
 type ExportsHead = Uleb;
@@ -1060,7 +1245,7 @@ impl Head<ExportsHead, Error> for ExportsSays {
     }
 }
 
-type ExportsParts<'a> = (ExportsHead, Items<'a, ExportList>);
+type ExportsParts<'a> = (ExportsHead, ListOf<'a, ExportListPart<'a>>);
 
 type ExportsCtx = Headed<(), ExportsNext, ExportsSays>;
 
@@ -1071,20 +1256,20 @@ impl<'a> Shape for Exports<'a> {
 
     type Parts = ExportsParts<'a>;
 
-    ghost parts_of = { λ x. (x.count, x.each) };
+    ghost parts_of = { λ x. (x.count, record { 0 = record { 0 = x.each }; 1 = record {} }) };
 
-    ghost of_parts = { λ p. record { count = p.0; each = p.1 } };
+    ghost of_parts = { λ p. record { count = p.0; each = p.1.0.0 } };
 
     ghost again = { λ x. refl };
 
     ghost inner_of = { λ _. record { 0 = tt; 1 = record {}; 2 = record {} } };
 
     fn split(&self) -> ExportsParts<'a> {
-        (self.count, self.each)
+        (self.count, ListOf(ExportListPart(self.each), PhantomData))
     }
 
     fn join(parts: ExportsParts<'a>) -> Exports<'a> {
-        let (count, each) = parts;
+        let (count, ListOf(ExportListPart(each), _)) = parts;
         Exports { count, each }
     }
 
@@ -1095,8 +1280,51 @@ impl<'a> Shape for Exports<'a> {
     }
 }
 
+#[derive(Drop)]
+pub struct ExportListPart<'a>(pub Items<'a, ExportList>);
+
+impl<'a> ListPart<'a> for ExportListPart<'a> {
+    type Kind = ExportList;
+
+    ghost seen = { λ x. x.0.bytes.now };
+
+    #[inline(always)]
+    fn of(bytes: &'a [u8], order: Endian, count: usize) -> ExportListPart<'a> {
+        ExportListPart(Items::of(bytes, order, count))
+    }
+
+    #[inline(always)]
+    fn parts(&self) -> (&'a [u8], Endian, usize) {
+        (self.0.bytes, self.0.order, self.0.count)
+    }
+}
+
+impl IsList for ExportList {
+    ghost is_list = { λ order s n. CountedItems
+        (⟦<Export<'static> as ReadPart<'static, (), Error>>⟧.format tt) order s 0 (length s) n };
+}
+
 impl<'a> Listed<'a> for ExportList {
+    type Error = Error;
+
     type Item = Export<'a>;
+
+    ghost item = { ⟦<Export<'a> as ReadPart<'a, (), Error>>⟧.format tt };
+
+    #[inline(always)]
+    fn read_item(
+        from: &'a [u8],
+        offset: usize,
+        order: Endian,
+    ) -> Result<(Export<'a>, usize), Error> {
+        <Export<'a> as ReadPart<'a, (), Error>>::read_at(from, offset, order, &())
+    }
+}
+
+impl<'a> Unmarked<'a> for ExportList {
+    ghost from_values = { λ order s n h. h };
+
+    ghost into_values = { λ order s n h. h };
 }
 
 type ExportHead = Run<u8>;

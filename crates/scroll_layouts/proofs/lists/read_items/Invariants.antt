@@ -5,7 +5,7 @@ use Rattle.scroll_layouts.proofs.lists.read_items.Given as goal
 
 abbrev pub invariant-loop-done : goal.invariant-loop-done
 invariant-loop-done g l =
-    CountedItems (g.T.ReadPart.format (tt)) l.order l.bytes 0 l.at l.done × (l.at ≤ length l.bytes)
+    CountedItems g.K.Listed.item l.order l.bytes 0 l.at l.done × (l.at ≤ length l.bytes)
     × (l.done ≤ l.count)
 
 abbrev pub decreases-loop-done : goal.decreases-loop-done

@@ -8,7 +8,6 @@ ghost use Rattle.scroll_layouts.specs.Formats.{refuses};
 ghost use Rattle.scroll_layouts.specs.Wholes.{KeepsWhole, ReadsExact, WritesWhole};
 ghost use Rattle.scroll_layouts.specs.lemmas.EqualLemmas.{record-again};
 ghost use Rattle.scroll_layouts.specs.declared.choice.Choice.TheVariants.{First, Second};
-ghost use Rattle.scroll_layouts.specs.declared.tests.equal.Event.TheVariants as event_is;
 
 use super::{Event, Line, Spot};
 use crate::Choice::{First, Second};
@@ -71,6 +70,8 @@ type EventParts = Choice<Zeros, Choice<Run<(i16, Field<Spot>)>, Uleb>>;
 type EventCtx = Choose<usize, Choose<(), ()>>;
 
 impl Shape for Event {
+    ghost use Rattle.scroll_layouts.specs.declared.tests.equal.Event.TheVariants as event_is;
+
     type Ctx = u8;
 
     type Inner = EventCtx;

@@ -7,7 +7,7 @@ use Rattle.scroll_layouts.proofs.marked.until.append_until.Given as goal
 abbrev pub invariant-loop-end : goal.invariant-loop-end
 invariant-loop-end g l =
     (found : List _)
-    × ItemsBefore g.K.End.EndMark.mark (g.K.Item.ReadPart.format (tt)) l.order l.rest 0 found l.at
+    × ItemsBefore g.K.End.EndMark.mark g.K.Listed.item l.order l.rest 0 found l.at
     × (l.values.items ≡ l.initial.values.items ++ found) × (l.at ≤ length l.rest)
     × (vec_capacity l.initial.values ≤ vec_capacity l.values)
 
