@@ -9,7 +9,7 @@ from typing import Any, Callable, Dict, List, Optional, Tuple
 from conditions import Both, Comparison, Condition
 from fixed_types import PLAIN, Array, Fixed, Record, width_of
 from forms import Part
-from inverses import variant_again
+from inverses import Inverse, variant_again
 from items import Item, RawField, SourceFile, Type, read_file
 from names import CHOICES, RECORDS, TAKEN
 from sums import bracketed, number_of
@@ -180,17 +180,22 @@ class Enum(Form):
         heads = [" ".join([f"{alias_of(self.item.name)}.{it.name}", *it.fields]) for it in self.variants]
         return "".join(f"\n{' ' * indent}| {head} ↦ {value}" for head, value in zip(heads, values))
 
-    def again(self) -> Tuple[str, str]:
-        """Returns in the logic what makes the enum of a choice, and the proof that it has nothing else."""
+    def again(self) -> Inverse:
+        """Returns in the logic what makes the enum of a choice, and the proofs."""
         alias, path = alias_of(self.item.name), "p.1" if self.is_own else "p"
         one = len(self.variants) == 1
         said = [it.part.ghost.replace("x.v", "v") for it in self.variants]
         made = [variant_again(text, f"{alias}.{it.name}", it.fields, path if one else "p") for text, it in zip(said, self.variants)]
-        proofs = f"elim [{self.cases([proof for _, proof in made], 6)}\n    ]"
+        proofs = f"elim [{self.cases([it.again for it in made], 6)}\n    ]"
         if one:
-            return f"λ p. {made[0][0]}", proofs
-        cases = "".join(f"\n      | {self.chosen(at, 'p', spaced)} ↦ {value}" for at, (value, _) in enumerate(made))
-        return f"{'λ p. elim p.1' if self.is_own else 'elim'} [{cases}\n    ]", proofs
+            return Inverse(f"λ p. {made[0].made}", proofs, f"λ p i. {made[0].there}" if made[0].there else "λ p. refl")
+
+        def of_parts(values: List[str]) -> str:
+            cases = "".join(f"\n      | {self.chosen(at, 'p', spaced)} ↦ {value}" for at, value in enumerate(values))
+            return f"{'λ p. elim p.1' if self.is_own else 'elim'} [{cases}\n    ]"
+
+        there = [f"λ i. {self.chosen(at, it.there, spaced)}" if it.there else "refl" for at, it in enumerate(made)]
+        return Inverse(of_parts([it.made for it in made]), proofs, of_parts(there))
 
     def pattern(self, variant: Variant) -> str:
         return f"{self.item.name}::{variant.name}" + (call("", *variant.fields) if variant.fields else "")

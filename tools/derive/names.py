@@ -18,7 +18,7 @@ GHOST: Dict[str, Sequence[str]] = {
     "Rattle.scroll_layouts.specs.Lists": ("CountedItems",),
     "Rattle.scroll_layouts.specs.Marks": ("CountedMarked",),
     "Rattle.scroll_layouts.specs.Wholes": ("KeepsWhole", "ReadsBack", "ReadsExact", "ReadsWhole", "WritesWhole"),
-    "Rattle.scroll_layouts.specs.lemmas.EqualLemmas": ("number-again", "option-again", "parts-unique", "record-again"),
+    "Rattle.scroll_layouts.specs.lemmas.EqualLemmas": ("number-again", "number-there", "option-again", "parts-unique", "record-again", "record-there"),
     "Rattle.scroll_layouts.specs.lemmas.WholeLemmas": ("whole-kept",),
     "Rattle.scroll_layouts.specs.declared.items.ListOf": ("ListOf",),
     "Rattle.scroll_layouts.specs.declared.choice.Choice.TheVariants": ("First", "Second"),

@@ -4,7 +4,7 @@ import re
 from typing import Any, Dict, List, Set, Tuple
 
 from forms import Part, fixed_type, local
-from inverses import struct_again
+from inverses import Inverse, struct_again
 from model import Enum, ListType, Struct
 from records import made_of
 from shapes import Chain, Group, resolve
@@ -85,8 +85,8 @@ class Printer:
 }}""",
         ]
 
-    def print_shape(self, given: Tuple[str, str], whole: Part, split: str, join: str, again: Tuple[str, str]) -> None:
-        """Prints `Shape`. `again` is what makes a value of its parts in the logic, and the proof."""
+    def print_shape(self, given: Tuple[str, str], whole: Part, split: str, join: str, inverse: Inverse) -> None:
+        """Prints `Shape`."""
         parts, context = self.alias(f"{self.name}Parts", whole.type), self.alias(f"{self.name}Ctx", whole.context_type)
         ctx = "ctx" if "ctx" in whole.context.code else "_ctx"
         ctx_type, name = given
@@ -100,9 +100,11 @@ class Printer:
 
     ghost parts_of = {{ {whole.ghost} }};
 
-    ghost of_parts = {{ {again[0]} }};
+    ghost of_parts = {{ {inverse.made} }};
 
-    ghost again = {{ {again[1]} }};
+    ghost again = {{ {inverse.again} }};
+
+    ghost there = {{ {inverse.there} }};
 
     ghost inner_of = {{ λ {name}. {whole.context.ghost} }};
 
@@ -166,6 +168,11 @@ class Printer:
     #[inline(always)]
     fn read_item(from: &'a [u8], offset: usize, order: Endian) -> Result<({form.of}, usize), {self.error}> {{
         <{form.of} as ReadPart<'a, (), {self.error}>>::read_at(from, offset, order, &())
+    }}
+
+    #[inline(always)]
+    fn end_item(from: &'a [u8], offset: usize, order: Endian) -> Option<usize> {{
+        <{form.of} as ReadPart<'a, (), {self.error}>>::end_at(from, offset, order, &())
     }}
 }}""",
             f"""impl<'a> {trait}<'a> for {self.name} {{

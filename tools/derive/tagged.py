@@ -10,7 +10,7 @@ from text import lifetime
 def tagged_texts(form: Enum, error: str, parts: str, context: str, said: Value) -> List[str]:
     """Returns the implementations of `Split`, `Part` and `ReadPart`. The parts are a pair in a context."""
     cases = [f"(record {{ 0 = {it.tags[0]} }}, {form.ghost(at)})" for at, it in enumerate(form.variants)]
-    made, proof = form.again()
+    made, proof, _ = form.again()
     whole = f"⟦<{form.type} as Split>⟧"
     arms = "".join(f"\n{form.pattern(it)} => (Run({it.tags[0]}), {form.chosen(at, it.code)})," for at, it in enumerate(form.variants))
 
@@ -68,6 +68,14 @@ def tagged_texts(form: Enum, error: str, parts: str, context: str, said: Value) 
         let made = match value {{{form.arms()}
         }};
         Ok((made, end))
+    }}
+
+    #[inline(always)]
+    fn end_at(from: &'a [u8], offset: usize, order: Endian, ctx: &()) -> Option<usize> {{
+        match <{form.type} as ReadPart<'a, (), {error}>>::read_at(from, offset, order, ctx) {{
+            Ok((_value, end)) => Some(end),
+            Err(_error) => None,
+        }}
     }}
 }}""",
     ]

@@ -154,6 +154,13 @@ reads (choice gives b f g) order s at (Second x) = (b ≡ false) × reads g orde
 reads (when gives b f) order s at (Some x) = (b ≡ true) × reads f order s at x
 reads (when gives b f) order s at None = b ≡ false
 
+-- a value stands in `s` from the offset `at` to the offset `to`
+pub record EndsAt {E X : Type 0} (f : Format E X) (order : Endian) (s : List ℕ)
+    (at to : ℕ) : Type 0 where
+  pub value : X
+  pub there : reads f order s at value
+  pub moves : to ≡ at + len f value
+
 -- `refuses f order s at e`: the error of the first part that isn't there. Without its bytes it
 -- is `TooBig` with their number, at most the greatest `usize`, and the number of bytes there; a
 -- value that leaves some of its `n` bytes is `BadInput` with how many it has and the message `fewer
@@ -193,6 +200,12 @@ refuses (choice gives true f g) order s at e = refuses f order s at e
 refuses (choice gives false f g) order s at e = refuses g order s at e
 refuses (when gives true f) order s at e = refuses f order s at e
 refuses (when gives false f) order s at e = ⊥
+
+-- a read of `s` at the offset `at` is refused
+pub record RefusedAt {E X : Type 0} (f : Format E X) (order : Endian) (s : List ℕ)
+    (at : ℕ) : Type 0 where
+  pub error : E
+  pub refused : refuses f order s at error
 
 -- `agrees f order x`: a value can be written: its counts, constants, tags and conditions agree with
 -- its parts

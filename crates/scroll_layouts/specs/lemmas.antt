@@ -2,6 +2,7 @@ pub mod ArrayLemmas
 pub mod BitLemmas
 pub mod ByteMarks
 pub mod EachLemmas
+pub mod EndLemmas
 pub mod EqualLemmas
 pub mod FillLemmas
 pub mod FormatLaws

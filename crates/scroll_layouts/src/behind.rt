@@ -1,5 +1,6 @@
 // What a value leaves of some bytes.
-ghost use Rattle.std.specs.Prelude.{◌≡◌, ◌<◌, ◌≤◌, ◌+◌, ◌-◌, ◌^◌, ◌++◌, ◌⊎◌, length, drop, min, codes, nat_lt};
+ghost use Rattle.std.specs.Prelude.{◌≡◌, ◌<◌, ◌≤◌, ◌+◌, ◌-◌, ◌^◌, ◌++◌, ◌⊎◌, length, drop, min, codes, nat_lt, IfOk, IfErr};
+ghost use Rattle.scroll_layouts.specs.Errors.{GivesBadInput};
 ghost use Rattle.scroll_layouts.specs.Formats.{behind, when, within, len, bytes, reads, refuses, agrees, differs};
 
 use crate::pairs::put_behind;
@@ -52,7 +53,7 @@ impl<E: From<Error>, C: Drop, A: Part<C, E>, B: Part<usize, E>> Part<Behind<C>, 
     }
 }
 
-impl<'a, E: From<Error>, C: Drop, A: ReadPart<'a, C, E>, B: ReadPart<'a, usize, E>> ReadPart<
+impl<'a, E: From<Error> + Drop, C: Drop, A: ReadPart<'a, C, E>, B: ReadPart<'a, usize, E>> ReadPart<
     'a,
     Behind<C>,
     E,
@@ -67,15 +68,19 @@ impl<'a, E: From<Error>, C: Drop, A: ReadPart<'a, C, E>, B: ReadPart<'a, usize, 
         ctx: &Behind<C>,
     ) -> Result<((A, B), usize), E> {
         let (first, next) = A::read_at(from, offset, order, &ctx.1)?;
-        let size = next - offset;
-        if size > ctx.0 {
-            return Err(E::from(Error::BadInput {
-                size,
-                msg: "more bytes than its part",
-            }));
-        }
-        let (rest, end) = B::read_at(from, next, order, &(ctx.0 - size))?;
+        let left = check_left(ctx.0, next - offset)?;
+        let (rest, end) = B::read_at(from, next, order, &left)?;
         Ok(((first, rest), end))
+    }
+
+    #[tactic(auto, using(crate::specs::lemmas::EndLemmas::part_ends))]
+    #[inline(always)]
+    fn end_at(from: &'a [u8], offset: usize, order: Endian, ctx: &Behind<C>) -> Option<usize> {
+        let next = A::end_at(from, offset, order, &ctx.1)?;
+        let Ok(left) = check_left::<E>(ctx.0, next - offset) else {
+            return None;
+        };
+        B::end_at(from, next, order, &left)
     }
 }
 
@@ -98,7 +103,7 @@ impl<E: From<Error>, A: Part<(), E>> Part<usize, E> for Option<A> {
     }
 }
 
-impl<'a, E: From<Error>, A: ReadPart<'a, (), E>> ReadPart<'a, usize, E> for Option<A> {
+impl<'a, E: From<Error> + Drop, A: ReadPart<'a, (), E>> ReadPart<'a, usize, E> for Option<A> {
     ghost format = { λ n. when E.from_gives (nat_lt 0 n) (within E.from_gives n (A.format tt)) };
 
     #[inline(always)]
@@ -110,6 +115,11 @@ impl<'a, E: From<Error>, A: ReadPart<'a, (), E>> ReadPart<'a, usize, E> for Opti
     ) -> Result<(Option<A>, usize), E> {
         <Option<A> as ReadPart<'a, When<Within<()>>, E>>::read_at(from, offset, order, &left(*ctx))
     }
+
+    #[inline(always)]
+    fn end_at(from: &'a [u8], offset: usize, order: Endian, ctx: &usize) -> Option<usize> {
+        <Option<A> as ReadPart<'a, When<Within<()>>, E>>::end_at(from, offset, order, &left(*ctx))
+    }
 }
 
 // Returns the context of an optional value in so many bytes.
@@ -118,4 +128,20 @@ fn left(size: usize) -> When<Within<()>>
     ensures { result ≡ record { 0 = nat_lt 0 size; 1 = record { 0 = size; 1 = tt } } }
 {
     When(size > 0, Within(size, ()))
+}
+
+// Returns how many bytes of a part a value of some size leaves, or an error if it has more.
+#[inline(always)]
+fn check_left<E: From<Error>>(count: usize, size: usize) -> Result<usize, E>
+    ensures left { IfOk result (λ left. (size ≤ count) × (left ≡ count - size)) }
+    ensures more { IfErr result (λ e. (count < size)
+        × GivesBadInput E.from_gives size (codes "more bytes than its part") e) }
+{
+    if size > count {
+        return Err(E::from(Error::BadInput {
+            size,
+            msg: "more bytes than its part",
+        }));
+    }
+    Ok(count - size)
 }

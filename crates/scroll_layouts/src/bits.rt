@@ -134,7 +134,8 @@ impl<E: From<Error>, W: Word, C: Drop, A: BitFields<W, C>> Part<Packed<W, C>, E>
     }
 }
 
-impl<'a, E: From<Error>, W: Word, C: Drop, A: BitFields<W, C>> ReadPart<'a, Packed<W, C>, E> for A {
+impl<'a, E: From<Error> + Drop, W: Word, C: Drop, A: BitFields<W, C>> ReadPart<'a, Packed<W, C>, E>
+    for A {
     ghost format = { λ c. leaf (packed_in E.from_gives W.size_of (A.fields c.1)) };
 
     #[inline(always)]
@@ -148,6 +149,14 @@ impl<'a, E: From<Error>, W: Word, C: Drop, A: BitFields<W, C>> ReadPart<'a, Pack
         check_room(size, from.len() - offset)?;
         let number = W::load(from, offset, order);
         Ok((A::unpack(number, &ctx.1), offset + size))
+    }
+
+    #[inline(always)]
+    fn end_at(from: &'a [u8], offset: usize, order: Endian, ctx: &Packed<W, C>) -> Option<usize> {
+        match <A as ReadPart<'a, Packed<W, C>, E>>::read_at(from, offset, order, ctx) {
+            Ok((_value, end)) => Some(end),
+            Err(_error) => None,
+        }
     }
 }
 

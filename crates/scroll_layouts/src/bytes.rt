@@ -32,7 +32,7 @@ impl<'a, E: From<Error>> Part<usize, E> for &'a [u8] {
     }
 }
 
-impl<'a, E: From<Error>> ReadPart<'a, usize, E> for &'a [u8] {
+impl<'a, E: From<Error> + Drop> ReadPart<'a, usize, E> for &'a [u8] {
     ghost format = { λ n. last (counted E.from_gives n) (λ x. x.now) };
 
     #[inline(always)]
@@ -45,6 +45,14 @@ impl<'a, E: From<Error>> ReadPart<'a, usize, E> for &'a [u8] {
         let count = *ctx;
         check_room(count, from.len() - offset)?;
         Ok((&from[offset..offset + count], offset + count))
+    }
+
+    #[inline(always)]
+    fn end_at(from: &'a [u8], offset: usize, order: Endian, ctx: &usize) -> Option<usize> {
+        match <&'a [u8] as ReadPart<'a, usize, E>>::read_at(from, offset, order, ctx) {
+            Ok((_value, end)) => Some(end),
+            Err(_error) => None,
+        }
     }
 }
 
@@ -82,7 +90,7 @@ impl<E: From<Error>> Part<usize, E> for Zeros {
     }
 }
 
-impl<'a, E: From<Error>> ReadPart<'a, usize, E> for Zeros {
+impl<'a, E: From<Error> + Drop> ReadPart<'a, usize, E> for Zeros {
     ghost format = { λ n. zeros E.from_gives n (λ x y. refl) };
 
     #[tactic(auto, using(crate::specs::lemmas::Parts::all_zeros))]
@@ -95,5 +103,13 @@ impl<'a, E: From<Error>> ReadPart<'a, usize, E> for Zeros {
     ) -> Result<(Zeros, usize), E> {
         let (zeros, size) = Zeros::try_from_ctx(&from[offset..], *ctx)?;
         Ok((zeros, offset + size))
+    }
+
+    #[inline(always)]
+    fn end_at(from: &'a [u8], offset: usize, order: Endian, ctx: &usize) -> Option<usize> {
+        match <Zeros as ReadPart<'a, usize, E>>::read_at(from, offset, order, ctx) {
+            Ok((_value, end)) => Some(end),
+            Err(_error) => None,
+        }
     }
 }

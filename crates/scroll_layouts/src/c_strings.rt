@@ -32,7 +32,7 @@ impl<'a, E: From<Error>> Part<(), E> for CStr<'a> {
     }
 }
 
-impl<'a, E: From<Error>> ReadPart<'a, (), E> for CStr<'a> {
+impl<'a, E: From<Error> + Drop> ReadPart<'a, (), E> for CStr<'a> {
     ghost format = { λ _. last (leaf (start (c_string E.from_gives))) c_str_text };
 
     #[inline(always)]
@@ -44,5 +44,13 @@ impl<'a, E: From<Error>> ReadPart<'a, (), E> for CStr<'a> {
     ) -> Result<(CStr<'a>, usize), E> {
         let (value, size) = CStr::try_from_ctx(&from[offset..], ())?;
         Ok((value, offset + size))
+    }
+
+    #[inline(always)]
+    fn end_at(from: &'a [u8], offset: usize, order: Endian, ctx: &()) -> Option<usize> {
+        match <CStr<'a> as ReadPart<'a, (), E>>::read_at(from, offset, order, ctx) {
+            Ok((_value, end)) => Some(end),
+            Err(_error) => None,
+        }
     }
 }

@@ -60,7 +60,7 @@ impl<'a, E: From<Error>> Part<Filled, E> for &'a [u8] {
     }
 }
 
-impl<'a, E: From<Error>> ReadPart<'a, Filled, E> for &'a [u8] {
+impl<'a, E: From<Error> + Drop> ReadPart<'a, Filled, E> for &'a [u8] {
     ghost format = { λ c. last (leaf (start (fill E.from_gives c.0 c.1))) (λ x. x.now) };
 
     #[inline(always)]
@@ -74,6 +74,14 @@ impl<'a, E: From<Error>> ReadPart<'a, Filled, E> for &'a [u8] {
         let field = &from[offset..offset + ctx.0];
         let len = text_len(field, ctx.1);
         Ok((&field[..len], offset + ctx.0))
+    }
+
+    #[inline(always)]
+    fn end_at(from: &'a [u8], offset: usize, order: Endian, ctx: &Filled) -> Option<usize> {
+        match <&'a [u8] as ReadPart<'a, Filled, E>>::read_at(from, offset, order, ctx) {
+            Ok((_value, end)) => Some(end),
+            Err(_error) => None,
+        }
     }
 }
 

@@ -68,7 +68,7 @@ impl<E, C, D: Drop, A: Part<C, E>, H: Head<A, E, Next = D>, B: Part<D, E>> Part<
 
 impl<
     'a,
-    E,
+    E: Drop,
     C,
     D: Drop,
     A: ReadPart<'a, C, E>,
@@ -89,6 +89,23 @@ impl<
         ctx.1.obey(&head)?;
         let (rest, end) = B::read_at(from, next, order, &ctx.1.next(&head))?;
         Ok(((head, rest), end))
+    }
+
+    #[tactic(auto, using(crate::specs::lemmas::EndLemmas::part_ends))]
+    #[inline(always)]
+    fn end_at(
+        from: &'a [u8],
+        offset: usize,
+        order: Endian,
+        ctx: &Headed<C, D, H>,
+    ) -> Option<usize> {
+        let Ok((first, next)) = A::read_at(from, offset, order, &ctx.0) else {
+            return None;
+        };
+        match ctx.1.obey(&first) {
+            Ok(()) => B::end_at(from, next, order, &ctx.1.next(&first)),
+            Err(_error) => None,
+        }
     }
 }
 

@@ -1,7 +1,7 @@
 // Lists that are borrowed as their bytes.
-ghost use Rattle.std.specs.Prelude.{◌≡◌, ◌≤◌, ◌<◌, ◌+◌, ⊤, ℕ, List, length, IfOk, IfErr};
+ghost use Rattle.std.specs.Prelude.{◌≡◌, ◌≤◌, ◌<◌, ◌+◌, ⊤, ℕ, List, length, IfOk, IfErr, IfSome, IfNone};
 ghost use Rattle.scroll.specs.declared.endian.Endian.{Endian};
-ghost use Rattle.scroll_layouts.specs.Formats.{Format, len, reads, refuses};
+ghost use Rattle.scroll_layouts.specs.Formats.{Format, len, EndsAt, RefusedAt, reads, refuses};
 ghost use Rattle.scroll_layouts.specs.Lists.{SomeItems, CountedItems, RefusesItems};
 
 use crate::lists::check_items;
@@ -44,6 +44,10 @@ pub trait IsList {
 ///     ) -> Result<(MessageField<'a>, usize), Error> {
 ///         <MessageField<'a> as ReadPart<'a, (), Error>>::read_at(from, offset, order, &())
 ///     }
+///
+///     fn end_item(from: &'a [u8], offset: usize, order: Endian) -> Option<usize> {
+///         <MessageField<'a> as ReadPart<'a, (), Error>>::end_at(from, offset, order, &())
+///     }
 /// }
 /// ```
 pub trait Listed<'a>: IsList {
@@ -68,6 +72,14 @@ pub trait Listed<'a>: IsList {
         ensures moves { IfOk result (λ r. r.1 ≡ offset + len item r.0) }
         ensures inside { IfOk result (λ r. r.1 ≤ length from.now) }
         ensures refused { IfErr result (refuses item order from.now offset) };
+
+    /// Returns the offset after the value at an offset, or `None` where
+    /// [`Listed::read_item`] returns an error. The caller ensures the same.
+    fn end_item(from: &'a [u8], offset: usize, order: Endian) -> Option<usize>
+        requires { offset ≤ length from.now }
+        ensures ends { IfSome result (EndsAt item order from.now offset) }
+        ensures inside { IfSome result (λ end. end ≤ length from.now) }
+        ensures none { IfNone result (RefusedAt item order from.now offset) };
 }
 
 /// A marker of lists of values, one after another.

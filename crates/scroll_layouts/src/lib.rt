@@ -8,8 +8,8 @@
 //! describes a file behind its lengths so.
 #![tactic(auto)]
 
-ghost use Rattle.std.specs.Prelude.{◌≡◌, ◌≤◌, ◌+◌, ◌-◌, ◌^◌, ◌++◌, length, drop, min, IfOk, IfErr, OnOk};
-ghost use Rattle.scroll_layouts.specs.Formats.{Format, len, bytes, reads, refuses, agrees, differs};
+ghost use Rattle.std.specs.Prelude.{◌≡◌, ◌≤◌, ◌+◌, ◌-◌, ◌^◌, ◌++◌, length, drop, min, IfOk, IfErr, OnOk, IfSome, IfNone};
+ghost use Rattle.scroll_layouts.specs.Formats.{Format, len, bytes, EndsAt, RefusedAt, reads, refuses, agrees, differs};
 
 mod append;
 mod behind;
@@ -154,4 +154,12 @@ pub trait ReadPart<'a, Ctx, E>: Drop {
         ensures moves { IfOk result (λ r. r.1 ≡ offset + len (format ctx.now) r.0) }
         ensures inside { IfOk result (λ r. r.1 ≤ length from.now) }
         ensures refused { IfErr result (refuses (format ctx.now) order from.now offset) };
+
+    /// Returns the offset after the value at an offset, or `None` where
+    /// [`ReadPart::read_at`] returns an error. The caller ensures the same.
+    fn end_at(from: &'a [u8], offset: usize, order: Endian, ctx: &Ctx) -> Option<usize>
+        requires { offset ≤ length from.now }
+        ensures ends { IfSome result (EndsAt (format ctx.now) order from.now offset) }
+        ensures inside { IfSome result (λ end. end ≤ length from.now) }
+        ensures none { IfNone result (RefusedAt (format ctx.now) order from.now offset) };
 }

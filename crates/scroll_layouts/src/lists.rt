@@ -1,6 +1,6 @@
 // Lists that are borrowed as their bytes, and read where they lie.
 ghost use Rattle.std.specs.Prelude.{◌≡◌, ◌≢◌, ◌≤◌, ◌<◌, ◌+◌, ◌-◌, ◌^◌, ◌++◌, ◌⊎◌, length, take, drop, min, codes, IfOk, IfErr, OnOk};
-ghost use Rattle.scroll_layouts.specs.Formats.{leaf, last, len, reads, refuses};
+ghost use Rattle.scroll_layouts.specs.Formats.{leaf, last, EndsAt, len, reads, refuses};
 ghost use Rattle.scroll_layouts.specs.ListLeaves.{list_within, list_of};
 ghost use Rattle.scroll_layouts.specs.Lists.{CountedItems, RefusesItems, RefusesCounted};
 
@@ -49,7 +49,7 @@ where
 
 impl<'a, K: Unmarked<'a>, L: ListPart<'a, Kind = K>> ReadPart<'a, usize, K::Error> for ListOf<'a, L>
 where
-    K::Error: From<Error>,
+    K::Error: From<Error> + Drop,
 {
     ghost format = { λ n.
         last (leaf (list_within K.Error.from_gives K.item n)) (λ x. L.seen x.0) };
@@ -69,6 +69,14 @@ where
             ListOf(L::of(bytes, order, found), PhantomData),
             offset + count,
         ))
+    }
+
+    #[inline(always)]
+    fn end_at(from: &'a [u8], offset: usize, order: Endian, ctx: &usize) -> Option<usize> {
+        match <ListOf<'a, L> as ReadPart<'a, usize, K::Error>>::read_at(from, offset, order, ctx) {
+            Ok((_value, end)) => Some(end),
+            Err(_error) => None,
+        }
     }
 }
 
@@ -111,7 +119,7 @@ where
 
 impl<'a, K: Unmarked<'a>, L: ListPart<'a, Kind = K>> ReadPart<'a, Count, K::Error> for ListOf<'a, L>
 where
-    K::Error: From<Error>,
+    K::Error: From<Error> + Drop,
 {
     ghost format = { λ c.
         last (leaf (list_of K.Error.from_gives K.item c.0)) (λ x. L.seen x.0) };
@@ -127,6 +135,14 @@ where
         let end = read_items::<K>(rest, order, ctx.0)?;
         let list = L::of(&rest[..end], order, ctx.0);
         Ok((ListOf(list, PhantomData), offset + end))
+    }
+
+    #[inline(always)]
+    fn end_at(from: &'a [u8], offset: usize, order: Endian, ctx: &Count) -> Option<usize> {
+        match <ListOf<'a, L> as ReadPart<'a, Count, K::Error>>::read_at(from, offset, order, ctx) {
+            Ok((_value, end)) => Some(end),
+            Err(_error) => None,
+        }
     }
 }
 
@@ -144,7 +160,10 @@ where
     let mut at = 0;
     let mut count = 0;
     while at < bytes.len() {
-        let (_value, next) = K::read_item(bytes, at, order)?;
+        let next = match K::end_item(bytes, at, order) {
+            Some(end) => end,
+            None => read_end::<K>(bytes, at, order)?,
+        };
         if next == at {
             return Err(K::Error::from(Error::BadInput {
                 size: at,
@@ -173,7 +192,10 @@ where
     let mut at = 0;
     let mut done = 0;
     while done < count {
-        let (_value, next) = K::read_item(bytes, at, order)?;
+        let next = match K::end_item(bytes, at, order) {
+            Some(end) => end,
+            None => read_end::<K>(bytes, at, order)?,
+        };
         if next == at {
             return Err(K::Error::from(Error::BadInput {
                 size: at,
@@ -184,4 +206,21 @@ where
         done += 1;
     }
     Ok(at)
+}
+
+// Reads the value at an offset for its error, and returns where it ends.
+#[cold]
+#[inline(never)]
+pub(crate) fn read_end<'a, K: Listed<'a>>(
+    bytes: &'a [u8],
+    at: usize,
+    order: Endian,
+) -> Result<usize, K::Error>
+    requires { at ≤ length bytes.now }
+    ensures ends { IfOk result (EndsAt K.item order bytes.now at) }
+    ensures inside { IfOk result (λ end. end ≤ length bytes.now) }
+    ensures refused { IfErr result (refuses K.item order bytes.now at) }
+{
+    let (_value, end) = K::read_item(bytes, at, order)?;
+    Ok(end)
 }

@@ -12,6 +12,7 @@ mod values;
 pub use self::ends::{EndMark, NameEnd, TwoZeroUlebs, ZeroUleb, begins_with};
 pub use self::until::append_until;
 pub use self::values::MarkedValues;
+use crate::lists::read_end;
 use crate::{ListOf, ListPart, Listed, Part, ReadPart};
 use scroll::{Endian, Error};
 use std::marker::PhantomData;
@@ -86,7 +87,7 @@ where
 
 impl<'a, K: Marked<'a>, L: ListPart<'a, Kind = K>> ReadPart<'a, ToMark, K::Error> for ListOf<'a, L>
 where
-    K::Error: From<Error>,
+    K::Error: From<Error> + Drop,
 {
     ghost format = { λ _.
         last (leaf (list_until K.Error.from_gives K.End.mark K.item)) (λ x. L.seen x.0) };
@@ -102,6 +103,14 @@ where
         let (end, count) = find_end::<K>(rest, order)?;
         let list = L::of(&rest[..end], order, count);
         Ok((ListOf(list, PhantomData), offset + end))
+    }
+
+    #[inline(always)]
+    fn end_at(from: &'a [u8], offset: usize, order: Endian, ctx: &ToMark) -> Option<usize> {
+        match <ListOf<'a, L> as ReadPart<'a, ToMark, K::Error>>::read_at(from, offset, order, ctx) {
+            Ok((_value, end)) => Some(end),
+            Err(_error) => None,
+        }
     }
 }
 
@@ -125,7 +134,10 @@ where
         if let Some(end) = end_at::<K::End>(bytes, at) {
             return Ok((end, count));
         }
-        let next = skip::<K>(bytes, at, order)?;
+        let next = match K::end_item(bytes, at, order) {
+            Some(end) => end,
+            None => read_end::<K>(bytes, at, order)?,
+        };
         if next == at {
             return Err(K::Error::from(Error::BadInput {
                 size: at,
@@ -134,21 +146,6 @@ where
         }
         at = next;
         count += 1;
-    }
-}
-
-// Returns where the value ends that stands at an offset.
-#[inline(always)]
-fn skip<'a, K: Listed<'a>>(bytes: &'a [u8], at: usize, order: Endian) -> Result<usize, K::Error>
-    requires { at ≤ length bytes.now }
-    ensures read { IfOk result (λ next. (x : K.Item) × reads K.item order bytes.now at x
-        × (next ≡ at + len K.item x)) }
-    ensures inside { IfOk result (λ next. next ≤ length bytes.now) }
-    ensures refused { IfErr result (refuses K.item order bytes.now at) }
-{
-    match K::read_item(bytes, at, order) {
-        Ok((_, next)) => Ok(next),
-        Err(error) => Err(error),
     }
 }
 

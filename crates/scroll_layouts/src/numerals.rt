@@ -49,7 +49,7 @@ impl<const BASE: u64, const N: usize> Digits<BASE, N> {
 
 // Returns the number that a field has, if it is one.
 #[tactic(auto, unfolding(crate::specs::Numerals::numeral_value, crate::specs::Numerals::is_ended))]
-fn numeral_value(field: &[u8], base: u64) -> Option<u64>
+pub(crate) fn numeral_value(field: &[u8], base: u64) -> Option<u64>
     ensures some { IfSome result (λ value. IsNumeral base field.now
         × (value ≡ numeral_value base field.now)) }
     ensures none { IfNone result (IsNumeral base field.now → ⊥) }

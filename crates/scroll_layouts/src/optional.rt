@@ -82,6 +82,15 @@ impl<'a, E: From<Error>, C: Drop, A: ReadPart<'a, C, E>> ReadPart<'a, When<C>, E
         let (value, end) = A::read_at(from, offset, order, &ctx.1)?;
         Ok((Some(value), end))
     }
+
+    #[tactic(auto, using(crate::specs::lemmas::EndLemmas::part_ends))]
+    #[inline(always)]
+    fn end_at(from: &'a [u8], offset: usize, order: Endian, ctx: &When<C>) -> Option<usize> {
+        if !ctx.0 {
+            return Some(offset);
+        }
+        A::end_at(from, offset, order, &ctx.1)
+    }
 }
 
 impl<P> Run<P> {

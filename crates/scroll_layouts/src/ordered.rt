@@ -47,4 +47,10 @@ impl<'a, E, C: Drop, A: ReadPart<'a, C, E>> ReadPart<'a, Ordered<C>, E> for A {
     ) -> Result<(A, usize), E> {
         A::read_at(from, offset, ctx.0, &ctx.1)
     }
+
+    #[tactic(auto, using(crate::specs::lemmas::EndLemmas::part_ends))]
+    #[inline(always)]
+    fn end_at(from: &'a [u8], offset: usize, _order: Endian, ctx: &Ordered<C>) -> Option<usize> {
+        A::end_at(from, offset, ctx.0, &ctx.1)
+    }
 }

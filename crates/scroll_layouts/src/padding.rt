@@ -43,7 +43,7 @@ impl<E: From<Error>, C: Drop, A: Part<C, E>> Part<Padded<C>, E> for A {
     }
 }
 
-impl<'a, E: From<Error>, C: Drop, A: ReadPart<'a, C, E>> ReadPart<'a, Padded<C>, E> for A {
+impl<'a, E: From<Error> + Drop, C: Drop, A: ReadPart<'a, C, E>> ReadPart<'a, Padded<C>, E> for A {
     ghost format = { λ c. padded E.from_gives c.0 (A.format c.1) };
 
     #[tactic(auto, using(crate::specs::lemmas::LeafLemmas::gaps))]
@@ -59,6 +59,14 @@ impl<'a, E: From<Error>, C: Drop, A: ReadPart<'a, C, E>> ReadPart<'a, Padded<C>,
         match <Zeros as ReadPart<usize, E>>::read_at(from, end, order, &gap) {
             Ok((_zeros, next)) => Ok((value, next)),
             Err(error) => Err(error),
+        }
+    }
+
+    #[inline(always)]
+    fn end_at(from: &'a [u8], offset: usize, order: Endian, ctx: &Padded<C>) -> Option<usize> {
+        match <A as ReadPart<'a, Padded<C>, E>>::read_at(from, offset, order, ctx) {
+            Ok((_value, end)) => Some(end),
+            Err(_error) => None,
         }
     }
 }

@@ -62,4 +62,11 @@ impl<'a, E, C, D: Drop, A: ReadPart<'a, C, E>, B: ReadPart<'a, D, E>> ReadPart<'
         let (second, end) = B::read_at(from, next, order, &ctx.1)?;
         Ok(((first, second), end))
     }
+
+    #[tactic(auto, using(crate::specs::lemmas::EndLemmas::part_ends))]
+    #[inline(always)]
+    fn end_at(from: &'a [u8], offset: usize, order: Endian, ctx: &(C, D)) -> Option<usize> {
+        let next = A::end_at(from, offset, order, &ctx.0)?;
+        B::end_at(from, next, order, &ctx.1)
+    }
 }

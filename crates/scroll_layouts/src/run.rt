@@ -46,7 +46,7 @@ impl<E: From<Error>, P: FixedLayout> Part<(), E> for Run<P> {
     }
 }
 
-impl<'a, E: From<Error>, P: FixedLayout> ReadPart<'a, (), E> for Run<P> {
+impl<'a, E: From<Error> + Drop, P: FixedLayout> ReadPart<'a, (), E> for Run<P> {
     ghost format = { λ _.
         run E.from_gives (shaped P.layout (λ x. x.0) (λ x y. ap (λ p. record { 0 = p }))) };
 
@@ -60,5 +60,13 @@ impl<'a, E: From<Error>, P: FixedLayout> ReadPart<'a, (), E> for Run<P> {
         let width = P::capped();
         check_room(width, from.len() - offset)?;
         Ok((Run(P::load(from, offset, order)), offset + width))
+    }
+
+    #[inline(always)]
+    fn end_at(from: &'a [u8], offset: usize, order: Endian, ctx: &()) -> Option<usize> {
+        match <Run<P> as ReadPart<'a, (), E>>::read_at(from, offset, order, ctx) {
+            Ok((_value, end)) => Some(end),
+            Err(_error) => None,
+        }
     }
 }

@@ -28,6 +28,8 @@ use std::result::Result;
 ///
 ///     ghost again = { λ x. refl };
 ///
+///     ghost there = { λ p. refl };
+///
 ///     ghost inner_of = { λ _. (tt, record { 0 = tt; 1 = record {}; 2 = record {} }) };
 ///
 ///     fn split(&self) -> MessageFieldParts<'a> {
@@ -64,6 +66,9 @@ pub trait Shape: Drop {
 
     // The parts are all that a value has.
     ghost again: { (x : Self) → of_parts (parts_of x) ≡ x };
+
+    // All parts are those of a value.
+    ghost there: { (p : Self.Parts) → parts_of (of_parts p) ≡ p };
 
     // The context of the parts.
     ghost inner_of: { Self.Ctx → Self.Inner };
@@ -141,6 +146,11 @@ where
         let (parts, end) = S::Parts::read_at(from, offset, order, &S::inner(ctx))?;
         Ok((S::join(parts), end))
     }
+
+    #[inline(always)]
+    fn end_at(from: &'a [u8], offset: usize, order: Endian, ctx: &()) -> Option<usize> {
+        S::Parts::end_at(from, offset, order, &S::inner(ctx))
+    }
 }
 
 /// A struct or an enum that is its parts in the context that it is given. The errors are those of
@@ -184,5 +194,10 @@ where
     ) -> Result<(S, usize), E> {
         let (parts, end) = S::Parts::read_at(from, offset, order, &S::inner(&ctx.0))?;
         Ok((S::join(parts), end))
+    }
+
+    #[inline(always)]
+    fn end_at(from: &'a [u8], offset: usize, order: Endian, ctx: &Given<S::Ctx>) -> Option<usize> {
+        S::Parts::end_at(from, offset, order, &S::inner(&ctx.0))
     }
 }

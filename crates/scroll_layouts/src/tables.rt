@@ -32,7 +32,7 @@ impl<'a, E: From<Error>, T: Plain> Part<usize, E> for Table<'a, T> {
     }
 }
 
-impl<'a, E: From<Error>, T: Plain> ReadPart<'a, usize, E> for Table<'a, T> {
+impl<'a, E: From<Error> + Drop, T: Plain> ReadPart<'a, usize, E> for Table<'a, T> {
     ghost format = { λ n.
         last (counted E.from_gives (min (n * T.width) (2 ^ 64 - 1))) (λ x. x.bytes.now) };
 
@@ -46,5 +46,13 @@ impl<'a, E: From<Error>, T: Plain> ReadPart<'a, usize, E> for Table<'a, T> {
         let size = ctx.saturating_mul(T::width());
         check_room(size, from.len() - offset)?;
         Ok((Table::new(&from[offset..offset + size]), offset + size))
+    }
+
+    #[inline(always)]
+    fn end_at(from: &'a [u8], offset: usize, order: Endian, ctx: &usize) -> Option<usize> {
+        match <Table<'a, T> as ReadPart<'a, usize, E>>::read_at(from, offset, order, ctx) {
+            Ok((_value, end)) => Some(end),
+            Err(_error) => None,
+        }
     }
 }

@@ -41,7 +41,7 @@ impl<'a, E: From<Error>> Part<usize, E> for &'a str {
     }
 }
 
-impl<'a, E: From<Error>> ReadPart<'a, usize, E> for &'a str {
+impl<'a, E: From<Error> + Drop> ReadPart<'a, usize, E> for &'a str {
     ghost format = { λ n. last (leaf (start (text_of E.from_gives n))) (λ x. x.now) };
 
     #[inline(always)]
@@ -56,6 +56,14 @@ impl<'a, E: From<Error>> ReadPart<'a, usize, E> for &'a str {
             StrCtx::Length(*ctx),
         )?;
         Ok((value, offset + size))
+    }
+
+    #[inline(always)]
+    fn end_at(from: &'a [u8], offset: usize, order: Endian, ctx: &usize) -> Option<usize> {
+        match <&'a str as ReadPart<'a, usize, E>>::read_at(from, offset, order, ctx) {
+            Ok((_value, end)) => Some(end),
+            Err(_error) => None,
+        }
     }
 }
 
@@ -87,7 +95,7 @@ impl<'a, E: From<Error>> Part<Ends, E> for &'a str {
     }
 }
 
-impl<'a, E: From<Error>> ReadPart<'a, Ends, E> for &'a str {
+impl<'a, E: From<Error> + Drop> ReadPart<'a, Ends, E> for &'a str {
     ghost format = { λ c. last (leaf (start (text_until E.from_gives c.0))) (λ x. x.now) };
 
     #[inline(always)]
@@ -102,6 +110,14 @@ impl<'a, E: From<Error>> ReadPart<'a, Ends, E> for &'a str {
             StrCtx::Required(ctx.0),
         )?;
         Ok((value, offset + size))
+    }
+
+    #[inline(always)]
+    fn end_at(from: &'a [u8], offset: usize, order: Endian, ctx: &Ends) -> Option<usize> {
+        match <&'a str as ReadPart<'a, Ends, E>>::read_at(from, offset, order, ctx) {
+            Ok((_value, end)) => Some(end),
+            Err(_error) => None,
+        }
     }
 }
 

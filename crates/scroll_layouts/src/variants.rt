@@ -73,4 +73,13 @@ impl<'a, E: From<Error>, C: Drop, D: Drop, A: ReadPart<'a, C, E>, B: ReadPart<'a
         let (value, end) = B::read_at(from, offset, order, &ctx.2)?;
         Ok((Choice::Second(value), end))
     }
+
+    #[tactic(auto, using(crate::specs::lemmas::EndLemmas::part_ends))]
+    #[inline(always)]
+    fn end_at(from: &'a [u8], offset: usize, order: Endian, ctx: &Choose<C, D>) -> Option<usize> {
+        if ctx.0 {
+            return A::end_at(from, offset, order, &ctx.1);
+        }
+        B::end_at(from, offset, order, &ctx.2)
+    }
 }

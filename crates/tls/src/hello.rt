@@ -1,6 +1,7 @@
 // The message and what is in it, each as it stands in the standard.
 mod derived;
 
+use scroll_formats::Table;
 use scroll_layouts::Items;
 
 /// A handshake message that is a ClientHello (section 4). Its numbers are in network order.
@@ -29,20 +30,14 @@ pub struct ClientHello<'a> {
     // #[scroll(ctx = session_len as usize)]
     pub session: &'a [u8],
     pub suites_len: u16,
-    // #[scroll(ctx = suites_len as usize)]
-    pub suites: Items<'a, Numbers>,
+    // #[scroll(ctx = suites_len as usize / 2)]
+    pub suites: Table<'a, u16>,
     pub compressions_len: u8,
     // #[scroll(ctx = compressions_len as usize)]
     pub compressions: &'a [u8],
     // #[scroll(if = rest)]
     pub extensions: Option<ExtensionList<'a>>,
 }
-
-/// Names a list of numbers of two bytes: cipher suites, groups, versions.
-// #[derive(Pread, Pwrite)]
-// #[scroll(items = u16)]
-#[derive(Clone, Copy)]
-pub struct Numbers;
 
 /// The extensions, within their length.
 // #[derive(Part)]
@@ -112,8 +107,8 @@ pub struct HostName<'a> {
 #[derive(Clone, Copy)]
 pub struct LongList<'a> {
     pub len: u16,
-    // #[scroll(ctx = len as usize)]
-    pub each: Items<'a, Numbers>,
+    // #[scroll(ctx = len as usize / 2)]
+    pub each: Table<'a, u16>,
 }
 
 /// Numbers behind a length in one byte (section 4.2.1).
@@ -121,8 +116,8 @@ pub struct LongList<'a> {
 #[derive(Clone, Copy)]
 pub struct ShortList<'a> {
     pub len: u8,
-    // #[scroll(ctx = len as usize)]
-    pub each: Items<'a, Numbers>,
+    // #[scroll(ctx = len as usize / 2)]
+    pub each: Table<'a, u16>,
 }
 
 /// The protocols that the client speaks, by preference (RFC 7301, section 3.1).

@@ -23,7 +23,7 @@ mod tests;
 
 pub use crate::hello::{
     ClientHello, Extension, ExtensionBody, ExtensionList, Extensions, Handshake, HostName,
-    LongList, Numbers, Protocol, ProtocolList, Protocols, ServerNames, ShortList,
+    LongList, Protocol, ProtocolList, Protocols, ServerNames, ShortList,
 };
 use scroll::ctx::{TryFromCtx, TryIntoCtx};
 use scroll::{BE, Endian, Pread, Result, slice};

@@ -59,7 +59,7 @@ static WRONG: [(usize, u8, &str); 5] = [
     (0, 2, "bad input kind is not 1 (2)"),
     (3, 0x92, "type is too big (103) for 102"),
     (38, 33, "bad input it is not so that session_len <= 32 (33)"),
-    (40, 3, "type is too big (2) for 1"),
+    (40, 3, "bad input suites_len is no multiple of 2 (3)"),
     (59, 0xff, "bad input invalid utf8 (9)"),
 ];
 

@@ -66,6 +66,8 @@ impl Shape for Attribute {
 
     ghost again = { λ x. refl };
 
+    ghost there = { λ p. refl };
+
     ghost inner_of = { λ _. (tt, record { 0 = tt; 1 = record {}; 2 = record {} }) };
 
     fn split(&self) -> AttributeParts {
@@ -141,6 +143,11 @@ impl<'a> Listed<'a> for Attributes {
         order: Endian,
     ) -> Result<(Attribute, usize), TableError> {
         <Attribute as ReadPart<'a, (), TableError>>::read_at(from, offset, order, &())
+    }
+
+    #[inline(always)]
+    fn end_item(from: &'a [u8], offset: usize, order: Endian) -> Option<usize> {
+        <Attribute as ReadPart<'a, (), TableError>>::end_at(from, offset, order, &())
     }
 }
 
@@ -264,6 +271,14 @@ impl<'a> ReadPart<'a, (), TableError> for Children {
         };
         Ok((made, end))
     }
+
+    #[inline(always)]
+    fn end_at(from: &'a [u8], offset: usize, order: Endian, ctx: &()) -> Option<usize> {
+        match <Children as ReadPart<'a, (), TableError>>::read_at(from, offset, order, ctx) {
+            Ok((_value, end)) => Some(end),
+            Err(_error) => None,
+        }
+    }
 }
 
 impl<'a> TryFromCtx<'a, Endian> for Children {
@@ -324,6 +339,8 @@ impl<'a> Shape for Declaration<'a> {
     } };
 
     ghost again = { λ x. refl };
+
+    ghost there = { λ p. refl };
 
     ghost inner_of = { λ _. (tt, (tt, (tt, record {}))) };
 
@@ -429,6 +446,11 @@ impl<'a> Listed<'a> for Declarations {
         order: Endian,
     ) -> Result<(Declaration<'a>, usize), TableError> {
         <Declaration<'a> as ReadPart<'a, (), TableError>>::read_at(from, offset, order, &())
+    }
+
+    #[inline(always)]
+    fn end_item(from: &'a [u8], offset: usize, order: Endian) -> Option<usize> {
+        <Declaration<'a> as ReadPart<'a, (), TableError>>::end_at(from, offset, order, &())
     }
 }
 

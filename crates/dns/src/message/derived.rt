@@ -84,6 +84,8 @@ impl<'a> Shape for Message<'a> {
 
     ghost again = { λ x. refl };
 
+    ghost there = { λ p. refl };
+
     ghost inner_of = { λ _. record {
       0 = endian_is.Big;
       1 = record { 0 = tt; 1 = record {}; 2 = record {} };
@@ -249,6 +251,8 @@ impl Shape for Header {
 
     ghost again = { λ x. refl };
 
+    ghost there = { λ p. refl };
+
     ghost inner_of = { λ _. (
       tt,
       (
@@ -374,6 +378,8 @@ impl<'a> Shape for Name<'a> {
 
     ghost again = { λ x. refl };
 
+    ghost there = { λ p. refl };
+
     ghost inner_of = { λ _. record {} };
 
     fn split(&self) -> NameParts<'a> {
@@ -430,6 +436,11 @@ impl<'a> Listed<'a> for Labels {
         order: Endian,
     ) -> Result<(Label<'a>, usize), Error> {
         <Label<'a> as ReadPart<'a, (), Error>>::read_at(from, offset, order, &())
+    }
+
+    #[inline(always)]
+    fn end_item(from: &'a [u8], offset: usize, order: Endian) -> Option<usize> {
+        <Label<'a> as ReadPart<'a, (), Error>>::end_at(from, offset, order, &())
     }
 }
 
@@ -489,6 +500,8 @@ impl<'a> Shape for Label<'a> {
 
     ghost again = { λ x. refl };
 
+    ghost there = { λ p. refl };
+
     ghost inner_of = { λ _. record { 0 = tt; 1 = record {}; 2 = record {} } };
 
     fn split(&self) -> LabelParts<'a> {
@@ -527,6 +540,11 @@ impl<'a> Listed<'a> for Questions {
     ) -> Result<(Question<'a>, usize), Error> {
         <Question<'a> as ReadPart<'a, (), Error>>::read_at(from, offset, order, &())
     }
+
+    #[inline(always)]
+    fn end_item(from: &'a [u8], offset: usize, order: Endian) -> Option<usize> {
+        <Question<'a> as ReadPart<'a, (), Error>>::end_at(from, offset, order, &())
+    }
 }
 
 impl<'a> Unmarked<'a> for Questions {
@@ -551,6 +569,8 @@ impl<'a> Shape for Question<'a> {
     ghost of_parts = { λ p. record { name = p.0; kind = p.1.0.0; class = p.1.0.1 } };
 
     ghost again = { λ x. refl };
+
+    ghost there = { λ p. refl };
 
     ghost inner_of = { λ _. (tt, tt) };
 
@@ -624,6 +644,11 @@ impl<'a> Listed<'a> for Resources {
     ) -> Result<(Resource<'a>, usize), Error> {
         <Resource<'a> as ReadPart<'a, (), Error>>::read_at(from, offset, order, &())
     }
+
+    #[inline(always)]
+    fn end_item(from: &'a [u8], offset: usize, order: Endian) -> Option<usize> {
+        <Resource<'a> as ReadPart<'a, (), Error>>::end_at(from, offset, order, &())
+    }
 }
 
 impl<'a> Unmarked<'a> for Resources {
@@ -682,6 +707,8 @@ impl<'a> Shape for Resource<'a> {
     } };
 
     ghost again = { λ x. refl };
+
+    ghost there = { λ p. refl };
 
     ghost inner_of = { λ _. (tt, record { 0 = tt; 1 = record {}; 2 = record {} }) };
 
@@ -813,6 +840,17 @@ impl<'a> Shape for Data<'a> {
       | data_is.Texts v0 ↦ refl
       | data_is.LongAddress v0 ↦ refl
       | data_is.Other v0 ↦ refl
+    ] };
+
+    ghost there = { elim [
+      | First p ↦ refl
+      | Second (First p) ↦ refl
+      | Second (Second (First p)) ↦ refl
+      | Second (Second (Second (First p))) ↦ refl
+      | Second (Second (Second (Second (First p)))) ↦ refl
+      | Second (Second (Second (Second (Second (First p))))) ↦ refl
+      | Second (Second (Second (Second (Second (Second (First p)))))) ↦ refl
+      | Second (Second (Second (Second (Second (Second (Second p)))))) ↦ refl
     ] };
 
     ghost inner_of = { λ t. record {
@@ -1020,6 +1058,8 @@ impl<'a> Shape for Mail<'a> {
 
     ghost again = { λ x. refl };
 
+    ghost there = { λ p. refl };
+
     ghost inner_of = { λ _. (tt, tt) };
 
     fn split(&self) -> MailParts<'a> {
@@ -1053,6 +1093,11 @@ impl<'a> Listed<'a> for Texts {
     #[inline(always)]
     fn read_item(from: &'a [u8], offset: usize, order: Endian) -> Result<(Text<'a>, usize), Error> {
         <Text<'a> as ReadPart<'a, (), Error>>::read_at(from, offset, order, &())
+    }
+
+    #[inline(always)]
+    fn end_item(from: &'a [u8], offset: usize, order: Endian) -> Option<usize> {
+        <Text<'a> as ReadPart<'a, (), Error>>::end_at(from, offset, order, &())
     }
 }
 
@@ -1103,6 +1148,8 @@ impl<'a> Shape for Text<'a> {
     ghost of_parts = { λ p. record { len = p.0.0; text = p.1 } };
 
     ghost again = { λ x. refl };
+
+    ghost there = { λ p. refl };
 
     ghost inner_of = { λ _. record { 0 = tt; 1 = record {}; 2 = record {} } };
 

@@ -143,6 +143,8 @@ impl<'a> Shape for Entry<'a> {
 
     ghost again = { λ x. refl };
 
+    ghost there = { λ p. refl };
+
     ghost inner_of = { λ _. record { 0 = 8; 1 = (tt, tt) } };
 
     fn split(&self) -> EntryParts<'a> {

@@ -7,7 +7,7 @@ ghost use Rattle.scroll.specs.lemmas.Frames.{WritesPrefix-keeps};
 ghost use Rattle.scroll_layouts.specs.Formats.{refuses};
 ghost use Rattle.scroll_layouts.specs.Lists.{CountedItems};
 ghost use Rattle.scroll_layouts.specs.Wholes.{KeepsWhole, ReadsExact, WritesWhole};
-ghost use Rattle.scroll_layouts.specs.lemmas.EqualLemmas.{number-again};
+ghost use Rattle.scroll_layouts.specs.lemmas.EqualLemmas.{number-again, number-there};
 ghost use Rattle.scroll.specs.declared.endian.Endian.TheVariants as endian_is;
 
 use super::{CStr, Extra, ExtraField, ExtraFields, Header, Trailer};
@@ -169,6 +169,11 @@ impl<'a> Shape for Header<'a> {
       header_checksum = number-again x.header_checksum i;
     } };
 
+    ghost there = { λ p i. (
+      record { 0 = ((p.0.0.0.0, p.0.0.0.1, p.0.0.0.2, p.0.0.0.3), (p.0.0.1.0, p.0.0.1.1)) },
+      (p.1.0, (p.1.1.0, (p.1.1.1.0, number-there p.1.1.1.1 i))),
+    ) };
+
     ghost inner_of = { λ _. record {
       0 = endian_is.Little;
       1 = record { 0 = tt; 1 = record {}; 2 = record {} };
@@ -295,6 +300,8 @@ impl<'a> Shape for Extra<'a> {
 
     ghost again = { λ x. refl };
 
+    ghost there = { λ p. refl };
+
     ghost inner_of = { λ _. record { 0 = tt; 1 = record {}; 2 = record {} } };
 
     fn split(&self) -> ExtraParts<'a> {
@@ -355,6 +362,11 @@ impl<'a> Listed<'a> for ExtraFields {
     ) -> Result<(ExtraField<'a>, usize), Error> {
         <ExtraField<'a> as ReadPart<'a, (), Error>>::read_at(from, offset, order, &())
     }
+
+    #[inline(always)]
+    fn end_item(from: &'a [u8], offset: usize, order: Endian) -> Option<usize> {
+        <ExtraField<'a> as ReadPart<'a, (), Error>>::end_at(from, offset, order, &())
+    }
 }
 
 impl<'a> Unmarked<'a> for ExtraFields {
@@ -404,6 +416,8 @@ impl<'a> Shape for ExtraField<'a> {
     ghost of_parts = { λ p. record { id = p.0.0.0; len = p.0.0.1; «data» = p.1 } };
 
     ghost again = { λ x. refl };
+
+    ghost there = { λ p. refl };
 
     ghost inner_of = { λ _. record { 0 = tt; 1 = record {}; 2 = record {} } };
 

@@ -25,6 +25,18 @@ pub record-again : {A : Type 0} (o : Option A) → option_map (λ r. r.0.0)
 record-again (Some a) = refl
 record-again None = refl
 
+-- the other way around
+pub number-there : {A : Type 0} (o : Option (Run A))
+    → option_map {T = A} {U = Run A} (λ v. record { 0 = v }) (option_map (λ r. r.0) o) ≡ o
+number-there (Some r) = refl
+number-there None = refl
+
+pub record-there : {A : Type 0} (o : Option (Run (Field A)))
+    → option_map {T = A} {U = Run (Field A)} (λ v. record { 0 = record { 0 = v } })
+    (option_map (λ r. r.0.0) o) ≡ o
+record-there (Some r) = refl
+record-there None = refl
+
 -- an optional value that was made another part
 pub option-again : {A B : Type 0} (into : A → B) (out : B → A) → ((a : A) → out (into a) ≡ a)
     → (o : Option A) → option_map out (option_map into o) ≡ o

@@ -36,7 +36,7 @@ impl<E: From<Error>> Part<(), E> for Uleb {
     }
 }
 
-impl<'a, E: From<Error>> ReadPart<'a, (), E> for Uleb {
+impl<'a, E: From<Error> + Drop> ReadPart<'a, (), E> for Uleb {
     ghost format = { λ _. shape (leaf (start (uleb E.from_gives))) uleb_counted uleb-is };
 
     #[inline(always)]
@@ -52,6 +52,14 @@ impl<'a, E: From<Error>> ReadPart<'a, (), E> for Uleb {
             count: number.size(),
         };
         Ok((value, offset + size))
+    }
+
+    #[inline(always)]
+    fn end_at(from: &'a [u8], offset: usize, order: Endian, ctx: &()) -> Option<usize> {
+        match <Uleb as ReadPart<'a, (), E>>::read_at(from, offset, order, ctx) {
+            Ok((_value, end)) => Some(end),
+            Err(_error) => None,
+        }
     }
 }
 
@@ -80,7 +88,7 @@ impl<E: From<Error>> Part<(), E> for Sleb {
     }
 }
 
-impl<'a, E: From<Error>> ReadPart<'a, (), E> for Sleb {
+impl<'a, E: From<Error> + Drop> ReadPart<'a, (), E> for Sleb {
     ghost format = { λ _. shape (leaf (start (sleb E.from_gives))) sleb_counted sleb-is };
 
     #[inline(always)]
@@ -96,5 +104,13 @@ impl<'a, E: From<Error>> ReadPart<'a, (), E> for Sleb {
             count: number.size(),
         };
         Ok((value, offset + size))
+    }
+
+    #[inline(always)]
+    fn end_at(from: &'a [u8], offset: usize, order: Endian, ctx: &()) -> Option<usize> {
+        match <Sleb as ReadPart<'a, (), E>>::read_at(from, offset, order, ctx) {
+            Ok((_value, end)) => Some(end),
+            Err(_error) => None,
+        }
     }
 }

@@ -58,7 +58,7 @@ impl<E: From<Error>> Part<(), E> for Zigzag {
     }
 }
 
-impl<'a, E: From<Error>> ReadPart<'a, (), E> for Zigzag {
+impl<'a, E: From<Error> + Drop> ReadPart<'a, (), E> for Zigzag {
     ghost format = { λ _. shape (leaf (start (zigzags E.from_gives))) zigzag_counted zigzag-is };
 
     #[inline(always)]
@@ -74,5 +74,13 @@ impl<'a, E: From<Error>> ReadPart<'a, (), E> for Zigzag {
             count: number.size(),
         };
         Ok((value, offset + size))
+    }
+
+    #[inline(always)]
+    fn end_at(from: &'a [u8], offset: usize, order: Endian, ctx: &()) -> Option<usize> {
+        match <Zigzag as ReadPart<'a, (), E>>::read_at(from, offset, order, ctx) {
+            Ok((_value, end)) => Some(end),
+            Err(_error) => None,
+        }
     }
 }

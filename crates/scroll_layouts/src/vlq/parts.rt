@@ -36,7 +36,7 @@ impl<E: From<Error>> Part<(), E> for Vlq {
     }
 }
 
-impl<'a, E: From<Error>> ReadPart<'a, (), E> for Vlq {
+impl<'a, E: From<Error> + Drop> ReadPart<'a, (), E> for Vlq {
     ghost format = { λ _. shape (leaf (start (vlq E.from_gives))) vlq_counted vlq-is };
 
     #[inline(always)]
@@ -48,6 +48,14 @@ impl<'a, E: From<Error>> ReadPart<'a, (), E> for Vlq {
     ) -> Result<(Vlq, usize), E> {
         let (value, count) = read_vlq(&from[offset..])?;
         Ok((Vlq { value, count }, offset + count))
+    }
+
+    #[inline(always)]
+    fn end_at(from: &'a [u8], offset: usize, order: Endian, ctx: &()) -> Option<usize> {
+        match <Vlq as ReadPart<'a, (), E>>::read_at(from, offset, order, ctx) {
+            Ok((_value, end)) => Some(end),
+            Err(_error) => None,
+        }
     }
 }
 

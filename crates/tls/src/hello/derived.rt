@@ -1,5 +1,5 @@
 // Printed by tools/derive from hello.rt.
-ghost use Rattle.std.specs.Prelude.{◌≡◌, ◌≢◌, ◌<◌, ◌≤◌, ◌^◌, length, codes, nat_eq};
+ghost use Rattle.std.specs.Prelude.{◌≡◌, ◌≢◌, ◌<◌, ◌≤◌, ◌/◌, ◌%◌, ◌^◌, length, codes, nat_eq};
 ghost use Rattle.std.proofs.Common.{refl, rules};
 ghost use Rattle.scroll.specs.Errors.{IsBadInput};
 ghost use Rattle.scroll.specs.lemmas.Frames.{WritesPrefix-keeps};
@@ -12,10 +12,11 @@ ghost use Rattle.scroll.specs.declared.endian.Endian.TheVariants as endian_is;
 
 use super::{
     ClientHello, Extension, ExtensionBody, ExtensionList, Extensions, Handshake, HostName,
-    LongList, Numbers, Protocol, ProtocolList, Protocols, ServerNames, ShortList,
+    LongList, Protocol, ProtocolList, Protocols, ServerNames, ShortList,
 };
 use scroll::ctx::{TryFromCtx, TryIntoCtx};
 use scroll::{BE, Endian, Error};
+use scroll_formats::Table;
 use scroll_layouts::Choice::{First, Second};
 use scroll_layouts::{
     Behind, Choice, Choose, Given, Head, Headed, IsList, Items, ListOf, ListPart, Listed, Ordered,
@@ -97,6 +98,8 @@ impl<'a> Shape for Handshake<'a> {
     ghost of_parts = { λ p. record { kind = p.0.0; len = p.1.0; hello = p.1.1 } };
 
     ghost again = { λ x. refl };
+
+    ghost there = { λ p. refl };
 
     ghost inner_of = { λ _. record {
       0 = endian_is.Big;
@@ -190,25 +193,32 @@ pub struct ClientHelloSays2;
 impl Head<ClientHelloHead2, Error> for ClientHelloSays2 {
     type Next = ClientHelloNext2;
 
-    ghost holds = { λ _ h. Unit {0} };
+    ghost holds = { λ _ h. (h.0 % 2 ≡ 0) };
 
-    ghost fails = { λ _ h e. ⊥ };
+    ghost fails = { λ _ h e. (h.0 % 2 ≢ 0) × IsBadInput e h.0
+        (codes "suites_len is no multiple of 2") };
 
-    ghost next = { λ _ h. (h.0, record { 0 = tt; 1 = record {}; 2 = record {} }) };
+    ghost next = { λ _ h. (h.0 / 2, record { 0 = tt; 1 = record {}; 2 = record {} }) };
 
-    fn obey(&self, _head: &ClientHelloHead2) -> Result<(), Error> {
+    fn obey(&self, head: &ClientHelloHead2) -> Result<(), Error> {
+        if head.0 % 2 != 0 {
+            return Err(Error::BadInput {
+                size: head.0 as usize,
+                msg: "suites_len is no multiple of 2",
+            });
+        }
         Ok(())
     }
 
     fn next(&self, head: &ClientHelloHead2) -> ClientHelloNext2 {
-        (head.0 as usize, Headed((), ClientHelloSays3, PhantomData))
+        (
+            head.0 as usize / 2,
+            Headed((), ClientHelloSays3, PhantomData),
+        )
     }
 }
 
-type ClientHelloRest2<'a> = (
-    ClientHelloHead2,
-    (ListOf<'a, NumbersPart<'a>>, ClientHelloRest3<'a>),
-);
+type ClientHelloRest2<'a> = (ClientHelloHead2, (Table<'a, u16>, ClientHelloRest3<'a>));
 
 type ClientHelloHead = Run<(u16, [u8; 32], u8)>;
 
@@ -262,10 +272,7 @@ impl<'a> Shape for ClientHello<'a> {
           x.session,
           (
             record { 0 = x.suites_len },
-            (
-              record { 0 = record { 0 = x.suites }; 1 = record {} },
-              (record { 0 = x.compressions_len }, x.compressions),
-            ),
+            (x.suites, (record { 0 = x.compressions_len }, x.compressions)),
           ),
         ),
       ),
@@ -278,13 +285,15 @@ impl<'a> Shape for ClientHello<'a> {
       session_len = p.0.0.0.2;
       session = p.0.1.0;
       suites_len = p.0.1.1.0.0;
-      suites = p.0.1.1.1.0.0.0;
+      suites = p.0.1.1.1.0;
       compressions_len = p.0.1.1.1.1.0.0;
       compressions = p.0.1.1.1.1.1;
       extensions = p.1;
     } };
 
     ghost again = { λ x. refl };
+
+    ghost there = { λ p. refl };
 
     ghost inner_of = { λ n. record { 0 = n; 1 = record { 0 = tt; 1 = record {}; 2 = record {} } } };
 
@@ -296,10 +305,7 @@ impl<'a> Shape for ClientHello<'a> {
                     self.session,
                     (
                         Run(self.suites_len),
-                        (
-                            ListOf(NumbersPart(self.suites), PhantomData),
-                            (Run(self.compressions_len), self.compressions),
-                        ),
+                        (self.suites, (Run(self.compressions_len), self.compressions)),
                     ),
                 ),
             ),
@@ -311,13 +317,7 @@ impl<'a> Shape for ClientHello<'a> {
         let (
             (
                 Run((version, random, session_len)),
-                (
-                    session,
-                    (
-                        Run(suites_len),
-                        (ListOf(NumbersPart(suites), _), (Run(compressions_len), compressions)),
-                    ),
-                ),
+                (session, (Run(suites_len), (suites, (Run(compressions_len), compressions)))),
             ),
             extensions,
         ) = parts;
@@ -339,49 +339,6 @@ impl<'a> Shape for ClientHello<'a> {
     {
         Behind((*ctx), Headed((), ClientHelloSays, PhantomData))
     }
-}
-
-#[derive(Drop)]
-pub struct NumbersPart<'a>(pub Items<'a, Numbers>);
-
-impl<'a> ListPart<'a> for NumbersPart<'a> {
-    type Kind = Numbers;
-
-    ghost seen = { λ x. x.0.bytes.now };
-
-    #[inline(always)]
-    fn of(bytes: &'a [u8], order: Endian, count: usize) -> NumbersPart<'a> {
-        NumbersPart(Items::of(bytes, order, count))
-    }
-
-    #[inline(always)]
-    fn parts(&self) -> (&'a [u8], Endian, usize) {
-        (self.0.bytes, self.0.order, self.0.count)
-    }
-}
-
-impl IsList for Numbers {
-    ghost is_list = { λ order s n. CountedItems
-        (⟦<Run<u16> as ReadPart<'static, (), Error>>⟧.format tt) order s 0 (length s) n };
-}
-
-impl<'a> Listed<'a> for Numbers {
-    type Error = Error;
-
-    type Item = Run<u16>;
-
-    ghost item = { ⟦<Run<u16> as ReadPart<'a, (), Error>>⟧.format tt };
-
-    #[inline(always)]
-    fn read_item(from: &'a [u8], offset: usize, order: Endian) -> Result<(Run<u16>, usize), Error> {
-        <Run<u16> as ReadPart<'a, (), Error>>::read_at(from, offset, order, &())
-    }
-}
-
-impl<'a> Unmarked<'a> for Numbers {
-    ghost from_values = { λ order s n h. h };
-
-    ghost into_values = { λ order s n h. h };
 }
 
 type ExtensionListHead = Run<u16>;
@@ -428,6 +385,8 @@ impl<'a> Shape for ExtensionList<'a> {
     ghost of_parts = { λ p. record { len = p.0.0; each = p.1.0.0 } };
 
     ghost again = { λ x. refl };
+
+    ghost there = { λ p. refl };
 
     ghost inner_of = { λ _. record { 0 = tt; 1 = record {}; 2 = record {} } };
 
@@ -489,6 +448,11 @@ impl<'a> Listed<'a> for Extensions {
     ) -> Result<(Extension<'a>, usize), Error> {
         <Extension<'a> as ReadPart<'a, (), Error>>::read_at(from, offset, order, &())
     }
+
+    #[inline(always)]
+    fn end_item(from: &'a [u8], offset: usize, order: Endian) -> Option<usize> {
+        <Extension<'a> as ReadPart<'a, (), Error>>::end_at(from, offset, order, &())
+    }
 }
 
 impl<'a> Unmarked<'a> for Extensions {
@@ -538,6 +502,8 @@ impl<'a> Shape for Extension<'a> {
     ghost of_parts = { λ p. record { kind = p.0.0.0; len = p.0.0.1; body = p.1 } };
 
     ghost again = { λ x. refl };
+
+    ghost there = { λ p. refl };
 
     ghost inner_of = { λ _. record { 0 = tt; 1 = record {}; 2 = record {} } };
 
@@ -632,6 +598,14 @@ impl<'a> Shape for ExtensionBody<'a> {
       | extension_body_is.Protocols v0 ↦ refl
       | extension_body_is.Versions v0 ↦ refl
       | extension_body_is.Other v0 ↦ refl
+    ] };
+
+    ghost there = { elim [
+      | First p ↦ refl
+      | Second (First p) ↦ refl
+      | Second (Second (First p)) ↦ refl
+      | Second (Second (Second (First p))) ↦ refl
+      | Second (Second (Second (Second p))) ↦ refl
     ] };
 
     ghost inner_of = { λ t. record {
@@ -729,6 +703,8 @@ impl<'a> Shape for ServerNames<'a> {
 
     ghost again = { λ x. refl };
 
+    ghost there = { λ p. refl };
+
     ghost inner_of = { λ _. record { 0 = tt; 1 = record {}; 2 = record {} } };
 
     fn split(&self) -> ServerNamesParts<'a> {
@@ -790,6 +766,8 @@ impl<'a> Shape for HostName<'a> {
 
     ghost again = { λ x. refl };
 
+    ghost there = { λ p. refl };
+
     ghost inner_of = { λ _. record { 0 = tt; 1 = record {}; 2 = record {} } };
 
     fn split(&self) -> HostNameParts<'a> {
@@ -818,22 +796,28 @@ pub struct LongListSays;
 impl Head<LongListHead, Error> for LongListSays {
     type Next = LongListNext;
 
-    ghost holds = { λ _ h. Unit {0} };
+    ghost holds = { λ _ h. (h.0 % 2 ≡ 0) };
 
-    ghost fails = { λ _ h e. ⊥ };
+    ghost fails = { λ _ h e. (h.0 % 2 ≢ 0) × IsBadInput e h.0 (codes "len is no multiple of 2") };
 
-    ghost next = { λ _ h. h.0 };
+    ghost next = { λ _ h. h.0 / 2 };
 
-    fn obey(&self, _head: &LongListHead) -> Result<(), Error> {
+    fn obey(&self, head: &LongListHead) -> Result<(), Error> {
+        if head.0 % 2 != 0 {
+            return Err(Error::BadInput {
+                size: head.0 as usize,
+                msg: "len is no multiple of 2",
+            });
+        }
         Ok(())
     }
 
     fn next(&self, head: &LongListHead) -> LongListNext {
-        head.0 as usize
+        head.0 as usize / 2
     }
 }
 
-type LongListParts<'a> = (LongListHead, ListOf<'a, NumbersPart<'a>>);
+type LongListParts<'a> = (LongListHead, Table<'a, u16>);
 
 type LongListCtx = Headed<(), LongListNext, LongListSays>;
 
@@ -844,23 +828,22 @@ impl<'a> Shape for LongList<'a> {
 
     type Parts = LongListParts<'a>;
 
-    ghost parts_of = { λ x. (
-      record { 0 = x.len },
-      record { 0 = record { 0 = x.each }; 1 = record {} },
-    ) };
+    ghost parts_of = { λ x. (record { 0 = x.len }, x.each) };
 
-    ghost of_parts = { λ p. record { len = p.0.0; each = p.1.0.0 } };
+    ghost of_parts = { λ p. record { len = p.0.0; each = p.1 } };
 
     ghost again = { λ x. refl };
+
+    ghost there = { λ p. refl };
 
     ghost inner_of = { λ _. record { 0 = tt; 1 = record {}; 2 = record {} } };
 
     fn split(&self) -> LongListParts<'a> {
-        (Run(self.len), ListOf(NumbersPart(self.each), PhantomData))
+        (Run(self.len), self.each)
     }
 
     fn join(parts: LongListParts<'a>) -> LongList<'a> {
-        let (Run(len), ListOf(NumbersPart(each), _)) = parts;
+        let (Run(len), each) = parts;
         LongList { len, each }
     }
 
@@ -881,22 +864,28 @@ pub struct ShortListSays;
 impl Head<ShortListHead, Error> for ShortListSays {
     type Next = ShortListNext;
 
-    ghost holds = { λ _ h. Unit {0} };
+    ghost holds = { λ _ h. (h.0 % 2 ≡ 0) };
 
-    ghost fails = { λ _ h e. ⊥ };
+    ghost fails = { λ _ h e. (h.0 % 2 ≢ 0) × IsBadInput e h.0 (codes "len is no multiple of 2") };
 
-    ghost next = { λ _ h. h.0 };
+    ghost next = { λ _ h. h.0 / 2 };
 
-    fn obey(&self, _head: &ShortListHead) -> Result<(), Error> {
+    fn obey(&self, head: &ShortListHead) -> Result<(), Error> {
+        if head.0 % 2 != 0 {
+            return Err(Error::BadInput {
+                size: head.0 as usize,
+                msg: "len is no multiple of 2",
+            });
+        }
         Ok(())
     }
 
     fn next(&self, head: &ShortListHead) -> ShortListNext {
-        head.0 as usize
+        head.0 as usize / 2
     }
 }
 
-type ShortListParts<'a> = (ShortListHead, ListOf<'a, NumbersPart<'a>>);
+type ShortListParts<'a> = (ShortListHead, Table<'a, u16>);
 
 type ShortListCtx = Headed<(), ShortListNext, ShortListSays>;
 
@@ -907,23 +896,22 @@ impl<'a> Shape for ShortList<'a> {
 
     type Parts = ShortListParts<'a>;
 
-    ghost parts_of = { λ x. (
-      record { 0 = x.len },
-      record { 0 = record { 0 = x.each }; 1 = record {} },
-    ) };
+    ghost parts_of = { λ x. (record { 0 = x.len }, x.each) };
 
-    ghost of_parts = { λ p. record { len = p.0.0; each = p.1.0.0 } };
+    ghost of_parts = { λ p. record { len = p.0.0; each = p.1 } };
 
     ghost again = { λ x. refl };
+
+    ghost there = { λ p. refl };
 
     ghost inner_of = { λ _. record { 0 = tt; 1 = record {}; 2 = record {} } };
 
     fn split(&self) -> ShortListParts<'a> {
-        (Run(self.len), ListOf(NumbersPart(self.each), PhantomData))
+        (Run(self.len), self.each)
     }
 
     fn join(parts: ShortListParts<'a>) -> ShortList<'a> {
-        let (Run(len), ListOf(NumbersPart(each), _)) = parts;
+        let (Run(len), each) = parts;
         ShortList { len, each }
     }
 
@@ -978,6 +966,8 @@ impl<'a> Shape for ProtocolList<'a> {
     ghost of_parts = { λ p. record { len = p.0.0; each = p.1.0.0 } };
 
     ghost again = { λ x. refl };
+
+    ghost there = { λ p. refl };
 
     ghost inner_of = { λ _. record { 0 = tt; 1 = record {}; 2 = record {} } };
 
@@ -1036,6 +1026,11 @@ impl<'a> Listed<'a> for Protocols {
     ) -> Result<(Protocol<'a>, usize), Error> {
         <Protocol<'a> as ReadPart<'a, (), Error>>::read_at(from, offset, order, &())
     }
+
+    #[inline(always)]
+    fn end_item(from: &'a [u8], offset: usize, order: Endian) -> Option<usize> {
+        <Protocol<'a> as ReadPart<'a, (), Error>>::end_at(from, offset, order, &())
+    }
 }
 
 impl<'a> Unmarked<'a> for Protocols {
@@ -1091,6 +1086,8 @@ impl<'a> Shape for Protocol<'a> {
     ghost of_parts = { λ p. record { len = p.0.0; name = p.1 } };
 
     ghost again = { λ x. refl };
+
+    ghost there = { λ p. refl };
 
     ghost inner_of = { λ _. record { 0 = tt; 1 = record {}; 2 = record {} } };
 

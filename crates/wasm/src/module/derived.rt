@@ -84,6 +84,8 @@ impl<'a> Shape for Module<'a> {
 
     ghost again = { λ x. refl };
 
+    ghost there = { λ p. refl };
+
     ghost inner_of = { λ n. record {
       0 = endian_is.Little;
       1 = record { 0 = n; 1 = record { 0 = tt; 1 = record {}; 2 = record {} } };
@@ -150,6 +152,11 @@ impl<'a> Listed<'a> for Sections {
         order: Endian,
     ) -> Result<(Section<'a>, usize), Error> {
         <Section<'a> as ReadPart<'a, (), Error>>::read_at(from, offset, order, &())
+    }
+
+    #[inline(always)]
+    fn end_item(from: &'a [u8], offset: usize, order: Endian) -> Option<usize> {
+        <Section<'a> as ReadPart<'a, (), Error>>::end_at(from, offset, order, &())
     }
 }
 
@@ -227,6 +234,8 @@ impl<'a> Shape for Section<'a> {
     ghost of_parts = { λ p. record { id = p.0.0; size = p.1.0; contents = p.1.1 } };
 
     ghost again = { λ x. refl };
+
+    ghost there = { λ p. refl };
 
     ghost inner_of = { λ _. record { 0 = tt; 1 = record {}; 2 = record {} } };
 
@@ -324,6 +333,15 @@ impl<'a> Shape for Contents<'a> {
       | contents_is.Functions v0 ↦ refl
       | contents_is.Exports v0 ↦ refl
       | contents_is.Other v0 ↦ refl
+    ] };
+
+    ghost there = { elim [
+      | First p ↦ refl
+      | Second (First p) ↦ refl
+      | Second (Second (First p)) ↦ refl
+      | Second (Second (Second (First p))) ↦ refl
+      | Second (Second (Second (Second (First p)))) ↦ refl
+      | Second (Second (Second (Second (Second p)))) ↦ refl
     ] };
 
     ghost inner_of = { λ t. record {
@@ -431,6 +449,8 @@ impl<'a> Shape for Name<'a> {
 
     ghost again = { λ x. refl };
 
+    ghost there = { λ p. refl };
+
     ghost inner_of = { λ _. record { 0 = tt; 1 = record {}; 2 = record {} } };
 
     fn split(&self) -> NameParts<'a> {
@@ -467,6 +487,8 @@ impl<'a> Shape for Custom<'a> {
     ghost of_parts = { λ p. record { name = p.0; bytes = p.1 } };
 
     ghost again = { λ x. refl };
+
+    ghost there = { λ p. refl };
 
     ghost inner_of = { λ n. record { 0 = n; 1 = tt } };
 
@@ -528,6 +550,8 @@ impl<'a> Shape for Types<'a> {
 
     ghost again = { λ x. refl };
 
+    ghost there = { λ p. refl };
+
     ghost inner_of = { λ _. record { 0 = tt; 1 = record {}; 2 = record {} } };
 
     fn split(&self) -> TypesParts<'a> {
@@ -587,6 +611,11 @@ impl<'a> Listed<'a> for FunctionTypes {
         order: Endian,
     ) -> Result<(FunctionType<'a>, usize), Error> {
         <FunctionType<'a> as ReadPart<'a, (), Error>>::read_at(from, offset, order, &())
+    }
+
+    #[inline(always)]
+    fn end_item(from: &'a [u8], offset: usize, order: Endian) -> Option<usize> {
+        <FunctionType<'a> as ReadPart<'a, (), Error>>::end_at(from, offset, order, &())
     }
 }
 
@@ -705,6 +734,8 @@ impl<'a> Shape for FunctionType<'a> {
 
     ghost again = { λ x. refl };
 
+    ghost there = { λ p. refl };
+
     ghost inner_of = { λ _. record { 0 = tt; 1 = record {}; 2 = record {} } };
 
     fn split(&self) -> FunctionTypeParts<'a> {
@@ -777,6 +808,8 @@ impl<'a> Shape for Imports<'a> {
 
     ghost again = { λ x. refl };
 
+    ghost there = { λ p. refl };
+
     ghost inner_of = { λ _. record { 0 = tt; 1 = record {}; 2 = record {} } };
 
     fn split(&self) -> ImportsParts<'a> {
@@ -834,6 +867,11 @@ impl<'a> Listed<'a> for ImportList {
     ) -> Result<(Import<'a>, usize), Error> {
         <Import<'a> as ReadPart<'a, (), Error>>::read_at(from, offset, order, &())
     }
+
+    #[inline(always)]
+    fn end_item(from: &'a [u8], offset: usize, order: Endian) -> Option<usize> {
+        <Import<'a> as ReadPart<'a, (), Error>>::end_at(from, offset, order, &())
+    }
 }
 
 impl<'a> Unmarked<'a> for ImportList {
@@ -858,6 +896,8 @@ impl<'a> Shape for Import<'a> {
     ghost of_parts = { λ p. record { «module» = p.0; name = p.1.0; what = p.1.1 } };
 
     ghost again = { λ x. refl };
+
+    ghost there = { λ p. refl };
 
     ghost inner_of = { λ _. (tt, (tt, tt)) };
 
@@ -1014,6 +1054,14 @@ impl<'a> ReadPart<'a, (), Error> for Imported {
         };
         Ok((made, end))
     }
+
+    #[inline(always)]
+    fn end_at(from: &'a [u8], offset: usize, order: Endian, ctx: &()) -> Option<usize> {
+        match <Imported as ReadPart<'a, (), Error>>::read_at(from, offset, order, ctx) {
+            Ok((_value, end)) => Some(end),
+            Err(_error) => None,
+        }
+    }
 }
 
 type TableTypeParts = (Run<u8>, Limits);
@@ -1032,6 +1080,8 @@ impl Shape for TableType {
     ghost of_parts = { λ p. record { element = p.0.0; limits = p.1 } };
 
     ghost again = { λ x. refl };
+
+    ghost there = { λ p. refl };
 
     ghost inner_of = { λ _. (tt, tt) };
 
@@ -1099,6 +1149,8 @@ impl Shape for Limits {
 
     ghost again = { λ x. refl };
 
+    ghost there = { λ p. refl };
+
     ghost inner_of = { λ _. record { 0 = tt; 1 = record {}; 2 = record {} } };
 
     fn split(&self) -> LimitsParts {
@@ -1159,6 +1211,8 @@ impl<'a> Shape for Indices<'a> {
 
     ghost again = { λ x. refl };
 
+    ghost there = { λ p. refl };
+
     ghost inner_of = { λ _. record { 0 = tt; 1 = record {}; 2 = record {} } };
 
     fn split(&self) -> IndicesParts<'a> {
@@ -1212,6 +1266,11 @@ impl<'a> Listed<'a> for IndexList {
     fn read_item(from: &'a [u8], offset: usize, order: Endian) -> Result<(Uleb, usize), Error> {
         <Uleb as ReadPart<'a, (), Error>>::read_at(from, offset, order, &())
     }
+
+    #[inline(always)]
+    fn end_item(from: &'a [u8], offset: usize, order: Endian) -> Option<usize> {
+        <Uleb as ReadPart<'a, (), Error>>::end_at(from, offset, order, &())
+    }
 }
 
 impl<'a> Unmarked<'a> for IndexList {
@@ -1261,6 +1320,8 @@ impl<'a> Shape for Exports<'a> {
     ghost of_parts = { λ p. record { count = p.0; each = p.1.0.0 } };
 
     ghost again = { λ x. refl };
+
+    ghost there = { λ p. refl };
 
     ghost inner_of = { λ _. record { 0 = tt; 1 = record {}; 2 = record {} } };
 
@@ -1319,6 +1380,11 @@ impl<'a> Listed<'a> for ExportList {
     ) -> Result<(Export<'a>, usize), Error> {
         <Export<'a> as ReadPart<'a, (), Error>>::read_at(from, offset, order, &())
     }
+
+    #[inline(always)]
+    fn end_item(from: &'a [u8], offset: usize, order: Endian) -> Option<usize> {
+        <Export<'a> as ReadPart<'a, (), Error>>::end_at(from, offset, order, &())
+    }
 }
 
 impl<'a> Unmarked<'a> for ExportList {
@@ -1376,6 +1442,8 @@ impl<'a> Shape for Export<'a> {
     ghost of_parts = { λ p. record { name = p.0; kind = p.1.0.0; index = p.1.1 } };
 
     ghost again = { λ x. refl };
+
+    ghost there = { λ p. refl };
 
     ghost inner_of = { λ _. (tt, record { 0 = tt; 1 = record {}; 2 = record {} }) };
 

@@ -1,15 +1,29 @@
 -- One more value was read.
-use Rattle.std.proofs.Common.{rules}
+use Rattle.std.proofs.Common.{◌≤◌, length, rules, sym, subst}
+use Rattle.scroll_layouts.specs.Formats.{EndsAt}
 use Rattle.scroll_layouts.specs.lemmas.ListLemmas.{counted-push}
 use Rattle.scroll_layouts.proofs.lists.check_items.Goals as goal
+use Rattle.scroll_layouts.proofs.lists.check_items.Goals.{in-Some, in-None+in_ok-next-in-None}
 
 pub loop-at-preserved : goal.loop-at-preserved
-loop-at-preserved g c = (
-  counted-push g.K.Listed.item c.args.order c.args.bytes.now 0 c.loop-at.at
-      c.in_ok-_value.next c.loop-at.count
-      c.in_ok-_value._value c.loop-at.invariant.0 c.in_ok-_value.ensures.read
-      c.in_ok-_value.ensures.moves
-      c.if-next-at.false,
-  c.in_ok-_value.ensures.inside,
-  search rules,
-)
+loop-at-preserved g c =
+    let f = g.K.Listed.item in
+    let order = c.args.order in
+    let s = c.args.bytes.now in
+    let at = c.loop-at.at in
+    let next = c.match-end_item.next in
+    let ends : EndsAt f order s at next = elim c.match-end_item.branch [
+      | in-Some w ↦ subst (EndsAt f order s at) (sym w.next-is) w.in-Some.ensures.ends
+      | in-None+in_ok-next-in-None w ↦
+          subst (EndsAt f order s at) (sym w.next-is) w.in_ok-next-in-None.ensures.ends
+    ] in
+    let inside : next ≤ length s = elim c.match-end_item.branch [
+      | in-Some w ↦ subst (λ n. n ≤ length s) (sym w.next-is) w.in-Some.ensures.inside
+      | in-None+in_ok-next-in-None w ↦
+          subst (λ n. n ≤ length s) (sym w.next-is) w.in_ok-next-in-None.ensures.inside
+    ] in (
+      counted-push f order s 0 at next c.loop-at.count ends.value c.loop-at.invariant.0 ends.there
+          ends.moves c.if-next-at.false,
+      inside,
+      search rules,
+    )

@@ -6,7 +6,7 @@ ghost use Rattle.scroll.specs.Numbers.{signed_number};
 ghost use Rattle.scroll.specs.lemmas.Frames.{WritesPrefix-keeps};
 ghost use Rattle.scroll_layouts.specs.Formats.{refuses};
 ghost use Rattle.scroll_layouts.specs.Wholes.{KeepsWhole, ReadsExact, WritesWhole};
-ghost use Rattle.scroll_layouts.specs.lemmas.EqualLemmas.{record-again};
+ghost use Rattle.scroll_layouts.specs.lemmas.EqualLemmas.{record-again, record-there};
 ghost use Rattle.scroll_layouts.specs.declared.choice.Choice.TheVariants.{First, Second};
 
 use super::{Event, Line, Spot};
@@ -94,6 +94,12 @@ impl Shape for Event {
       | event_is.Ended ↦ refl
       | event_is.Moved v0 v1 ↦ refl
       | event_is.Counted v0 ↦ refl
+    ] };
+
+    ghost there = { elim [
+      | First p ↦ refl
+      | Second (First p) ↦ refl
+      | Second (Second p) ↦ refl
     ] };
 
     ghost inner_of = { λ t. record {
@@ -263,6 +269,20 @@ impl<'a> Shape for Line<'a> {
       len = x.len;
       name = x.name;
     } };
+
+    ghost there = { λ p i. (
+      record { 0 = (p.0.0.0, p.0.0.1) },
+      (
+        p.1.0,
+        (
+          p.1.1.0,
+          (
+            record-there p.1.1.1.0 i,
+            (p.1.1.1.1.0, (record { 0 = p.1.1.1.1.1.0.0 }, p.1.1.1.1.1.1)),
+          ),
+        ),
+      ),
+    ) };
 
     ghost inner_of = { λ _. record { 0 = tt; 1 = record {}; 2 = record {} } };
 

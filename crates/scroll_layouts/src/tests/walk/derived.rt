@@ -62,6 +62,8 @@ impl<'a> Shape for MessageField<'a> {
 
     ghost again = { λ x. refl };
 
+    ghost there = { λ p. refl };
+
     ghost inner_of = { λ _. (tt, record { 0 = tt; 1 = record {}; 2 = record {} }) };
 
     fn split(&self) -> MessageFieldParts<'a> {
@@ -134,6 +136,11 @@ impl<'a> Listed<'a> for FieldKind {
     ) -> Result<(MessageField<'a>, usize), Error> {
         <MessageField<'a> as ReadPart<'a, (), Error>>::read_at(from, offset, order, &())
     }
+
+    #[inline(always)]
+    fn end_item(from: &'a [u8], offset: usize, order: Endian) -> Option<usize> {
+        <MessageField<'a> as ReadPart<'a, (), Error>>::end_at(from, offset, order, &())
+    }
 }
 
 impl<'a> Unmarked<'a> for FieldKind {
@@ -186,6 +193,8 @@ impl<'a> Shape for Message<'a> {
     ghost of_parts = { λ p. record { size = p.0.0; name = p.1.0; fields = p.1.1.0.0 } };
 
     ghost again = { λ x. refl };
+
+    ghost there = { λ p. refl };
 
     ghost inner_of = { λ _. record { 0 = tt; 1 = record {}; 2 = record {} } };
 
@@ -311,6 +320,11 @@ impl<'a> Shape for Reply<'a> {
       fields =
           option-again {B = ListOf FieldKindPart} (λ v. record { 0 = record { 0 = v }; 1 = record {} }) (λ v. v.0.0) (λ v. refl) x.fields i;
     } };
+
+    ghost there = { λ p i. (
+      record { 0 = p.0.0 },
+      option-again {A = ListOf FieldKindPart} (λ v. v.0.0) (λ v. record { 0 = record { 0 = v }; 1 = record {} }) (λ v. refl) p.1 i,
+    ) };
 
     ghost inner_of = { λ _. record { 0 = tt; 1 = record {}; 2 = record {} } };
 
