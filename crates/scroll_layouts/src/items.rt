@@ -4,7 +4,7 @@ ghost use Rattle.scroll.specs.declared.endian.Endian.{Endian};
 ghost use Rattle.scroll_layouts.specs.Formats.{Format, len, EndsAt, RefusedAt, reads, refuses};
 ghost use Rattle.scroll_layouts.specs.Lists.{SomeItems, CountedItems, RefusesItems};
 
-use crate::lists::check_items;
+use crate::steps::check_items;
 use scroll::{Endian, Error};
 use std::alloc::AllocError;
 use std::marker::PhantomData;
@@ -185,7 +185,7 @@ impl<'a, K: IsList> Items<'a, K> {
 
 impl<'a, K: Unmarked<'a>> Items<'a, K>
 where
-    K::Error: From<Error>,
+    K::Error: From<Error> + Drop,
 {
     /// Reads values up to the end of their bytes, and returns their list.
     ///

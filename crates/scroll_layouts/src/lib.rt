@@ -31,10 +31,12 @@ mod optional;
 mod ordered;
 mod padding;
 mod pairs;
+mod refusals;
 mod run;
 mod shape;
 mod shifts;
 mod std_c_strings;
+mod steps;
 mod tables;
 #[cfg(test)]
 mod tests;

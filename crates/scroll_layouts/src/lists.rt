@@ -1,10 +1,11 @@
 // Lists that are borrowed as their bytes, and read where they lie.
-ghost use Rattle.std.specs.Prelude.{◌≡◌, ◌≢◌, ◌≤◌, ◌<◌, ◌+◌, ◌-◌, ◌^◌, ◌++◌, ◌⊎◌, length, take, drop, min, codes, IfOk, IfErr, OnOk};
-ghost use Rattle.scroll_layouts.specs.Formats.{leaf, last, EndsAt, len, reads, refuses};
+ghost use Rattle.std.specs.Prelude.{◌≡◌, ◌≢◌, ◌≤◌, ◌<◌, ◌+◌, ◌-◌, ◌^◌, ◌++◌, ◌⊎◌, length, take, drop, min, codes, OnOk};
+ghost use Rattle.scroll_layouts.specs.Formats.{leaf, last, len, reads, refuses};
 ghost use Rattle.scroll_layouts.specs.ListLeaves.{list_within, list_of};
-ghost use Rattle.scroll_layouts.specs.Lists.{CountedItems, RefusesItems, RefusesCounted};
 
 use crate::bytes::check_count;
+use crate::steps::{check_items, count_items, read_items, skip_items};
+use crate::within::check_there;
 use crate::{ListOf, ListPart, Listed, Part, ReadPart, Unmarked};
 use scroll::{Endian, Error, check_room};
 use std::marker::PhantomData;
@@ -21,7 +22,7 @@ pub struct Count(pub usize);
 /// its count`.
 impl<'a, K: Unmarked<'a>, L: ListPart<'a, Kind = K>> Part<usize, K::Error> for ListOf<'a, L>
 where
-    K::Error: From<Error>,
+    K::Error: From<Error> + Drop,
 {
     ghost format = { λ n.
         last (leaf (list_within K.Error.from_gives K.item n)) (λ x. L.seen x.0) };
@@ -73,10 +74,14 @@ where
 
     #[inline(always)]
     fn end_at(from: &'a [u8], offset: usize, order: Endian, ctx: &usize) -> Option<usize> {
-        match <ListOf<'a, L> as ReadPart<'a, usize, K::Error>>::read_at(from, offset, order, ctx) {
-            Ok((_value, end)) => Some(end),
-            Err(_error) => None,
-        }
+        let count = *ctx;
+        let Ok(()) = check_there::<K::Error>(count, from.len() - offset) else {
+            return None;
+        };
+        let part = &from[offset..offset + count];
+        let found = count_items::<K>(part, order)?;
+        let _list = ListOf::<'a, L>(L::of(part, order, found), PhantomData);
+        Some(offset + count)
     }
 }
 
@@ -86,7 +91,7 @@ where
 /// `another length than its values`.
 impl<'a, K: Unmarked<'a>, L: ListPart<'a, Kind = K>> Part<Count, K::Error> for ListOf<'a, L>
 where
-    K::Error: From<Error>,
+    K::Error: From<Error> + Drop,
 {
     ghost format = { λ c.
         last (leaf (list_of K.Error.from_gives K.item c.0)) (λ x. L.seen x.0) };
@@ -139,88 +144,9 @@ where
 
     #[inline(always)]
     fn end_at(from: &'a [u8], offset: usize, order: Endian, ctx: &Count) -> Option<usize> {
-        match <ListOf<'a, L> as ReadPart<'a, Count, K::Error>>::read_at(from, offset, order, ctx) {
-            Ok((_value, end)) => Some(end),
-            Err(_error) => None,
-        }
+        let rest = &from[offset..];
+        let end = skip_items::<K>(rest, order, ctx.0)?;
+        let _list = ListOf::<'a, L>(L::of(&rest[..end], order, ctx.0), PhantomData);
+        Some(offset + end)
     }
-}
-
-// Returns how many values there are up to the end of the bytes.
-pub(crate) fn check_items<'a, K: Listed<'a>>(
-    bytes: &'a [u8],
-    order: Endian,
-) -> Result<usize, K::Error>
-where
-    K::Error: From<Error>,
-    ensures read { IfOk result
-        (CountedItems K.item order bytes.now 0 (length bytes.now)) }
-    ensures refused { IfErr result (RefusesItems K.Error.from_gives K.item order bytes.now) }
-{
-    let mut at = 0;
-    let mut count = 0;
-    while at < bytes.len() {
-        let next = match K::end_item(bytes, at, order) {
-            Some(end) => end,
-            None => read_end::<K>(bytes, at, order)?,
-        };
-        if next == at {
-            return Err(K::Error::from(Error::BadInput {
-                size: at,
-                msg: "a value has no bytes",
-            }));
-        }
-        at = next;
-        count += 1;
-    }
-    Ok(count)
-}
-
-// Reads as many values as `count` says, and returns where they end.
-fn read_items<'a, K: Listed<'a>>(
-    bytes: &'a [u8],
-    order: Endian,
-    count: usize,
-) -> Result<usize, K::Error>
-where
-    K::Error: From<Error>,
-    ensures read { IfOk result (λ to. CountedItems K.item order bytes.now 0 to count) }
-    ensures inside { IfOk result (λ to. to ≤ length bytes.now) }
-    ensures refused { IfErr result
-        (RefusesCounted K.Error.from_gives K.item order count bytes.now) }
-{
-    let mut at = 0;
-    let mut done = 0;
-    while done < count {
-        let next = match K::end_item(bytes, at, order) {
-            Some(end) => end,
-            None => read_end::<K>(bytes, at, order)?,
-        };
-        if next == at {
-            return Err(K::Error::from(Error::BadInput {
-                size: at,
-                msg: "a value has no bytes",
-            }));
-        }
-        at = next;
-        done += 1;
-    }
-    Ok(at)
-}
-
-// Reads the value at an offset for its error, and returns where it ends.
-#[cold]
-#[inline(never)]
-pub(crate) fn read_end<'a, K: Listed<'a>>(
-    bytes: &'a [u8],
-    at: usize,
-    order: Endian,
-) -> Result<usize, K::Error>
-    requires { at ≤ length bytes.now }
-    ensures ends { IfOk result (EndsAt K.item order bytes.now at) }
-    ensures inside { IfOk result (λ end. end ≤ length bytes.now) }
-    ensures refused { IfErr result (refuses K.item order bytes.now at) }
-{
-    let (_value, end) = K::read_item(bytes, at, order)?;
-    Ok(end)
 }

@@ -6,13 +6,15 @@ ghost use Rattle.scroll_layouts.specs.ListLeaves.{list_until};
 ghost use Rattle.scroll_layouts.specs.Marks.{Mark, MarkEnds, CountedMarked, RefusesMarked};
 
 mod ends;
+mod refusals;
 mod until;
 mod values;
 
 pub use self::ends::{EndMark, NameEnd, TwoZeroUlebs, ZeroUleb, begins_with};
+use self::refusals::explain_marked;
 pub use self::until::append_until;
 pub use self::values::MarkedValues;
-use crate::lists::read_end;
+use crate::steps::end_next;
 use crate::{ListOf, ListPart, Listed, Part, ReadPart};
 use scroll::{Endian, Error};
 use std::marker::PhantomData;
@@ -54,7 +56,7 @@ pub struct ToMark;
 /// message `another length than its values`.
 impl<'a, K: Marked<'a>, L: ListPart<'a, Kind = K>> Part<ToMark, K::Error> for ListOf<'a, L>
 where
-    K::Error: From<Error>,
+    K::Error: From<Error> + Drop,
 {
     ghost format = { λ _.
         last (leaf (list_until K.Error.from_gives K.End.mark K.item)) (λ x. L.seen x.0) };
@@ -106,11 +108,11 @@ where
     }
 
     #[inline(always)]
-    fn end_at(from: &'a [u8], offset: usize, order: Endian, ctx: &ToMark) -> Option<usize> {
-        match <ListOf<'a, L> as ReadPart<'a, ToMark, K::Error>>::read_at(from, offset, order, ctx) {
-            Ok((_value, end)) => Some(end),
-            Err(_error) => None,
-        }
+    fn end_at(from: &'a [u8], offset: usize, order: Endian, _ctx: &ToMark) -> Option<usize> {
+        let rest = &from[offset..];
+        let (end, count) = skip_marked::<K>(rest, order)?;
+        let _list = ListOf::<'a, L>(L::of(&rest[..end], order, count), PhantomData);
+        Some(offset + end)
     }
 }
 
@@ -121,30 +123,37 @@ pub(crate) fn find_end<'a, K: Marked<'a>>(
     order: Endian,
 ) -> Result<(usize, usize), K::Error>
 where
-    K::Error: From<Error>,
+    K::Error: From<Error> + Drop,
     ensures read { IfOk result (λ r.
         CountedMarked K.End.mark K.item order bytes.now r.0 r.1) }
     ensures inside { IfOk result (λ r. r.0 ≤ length bytes.now) }
     ensures refused { IfErr result
         (RefusesMarked K.Error.from_gives K.End.mark K.item order bytes.now) }
 {
+    match skip_marked::<K>(bytes, order) {
+        Some(found) => Ok(found),
+        None => explain_marked::<K>(bytes, order),
+    }
+}
+
+// Returns the same, or `None` where a value is refused.
+#[inline(always)]
+fn skip_marked<'a, K: Marked<'a>>(bytes: &'a [u8], order: Endian) -> Option<(usize, usize)>
+where
+    K::Error: From<Error> + Drop,
+    ensures read { IfSome result (λ r.
+        CountedMarked K.End.mark K.item order bytes.now r.0 r.1) }
+    ensures inside { IfSome result (λ r. r.0 ≤ length bytes.now) }
+    ensures none { IfNone result ((e : K.Error)
+        × RefusesMarked K.Error.from_gives K.End.mark K.item order bytes.now e) }
+{
     let mut at = 0;
     let mut count = 0;
     loop {
         if let Some(end) = end_at::<K::End>(bytes, at) {
-            return Ok((end, count));
+            return Some((end, count));
         }
-        let next = match K::end_item(bytes, at, order) {
-            Some(end) => end,
-            None => read_end::<K>(bytes, at, order)?,
-        };
-        if next == at {
-            return Err(K::Error::from(Error::BadInput {
-                size: at,
-                msg: "a value has no bytes",
-            }));
-        }
-        at = next;
+        at = end_next::<K>(bytes, at, order)?;
         count += 1;
     }
 }

@@ -89,7 +89,7 @@ impl<'a, E: From<Error> + Drop, C: Drop, A: ReadPart<'a, C, E>> ReadPart<'a, Wit
 
 // Returns an error if there are fewer bytes than a part has.
 #[inline(always)]
-fn check_there<E: From<Error>>(count: usize, len: usize) -> Result<(), E>
+pub(crate) fn check_there<E: From<Error>>(count: usize, len: usize) -> Result<(), E>
     ensures there { OnOk result (count ≤ len) }
     ensures short { IfErr result (λ e. (len < count) × E.from_gives (TooBig count len) e) }
 {

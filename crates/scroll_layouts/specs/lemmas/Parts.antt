@@ -1,8 +1,8 @@
 -- Where parts stand, and which bytes they have. The lemmas are proved, and promise nothing.
-use Rattle.std.proofs.Common.{◌≡◌, ℕ, ◌+◌, ◌<◌, ◌≤◌, ◌++◌, List, length, take, drop, sym, ap, ◌∙◌, arith, length-append, length-drop, slice_index}
+use Rattle.std.proofs.Common.{◌≡◌, ℕ, ◌+◌, ◌-◌, ◌<◌, ◌≤◌, ◌++◌, List, length, take, drop, sym, ap, ◌∙◌, arith, length-append, length-drop, slice_index}
 use Rattle.std.proofs.Math.Seq.{drop-append_seam}
 use Rattle.std.proofs.lemmas.Grind.{same_number_lists}
-use Rattle.std.proofs.lemmas.List.{take_at, take-take, drop-take, length-take-le, get_or-take, get_or-replicate, length-replicate}
+use Rattle.std.proofs.lemmas.List.{take_all, take_at, take-take, drop-take, length-take-le, get_or-take, get_or-replicate, length-replicate}
 use Rattle.std.proofs.lemmas.List.Elements.{All-drop, All-take}
 use Rattle.std.specs.List.{All}
 use Rattle.scroll_formats.specs.Zeros.{zeros}
@@ -34,6 +34,20 @@ first-within at a b s h = omega (arith, h)
 
 pub second-within : (at a b : ℕ) (s : List ℕ) → at + (a + b) ≤ length s → at + a + b ≤ length s
 second-within at a b s h = omega (arith, h)
+
+-- the first bytes of what is left of a source stand there
+pub cut-there : (s : List ℕ) (at end : ℕ) (l : List ℕ) → at ≤ length s
+    → end ≤ length (take (length s - at) (drop at s))
+    → l ≡ take end (take (length s - at) (drop at s))
+    → (length l ≡ end) × (at + length l ≤ length s) × (l ≡ take (length l) (drop at s))
+cut-there s at end l below inside is =
+    let left : length (drop at s) ≡ length s - at = length-drop at s in
+    let rest : take (length s - at) (drop at s) ≡ drop at s =
+    take_all (length s - at) (drop at s) (omega (arith, left)) in
+    let room : end ≤ length (drop at s) = omega (arith, inside, ap length rest) in
+    let same : l ≡ take end (drop at s) = is ∙ ap (take end) rest in
+    let long : length l ≡ end = ap length same ∙ length-take-le end (drop at s) room in
+    (long, omega (arith, long, room, left, below), same ∙ ap (λ k. take k (drop at s)) (sym long))
 
 -- bytes of a part are below 256 where all are
 pub bytes-taken : (n at : ℕ) (s : List ℕ) → All (λ b. b < 256) s

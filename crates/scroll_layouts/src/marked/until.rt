@@ -7,6 +7,7 @@ ghost use Rattle.scroll_layouts.specs.Lists.{StopsAtItem};
 ghost use Rattle.scroll_layouts.specs.Marks.{AppendsList, RefusesList};
 
 use super::end_at;
+use crate::refusals::no_bytes;
 use crate::{Items, Listed, Marked};
 use scroll::{Endian, Error};
 use scroll_formats::At;
@@ -90,10 +91,7 @@ where
 {
     let (value, next) = K::read_item(from, at, order)?;
     if next == at {
-        return Err(K::Error::from(Error::BadInput {
-            size: at,
-            msg: "a value has no bytes",
-        }));
+        return Err(no_bytes(at));
     }
     if values.push(value).is_err() {
         return Err(K::Error::from(Error::NoMemory));

@@ -32,7 +32,7 @@ impl<'a, K: Marked<'a>> Items<'a, K> {
     #[inline(always)]
     pub fn to_mark(bytes: &'a [u8], order: Endian) -> Result<Items<'a, K>, K::Error>
     where
-        K::Error: From<Error>,
+        K::Error: From<Error> + Drop,
         ensures bytes { IfOk result (λ list. list.bytes.now ≡ bytes.now) }
         ensures order { IfOk result (λ list. list.order ≡ order) }
         ensures list { IfOk result (λ list. CountedMarked K.End.mark K.item order

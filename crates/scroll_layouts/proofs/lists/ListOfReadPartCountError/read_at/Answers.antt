@@ -1,8 +1,7 @@
 -- The values are values of their own bytes.
-use Rattle.std.proofs.Common.{◌≡◌, ◌≤◌, ◌+◌, ◌-◌, length, drop, take, sym, ap, subst, ◌∙◌, arith, rules, length-drop}
-use Rattle.std.proofs.lemmas.List.{take_all, length-take-le}
+use Rattle.std.proofs.Common.{◌-◌, length, drop, take, sym, subst, rules}
 use Rattle.scroll_layouts.specs.Lists.{CountedItems}
-use Rattle.scroll_layouts.specs.lemmas.Parts.{bytes-taken}
+use Rattle.scroll_layouts.specs.lemmas.Parts.{bytes-taken, cut-there}
 use Rattle.scroll_layouts.specs.lemmas.WholeLemmas.{bytes-below}
 use Rattle.scroll_layouts.specs.lemmas.ListLemmas.{counted-cut}
 use Rattle.scroll_layouts.proofs.lists.ListOfReadPartCountError.read_at.Goals as goal
@@ -31,16 +30,14 @@ returns-clause-read g c =
     let end = c.in_ok-end.end in
     let rest = take (length s - o) (drop o s) in
     let f = g.K.Listed.item in
-    let is : rest ≡ drop o s =
-    take_all (length s - o) (drop o s) (omega (arith, length-drop o s)) in
     let inside = c.in_ok-end.ensures.inside in
-    let long : length (take end rest) ≡ end = length-take-le end rest inside in
-    subst (λ l. (o + length l ≤ length s) × (l ≡ take (length l) (drop o s))
-    × ∥ CountedItems f c.args.order l 0 (length l) c.args.ctx.now.0 ∥₁)
-    (sym c.of-list.ensures) (
-      omega (arith, long, inside, ap length is, length-drop o s, c.requires),
-      ap (take end) is ∙ ap (λ k. take k (drop o s)) (sym long),
-      ∣ counted-cut f c.args.order rest end c.args.ctx.now.0
+    let list = g.L.ListPart.seen c.of-list.result in
+    let there = cut-there s o end list c.requires inside c.of-list.ensures in (
+      there.1,
+      there.2,
+      subst (λ l. ∥ CountedItems f c.args.order l 0 (length l) c.args.ctx.now.0 ∥₁)
+          (sym c.of-list.ensures)
+          ∣ counted-cut f c.args.order rest end c.args.ctx.now.0
           (bytes-taken (length s - o) o s (bytes-below s c.type_inv.from)) inside
           c.in_ok-end.ensures.read ∣₁,
     )

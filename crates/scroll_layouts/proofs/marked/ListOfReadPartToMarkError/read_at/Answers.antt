@@ -1,8 +1,7 @@
 -- The values are values of their own bytes.
-use Rattle.std.proofs.Common.{◌≡◌, ◌≤◌, ◌+◌, ◌-◌, length, drop, take, sym, ap, subst, ◌∙◌, arith, rules, length-drop}
-use Rattle.std.proofs.lemmas.List.{take_all, length-take-le}
+use Rattle.std.proofs.Common.{◌-◌, length, drop, take, sym, subst, rules}
 use Rattle.scroll_layouts.specs.Marks.{CountedMarked, MarkedItems}
-use Rattle.scroll_layouts.specs.lemmas.Parts.{bytes-taken}
+use Rattle.scroll_layouts.specs.lemmas.Parts.{bytes-taken, cut-there}
 use Rattle.scroll_layouts.specs.lemmas.WholeLemmas.{bytes-below}
 use Rattle.scroll_layouts.specs.lemmas.MarkLemmas.{counted-marked, marked-cut}
 use Rattle.scroll_layouts.proofs.marked.ListOfReadPartToMarkError.read_at.Goals as goal
@@ -33,16 +32,14 @@ returns-clause-read g c =
     let rest = take (length s - o) (drop o s) in
     let f = g.K.Listed.item in
     let mark = g.K.End.EndMark.mark in
-    let is : rest ≡ drop o s =
-    take_all (length s - o) (drop o s) (omega (arith, length-drop o s)) in
     let inside = c.in_ok-end.ensures.inside in
-    let long : length (take end rest) ≡ end = length-take-le end rest inside in
-    subst (λ l. (o + length l ≤ length s) × (l ≡ take (length l) (drop o s))
-    × ∥ MarkedItems mark f c.args.order l (length l) ∥₁)
-    (sym c.of-list.ensures) (
-      omega (arith, long, inside, ap length is, length-drop o s, c.requires),
-      ap (take end) is ∙ ap (λ k. take k (drop o s)) (sym long),
-      ∣ counted-marked (marked-cut mark f c.args.order rest end c.in_ok-end.count
+    let list = g.L.ListPart.seen c.of-list.result in
+    let there = cut-there s o end list c.requires inside c.of-list.ensures in (
+      there.1,
+      there.2,
+      subst (λ l. ∥ MarkedItems mark f c.args.order l (length l) ∥₁)
+          (sym c.of-list.ensures)
+          ∣ counted-marked (marked-cut mark f c.args.order rest end c.in_ok-end.count
           (bytes-taken (length s - o) o s (bytes-below s c.type_inv.from)) inside
           c.in_ok-end.ensures.read) ∣₁,
     )

@@ -1,7 +1,7 @@
 -- The values so far follow one another.
 use Rattle.std.proofs.Common.{◌≤◌, ◌-◌, length}
 use Rattle.scroll_layouts.specs.Lists.{CountedItems}
-use Rattle.scroll_layouts.proofs.lists.read_items.Given as goal
+use Rattle.scroll_layouts.proofs.refusals.explain_counted.Given as goal
 
 abbrev pub invariant-loop-done : goal.invariant-loop-done
 invariant-loop-done g l =

@@ -1,7 +1,7 @@
 -- The values so far stand before the mark.
 use Rattle.std.proofs.Common.{◌≤◌, ◌-◌, length}
 use Rattle.scroll_layouts.specs.Marks.{CountedBefore}
-use Rattle.scroll_layouts.proofs.marked.find_end.Given as goal
+use Rattle.scroll_layouts.proofs.marked.skip_marked.Given as goal
 
 abbrev pub invariant-loop-end : goal.invariant-loop-end
 invariant-loop-end g l =

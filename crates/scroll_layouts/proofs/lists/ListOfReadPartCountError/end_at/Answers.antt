@@ -1,0 +1,48 @@
+-- The values are values of their own bytes.
+use Rattle.std.proofs.Common.{◌-◌, length, drop, take, sym, subst, arith, rules}
+use Rattle.scroll_layouts.specs.Lists.{CountedItems}
+use Rattle.scroll_layouts.specs.lemmas.Parts.{bytes-taken, cut-there}
+use Rattle.scroll_layouts.specs.lemmas.WholeLemmas.{bytes-below}
+use Rattle.scroll_layouts.specs.lemmas.ListLemmas.{counted-cut}
+use Rattle.scroll_layouts.proofs.lists.ListOfReadPartCountError.end_at.Goals as goal
+
+pub of-requires : goal.of-requires
+of-requires g c =
+    let s = c.args.from.now in
+    let o = c.args.offset in
+    let end = c.in_ok-end.end in
+    let rest = take (length s - o) (drop o s) in
+    let f = g.K.Listed.item in
+    let n = c.args.ctx.now.0 in
+    let lists : CountedItems f c.args.order (take end rest) 0 (length (take end rest)) n
+    → g.K.IsList.is_list c.args.order (take end rest) n = λ h. search rules in
+    λ k. (
+      search rules,
+      ∣ lists (counted-cut f c.args.order rest end n
+          (bytes-taken (length s - o) o s (bytes-below s c.type_inv.from))
+          c.in_ok-end.ensures.inside c.in_ok-end.ensures.read) ∣₁,
+    )
+
+pub returns-clause-ends : goal.returns-clause-ends
+returns-clause-ends g c =
+    let s = c.args.from.now in
+    let o = c.args.offset in
+    let end = c.in_ok-end.end in
+    let rest = take (length s - o) (drop o s) in
+    let f = g.K.Listed.item in
+    let inside = c.in_ok-end.ensures.inside in
+    let list = g.L.ListPart.seen c.of.result in
+    let there = cut-there s o end list c.requires inside c.of.ensures in
+    record {
+      value = record { 0 = c.of.result; 1 = record {} };
+      there = (
+        there.1,
+        there.2,
+        subst (λ l. ∥ CountedItems f c.args.order l 0 (length l) c.args.ctx.now.0 ∥₁)
+            (sym c.of.ensures)
+            ∣ counted-cut f c.args.order rest end c.args.ctx.now.0
+            (bytes-taken (length s - o) o s (bytes-below s c.type_inv.from)) inside
+            c.in_ok-end.ensures.read ∣₁,
+      );
+      moves = omega (arith, there.0);
+    }
