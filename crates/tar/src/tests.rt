@@ -51,4 +51,19 @@ fn what_is_refused(rt: HostRuntime) {
     assert!(rt; matches!(read_header(b"ustar", &mut 0), Err(Error::TooBig { .. })));
     bytes[257] = b'U';
     assert!(rt; matches!(read_header(&bytes, &mut 0), Err(Error::BadInput { .. })));
+    bytes[257] = b'u';
+    let mut header = read_header(&bytes, &mut 0).expect(&rt, "a header");
+    header.name = b"a.txt";
+    let (mut target, mut at) = ([0xff; 512], 0);
+    let written = write_header(&mut target, &mut at, header);
+    assert!(rt;
+        matches!(
+            written,
+            Err(Error::BadInput {
+                size: 5,
+                msg: "another length than its count"
+            })
+        )
+    );
+    assert!(rt; at == 0 && target == [0xff; 512]);
 }
