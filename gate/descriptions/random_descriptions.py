@@ -47,7 +47,7 @@ from step import FOLDERS, TOP, Ran, Step, Stop, below, copy_kept, count_workers,
 LIBRARY = "scroll_layouts"
 SEED, COUNT = "34:1", 8
 # How often structs are drawn again, so that they have all kinds.
-AGAIN = 50
+AGAIN = 500
 # How many structs are in a crate at most: the more, the more memory a check takes.
 MOST = 2
 # The crate of the program.
