@@ -62,11 +62,11 @@ impl<'a, E: From<Error> + Drop, C: Drop, A: ReadPart<'a, C, E>> ReadPart<'a, Pad
         }
     }
 
+    #[tactic(auto, using(crate::specs::lemmas::EndLemmas::padded_parts))]
     #[inline(always)]
     fn end_at(from: &'a [u8], offset: usize, order: Endian, ctx: &Padded<C>) -> Option<usize> {
-        match <A as ReadPart<'a, Padded<C>, E>>::read_at(from, offset, order, ctx) {
-            Ok((_value, end)) => Some(end),
-            Err(_error) => None,
-        }
+        let last = A::end_at(from, offset, order, &ctx.1)?;
+        let zeros = padding(last - offset, ctx.0);
+        <Zeros as ReadPart<usize, E>>::end_at(from, last, order, &zeros)
     }
 }

@@ -1,12 +1,14 @@
 -- Where values end that are put together from others. The lemmas are proved, and promise nothing.
-use Rattle.std.proofs.Common.{◌≡◌, ◌+◌, ◌-◌, ◌<◌, ◌≤◌, ℕ, List, length, take, drop, sym, subst, arith}
+use Rattle.std.proofs.Common.{inr, ◌≡◌, ◌+◌, ◌-◌, ◌<◌, ◌≤◌, ℕ, List, length, take, drop, sym, subst, arith}
 use Rattle.std.specs.List.{All}
 use Rattle.std.specs.Prelude.{IfSome, IfNone, Bool, true, false, Option, Some, None}
 use Rattle.scroll.specs.declared.endian.Endian.{Endian}
 use Rattle.scroll.specs.declared.error.Error.{Error}
-use Rattle.scroll_layouts.specs.Formats.{Format, pair, headed, within, behind, ordered, choice, shape, when, EndsAt, reads, len}
+use Rattle.scroll_formats.specs.Zeros.{padding_len}
+use Rattle.scroll_layouts.specs.Formats.{Format, pair, headed, within, behind, ordered, choice, shape, when, zeros, padded, EndsAt, RefusedAt, reads, len}
 use Rattle.scroll_layouts.specs.declared.choice.Choice.TheVariants.{First, Second}
 use Rattle.scroll_layouts.specs.lemmas.FormatLaws.{outer}
+use Rattle.scroll_layouts.specs.lemmas.LeafLemmas.{gap-read, gap-moves, gap-refused}
 
 -- what follows of an option
 pub some-map : {X : Type 0} {P Q : X → Type 0} (o : Option X) → ((x : X) → P x → Q x)
@@ -114,6 +116,31 @@ within-ends gives n f order s at to end all room is full h =
       there = (room, outer f order s at n h.value all room size h.there, size);
       moves = is;
     }
+
+pub padded-ends : {E A X : Type 0} (gives : Error → E → Type 0) (m : ℕ) (f : Format E A)
+    (unique : (x y : X) → x ≡ y) (order : Endian) (s : List ℕ) (at mid to n : ℕ)
+    → EndsAt f order s at mid → n ≡ padding_len (mid - at) m
+    → EndsAt (zeros gives n unique) order s mid to → EndsAt (padded gives m f) order s at to
+padded-ends gives m f unique order s at mid to n h is k = record {
+  value = h.value;
+  there = (h.there, gap-read m at (len f h.value) mid n s h.moves is k.there);
+  moves = gap-moves m at (len f h.value) mid n to h.moves is k.moves;
+}
+
+pub padded-refused : {E A X : Type 0} (gives : Error → E → Type 0) (m : ℕ) (f : Format E A)
+    (unique : (x y : X) → x ≡ y) (order : Endian) (s : List ℕ) (at mid n : ℕ)
+    → EndsAt f order s at mid → n ≡ padding_len (mid - at) m
+    → RefusedAt (zeros gives n unique) order s mid → RefusedAt (padded gives m f) order s at
+padded-refused gives m f unique order s at mid n h is k = record {
+  error = k.error;
+  refused = inr (
+    h.value,
+    h.there,
+    gap-refused gives m at (len f h.value) mid n s k.error h.moves is k.refused,
+  );
+}
+
+pub ruleset padded_parts = (padded-ends, padded-refused, none-map)
 
 pub ruleset part_ends = (
   ends-of,
