@@ -106,7 +106,8 @@ def fixed_type(fields: Sequence[Tuple[str, Fixed]]) -> str:
 
 
 def numbers(fields: Sequence[Tuple[str, Fixed]], variable: str) -> Part:
-    """Fields of a fixed size, one after another. Where they are many, they have a variable, if it has a name."""
+    """Fields of a fixed size, one after another. Where they are many, or an array is among them, they have a variable, if it
+    has a name: far inside a pattern the borrow checker doesn't cover an array among others."""
     ways = [(name, of, way + ".0" * isinstance(of, Record)) for (name, of), way in zip(fields, paths(len(fields), ".0"))]
     told = [Number(name + inner, kind, way + inner) for name, of, way in ways for inner, kind in numbers_of(of)]
     # (bytes that may be a constant)
@@ -114,7 +115,8 @@ def numbers(fields: Sequence[Tuple[str, Fixed]], variable: str) -> Part:
     ghost = nested([record(f"x.{label(name)}") if isinstance(of, Record) else f"x.{label(name)}" for name, of in fields])
     split, join = fixed_tuple(fields, [f"self.{it}" for it, _ in fields]), fixed_tuple(fields, [local(it) for it, _ in fields])
     type_, before, after = fixed_type(fields), "", ""
-    if variable and len(fields) > 1 and max(len(split), len(type_)) > LONGEST:
+    is_long = max(len(split), len(type_)) > LONGEST
+    if variable and len(fields) > 1 and (is_long or any(isinstance(of, Array) for _, of in fields)):
         before, after = f"\n        let {variable} = {split};", f"\n        let {join} = {variable};"
         split = join = variable
     made = Part(f"Run<{type_}>", "()", NOTHING, record(ghost), f"Run({split})", f"Run({join})", before, after, told)

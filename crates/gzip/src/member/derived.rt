@@ -422,11 +422,13 @@ impl<'a> Shape for ExtraField<'a> {
     ghost inner_of = { λ _. record { 0 = tt; 1 = record {}; 2 = record {} } };
 
     fn split(&self) -> ExtraFieldParts<'a> {
-        (Run((self.id, self.len)), self.data)
+        let numbers = (self.id, self.len);
+        (Run(numbers), self.data)
     }
 
     fn join(parts: ExtraFieldParts<'a>) -> ExtraField<'a> {
-        let (Run((id, len)), data) = parts;
+        let (Run(numbers), data) = parts;
+        let (id, len) = numbers;
         ExtraField { id, len, data }
     }
 

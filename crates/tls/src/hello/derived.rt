@@ -298,9 +298,10 @@ impl<'a> Shape for ClientHello<'a> {
     ghost inner_of = { λ n. record { 0 = n; 1 = record { 0 = tt; 1 = record {}; 2 = record {} } } };
 
     fn split(&self) -> ClientHelloParts<'a> {
+        let numbers = (self.version, self.random, self.session_len);
         (
             (
-                Run((self.version, self.random, self.session_len)),
+                Run(numbers),
                 (
                     self.session,
                     (
@@ -316,11 +317,12 @@ impl<'a> Shape for ClientHello<'a> {
     fn join(parts: ClientHelloParts<'a>) -> ClientHello<'a> {
         let (
             (
-                Run((version, random, session_len)),
+                Run(numbers),
                 (session, (Run(suites_len), (suites, (Run(compressions_len), compressions)))),
             ),
             extensions,
         ) = parts;
+        let (version, random, session_len) = numbers;
         ClientHello {
             version,
             random,

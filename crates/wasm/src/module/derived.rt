@@ -92,14 +92,16 @@ impl<'a> Shape for Module<'a> {
     } };
 
     fn split(&self) -> ModuleParts<'a> {
+        let numbers = (self.magic, self.version);
         (
-            (Run((self.magic, self.version)), Zeros),
+            (Run(numbers), Zeros),
             ListOf(SectionsPart(self.sections), PhantomData),
         )
     }
 
     fn join(parts: ModuleParts<'a>) -> Module<'a> {
-        let ((Run((magic, version)), _), ListOf(SectionsPart(sections), _)) = parts;
+        let ((Run(numbers), _), ListOf(SectionsPart(sections), _)) = parts;
+        let (magic, version) = numbers;
         Module {
             magic,
             version,
