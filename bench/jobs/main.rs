@@ -26,16 +26,11 @@ unsafe extern "C" {
     fn rt_index(file: *const u8, len: usize) -> u64;
     fn rt_archive(archive: *const u8, len: usize) -> u64;
     fn rt_log(log: *const u8, len: usize) -> u64;
-    fn rt_read_hellos(bytes: *const u8, len: usize) -> u64;
-    fn rt_write_hellos(bytes: *const u8, len: usize, target: *mut u8, room: usize) -> u64;
-    fn rt_read_answers(bytes: *const u8, len: usize) -> u64;
-    fn rt_write_answers(bytes: *const u8, len: usize, target: *mut u8, room: usize) -> u64;
-    fn rt_read_module(file: *const u8, len: usize) -> u64;
-    fn rt_write_module(file: *const u8, len: usize, target: *mut u8, room: usize) -> u64;
-    fn rt_read_members(bytes: *const u8, len: usize) -> u64;
-    fn rt_write_members(bytes: *const u8, len: usize, target: *mut u8, room: usize) -> u64;
-    fn rt_read_entries(bytes: *const u8, len: usize) -> u64;
-    fn rt_write_entries(bytes: *const u8, len: usize, target: *mut u8, room: usize) -> u64;
+    fn rt_hellos(from: *const u8, len: usize, to: *mut u8, room: usize) -> u64;
+    fn rt_answers(from: *const u8, len: usize, to: *mut u8, room: usize) -> u64;
+    fn rt_modules(from: *const u8, len: usize, to: *mut u8, room: usize) -> u64;
+    fn rt_members(from: *const u8, len: usize, to: *mut u8, room: usize) -> u64;
+    fn rt_entries(from: *const u8, len: usize, to: *mut u8, room: usize) -> u64;
 }
 
 // How often either side asked for memory, and for how many bytes in all.
@@ -170,18 +165,15 @@ macro_rules! records {
 }
 
 macro_rules! files {
-    ($bench:expr, $title:literal, $file:literal, $hand:ident, $read:ident, $write:ident) => {{
+    ($bench:expr, $title:literal, $file:literal, $kind:ident, $copy:ident) => {{
         let file = file_of($file);
-        let read = by!($read);
-        let row = concat!($title, " read (per byte)");
-        run($bench, row, file.len() as u64, &mut reading(&file), vec![read, rust("by hand", by_hand::$hand::read)]);
         let mut room = vec![0; file.len()];
-        let write = ours("scroll", |job| unsafe {
-            $write(job.input.as_ptr(), job.input.len(), job.output.as_mut_ptr(), job.output.len())
+        let ours = ours("scroll", |job| unsafe {
+            $copy(job.input.as_ptr(), job.input.len(), job.output.as_mut_ptr(), job.output.len())
         });
-        let row = concat!($title, " written (per byte)");
-        let job = &mut Job { output: &mut room, ..reading(&file) };
-        run($bench, row, file.len() as u64, job, vec![write, rust("by hand", by_hand::$hand::written)]);
+        let by_hand = rust("by hand", |job| by_hand::copy_all(job, by_hand::$kind::copy));
+        let row = concat!($title, " read and written (per byte)");
+        run($bench, row, file.len() as u64, &mut Job { output: &mut room, ..reading(&file) }, vec![ours, by_hand]);
     }};
 }
 
@@ -226,11 +218,11 @@ fn main() {
     for (count, row) in [(20_000, "records of a log"), (LARGE as u64 / 37, "records of a log of 64 MiB")] {
         run(bench, row, count, &mut reading(&log(count)), with(by!(rt_log), peers::log()));
     }
-    files!(bench, "messages of TLS", "HELLOS", hellos, rt_read_hellos, rt_write_hellos);
-    files!(bench, "messages of DNS", "ANSWERS", answers, rt_read_answers, rt_write_answers);
-    files!(bench, "a module of WebAssembly", "MODULE", modules, rt_read_module, rt_write_module);
-    files!(bench, "headers of gzip", "MEMBERS", members, rt_read_members, rt_write_members);
-    files!(bench, "headers of tar", "ENTRIES", entries, rt_read_entries, rt_write_entries);
+    files!(bench, "messages of TLS", "HELLOS", hellos, rt_hellos);
+    files!(bench, "messages of DNS", "ANSWERS", answers, rt_answers);
+    files!(bench, "a module of WebAssembly", "MODULE", modules, rt_modules);
+    files!(bench, "headers of gzip", "MEMBERS", members, rt_members);
+    files!(bench, "headers of tar", "ENTRIES", entries, rt_entries);
     records!(bench, five, "5", rt_read_five, rt_write_five);
     records!(bench, twelve, "12", rt_read_twelve, rt_write_twelve);
     records!(bench, forty, "40", rt_read_forty, rt_write_forty);

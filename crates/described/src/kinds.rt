@@ -13,6 +13,23 @@ pub trait Copies {
     fn copy(from: &[u8], to: &mut [u8]) -> Option<(usize, u64)>;
 }
 
+/// Reads and writes all values of a kind, and returns a digest of what was found in them, or `None`
+/// where one is refused.
+pub fn copy_all<K: Copies>(from: &[u8], to: &mut [u8]) -> Option<u64> {
+    let mut at: usize = 0;
+    let mut digest: u64 = 0;
+    for _ in 0..from.len() {
+        let rest = from.get(at..)?;
+        if rest.is_empty() {
+            break;
+        }
+        let (size, found) = K::copy(rest, to.get_mut(at..)?)?;
+        at = at.saturating_add(size);
+        digest = digest.rotate_left(1) ^ found;
+    }
+    Some(digest)
+}
+
 /// First messages of TLS.
 pub struct Hellos;
 

@@ -6,27 +6,10 @@
 
 mod kinds;
 
-use crate::kinds::{Answers, Copies, Entries, Hellos, Members, Modules};
+use crate::kinds::{Answers, Copies, Entries, Hellos, Members, Modules, copy_all};
 use std::env;
 use std::io::Read;
 use std::process::ExitCode;
-
-// Reads and writes all values of a kind, and returns a digest of what was found in them, or `None`
-// where one is refused.
-fn copy_all<K: Copies>(from: &[u8], to: &mut [u8]) -> Option<u64> {
-    let mut at: usize = 0;
-    let mut digest: u64 = 0;
-    for _ in 0..from.len() {
-        let rest = from.get(at..)?;
-        if rest.is_empty() {
-            break;
-        }
-        let (size, found) = K::copy(rest, to.get_mut(at..)?)?;
-        at = at.saturating_add(size);
-        digest = digest.rotate_left(1) ^ found;
-    }
-    Some(digest)
-}
 
 // Reads and writes all values of a kind as often as is said.
 fn run_rounds<K: Copies>(from: &[u8], to: &mut [u8], rounds: u64) -> Option<u64> {

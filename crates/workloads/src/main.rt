@@ -11,6 +11,7 @@ mod inputs;
 mod lines;
 mod objects;
 mod own;
+mod programs;
 mod records;
 mod streams;
 mod tables;
