@@ -101,6 +101,7 @@ build_layouts() {
 build_programs() {
     echo "bench: cargo builds the loops in Rust, in four layouts" >&2
     make_side "$here"/src/*.rs
+    declare_exports "$loops"
     depend_on_crate
     build_layouts side_by_side --features "$(echo "$sets" | tr ' ' ',')"
 }
@@ -176,6 +177,7 @@ build_job_programs() {
     : >"$room/versions"
     find_peers >"$room/peers"
     make_side "$here"/jobs/*.rs "$here/src/host.rs" "$here/src/timing.rs" "$here/src/inputs.rs" "$here/src/dwarf.rs" "$room/records.rs"
+    declare_exports "$loops"
     take_crates_from /usr/share/cargo/registry
     awk -v peers="$room/peers" '/@PEERS@/ { while ((getline line < peers) > 0) print line; next } { print }' "$here/jobs/Cargo.toml.in" >"$side/Cargo.toml" || exit 1
     features=$(cut -d ' ' -f 1 "$room/versions" | tr '\n' ',')

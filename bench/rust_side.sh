@@ -61,6 +61,11 @@ make_side() {
     export CARGO_TARGET_DIR="$side/target"
 }
 
+# Writes what Rust declares of a crate's exports.
+declare_exports() {
+    python3 "$top/embed/library.py" --declare "$1" >"$side/src/exports.rs" || exit 1
+}
+
 # Writes how cargo has the Rust crate.
 depend_on_crate() {
     crate='"=0.13.0"'

@@ -49,6 +49,7 @@ make_room side
 # Looks whether cargo has the Rust crate, and the derives.
 find_crate() {
     make_side "$here"/src/*.rs
+    declare_exports "$top/crates/compare_calls"
     depend_on_crate
     features=derive
     fetch && return

@@ -15,6 +15,10 @@ slices of numbers and of structs with `#[repr(C)]`; a `Global` takes no argument
 border tests each reference, and returns -1, NAME_BAD_ARGUMENT, where the call would break what Rust says of it. Other errors are
 constants, as `pub const NAME: i32 = -2;`, whose doc comments are their texts.
 
+    python3 embed/library.py --declare CRATE
+
+prints what Rust declares of a crate's exports, whatever they take, and proves and builds nothing.
+
 The command fails where it finds an export that has another form, a name that is exported beside these, or a function that is needed
 and is none of malloc, realloc, free and of the C library's on memory. The variable JOBS sets the jobs of the proof.
 """
@@ -26,7 +30,7 @@ import sys
 import tempfile
 from dataclasses import dataclass, field
 from pathlib import Path
-from typing import Dict, List, NamedTuple, Tuple
+from typing import Dict, Iterator, List, NamedTuple, Tuple
 
 # A number's type in Rattle and Rust, in C, and in Python's ctypes.
 NUMBERS = {
@@ -99,6 +103,15 @@ def read_param(function: str, text: str) -> Param:
     return Param(name, found[4], bool(found[1]), bool(found[2]), bool(found[3]))
 
 
+def read_exports(file: str, text: str) -> Iterator[Tuple[Export, str]]:
+    """Returns the exports of a file, each with its clauses."""
+    if text.count("#[unsafe(no_mangle)]") != len(EXPORT.findall(text)):
+        raise Refused(f"{file}: a function with no_mangle that is no pub extern \"C\" fn in the layout of rt fmt")
+    for doc, name, params, result, clauses in EXPORT.findall(text):
+        words = [read_param(name, it) for it in params.split(",") if it.strip()]
+        yield Export(text_of(doc), name, [it for it in words if it.item != "Global"], result), clauses
+
+
 def read_crate(folder: Path) -> Crate:
     """Reads the exports off the sources."""
     crate = Crate(folder.name)
@@ -107,18 +120,15 @@ def read_crate(folder: Path) -> Crate:
         text = file.read_text(encoding="utf-8")
         if file.name == "lib.rt":
             crate.about = " ".join(it[3:].strip() for it in text.splitlines() if it.startswith("//!"))
-        if text.count("#[unsafe(no_mangle)]") != len(EXPORT.findall(text)):
-            raise Refused(f"{file.name}: a function with no_mangle that is no pub extern \"C\" fn in the layout of rt fmt")
         for doc, name, body in STRUCT.findall(text):
             if len(FIELD.findall(body)) != sum(not it.strip().startswith("//") for it in body.splitlines()):
                 raise Refused(f"{name}: it has more than public fields")
             crate.structs[name] = (text_of(doc), [(text_of(it[0]), it[1], it[2]) for it in FIELD.findall(body)])
         crate.codes += [(text_of(doc), name, int(value)) for doc, name, value in CODE.findall(text)]
-        for doc, name, params, result, clauses in EXPORT.findall(text):
+        for export, clauses in read_exports(file.name, text):
             if re.search(r"^\s*requires\b", clauses, re.M):
-                raise Refused(f"{name}: a requires, which its caller can't prove: test it, and return an error")
-            words = [read_param(name, it) for it in params.split(",") if it.strip()]
-            crate.exports.append(Export(text_of(doc), name, [it for it in words if it.item != "Global"], result))
+                raise Refused(f"{export.name}: a requires, which its caller can't prove: test it, and return an error")
+            crate.exports.append(export)
     check_crate(crate)
     return crate
 
@@ -251,6 +261,21 @@ def border(crate: Crate) -> str:
     return f'#include "{crate.name}.h"\n{BORDER}\n' + "\n".join([*(border_function(crate, it) for it in crate.exports), text])
 
 
+def rust_head(export: Export) -> str:
+    words = []
+    for it in export.params:
+        words.append(f"{it.name}: {('*mut ' if it.is_mutable else '*const ') if it.is_reference else ''}{it.item}")
+        words += [f"{it.name}_len: usize"] if it.is_slice else []
+    return f"pub fn {export.name}({', '.join(words)}){f' -> {export.result}' if export.result else ''}"
+
+
+def declare(folder: Path) -> str:
+    """Returns what Rust declares of the exports of a crate."""
+    files = sorted((folder / "src").rglob("*.rt"))
+    exports = [it for file in files for it, _ in read_exports(file.name, file.read_text(encoding="utf-8"))]
+    return 'unsafe extern "C" {\n' + "".join(f"    {rust_head(it)};\n" for it in exports) + "}\n"
+
+
 def rust(crate: Crate) -> str:
     """Returns the declarations for Rust."""
     text = "".join(f"/// {doc}\npub const {name}: i32 = {value};\n" for doc, name, value in crate.codes)
@@ -260,11 +285,7 @@ def rust(crate: Crate) -> str:
         text += f"\n/// {doc}\n#[repr(C)]\n#[derive(Clone, Copy, Debug, Default)]\npub struct {name} {{\n{lines}}}\n"
     text += '\nunsafe extern "C" {\n'
     for it in crate.exports:
-        words = []
-        for p in it.params:
-            words.append(f"{p.name}: {('*mut ' if p.is_mutable else '*const ') if p.is_reference else ''}{p.item}")
-            words += [f"{p.name}_len: usize"] if p.is_slice else []
-        text += f"    /// {it.doc}\n    pub fn {it.name}({', '.join(words)}){f' -> {it.result}' if it.result else ''};\n"
+        text += f"    /// {it.doc}\n    {rust_head(it)};\n"
     return text + f"    /// Returns the text of an error.\n    pub fn {crate.name}_text(code: i32) -> *const std::ffi::c_char;\n}}\n"
 
 
@@ -355,7 +376,10 @@ def main(words: List[str]) -> int:
         print(__doc__)
         return 2
     try:
-        embed(*(Path(it).resolve() for it in words))
+        if words[0] == "--declare":
+            print(declare(Path(words[1])), end="")
+        else:
+            embed(*(Path(it).resolve() for it in words))
         return 0
     except Refused as why:
         print(f"library: {why}", file=sys.stderr)

@@ -4,6 +4,7 @@
 mod by_hand;
 #[allow(dead_code)]
 mod dwarf;
+mod exports;
 mod host;
 #[allow(dead_code)]
 mod inputs;
@@ -12,26 +13,11 @@ mod records;
 #[allow(dead_code)]
 mod timing;
 
+use exports::*;
 use inputs::Random;
 use std::alloc::{GlobalAlloc, Layout, System};
 use std::sync::atomic::{AtomicU64, Ordering};
 use timing::{Bench, Form, Job, ours, reading, rust, writing};
-
-unsafe extern "C" {
-    fn rt_sections(file: *const u8, len: usize) -> u64;
-    fn rt_symbols(file: *const u8, len: usize) -> u64;
-    fn rt_abbreviations(bytes: *const u8, len: usize) -> u64;
-    fn rt_write_tables(bytes: *const u8, len: usize, target: *mut u8, room: usize) -> u64;
-    fn rt_lines(bytes: *const u8, len: usize) -> u64;
-    fn rt_index(file: *const u8, len: usize) -> u64;
-    fn rt_archive(archive: *const u8, len: usize) -> u64;
-    fn rt_log(log: *const u8, len: usize) -> u64;
-    fn rt_hellos(from: *const u8, len: usize, to: *mut u8, room: usize) -> u64;
-    fn rt_answers(from: *const u8, len: usize, to: *mut u8, room: usize) -> u64;
-    fn rt_modules(from: *const u8, len: usize, to: *mut u8, room: usize) -> u64;
-    fn rt_members(from: *const u8, len: usize, to: *mut u8, room: usize) -> u64;
-    fn rt_entries(from: *const u8, len: usize, to: *mut u8, room: usize) -> u64;
-}
 
 // How often either side asked for memory, and for how many bytes in all.
 static ASKED: AtomicU64 = AtomicU64::new(0);

@@ -96,11 +96,6 @@ def rust(name, sizes):
 pub mod {name} {{
     pub const SIZE: usize = {size};
 
-    unsafe extern "C" {{
-        pub fn rt_read_{name}(source: *const u8, len: usize) -> u64;
-        pub fn rt_write_{name}(target: *mut u8, len: usize) -> u64;
-    }}
-
     #[cfg(feature = "scroll_derive")]
     pub mod derived {{
         use scroll::{{LE, Pread, Pwrite}};

@@ -1,13 +1,9 @@
 //! Numbers read into a vector, and appended to one.
 
+use crate::exports::*;
 use crate::inputs::{SIZE, bytes};
 use crate::timing::{Bench, ours, reading, rust};
 use scroll::{LE, Pread};
-
-unsafe extern "C" {
-    fn rt_many(source: *const u8, len: usize) -> u64;
-    fn rt_append(source: *const u8, len: usize) -> u64;
-}
 
 #[inline(never)]
 fn many(source: &[u8]) -> u64 {

@@ -1,16 +1,10 @@
 //! Records of five numbers by both errors, and reads that are refused.
 
+use crate::exports::*;
 use crate::inputs::{SIZE, bytes};
 use crate::timing::{Bench, Form, ours, reading, rust};
 use scroll::ctx::StrCtx;
 use scroll::{Error, LE, Pread};
-
-unsafe extern "C" {
-    fn rt_form_small(source: *const u8, len: usize) -> u64;
-    fn rt_form_error(source: *const u8, len: usize) -> u64;
-    fn rt_refused(source: *const u8, len: usize) -> u64;
-    fn rt_refused_text(source: *const u8, len: usize) -> u64;
-}
 
 #[inline(never)]
 fn five(source: &[u8], offset: &mut usize) -> Result<u64, Error> {

@@ -1,18 +1,12 @@
 //! A file as a C compiler wrote it: its sections, its abbreviations, and their numbers in LEB128, read and written back.
 
+use crate::exports::*;
 use crate::dwarf;
 use crate::gimli_form::{put_uleb, put_uleb_tested};
 use crate::inputs::SIZE;
 use crate::timing::{Bench, Job, ours, reading, rust};
 use scroll::ctx::StrCtx;
 use scroll::{Endian, LE, Pread, Sleb128, Uleb128};
-
-unsafe extern "C" {
-    fn rt_file_ulebs(source: *const u8, len: usize) -> u64;
-    fn rt_copy_ulebs(source: *const u8, len: usize, target: *mut u8, room: usize) -> u64;
-    fn rt_abbreviations(source: *const u8, len: usize) -> u64;
-    fn rt_sections(file: *const u8, len: usize) -> u64;
-}
 
 macro_rules! sources {
     ($name:ident) => {

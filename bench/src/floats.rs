@@ -1,15 +1,9 @@
 //! Floats that are read and written.
 
+use crate::exports::*;
 use crate::inputs::{Random, SIZE, bytes};
 use crate::timing::{Bench, Form, ours, reading, rust, writing};
 use scroll::{BE, LE, Pread, Pwrite};
-
-unsafe extern "C" {
-    fn rt_rises_f32_le(source: *const u8, len: usize) -> u64;
-    fn rt_rises_f64_le(source: *const u8, len: usize) -> u64;
-    fn rt_put_f32_be(target: *mut u8, len: usize) -> u64;
-    fn rt_put_f64_le(target: *mut u8, len: usize) -> u64;
-}
 
 macro_rules! rises {
     ($name:ident, $number:ty, $order:expr) => {{

@@ -1,14 +1,10 @@
 //! Numbers in LEB128 that are read, and that are written in their shortest encodings, by the lengths of these.
 
+use crate::exports::*;
 use crate::gimli_form::{put_sleb, put_sleb_tested, put_uleb, put_uleb_tested};
 use crate::inputs::{Lengths, Random, SIZE, push_sleb, push_uleb};
 use crate::timing::{Bench, Job, ours, reading, rust, writing};
 use scroll::{Pread, Sleb128, Uleb128};
-
-unsafe extern "C" {
-    fn rt_gread_ulebs(source: *const u8, len: usize) -> u64;
-    fn rt_gread_slebs(source: *const u8, len: usize) -> u64;
-}
 
 // Both calls of the crate, each in both forms of the loop.
 macro_rules! sums {
@@ -104,12 +100,6 @@ fn all_reads(bench: &mut Bench) {
     row("signed real mix", Lengths::Real, true);
 }
 
-unsafe extern "C" {
-    fn rt_gwrite_ulebs(numbers: *const u64, count: usize, target: *mut u8, len: usize) -> u64;
-    fn rt_gwrite_slebs(numbers: *const u64, count: usize, target: *mut u8, len: usize) -> u64;
-    fn rt_convert_ulebs(numbers: *const u64, count: usize, target: *mut u8, len: usize) -> u64;
-}
-
 const COUNT: usize = 8192;
 
 macro_rules! puts {
@@ -131,7 +121,7 @@ macro_rules! puts {
 
 macro_rules! targets {
     ($form:literal, $name:ident) => {
-        ours($form, |job| unsafe { $name(job.numbers.as_ptr(), job.numbers.len(), job.output.as_mut_ptr(), job.output.len()) })
+        ours($form, |job| unsafe { $name(job.numbers.as_ptr().cast(), job.numbers.len(), job.output.as_mut_ptr(), job.output.len()) })
     };
 }
 

@@ -3,8 +3,9 @@
 //!
 //! If the forms of a row disagree on what they return or write, it says so, and the exit status is 1.
 
+// (what the proved loops export; a single set uses only a part of what follows)
+mod exports;
 mod host;
-// (a single set uses only a part of these)
 #[allow(dead_code)]
 mod inputs;
 #[allow(dead_code)]

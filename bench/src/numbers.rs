@@ -1,20 +1,9 @@
 //! Numbers at a cursor, where the caller ensures that there is room, and at the offsets that a table says.
 
+use crate::exports::*;
 use crate::inputs::{Random, SIZE, bytes};
 use crate::timing::{Bench, Form, Job, Loop, ours, reading, rust};
 use scroll::{BE, Cread, Endian, LE, Pread, Pwrite};
-
-unsafe extern "C" {
-    fn rt_sum_u16_le(source: *const u8, len: usize) -> u64;
-    fn rt_sum_u16_be(source: *const u8, len: usize) -> u64;
-    fn rt_sum_u32_le(source: *const u8, len: usize) -> u64;
-    fn rt_sum_u32_be(source: *const u8, len: usize) -> u64;
-    fn rt_sum_u64_le(source: *const u8, len: usize) -> u64;
-    fn rt_sum_u64_be(source: *const u8, len: usize) -> u64;
-    fn rt_rises_u128_be(source: *const u8, len: usize) -> u64;
-    fn rt_sum_u32_by(source: *const u8, len: usize, little: bool) -> u64;
-    fn rt_sum_headers(source: *const u8, len: usize, little: bool) -> u64;
-}
 
 // A loop that adds up what it reads, in both forms.
 macro_rules! sums {
@@ -126,11 +115,6 @@ fn all_at_cursors(bench: &mut Bench) {
     }
 }
 
-unsafe extern "C" {
-    fn rt_cread_u32_le(source: *const u8, len: usize) -> u64;
-    fn rt_cread_u64_be(source: *const u8, len: usize) -> u64;
-}
-
 macro_rules! sums_in_bounds {
     ($number:ty, $order:expr) => {{
         const WIDTH: usize = size_of::<$number>();
@@ -169,12 +153,6 @@ fn all_in_bounds(bench: &mut Bench) {
     };
     row("u32 LE", len / 4, sources!(rt_cread_u32_le), sums_in_bounds!(u32, LE));
     row("u64 BE", len / 8, sources!(rt_cread_u64_be), sums_in_bounds!(u64, BE));
-}
-
-unsafe extern "C" {
-    fn rt_at_u32_le(source: *const u8, len: usize, table: *const u32, table_len: usize) -> u64;
-    fn rt_at_read_u32_le(source: *const u8, len: usize, table: *const u8, table_len: usize) -> u64;
-    fn rt_write_at_u32_by(target: *mut u8, len: usize, table: *const u32, table_len: usize, little: bool) -> u64;
 }
 
 // The sum of the numbers at the offsets of a table.

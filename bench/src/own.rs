@@ -1,17 +1,9 @@
 //! Functions of one's own that aren't inlined, and the same in Rust.
 
+use crate::exports::*;
 use crate::inputs::{SIZE, bytes};
 use crate::timing::{Bench, Form, ours, reading, rust, writing};
 use scroll::{Error, LE, Pread, Pwrite};
-
-unsafe extern "C" {
-    fn rt_own_alone(source: *const u8, len: usize) -> u64;
-    fn rt_own_in_line(source: *const u8, len: usize) -> u64;
-    fn rt_own_error(source: *const u8, len: usize) -> u64;
-    fn rt_own_small(source: *const u8, len: usize) -> u64;
-    fn rt_own_array_at(source: *const u8, len: usize) -> u64;
-    fn rt_own_put_error(target: *mut u8, len: usize) -> u64;
-}
 
 #[inline(never)]
 fn read(source: &[u8], offset: &mut usize) -> Result<u32, Error> {

@@ -1,14 +1,9 @@
 //! Byte slices and arrays that are read and written.
 
+use crate::exports::*;
 use crate::inputs::{SIZE, bytes};
 use crate::timing::{Bench, Job, ours, reading, rust, writing};
 use scroll::{LE, Pread, Pwrite};
-
-unsafe extern "C" {
-    fn rt_slices(source: *const u8, len: usize) -> u64;
-    fn rt_arrays_u16x3(source: *const u8, len: usize) -> u64;
-    fn rt_put_slices(target: *mut u8, len: usize, from: *const u8, count: usize) -> u64;
-}
 
 // A loop over values of a type, in both forms.
 macro_rules! sums {

@@ -1,16 +1,10 @@
 //! Numbers read from slices and buffers of both standard libraries, and written to slices.
 
+use crate::exports::*;
 use crate::inputs::{SIZE, bytes};
 use crate::timing::{Bench, ours, reading, rust, writing};
 use scroll::{BE, IOread, IOwrite, LE};
 use std::io::{BufReader, Read};
-
-unsafe extern "C" {
-    fn rt_stream_u16_be(source: *const u8, len: usize) -> u64;
-    fn rt_stream_u32_le(source: *const u8, len: usize) -> u64;
-    fn rt_buffered_u32_le(source: *const u8, len: usize) -> u64;
-    fn rt_into_slice_u32_le(target: *mut u8, len: usize) -> u64;
-}
 
 // The sum of all numbers to the end of a reader.
 macro_rules! sum {

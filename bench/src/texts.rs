@@ -1,17 +1,12 @@
 //! Strings, by where they end, of several lengths and alphabets; C strings, by the crate's read of a `CStr` and by std's own
 //! function; and C strings read into memory of their own.
 
+use crate::exports::*;
 use crate::inputs::{Letters, Random, SIZE, push_text};
 use crate::timing::{Bench, Form, ours, reading, rust};
 use scroll::Pread;
 use scroll::ctx::StrCtx;
 use std::ffi::{CStr, CString};
-
-unsafe extern "C" {
-    fn rt_texts(source: *const u8, len: usize) -> u64;
-    fn rt_texts_required(source: *const u8, len: usize) -> u64;
-    fn rt_texts_of_length(source: *const u8, len: usize) -> u64;
-}
 
 fn taste(text: &str) -> u64 {
     text.len() as u64 ^ u64::from(text.as_bytes().first().copied().unwrap_or(7))
@@ -125,10 +120,6 @@ fn all_texts(bench: &mut Bench) {
     bench.row("texts", "length first 64 to 191", count, &mut reading(&source), &forms);
 }
 
-unsafe extern "C" {
-    fn rt_c_strings(source: *const u8, len: usize) -> u64;
-}
-
 fn taste_c(text: &CStr) -> u64 {
     let bytes = text.to_bytes();
     bytes.len() as u64 ^ u64::from(bytes.first().copied().unwrap_or(7))
@@ -184,10 +175,6 @@ fn all_c_strings(bench: &mut Bench) {
         ];
         bench.row("c_strings", name, count, &mut reading(&source), &forms);
     }
-}
-
-unsafe extern "C" {
-    fn rt_owned(source: *const u8, len: usize) -> u64;
 }
 
 #[inline(never)]

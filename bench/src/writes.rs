@@ -1,16 +1,9 @@
 //! Numbers that are written at a cursor.
 
+use crate::exports::*;
 use crate::inputs::{SIZE, bytes};
 use crate::timing::{Bench, Job, ours, rust, writing};
 use scroll::{BE, Endian, LE, Pwrite};
-
-unsafe extern "C" {
-    fn rt_put_u16_be(target: *mut u8, len: usize) -> u64;
-    fn rt_put_u32_le(target: *mut u8, len: usize) -> u64;
-    fn rt_put_u128_le(target: *mut u8, len: usize) -> u64;
-    fn rt_put_u128_be(target: *mut u8, len: usize) -> u64;
-    fn rt_put_headers(target: *mut u8, len: usize, little: bool) -> u64;
-}
 
 // Numbers one after another, in both forms of the loop.
 macro_rules! puts {

@@ -19,30 +19,9 @@ pub struct Asked {
     pub b: u64,
 }
 
-type Export = unsafe extern "C" fn(&Asked, *mut u8, usize, *const u8, usize, *mut u8, usize) -> usize;
+type Export = unsafe extern "C" fn(*const Asked, *mut u8, usize, *const u8, usize, *mut u8, usize) -> usize;
 
-unsafe extern "C" {
-    fn rt_read_number(_: &Asked, _: *mut u8, _: usize, _: *const u8, _: usize, _: *mut u8, _: usize) -> usize;
-    fn rt_read_array(_: &Asked, _: *mut u8, _: usize, _: *const u8, _: usize, _: *mut u8, _: usize) -> usize;
-    fn rt_read_text(_: &Asked, _: *mut u8, _: usize, _: *const u8, _: usize, _: *mut u8, _: usize) -> usize;
-    fn rt_read_leb(_: &Asked, _: *mut u8, _: usize, _: *const u8, _: usize, _: *mut u8, _: usize) -> usize;
-    fn rt_write_number(_: &Asked, _: *mut u8, _: usize, _: *const u8, _: usize, _: *mut u8, _: usize) -> usize;
-    fn rt_write_array(_: &Asked, _: *mut u8, _: usize, _: *const u8, _: usize, _: *mut u8, _: usize) -> usize;
-    fn rt_write_bytes(_: &Asked, _: *mut u8, _: usize, _: *const u8, _: usize, _: *mut u8, _: usize) -> usize;
-    fn rt_owned(_: &Asked, _: *mut u8, _: usize, _: *const u8, _: usize, _: *mut u8, _: usize) -> usize;
-    fn rt_bulk(_: &Asked, _: *mut u8, _: usize, _: *const u8, _: usize, _: *mut u8, _: usize) -> usize;
-    fn rt_cread(_: &Asked, _: *mut u8, _: usize, _: *const u8, _: usize, _: *mut u8, _: usize) -> usize;
-    fn rt_cwrite(_: &Asked, _: *mut u8, _: usize, _: *const u8, _: usize, _: *mut u8, _: usize) -> usize;
-    fn rt_sizes(_: &Asked, _: *mut u8, _: usize, _: *const u8, _: usize, _: *mut u8, _: usize) -> usize;
-    fn rt_ioread(_: &Asked, _: *mut u8, _: usize, _: *const u8, _: usize, _: *mut u8, _: usize) -> usize;
-    fn rt_iowrite(_: &Asked, _: *mut u8, _: usize, _: *const u8, _: usize, _: *mut u8, _: usize) -> usize;
-    #[cfg(feature = "derive")]
-    fn rt_read_struct(_: &Asked, _: *mut u8, _: usize, _: *const u8, _: usize, _: *mut u8, _: usize) -> usize;
-    #[cfg(feature = "derive")]
-    fn rt_write_struct(_: &Asked, _: *mut u8, _: usize, _: *const u8, _: usize, _: *mut u8, _: usize) -> usize;
-    #[cfg(feature = "derive")]
-    fn rt_struct(_: &Asked, _: *mut u8, _: usize, _: *const u8, _: usize, _: *mut u8, _: usize) -> usize;
-}
+include!("exports.rs");
 
 /// What the bytes that make a value are.
 #[derive(Clone, Copy, PartialEq)]
