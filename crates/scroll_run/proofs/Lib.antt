@@ -1,7 +1,6 @@
 pub mod Fronts
 pub mod NumberLemmas
 pub mod CommandLemmas
-pub mod KindLemmas
 pub mod PutLemmas
 pub mod LineLemmas
 pub mod AnswerLemmas

@@ -2,9 +2,13 @@
 use Rattle.std.specs.Prelude.{◌≡◌, ◌^◌, ℕ, List, [], ◌∷◌, codes}
 use Rattle.scroll.specs.declared.ctx.str_ctx.StrCtx.{StrCtx}
 use Rattle.scroll.specs.declared.ctx.str_ctx.StrCtx.TheVariants as context
+use Rattle.scroll.specs.declared.endian.Endian.{Endian}
 use Rattle.scroll.specs.declared.runner.Kind.{Kind}
 use Rattle.scroll.specs.declared.runner.Kind.TheVariants as kind
-use Rattle.scroll_run.specs.Words.{SpellsByte, SpellsNumber, order_word, width_word}
+use Rattle.scroll_run.specs.Names.{Named, OneWord}
+use Rattle.scroll_run.specs.Words.{SpellsByte, SpellsNumber, order_word}
+use Rattle.scroll_run.specs.declared.names.Name.{Name}
+use Rattle.scroll_run.specs.declared.names.Name.TheVariants as name
 
 -- `SpellsEnd words ctx`: the words spell where a text ends: by a delimiter, by a delimiter and a
 -- limit, by a length, or by a delimiter that must be there:
@@ -19,18 +23,25 @@ SpellsEnd words (context.Length n) =
 SpellsEnd words (context.Required d) =
     (word : List ℕ) × (words ≡ codes "required" ∷ word ∷ []) × SpellsByte word d
 
--- `SpellsKind words what`: the words spell what is read:
+-- `SpellsKindOf n words what`: the words spell what is read after the name `n`:
+abbrev pub SpellsKindOf : Name → List (List ℕ) → Kind → Type 0
+SpellsKindOf (name.Number w) words what =
+    (order : Endian) × (words ≡ order_word order ∷ []) × (what ≡ kind.Number w order)
+SpellsKindOf name.Str words what = (ctx : StrCtx) × SpellsEnd words ctx × (what ≡ kind.Text ctx)
+SpellsKindOf name.Bytes words what =
+    (len : ℕ) × OneWord (λ word. SpellsNumber (2 ^ 64) word len) words × (what ≡ kind.Bytes len)
+SpellsKindOf name.CStr words what = (words ≡ []) × (what ≡ kind.CStr)
+SpellsKindOf name.CString words what = (words ≡ []) × (what ≡ kind.CString)
+SpellsKindOf name.Uleb words what = (words ≡ []) × (what ≡ kind.Uleb)
+SpellsKindOf name.Sleb words what = (words ≡ []) × (what ≡ kind.Sleb)
+SpellsKindOf name.U8x0 words what =
+    (order : Endian) × (words ≡ order_word order ∷ []) × (what ≡ kind.U8x0 order)
+SpellsKindOf name.U16x3 words what =
+    (order : Endian) × (words ≡ order_word order ∷ []) × (what ≡ kind.U16x3 order)
+SpellsKindOf name.Strx2 words what =
+    (ctx : StrCtx) × SpellsEnd words ctx × (what ≡ kind.Textx2 ctx)
+SpellsKindOf name.Bytesx2 words what = ⊥
+
+-- the words spell what is read
 abbrev pub SpellsKind : List (List ℕ) → Kind → Type 0
-SpellsKind words (kind.Number w order) = words ≡ width_word w ∷ order_word order ∷ []
-SpellsKind words (kind.Text ctx) =
-    (end : List (List ℕ)) × (words ≡ codes "str" ∷ end) × SpellsEnd end ctx
-SpellsKind words (kind.Bytes len) =
-    (word : List ℕ) × (words ≡ codes "bytes" ∷ word ∷ []) × SpellsNumber (2 ^ 64) word len
-SpellsKind words kind.CStr = words ≡ codes "cstr" ∷ []
-SpellsKind words kind.CString = words ≡ codes "cstring" ∷ []
-SpellsKind words kind.Uleb = words ≡ codes "uleb" ∷ []
-SpellsKind words kind.Sleb = words ≡ codes "sleb" ∷ []
-SpellsKind words (kind.U8x0 order) = words ≡ codes "u8x0" ∷ order_word order ∷ []
-SpellsKind words (kind.U16x3 order) = words ≡ codes "u16x3" ∷ order_word order ∷ []
-SpellsKind words (kind.Textx2 ctx) =
-    (end : List (List ℕ)) × (words ≡ codes "strx2" ∷ end) × SpellsEnd end ctx
+SpellsKind words what = Named SpellsKindOf words what

@@ -1,6 +1,6 @@
 -- What is written. The words of a command name it, after the offset where there is one, and spell
 -- its value.
-use Rattle.std.specs.Prelude.{◌≡◌, ◌^◌, ℕ, ℤ, List, [], ◌∷◌, length, codes, string_bytes, IsUtf8}
+use Rattle.std.specs.Prelude.{◌≡◌, ◌^◌, ℕ, ℤ, List, [], ◌∷◌, length, string_bytes, IsUtf8}
 use Rattle.std.specs.Borrow.{Bor}
 use Rattle.std.specs.List.{AllZip}
 use Rattle.scroll.specs.CStringTexts.{c_str_text, c_string_text}
@@ -8,13 +8,17 @@ use Rattle.scroll.specs.Leb128.{Counted}
 use Rattle.scroll.specs.Encoding.{IsLeast, HasEncoding, HasSignedEncoding}
 use Rattle.scroll.specs.Texts.{index_of}
 use Rattle.scroll.specs.declared.cstr.CStr.{CStr}
+use Rattle.scroll.specs.declared.endian.Endian.{Endian}
 use Rattle.scroll.specs.declared.runner.Number.{Number}
 use Rattle.scroll.specs.declared.runner.Number.TheVariants as number
 use Rattle.scroll.specs.declared.runner.Put.{Put}
 use Rattle.scroll.specs.declared.runner.Put.TheVariants as put
 use Rattle.scroll.specs.declared.runner.Width.{Width}
 use Rattle.scroll.specs.declared.runner.Width.TheVariants as width
-use Rattle.scroll_run.specs.Words.{SpellsBytes, SpellsNumber, SpellsSigned, order_word, width_word}
+use Rattle.scroll_run.specs.Names.{Named, OneWord}
+use Rattle.scroll_run.specs.Words.{SpellsBytes, SpellsNumber, SpellsSigned, order_word}
+use Rattle.scroll_run.specs.declared.names.Name.{Name}
+use Rattle.scroll_run.specs.declared.names.Name.TheVariants as name
 use Rattle.scroll_run.specs.declared.puts.OwnedPut.{OwnedPut}
 use Rattle.scroll_run.specs.declared.puts.OwnedPut.TheVariants as owned
 
@@ -47,29 +51,37 @@ SpellsUleb word x = SpellsNumber (2 ^ 64) word x.value × IsLeast (HasEncoding x
 abbrev pub SpellsSleb : List ℕ → Counted ℤ → Type 0
 SpellsSleb word x = SpellsSigned (2 ^ 63) word x.value × IsLeast (HasSignedEncoding x.value) x.count
 
--- `SpellsPut words p`: the words spell what is written:
+-- `SpellsPutOf n words p`: the words spell what is written after the name `n`:
+abbrev pub SpellsPutOf : Name → List (List ℕ) → Put → Type 0
+SpellsPutOf (name.Number w) words p =
+    (order : Endian) × (word : List ℕ) × (x : Number) × (words ≡ order_word order ∷ word ∷ [])
+    × SpellsValue w word x × (p ≡ put.Number x order)
+SpellsPutOf name.Str words p =
+    (text : Bor (List ℕ)) × OneWord (λ word. SpellsText word text.now) words × (p ≡ put.Text text)
+SpellsPutOf name.Bytes words p =
+    (bytes : Bor (List ℕ)) × OneWord (λ word. SpellsBytes word bytes.now) words
+    × (p ≡ put.Bytes bytes)
+SpellsPutOf name.CStr words p =
+    (text : CStr) × OneWord (λ word. SpellsCString word (c_str_text text)) words
+    × (p ≡ put.CStr text)
+SpellsPutOf name.Uleb words p =
+    (x : Counted ℕ) × OneWord (λ word. SpellsUleb word x) words × (p ≡ put.Uleb x)
+SpellsPutOf name.Sleb words p =
+    (x : Counted ℤ) × OneWord (λ word. SpellsSleb word x) words × (p ≡ put.Sleb x)
+SpellsPutOf name.U16x3 words p =
+    (order : Endian) × (first second third xs : List ℕ)
+    × (words ≡ order_word order ∷ first ∷ second ∷ third ∷ [])
+    × AllZip (SpellsNumber (2 ^ 16)) (first ∷ second ∷ third ∷ []) xs × (p ≡ put.U16x3 xs order)
+SpellsPutOf name.Bytesx2 words p =
+    (first second : List ℕ) × (x y : Bor (List ℕ)) × (words ≡ first ∷ second ∷ [])
+    × SpellsBytes first x.now × SpellsBytes second y.now × (p ≡ put.Bytesx2 x y)
+SpellsPutOf name.CString words p = ⊥
+SpellsPutOf name.U8x0 words p = ⊥
+SpellsPutOf name.Strx2 words p = ⊥
+
+-- the words spell what is written
 abbrev pub SpellsPut : List (List ℕ) → Put → Type 0
-SpellsPut words (put.Number x order) =
-    (w : Width) × (word : List ℕ) × (words ≡ width_word w ∷ order_word order ∷ word ∷ [])
-    × SpellsValue w word x
-SpellsPut words (put.Text text) =
-    (word : List ℕ) × (words ≡ codes "str" ∷ word ∷ []) × SpellsText word text.now
-SpellsPut words (put.Bytes bytes) =
-    (word : List ℕ) × (words ≡ codes "bytes" ∷ word ∷ []) × SpellsBytes word bytes.now
-SpellsPut words (put.CStr text) =
-    (word : List ℕ) × (words ≡ codes "cstr" ∷ word ∷ []) × SpellsCString word (c_str_text text)
-SpellsPut words (put.Uleb x) =
-    (word : List ℕ) × (words ≡ codes "uleb" ∷ word ∷ []) × SpellsUleb word x
-SpellsPut words (put.Sleb x) =
-    (word : List ℕ) × (words ≡ codes "sleb" ∷ word ∷ []) × SpellsSleb word x
-SpellsPut words (put.U16x3 xs order) =
-    (first second third : List ℕ) ×
-    (words ≡ codes "u16x3" ∷ order_word order ∷ first ∷ second ∷ third ∷ [])
-    × AllZip (SpellsNumber (2 ^ 16)) (first ∷ second ∷ third ∷ []) xs
-SpellsPut words (put.Bytesx2 x y) =
-    (first second : List ℕ) × (words ≡ codes "bytesx2" ∷ first ∷ second ∷ [])
-    × SpellsBytes first x.now
-    × SpellsBytes second y.now
+SpellsPut words p = Named SpellsPutOf words p
 
 -- `IsPutOf x p`: `p` is the value to write that borrows from `x`, which holds what a line spells
 abbrev pub IsPutOf : OwnedPut → Put → Type 0

@@ -1,7 +1,8 @@
 //! The lines that hold commands.
-ghost use Rattle.std.specs.Prelude.{MatchResult, codes, ◌∷◌};
-ghost use Rattle.scroll_run.specs.Commands.{AreCommandsOf, IsCommandOf, SpellsCommand};
-ghost use Rattle.scroll_run.specs.Words.{Finds, texts_of, words_of};
+ghost use Rattle.std.specs.Prelude.{◌≡◌, MatchResult};
+ghost use Rattle.scroll_run.specs.Commands.{AreCommandsOf, IsCommandOf, SpellsCommand, SpellsCommandOf, verb_word};
+ghost use Rattle.scroll_run.specs.Words.{Finds, Parses, texts_of, words_of};
+ghost use Rattle.scroll_run.specs.declared.commands.Verb.TheVariants as verb;
 
 use crate::kinds::parse_kind;
 use crate::memory::Memory;
@@ -17,6 +18,15 @@ pub enum CommandLine {
     Read(Place, Kind),
     /// Writes at an offset or at the cursor.
     Write(Place, OwnedPut),
+}
+
+/// The first word of a command.
+#[derive(Clone, Copy)]
+pub enum Verb {
+    Pread,
+    Gread,
+    Pwrite,
+    Gwrite,
 }
 
 impl CommandLine {
@@ -64,21 +74,47 @@ fn parse_words<M: Memory>(memory: M, words: &[&[u8]]) -> Result<Option<CommandLi
     let Some((verb, rest)) = words.split_first() else {
         return Ok(None);
     };
-    if is(verb, b"pread") {
-        Ok(parse_pread(rest))
-    } else if is(verb, b"gread") {
-        Ok(parse_gread(rest))
-    } else if is(verb, b"pwrite") {
-        parse_pwrite(memory, rest)
-    } else if is(verb, b"gwrite") {
-        parse_gwrite(memory, rest)
+    match parse_verb(verb) {
+        Some(verb) => parse_command_of(memory, verb, rest),
+        None => Ok(None),
+    }
+}
+
+// Returns the command that the words after a verb spell.
+fn parse_command_of<M: Memory>(
+    memory: M,
+    verb: Verb,
+    words: &[&[u8]],
+) -> Result<Option<CommandLine>, AllocError>
+    ensures { MatchResult result
+        (Finds IsCommandOf (SpellsCommandOf verb (texts_of words.now))) (λ _. M.refuses memory) }
+{
+    match verb {
+        Verb::Pread => Ok(parse_pread(words)),
+        Verb::Gread => Ok(parse_gread(words)),
+        Verb::Pwrite => parse_pwrite(memory, words),
+        Verb::Gwrite => parse_gwrite(memory, words),
+    }
+}
+
+fn parse_verb(word: &[u8]) -> Option<Verb>
+    ensures { Parses (λ verb. word.now ≡ verb_word verb) result }
+{
+    if is(word, b"pread") {
+        Some(Verb::Pread)
+    } else if is(word, b"gread") {
+        Some(Verb::Gread)
+    } else if is(word, b"pwrite") {
+        Some(Verb::Pwrite)
+    } else if is(word, b"gwrite") {
+        Some(Verb::Gwrite)
     } else {
-        Ok(None)
+        None
     }
 }
 
 fn parse_pread(words: &[&[u8]]) -> Option<CommandLine>
-    ensures { Finds IsCommandOf (SpellsCommand (codes "pread" ∷ texts_of words.now)) result }
+    ensures { Finds IsCommandOf (SpellsCommandOf verb.Pread (texts_of words.now)) result }
 {
     let Some((word, rest)) = words.split_first() else {
         return None;
@@ -89,14 +125,14 @@ fn parse_pread(words: &[&[u8]]) -> Option<CommandLine>
 }
 
 fn parse_gread(words: &[&[u8]]) -> Option<CommandLine>
-    ensures { Finds IsCommandOf (SpellsCommand (codes "gread" ∷ texts_of words.now)) result }
+    ensures { Finds IsCommandOf (SpellsCommandOf verb.Gread (texts_of words.now)) result }
 {
     Some(CommandLine::Read(Place::Cursor, parse_kind(words)?))
 }
 
 fn parse_pwrite<M: Memory>(memory: M, words: &[&[u8]]) -> Result<Option<CommandLine>, AllocError>
     ensures { MatchResult result
-        (Finds IsCommandOf (SpellsCommand (codes "pwrite" ∷ texts_of words.now)))
+        (Finds IsCommandOf (SpellsCommandOf verb.Pwrite (texts_of words.now)))
         (λ _. M.refuses memory) }
 {
     let Some((word, rest)) = words.split_first() else {
@@ -113,7 +149,7 @@ fn parse_pwrite<M: Memory>(memory: M, words: &[&[u8]]) -> Result<Option<CommandL
 
 fn parse_gwrite<M: Memory>(memory: M, words: &[&[u8]]) -> Result<Option<CommandLine>, AllocError>
     ensures { MatchResult result
-        (Finds IsCommandOf (SpellsCommand (codes "gwrite" ∷ texts_of words.now)))
+        (Finds IsCommandOf (SpellsCommandOf verb.Gwrite (texts_of words.now)))
         (λ _. M.refuses memory) }
 {
     match parse_put(memory, words)? {

@@ -1,9 +1,10 @@
 //! The kinds of values that are read, as the words of a line spell them.
 ghost use Rattle.std.specs.Prelude.{[], ◌∷◌};
-ghost use Rattle.scroll_run.specs.Kinds.{SpellsEnd, SpellsKind};
+ghost use Rattle.scroll_run.specs.Kinds.{SpellsEnd, SpellsKind, SpellsKindOf};
 ghost use Rattle.scroll_run.specs.Words.{Parses, texts_of};
 
-use crate::words::{is, parse_byte, parse_order, parse_usize, parse_width};
+use crate::names::{Name, parse_name};
+use crate::words::{is, parse_byte, parse_order, parse_usize};
 use scroll::ctx::StrCtx;
 use scroll::runner::Kind;
 
@@ -11,53 +12,26 @@ use scroll::runner::Kind;
 pub fn parse_kind(words: &[&[u8]]) -> Option<Kind>
     ensures { Parses (SpellsKind (texts_of words.now)) result }
 {
-    match words {
-        [name] => parse_kind_of_one(name),
-        [name, word] => parse_kind_of_two(name, word),
-        [name, end @ ..] => {
-            let ctx = parse_end(end)?;
-            if is(name, b"str") {
-                Some(Kind::Text(ctx))
-            } else if is(name, b"strx2") {
-                Some(Kind::Textx2(ctx))
-            } else {
-                None
-            }
-        }
-        [] => None,
-    }
+    let (word, rest) = words.split_first()?;
+    parse_kind_of(parse_name(word)?, rest)
 }
 
-fn parse_kind_of_one(name: &[u8]) -> Option<Kind>
-    ensures { Parses (SpellsKind (name.now ∷ [])) result }
+// Returns the kind that the words after a name spell.
+fn parse_kind_of(name: Name, words: &[&[u8]]) -> Option<Kind>
+    ensures { Parses (SpellsKindOf name (texts_of words.now)) result }
 {
-    if is(name, b"cstr") {
-        Some(Kind::CStr)
-    } else if is(name, b"cstring") {
-        Some(Kind::CString)
-    } else if is(name, b"uleb") {
-        Some(Kind::Uleb)
-    } else if is(name, b"sleb") {
-        Some(Kind::Sleb)
-    } else {
-        None
-    }
-}
-
-fn parse_kind_of_two(name: &[u8], word: &[u8]) -> Option<Kind>
-    ensures { Parses (SpellsKind (name.now ∷ word.now ∷ [])) result }
-{
-    if let Some(width) = parse_width(name) {
-        return Some(Kind::Number(width, parse_order(word)?));
-    }
-    if is(name, b"bytes") {
-        parse_usize(word).map(Kind::Bytes)
-    } else if is(name, b"u8x0") {
-        parse_order(word).map(Kind::U8x0)
-    } else if is(name, b"u16x3") {
-        parse_order(word).map(Kind::U16x3)
-    } else {
-        None
+    match (name, words) {
+        (Name::Number(width), [order]) => Some(Kind::Number(width, parse_order(order)?)),
+        (Name::Str, end) => Some(Kind::Text(parse_end(end)?)),
+        (Name::Bytes, [len]) => Some(Kind::Bytes(parse_usize(len)?)),
+        (Name::CStr, []) => Some(Kind::CStr),
+        (Name::CString, []) => Some(Kind::CString),
+        (Name::Uleb, []) => Some(Kind::Uleb),
+        (Name::Sleb, []) => Some(Kind::Sleb),
+        (Name::U8x0, [order]) => Some(Kind::U8x0(parse_order(order)?)),
+        (Name::U16x3, [order]) => Some(Kind::U16x3(parse_order(order)?)),
+        (Name::Strx2, end) => Some(Kind::Textx2(parse_end(end)?)),
+        _ => None,
     }
 }
 

@@ -10,6 +10,7 @@ mod input;
 mod kinds;
 mod lines;
 mod memory;
+mod names;
 mod output;
 mod puts;
 pub mod session;

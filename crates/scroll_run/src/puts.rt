@@ -1,11 +1,12 @@
 //! The values that are written, as the words of a line spell them.
-ghost use Rattle.std.specs.Prelude.{◌≡◌, ◌^◌, [], ◌∷◌, codes, MatchResult};
-ghost use Rattle.scroll.specs.declared.runner.Put.TheVariants as put;
-ghost use Rattle.scroll_run.specs.Puts.{IsPutOf, SpellsPut, SpellsValue};
-ghost use Rattle.scroll_run.specs.Words.{Finds, Parses, SpellsNumber, SpellsSigned, texts_of};
+ghost use Rattle.std.specs.Prelude.{◌≡◌, [], ◌∷◌, MatchResult};
+ghost use Rattle.scroll_run.specs.Puts.{IsPutOf, SpellsPut, SpellsPutOf, SpellsValue};
+ghost use Rattle.scroll_run.specs.Words.{Finds, Parses, texts_of};
+ghost use Rattle.scroll_run.specs.declared.names.Name.TheVariants as name;
 
 use crate::memory::Memory;
-use crate::words::{is, parse_bytes, parse_number, parse_order, parse_signed, parse_width};
+use crate::names::{Name, parse_name};
+use crate::words::{parse_bytes, parse_number, parse_order, parse_signed};
 use scroll::cstr::CString;
 use scroll::runner::{Number, Put, Width};
 use scroll::{Endian, Error, Sleb128, Uleb128};
@@ -64,152 +65,66 @@ pub fn parse_put<M: Memory>(memory: M, words: &[&[u8]]) -> Result<Option<OwnedPu
     ensures { MatchResult result (Finds IsPutOf (SpellsPut (texts_of words.now)))
         (λ _. M.refuses memory) }
 {
-    match words {
-        [name, word] => parse_put_of_two(memory, name, word),
-        [name, first, second] => parse_put_of_three(memory, name, first, second),
-        [name, order, first, second, third] => {
-            Ok(parse_put_of_five(name, order, first, second, third))
+    let Some((word, rest)) = words.split_first() else {
+        return Ok(None);
+    };
+    match parse_name(word) {
+        Some(name) => parse_put_of(memory, name, rest),
+        None => Ok(None),
+    }
+}
+
+// Returns the value that the words after a name spell.
+fn parse_put_of<M: Memory>(
+    memory: M,
+    name: Name,
+    words: &[&[u8]],
+) -> Result<Option<OwnedPut>, AllocError>
+    ensures { MatchResult result (Finds IsPutOf (SpellsPutOf name (texts_of words.now)))
+        (λ _. M.refuses memory) }
+{
+    match (name, words) {
+        (Name::Number(width), [order, word]) => Ok(parse_number_put(width, order, word)),
+        (Name::Str, [word]) => parse_text(memory, word),
+        (Name::Bytes, [word]) => parse_slice(memory, word),
+        (Name::CStr, [word]) => parse_c_string(memory, word),
+        (Name::Uleb, [word]) => Ok(parse_uleb(word)),
+        (Name::Sleb, [word]) => Ok(parse_sleb(word)),
+        (Name::U16x3, [order, first, second, third]) => {
+            Ok(parse_three(order, first, second, third))
         }
+        (Name::Bytesx2, [first, second]) => parse_two(memory, first, second),
         _ => Ok(None),
     }
 }
 
-fn parse_put_of_two<M: Memory>(
-    memory: M,
-    name: &[u8],
-    word: &[u8],
-) -> Result<Option<OwnedPut>, AllocError>
-    ensures { MatchResult result (Finds IsPutOf (SpellsPut (name.now ∷ word.now ∷ [])))
-        (λ _. M.refuses memory) }
+fn parse_number_put(width: Width, order: &[u8], word: &[u8]) -> Option<OwnedPut>
+    ensures { Finds IsPutOf (SpellsPutOf (name.Number width) (order.now ∷ word.now ∷ [])) result }
 {
-    if is(name, b"str") {
-        parse_text(memory, word)
-    } else if is(name, b"bytes") {
-        parse_slice(memory, word)
-    } else if is(name, b"cstr") {
-        parse_c_string(memory, word)
-    } else if is(name, b"uleb") {
-        Ok(parse_uleb(word))
-    } else if is(name, b"sleb") {
-        Ok(parse_sleb(word))
-    } else {
-        Ok(None)
-    }
-}
-
-fn parse_put_of_three<M: Memory>(
-    memory: M,
-    name: &[u8],
-    first: &[u8],
-    second: &[u8],
-) -> Result<Option<OwnedPut>, AllocError>
-    ensures { MatchResult result
-        (Finds IsPutOf (SpellsPut (name.now ∷ first.now ∷ second.now ∷ [])))
-        (λ _. M.refuses memory) }
-{
-    if let Some((number, order)) = parse_number_put(name, first, second) {
-        return Ok(Some(OwnedPut::Plain(Put::Number(number, order))));
-    }
-    if is(name, b"bytesx2") {
-        parse_two(memory, first, second)
-    } else {
-        Ok(None)
-    }
-}
-
-fn parse_put_of_five(
-    name: &[u8],
-    order: &[u8],
-    first: &[u8],
-    second: &[u8],
-    third: &[u8],
-) -> Option<OwnedPut>
-    ensures { Finds IsPutOf (SpellsPut
-        (name.now ∷ order.now ∷ first.now ∷ second.now ∷ third.now ∷ [])) result }
-{
-    if is(name, b"u16x3") {
-        parse_three(order, first, second, third)
-    } else {
-        None
-    }
-}
-
-fn parse_number_put(name: &[u8], order: &[u8], word: &[u8]) -> Option<(Number, Endian)>
-    ensures { Parses (λ p.
-        SpellsPut (name.now ∷ order.now ∷ word.now ∷ []) (put.Number p.0 p.1)) result }
-{
-    let width = parse_width(name)?;
     let order = parse_order(order)?;
-    Some((parse_value(width, word)?, order))
+    let number = parse_value(width, word)?;
+    Some(OwnedPut::Plain(Put::Number(number, order)))
 }
 
 fn parse_value(width: Width, word: &[u8]) -> Option<Number>
     ensures { Parses (SpellsValue width word.now) result }
 {
     match width {
-        Width::U8 => parse_u8(word).map(Number::U8),
-        Width::I8 => parse_i8(word).map(Number::I8),
-        Width::U16 => parse_u16(word).map(Number::U16),
-        Width::I16 => parse_i16(word).map(Number::I16),
-        Width::U32 => parse_u32(word).map(Number::U32),
-        Width::I32 => parse_i32(word).map(Number::I32),
-        Width::U64 => parse_u64(word).map(Number::U64),
-        Width::I64 => parse_i64(word).map(Number::I64),
-        Width::U128 => parse_number(word).map(Number::U128),
-        Width::I128 => parse_signed(word).map(Number::I128),
+        Width::U8 => Some(Number::U8(u8::try_from(parse_number(word)?).ok()?)),
+        Width::I8 => Some(Number::I8(i8::try_from(parse_signed(word)?).ok()?)),
+        Width::U16 => Some(Number::U16(u16::try_from(parse_number(word)?).ok()?)),
+        Width::I16 => Some(Number::I16(i16::try_from(parse_signed(word)?).ok()?)),
+        Width::U32 => Some(Number::U32(u32::try_from(parse_number(word)?).ok()?)),
+        Width::I32 => Some(Number::I32(i32::try_from(parse_signed(word)?).ok()?)),
+        Width::U64 => Some(Number::U64(u64::try_from(parse_number(word)?).ok()?)),
+        Width::I64 => Some(Number::I64(i64::try_from(parse_signed(word)?).ok()?)),
+        Width::U128 => Some(Number::U128(parse_number(word)?)),
+        Width::I128 => Some(Number::I128(parse_signed(word)?)),
     }
 }
 
-fn parse_u8(word: &[u8]) -> Option<u8>
-    ensures { Parses (SpellsNumber (2 ^ 8) word.now) result }
-{
-    u8::try_from(parse_number(word)?).ok()
-}
-
-fn parse_i8(word: &[u8]) -> Option<i8>
-    ensures { Parses (SpellsSigned (2 ^ 7) word.now) result }
-{
-    i8::try_from(parse_signed(word)?).ok()
-}
-
-fn parse_u16(word: &[u8]) -> Option<u16>
-    ensures { Parses (SpellsNumber (2 ^ 16) word.now) result }
-{
-    u16::try_from(parse_number(word)?).ok()
-}
-
-fn parse_i16(word: &[u8]) -> Option<i16>
-    ensures { Parses (SpellsSigned (2 ^ 15) word.now) result }
-{
-    i16::try_from(parse_signed(word)?).ok()
-}
-
-fn parse_u32(word: &[u8]) -> Option<u32>
-    ensures { Parses (SpellsNumber (2 ^ 32) word.now) result }
-{
-    u32::try_from(parse_number(word)?).ok()
-}
-
-fn parse_i32(word: &[u8]) -> Option<i32>
-    ensures { Parses (SpellsSigned (2 ^ 31) word.now) result }
-{
-    i32::try_from(parse_signed(word)?).ok()
-}
-
-fn parse_u64(word: &[u8]) -> Option<u64>
-    ensures { Parses (SpellsNumber (2 ^ 64) word.now) result }
-{
-    u64::try_from(parse_number(word)?).ok()
-}
-
-fn parse_i64(word: &[u8]) -> Option<i64>
-    ensures { Parses (SpellsSigned (2 ^ 63) word.now) result }
-{
-    i64::try_from(parse_signed(word)?).ok()
-}
-
 fn parse_text<M: Memory>(memory: M, word: &[u8]) -> Result<Option<OwnedPut>, AllocError>
-    ensures { MatchResult result (Finds IsPutOf (SpellsPut (codes "str" ∷ word.now ∷ [])))
+    ensures { MatchResult result (Finds IsPutOf (SpellsPutOf name.Str (word.now ∷ [])))
         (λ _. M.refuses memory) }
 {
     let Some(bytes) = parse_bytes(memory, word)? else {
@@ -222,7 +137,7 @@ fn parse_text<M: Memory>(memory: M, word: &[u8]) -> Result<Option<OwnedPut>, All
 }
 
 fn parse_slice<M: Memory>(memory: M, word: &[u8]) -> Result<Option<OwnedPut>, AllocError>
-    ensures { MatchResult result (Finds IsPutOf (SpellsPut (codes "bytes" ∷ word.now ∷ [])))
+    ensures { MatchResult result (Finds IsPutOf (SpellsPutOf name.Bytes (word.now ∷ [])))
         (λ _. M.refuses memory) }
 {
     match parse_bytes(memory, word)? {
@@ -232,7 +147,7 @@ fn parse_slice<M: Memory>(memory: M, word: &[u8]) -> Result<Option<OwnedPut>, Al
 }
 
 fn parse_c_string<M: Memory>(memory: M, word: &[u8]) -> Result<Option<OwnedPut>, AllocError>
-    ensures { MatchResult result (Finds IsPutOf (SpellsPut (codes "cstr" ∷ word.now ∷ [])))
+    ensures { MatchResult result (Finds IsPutOf (SpellsPutOf name.CStr (word.now ∷ [])))
         (λ _. M.refuses memory) }
 {
     let Some(text) = parse_bytes(memory, word)? else {
@@ -247,28 +162,28 @@ fn parse_c_string<M: Memory>(memory: M, word: &[u8]) -> Result<Option<OwnedPut>,
 
 // Returns the number with its shortest encoding.
 fn parse_uleb(word: &[u8]) -> Option<OwnedPut>
-    ensures { Finds IsPutOf (SpellsPut (codes "uleb" ∷ word.now ∷ [])) result }
+    ensures { Finds IsPutOf (SpellsPutOf name.Uleb (word.now ∷ [])) result }
 {
-    let value = parse_u64(word)?;
+    let value = u64::try_from(parse_number(word)?).ok()?;
     Some(OwnedPut::Plain(Put::Uleb(Uleb128::shortest(value))))
 }
 
 // Returns the signed number with its shortest encoding.
 fn parse_sleb(word: &[u8]) -> Option<OwnedPut>
-    ensures { Finds IsPutOf (SpellsPut (codes "sleb" ∷ word.now ∷ [])) result }
+    ensures { Finds IsPutOf (SpellsPutOf name.Sleb (word.now ∷ [])) result }
 {
-    let value = parse_i64(word)?;
+    let value = i64::try_from(parse_signed(word)?).ok()?;
     Some(OwnedPut::Plain(Put::Sleb(Sleb128::shortest(value))))
 }
 
 fn parse_three(order: &[u8], first: &[u8], second: &[u8], third: &[u8]) -> Option<OwnedPut>
-    ensures { Finds IsPutOf (SpellsPut
-        (codes "u16x3" ∷ order.now ∷ first.now ∷ second.now ∷ third.now ∷ [])) result }
+    ensures { Finds IsPutOf (SpellsPutOf name.U16x3
+        (order.now ∷ first.now ∷ second.now ∷ third.now ∷ [])) result }
 {
     let order = parse_order(order)?;
-    let first = parse_u16(first)?;
-    let second = parse_u16(second)?;
-    let third = parse_u16(third)?;
+    let first = u16::try_from(parse_number(first)?).ok()?;
+    let second = u16::try_from(parse_number(second)?).ok()?;
+    let third = u16::try_from(parse_number(third)?).ok()?;
     Some(OwnedPut::Plain(Put::U16x3([first, second, third], order)))
 }
 
@@ -278,7 +193,7 @@ fn parse_two<M: Memory>(
     second: &[u8],
 ) -> Result<Option<OwnedPut>, AllocError>
     ensures { MatchResult result
-        (Finds IsPutOf (SpellsPut (codes "bytesx2" ∷ first.now ∷ second.now ∷ [])))
+        (Finds IsPutOf (SpellsPutOf name.Bytesx2 (first.now ∷ second.now ∷ [])))
         (λ _. M.refuses memory) }
 {
     let Some(first) = parse_bytes(memory, first)? else {

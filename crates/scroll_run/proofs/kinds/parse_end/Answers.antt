@@ -1,6 +1,5 @@
 use Rattle.std.proofs.Common.{rules}
-use Rattle.scroll_run.proofs.CommandLemmas.{by_index}
-use Rattle.scroll_run.proofs.KindLemmas.{no_end}
+use Rattle.scroll_run.proofs.CommandLemmas.{by_index, no_end}
 use Rattle.scroll_run.proofs.kinds.parse_end.Goals as goal
 
 pub returns-in-len2 : goal.returns-in-len2
