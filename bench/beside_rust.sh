@@ -120,8 +120,7 @@ make_sample() {
 build_jobs() {
     echo "bench: the library, the clients and the jobs are proved and built" >&2
     make_workspace scroll scroll_formats scroll_layouts debug_tables object_files git_index packets zip tls dns wasm gzip tar
-    cp "$here/jobs/jobs.rt.txt" "$loops/src/lib.rt" || exit 1
-    cp "$tree/crates/described/src/kinds.rt" "$tree/crates/workloads/src/programs.rt" "$loops/src/" || exit 1
+    cp "$here/jobs/jobs.rt.txt" "$loops/src/lib.rt" && cp "$tree/crates/described/src/kinds.rt" "$loops/src/" || exit 1
     quietly python3 "$here/jobs/records.py" "$loops/src" "$room/records.rs"
     prove "$loops"
 }

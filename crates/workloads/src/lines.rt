@@ -1,9 +1,7 @@
 // Line number programs, and runs of numbers in LEB128.
 use crate::inputs::{Digest, Random, change_all, low8, low32, push_leb128, push_number};
-use crate::programs::{read_operand, read_program};
-use scroll::{Error, Pread, Sleb128, Uleb128};
+use scroll::{LE, Pread, Result, Sleb128, Uleb128};
 use std::alloc::{AllocError, Global};
-use std::result::Result;
 
 // The first special opcode, as compilers choose it.
 const SPECIAL: u64 = 13;
@@ -16,7 +14,7 @@ struct Units {
 }
 
 // One instruction: a special opcode in six of ten, and else one with operands.
-fn push_instruction(units: &mut Units, random: &mut Random) -> Result<(), AllocError> {
+fn push_instruction(units: &mut Units, random: &mut Random) -> std::result::Result<(), AllocError> {
     let bytes = &mut units.bytes;
     let opcode = match random.next() % 20 {
         0..=11 => random.between(SPECIAL, 255),
@@ -47,7 +45,7 @@ fn push_instruction(units: &mut Units, random: &mut Random) -> Result<(), AllocE
 }
 
 // A unit: its length, its header, and its program.
-fn push_unit(units: &mut Units, random: &mut Random) -> Result<(), AllocError> {
+fn push_unit(units: &mut Units, random: &mut Random) -> std::result::Result<(), AllocError> {
     let start = units.bytes.len();
     push_number(&mut units.bytes, 0, 4)?;
     push_number(&mut units.bytes, 5, 4)?;
@@ -66,7 +64,7 @@ fn push_unit(units: &mut Units, random: &mut Random) -> Result<(), AllocError> {
     Ok(())
 }
 
-fn make_units(alloc: Global, random: &mut Random) -> Result<Units, AllocError> {
+fn make_units(alloc: Global, random: &mut Random) -> std::result::Result<Units, AllocError> {
     let mut units = Units {
         bytes: Vec::new(alloc),
         places: Vec::new(alloc),
@@ -80,6 +78,45 @@ fn make_units(alloc: Global, random: &mut Random) -> Result<Units, AllocError> {
     Ok(units)
 }
 
+// Returns the program of the unit at the cursor (DWARF 5, section 6.2.4), and the length of its
+// header.
+fn read_program<'a>(bytes: &'a [u8], offset: &mut usize) -> Result<(&'a [u8], u32)> {
+    let len: u32 = bytes.gread_with(offset, LE)?;
+    let unit: &[u8] = bytes.gread_with(offset, len as usize)?;
+    let header: u32 = unit.pread_with(4, LE)?;
+    let at = &mut 8;
+    let _header: &[u8] = unit.gread_with(at, header as usize)?;
+    let program: &[u8] = unit.gread_with(at, unit.len().saturating_sub(*at))?;
+    Ok((program, header))
+}
+
+// The operand of an extended opcode.
+fn read_extended(program: &[u8], offset: &mut usize) -> Result<u64> {
+    let len: Uleb128 = program.gread_with(offset, ())?;
+    let opcode: u8 = program.gread_with(offset, LE)?;
+    if opcode == 2 {
+        let address: u64 = program.gread_with(offset, LE)?;
+        return Ok(address);
+    }
+    let rest = (u64::from(len) as usize).saturating_sub(1);
+    let other: &[u8] = program.gread_with(offset, rest)?;
+    Ok(other.len() as u64)
+}
+
+// The operand of the instruction at the cursor.
+fn read_operand(program: &[u8], offset: &mut usize) -> Result<u64> {
+    let opcode: u8 = program.gread_with(offset, LE)?;
+    let operand = match opcode {
+        0 => read_extended(program, offset)?,
+        2 | 4 | 5 | 12 => u64::from(program.gread_with::<Uleb128>(offset, ())?),
+        3 => i64::from(program.gread_with::<Sleb128>(offset, ())?).cast_unsigned(),
+        9 => u64::from(program.gread_with::<u16>(offset, LE)?),
+        1 | 6 | 7 | 8 | 10 | 11 => 0,
+        _ => u64::from(opcode),
+    };
+    Ok(operand)
+}
+
 // Adds each operand, and where its instruction ends.
 fn add_operands(program: &[u8], digest: &mut Digest) {
     let mut at = 0;
@@ -87,7 +124,7 @@ fn add_operands(program: &[u8], digest: &mut Digest) {
         if at >= program.len() {
             return;
         }
-        match read_operand::<Error>(program, &mut at) {
+        match read_operand(program, &mut at) {
             Ok(operand) => digest.add(operand ^ (at as u64) << 40),
             Err(error) => return digest.add_error(&error),
         }
@@ -97,7 +134,7 @@ fn add_operands(program: &[u8], digest: &mut Digest) {
 fn run_programs(bytes: &[u8], digest: &mut Digest) {
     let mut offset = 0;
     for _ in 0..bytes.len() {
-        match read_program::<Error>(bytes, &mut offset) {
+        match read_program(bytes, &mut offset) {
             Ok((program, header)) => {
                 digest.add(offset as u64 ^ u64::from(header) << 32);
                 add_operands(program, digest);
@@ -116,7 +153,10 @@ struct Numbers {
 
 // Numbers as files have them: seven of ten in one byte, two in two, the others in up to ten; some
 // are padded.
-fn push_leb_number(numbers: &mut Numbers, random: &mut Random) -> Result<(), AllocError> {
+fn push_leb_number(
+    numbers: &mut Numbers,
+    random: &mut Random,
+) -> std::result::Result<(), AllocError> {
     let bytes = &mut numbers.bytes;
     match random.next() % 40 {
         0 => {
@@ -134,7 +174,7 @@ fn push_leb_number(numbers: &mut Numbers, random: &mut Random) -> Result<(), All
     }
 }
 
-fn make_numbers(alloc: Global, random: &mut Random) -> Result<Numbers, AllocError> {
+fn make_numbers(alloc: Global, random: &mut Random) -> std::result::Result<Numbers, AllocError> {
     let mut numbers = Numbers {
         bytes: Vec::new(alloc),
         places: Vec::new(alloc),
@@ -168,7 +208,12 @@ fn add_signed(bytes: &[u8], digest: &mut Digest) {
 }
 
 /// Changes the bytes, and reads the programs and the numbers.
-pub fn run(alloc: Global, seed: u64, rounds: u64, digest: &mut Digest) -> Result<(), AllocError> {
+pub fn run(
+    alloc: Global,
+    seed: u64,
+    rounds: u64,
+    digest: &mut Digest,
+) -> std::result::Result<(), AllocError> {
     let mut random = Random::new(seed ^ 0x5555);
     let mut units = make_units(alloc, &mut random)?;
     let mut numbers = make_numbers(alloc, &mut random)?;

@@ -11,7 +11,6 @@ mod inputs;
 mod lines;
 mod objects;
 mod own;
-mod programs;
 mod records;
 mod streams;
 mod tables;
