@@ -1,5 +1,5 @@
 -- Numbers in LEB128, C strings and texts, as `scroll` reads and writes them.
-use Rattle.std.proofs.Common.{refl, ◌≡◌, ◌≢◌, ℕ, ℤ, ◌+◌, ◌<◌, ◌^◌, ◌++◌, List, [], ◌∷◌, length, take, sym, ap, subst, ◌∙◌, arith, IsUtf8, length-append, append_assoc}
+use Rattle.std.proofs.Common.{refl, ◌≡◌, ◌≢◌, ℕ, ℤ, ◌+◌, ◌<◌, ◌^◌, ◌++◌, List, [], ◌∷◌, length, take, sym, ap, subst, ◌∙◌, arith, IsUtf8, length-append, append_assoc, length-take}
 use Rattle.std.proofs.lemmas.List.{length-take-le}
 use Rattle.std.proofs.lemmas.List.Elements.{All-from_get_or}
 use Rattle.std.specs.Int.{w64}
@@ -108,11 +108,12 @@ text_of gives n = record {
   start_agrees = λ text. (n ≡ length text) × IsUtf8 text;
   start_differs = λ text e. (n ≢ length text)
       × GivesBadInput gives (length text) (codes "another length than its count") e;
-  start_inside = λ s x m h. omega (arith, h.room, h.size);
+  start_inside = λ s x m h. omega (arith, h.room, h.size, ap length h.prefix, length-take n s);
   start_made = λ s x m all h. (sym (ap length h.prefix ∙ length-take-le n s h.room), h.utf8);
   start_bytes-len = λ x h. sym h.0;
   start_back = λ x rest h. text-begins x n (sym h.0) h.1 rest;
-  start_kept = λ s x m all h. h.prefix ∙ ap (λ k. take k s) (omega (arith, h.size));
+  start_kept = λ s x m all h. h.prefix
+      ∙ ap (λ k. take k s) (omega (arith, h.size, ap length h.prefix, length-take-le n s h.room));
   start_one = λ s x y h k. (refl, h.prefix ∙ sym k.prefix);
   start_clash = λ s x e h r. text-clash (Length n) s x n r.0 h r.1;
 }
@@ -129,7 +130,8 @@ text_until gives d = record {
   start_differs = λ text e. (i : ℕ) × (i < length text) × (slice_index text i ≡ d)
       × ((k : ℕ) → k < i → slice_index text k ≢ d)
       × GivesBadInput gives i (codes "a text has its delimiter") e;
-  start_inside = λ s x m h. omega (arith, h.there, h.size);
+  start_inside = λ s x m h.
+      omega (arith, h.there, h.size, ap length h.prefix, length-take (index_of d s) s);
   start_made = λ s x m all h.
       (delimited d x (without-before d s x (omega (arith, h.there)) h.prefix), h.utf8);
   start_bytes-len = λ x h. length-append x (d ∷ []);
@@ -137,6 +139,7 @@ text_until gives d = record {
       subst (λ l. ReadsText (Required d) l x (length x + 1)) (sym (append_assoc x (d ∷ []) rest))
       (required-again d x rest (All-from_get_or (λ b. b ≢ d) x 0 h.0) h.1);
   start_kept = λ s x m all h. sym (required-back d s x m h);
-  start_one = λ s x y h k. (h.size ∙ sym k.size, h.prefix ∙ sym k.prefix);
+  start_one = λ s x y h k.
+      let same : x ≡ y = h.prefix ∙ sym k.prefix in (ap (λ l. length l + 1) same, same);
   start_clash = λ s x e h r. text-clash (Required d) s x (length x + 1) r.0 h r.1;
 }

@@ -1,12 +1,12 @@
 -- Strings, byte slices and C strings depend only on the bytes that they take, and a read of one has
 -- exactly one result. The index of the first byte of a value, and what comes before it. The
 -- C strings of std and those of the crate are the same lists of bytes.
-use Rattle.std.proofs.Common.{◌≡◌, ℕ, ◌≤◌, ◌==◌, List, length, take, min, ap, ◌∙◌, arith, ◌+◌, ◌<◌, refl, sym, subst, inl, inr, ◌⊎◌, IsUtf8, codes, true≢false, ◌-◌, [], ◌∷◌, ◌++◌, get_or, ◌≢◌, true, false, drop, length-append, append_assoc, length-take, not}
-use Rattle.std.proofs.lemmas.List.{length-take-le, take-take, get_or-take, take_at, take_more}
+use Rattle.std.proofs.Common.{◌≡◌, ℕ, ◌≤◌, ◌==◌, List, length, take, min, ap, ◌∙◌, arith, ◌+◌, ◌<◌, refl, sym, subst, inl, inr, ◌⊎◌, IsUtf8, codes, true≢false, ◌-◌, [], ◌∷◌, ◌++◌, get_or, ◌≢◌, true, false, drop, length-append, append_assoc, length-take, not, Option, None, Some, IfSome}
+use Rattle.std.proofs.lemmas.List.{length-take-le, get_or-take, take_at, take_more}
 use Rattle.scroll.specs.declared.ctx.str_ctx.StrCtx.{StrCtx}
 use Rattle.scroll.specs.declared.ctx.str_ctx.StrCtx.TheVariants.{Delimiter, DelimiterUntil, Length, Required}
 use Rattle.scroll.specs.lemmas.Frames.{index_of-le}
-use Rattle.scroll.specs.Texts.{index_of, text_len, wanted_len, delimiter_len, HasDelimiter, ReadsText, RefusesInvalid, RefusesMissing, RefusesText, ReadsSlice}
+use Rattle.scroll.specs.Texts.{ending, index_of, within, before, text_in, wanted_len, delimiter_len, HasDelimiter, ReadsText, RefusesInvalid, RefusesMissing, RefusesText, ReadsSlice}
 use Rattle.scroll.proofs.lemmas.SearchLemmas.{position_or_len-take}
 use Rattle.std.proofs.lemmas.Bool.{cases_lt, cases_Bool}
 use Rattle.std.proofs.lemmas.Str.{IsUtf8-from_is_utf8, is_utf8-from_IsUtf8, IsUtf8-from_ascii}
@@ -38,23 +38,6 @@ offset-behind d (b ∷ bs) rest h =
 pub index_of-take : (d k : ℕ) (s : List ℕ) → index_of d (take k s) ≡ min k (index_of d s)
 index_of-take d k s = position_or_len-take (λ b. b == d) k s
 
--- a string within a limit
-pub take-until : (d k n : ℕ) (s : List ℕ) → n ≡ index_of d (take k s)
-    → take n (take k s) ≡ take (min k (index_of d s)) s
-take-until d k n s e = ap (λ n. take n (take k s)) (e ∙ index_of-take d k s)
-    ∙ take-take (min k (index_of d s)) k s (omega arith)
-
--- a text has as many bytes as its context selects
-pub text_len-take : (ctx : StrCtx) (s : List ℕ) → wanted_len ctx ≤ length s
-    → length (take (text_len ctx s) s) ≡ text_len ctx s
-text_len-take (Delimiter d) s h = length-take-le (index_of d s) s (index_of-le d s)
-text_len-take (DelimiterUntil d limit) s h =
-    length-take-le (min limit (index_of d s)) s (omega (arith, h))
-text_len-take (Length n) s h = length-take-le n s h
-text_len-take (Required d) s h = length-take-le (index_of d s) s (index_of-le d s)
-
-pub ruleset text_lens = (text_len-take)
-
 pub ruleset index_ofs = (index_of-le, index_of-take)
 
 pub ruleset ascii = (IsUtf8-from_ascii)
@@ -71,38 +54,62 @@ local-slice c s t v n r h long e = record {
   size = r.size;
 }
 
--- a source that begins with the same bytes as another, as many as a read takes, has a text of the
--- same length
-same-len : (ctx : StrCtx) (n : ℕ) (s t : List ℕ) → n ≡ text_len ctx s + delimiter_len ctx
-    → take n t ≡ take n s → text_len ctx t ≡ text_len ctx s
-same-len (Delimiter d) n s t size e = let f = index_of-prefixes d n s t e in omega (arith, size, f)
-same-len (DelimiterUntil d k) n s t size e = let f = index_of-prefixes d n s t e in
-    omega (arith, size, f)
-same-len (Length k) n s t size e = refl
-same-len (Required d) n s t size e = let f = index_of-prefixes d n s t e in omega (arith, size, f)
+-- the bytes within a limit of lists with equal prefixes
+within-take : (limit : Option ℕ) (n : ℕ) (s : List ℕ)
+    → take n (within limit s) ≡ within limit (take n s)
+within-take None n s = refl
+within-take (Some k) n s = grind (arith, common_steps)
 
-same-delimiter : (ctx : StrCtx) (s t : List ℕ) → text_len ctx t ≡ text_len ctx s
-    → length s ≤ length t → HasDelimiter ctx s → HasDelimiter ctx t
-same-delimiter (Delimiter d) s t same long h = tt
-same-delimiter (DelimiterUntil d k) s t same long h = tt
-same-delimiter (Length k) s t same long h = tt
-same-delimiter (Required d) s t same long h = omega (arith, same, long, h)
+-- the first stop, and what stands before it, in lists that have the same bytes up to it
+stop-same : (d n : ℕ) (s t : List ℕ) → n ≡ length (before (Some d) s) + 1 → take n t ≡ take n s
+    → index_of d t ≡ index_of d s
+stop-same d n s t size e =
+    let long = length-take-le (index_of d s) s (index_of-le d s) in
+    let same = index_of-prefixes d n s t e in
+    omega (arith, size, long, same)
+
+before-same : (d n : ℕ) (s t : List ℕ) → n ≡ length (before (Some d) s) + 1 → take n t ≡ take n s
+    → before (Some d) t ≡ before (Some d) s
+before-same d n s t size e =
+    let long = length-take-le (index_of d s) s (index_of-le d s) in
+    ap (λ k. take k t) (stop-same d n s t size e)
+    ∙ take-same (index_of d s) n s t (omega (arith, size, long)) e
+
+-- a source that begins with the same bytes as another, as many as a read takes, has the same text,
+-- and the same delimiter
+same-text : (ctx : StrCtx) (n : ℕ) (s t : List ℕ) → wanted_len ctx ≤ length s
+    → n ≡ length (text_in ctx s) + delimiter_len ctx → length s ≤ length t → take n t ≡ take n s
+    → HasDelimiter ctx s → (text_in ctx t ≡ text_in ctx s) × HasDelimiter ctx t
+same-text (Delimiter d) n s t room size long e there = (before-same d n s t size e, tt)
+same-text (DelimiterUntil d k) n s t room size long e there = (
+  before-same d n (take k s) (take k t) size
+      (within-take (Some k) n t ∙ ap (take k) e ∙ sym (within-take (Some k) n s)),
+  tt,
+)
+same-text (Length k) n s t room size long e there =
+    let is : n ≡ k = size ∙ ap (λ m. m + 0) (length-take-le k s room) ∙ omega arith in
+    (ap (λ m. take m t) (sym is) ∙ e ∙ ap (λ m. take m s) is, tt)
+same-text (Required d) n s t room size long e there =
+    let same = stop-same d n s t size e in
+    (before-same d n s t size e, omega (arith, same, long, there))
 
 pub local-text : (ctx : StrCtx) → IsLocal (ReadsText ctx)
 local-text ctx s t v n r h long e =
-    let same = same-len ctx n s t r.size e in
+    let size : n ≡ length (text_in ctx s) + delimiter_len ctx =
+    r.size ∙ ap (λ text. length text + delimiter_len ctx) r.prefix in
+    let same = same-text ctx n s t r.room size long e r.there in
     record {
       room = omega (arith, r.room, long);
-      prefix = r.prefix ∙ sym (take-same (text_len ctx s) n s t (omega (arith, r.size)) e)
-          ∙ ap (λ m. take m t) (sym same);
+      prefix = r.prefix ∙ sym same.0;
       utf8 = r.utf8;
-      size = r.size ∙ ap (λ m. m + delimiter_len ctx) (sym same);
-      there = same-delimiter ctx s t same long r.there;
+      size = r.size;
+      there = same.1;
     }
 
 -- a string of a given length is within its source
 pub within-length : (k : ℕ) → IsWithin (ReadsText (Length k))
-within-length k s v n r = omega (arith, r.room, r.size)
+within-length k s v n r =
+    let inside = length-take k s in omega (arith, r.size, ap length r.prefix, inside)
 
 pub same-bad_input : (d : Error) (n : ℕ) (text : List ℕ) → IsBadInput d n text
     → SameError d (BadInput n (record { ref_ptr = (0, 0); now = text }))
@@ -119,11 +126,11 @@ utf8-cases s = elim (cases_Bool (is_utf8 s)) as (λ _. IsUtf8 s ⊎ ¬ (IsUtf8 s
   | inr fails ↦ inr (λ u. true≢false (sym (is_utf8-from_IsUtf8 s u) ∙ fails))
 ]
 
-has-cases : (ctx : StrCtx) (s : List ℕ) → HasDelimiter ctx s ⊎ ¬ (HasDelimiter ctx s)
-has-cases (Delimiter d) s = inl tt
-has-cases (DelimiterUntil d k) s = inl tt
-has-cases (Length k) s = inl tt
-has-cases (Required d) s =
+has-cases : (required : Option ℕ) (s : List ℕ)
+    → IfSome required (λ d. index_of d s < length s)
+    ⊎ ¬ (IfSome required (λ d. index_of d s < length s))
+has-cases None s = inl tt
+has-cases (Some d) s =
     elim (cases_lt (index_of d s) (length s)) [
       | inl inside ↦ inl inside
       | inr past ↦ inr (λ inside. absurd (omega (arith, inside, past)))
@@ -150,13 +157,16 @@ refuses-short ctx s d short (inr (inr r)) = absurd (omega (arith, short, r.room)
 one-there : (ctx : StrCtx) (s : List ℕ) → wanted_len ctx ≤ length s → HasDelimiter ctx s
     → AllowsOne (ReadsText ctx s) (RefusesText ctx s)
 one-there ctx s long there =
-    elim (utf8-cases (take (text_len ctx s) s))
+    elim (utf8-cases (text_in ctx s))
     as (λ _. AllowsOne (ReadsText ctx s) (RefusesText ctx s)) [
       | inl holds ↦
-          one-Ok (ReadsText ctx s) (RefusesText ctx s) (take (text_len ctx s) s)
-          (text_len ctx s + delimiter_len ctx)
+          one-Ok (ReadsText ctx s) (RefusesText ctx s) (text_in ctx s)
+          (length (text_in ctx s) + delimiter_len ctx)
           (record { room = long; prefix = refl; utf8 = holds; size = refl; there = there })
-          (λ v m r. (r.prefix, r.size)) (λ e r. (refuses-long ctx s e long there r).invalid holds)
+          (λ v m r. (
+            r.prefix,
+            r.size ∙ ap (λ text. length text + delimiter_len ctx) r.prefix,
+          )) (λ e r. (refuses-long ctx s e long there r).invalid holds)
       | inr fails ↦
           one-Err (ReadsText ctx s) (RefusesText ctx s)
           (BadInput (length s) (record { ref_ptr = (0, 0); now = codes "invalid utf8" }))
@@ -186,7 +196,8 @@ one-text ctx s =
           (λ v m r. absurd (omega (arith, short, r.room)))
           (λ d r. same-too_big d (wanted_len ctx) (length s) (refuses-short ctx s d short r))
       | inr long ↦
-          elim (has-cases ctx s) as (λ _. AllowsOne (ReadsText ctx s) (RefusesText ctx s)) [
+          elim (has-cases (ending ctx).required s)
+          as (λ _. AllowsOne (ReadsText ctx s) (RefusesText ctx s)) [
             | inl there ↦ one-there ctx s long there
             | inr missing ↦ one-missing ctx s long missing
           ]
@@ -194,7 +205,9 @@ one-text ctx s =
 
 -- a string whose delimiter the source must contain is within it
 pub within-required : (d : ℕ) → IsWithin (ReadsText (Required d))
-within-required d s v n r = omega (arith, r.there, r.size)
+within-required d s v n r =
+    let text = length-take (index_of d s) s in
+    omega (arith, r.there, r.size, ap length r.prefix, text)
 
 -- reads of what begins with a value's bytes
 pub begins-slice : (s t : List ℕ) → take (length t) s ≡ t → ReadsSlice (length t) s t (length t)

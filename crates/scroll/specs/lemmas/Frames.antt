@@ -2,14 +2,13 @@
 -- its source, a write ends within its target, and the bytes after those that it wrote stay. The
 -- implementations cite these lemmas for the laws of their traits. They are proved, and promise
 -- nothing.
-use Rattle.std.proofs.Common.{ℕ, ◌+◌, ◌≤◌, ◌==◌, not, List, [], ◌∷◌, length, drop, arith, length-drop, ◌≡◌, ℤ, max, ◌*◌, ◌-◌, ◌/◌, ◌%◌, ◌^◌, ◌++◌, take, length-take, refl, sym, ap, ◌∙◌}
+use Rattle.std.proofs.Common.{ℕ, ◌+◌, ◌≤◌, ◌==◌, not, List, [], ◌∷◌, length, drop, arith, length-drop, ◌≡◌, ℤ, max, ◌*◌, ◌-◌, ◌/◌, ◌%◌, ◌^◌, ◌++◌, take, length-take, refl, sym, ap, ◌∙◌, Option, None, Some, option_to_list}
 use Rattle.std.proofs.lemmas.List.Sums.{prefix_len-le-length}
 use Rattle.scroll.specs.Arrays.{ReadsArray, WritesAll, WritesArray, OverwritesAll, FillsArray}
 use Rattle.scroll.specs.CStrings.{ReadsCString}
 use Rattle.scroll.specs.Reads.{IsBounded, ReadsAll}
-use Rattle.scroll.specs.Texts.{index_of, ReadsText}
+use Rattle.scroll.specs.Texts.{index_of, ReadsText, text_in, ending, within, before}
 use Rattle.scroll.specs.declared.ctx.str_ctx.StrCtx.{StrCtx}
-use Rattle.scroll.specs.declared.ctx.str_ctx.StrCtx.TheVariants.{Delimiter, DelimiterUntil, Length, Required}
 use Rattle.std.proofs.Math.Nat.{mul-suc}
 use Rattle.std.proofs.lemmas.Grind.{common_steps}
 use Rattle.std.proofs.lemmas.List.{drop-drop, take_at}
@@ -24,14 +23,31 @@ use Rattle.scroll.specs.declared.endian.Endian.TheVariants.{Little, Big}
 pub index_of-le : (d : ℕ) (s : List ℕ) → index_of d s ≤ length s
 index_of-le d s = prefix_len-le-length (λ b. not (b == d)) s
 
+-- a text is at most as long as its source
+within-le : (limit : Option ℕ) (s : List ℕ) → length (within limit s) ≤ length s
+within-le None s = omega arith
+within-le (Some n) s = omega (arith, length-take n s)
+
+before-le : (stop : Option ℕ) (s : List ℕ) → length (before stop s) ≤ length s
+before-le None s = omega arith
+before-le (Some d) s = omega (arith, length-take (index_of d s) s)
+
+pub text_in-le : (ctx : StrCtx) (s : List ℕ) → length (text_in ctx s) ≤ length s
+text_in-le ctx s =
+    let inner = within-le (ending ctx).limit s in
+    let text = before-le (ending ctx).stop (within (ending ctx).limit s) in
+    omega (arith, inner, text)
+
+stop-le : (stop : Option ℕ) → length (option_to_list stop) ≤ 1
+stop-le None = omega arith
+stop-le (Some d) = omega arith
+
 -- the size of a text is at most one more than the length of the source
 pub ReadsText-bounded : (ctx : StrCtx) → IsBounded (ReadsText ctx)
-ReadsText-bounded (Delimiter d) source text n h =
-    let within = index_of-le d source in omega (arith, h.size)
-ReadsText-bounded (DelimiterUntil d limit) source text n h =
-    let within = index_of-le d source in omega (arith, h.size)
-ReadsText-bounded (Length len) source text n h = omega (arith, h.size, h.room)
-ReadsText-bounded (Required d) source text n h = omega (arith, h.size, h.there)
+ReadsText-bounded ctx source text n h =
+    let inside = text_in-le ctx source in
+    let stop = stop-le (ending ctx).stop in
+    omega (arith, h.size, inside, stop, ap length h.prefix)
 
 -- so is the size of a C string
 pub ReadsCString-bounded : IsBounded ReadsCString

@@ -4,7 +4,7 @@ ghost use Rattle.std.specs.Prelude.{◌≡◌, ℕ, ◌+◌, ◌≤◌, List, le
 ghost use Rattle.scroll.specs.Errors.{IsBadInput};
 ghost use Rattle.std.proofs.Common.{rules};
 ghost use Rattle.scroll.specs.Bytes.{RefusesShort, WritesPrefix, FailsShort};
-ghost use Rattle.scroll.specs.Texts.{index_of, text_len, wanted_len, HasDelimiter, ReadsText, RefusesMissing, RefusesText};
+ghost use Rattle.scroll.specs.Texts.{index_of, text_in, wanted_len, HasDelimiter, ReadsText, RefusesMissing, RefusesText};
 ghost use Rattle.scroll.specs.lemmas.Frames.{ReadsText-bounded, WritesPrefix-keeps};
 
 use crate::ctx::{StrCtx, TryFromCtx, TryIntoCtx};
@@ -54,7 +54,6 @@ impl<'a> TryFromCtx<'a, StrCtx> for &'a str {
     ghost reads_bounded = { λ ctx source text. ReadsText-bounded ctx source text.now };
 
     #[inline(always)]
-    #[tactic(auto, using(crate::proofs::lemmas::TextLemmas::text_lens))]
     fn try_from_ctx(from: &'a [u8], ctx: StrCtx) -> Result<(&'a str, usize)> {
         match text_in(from, ctx)? {
             Some(text) => Ok((text, text.len() + ctx.len())),
@@ -73,9 +72,8 @@ impl<'a> TryFromCtx<'a, StrCtx> for &'a str {
 fn text_in(from: &[u8], ctx: StrCtx) -> Result<Option<&str>>
     ensures room { IfOk result (λ _. wanted_len ctx ≤ length from.now) }
     ensures text { IfOk result (λ found. IfSome found
-        (λ text. text.now ≡ take (text_len ctx from.now) from.now)) }
-    ensures none { IfOk result (λ found. IfNone found
-        (¬ (IsUtf8 (take (text_len ctx from.now) from.now)))) }
+        (λ text. text.now ≡ text_in ctx from.now)) }
+    ensures none { IfOk result (λ found. IfNone found (¬ (IsUtf8 (text_in ctx from.now)))) }
     ensures there { OnOk result (HasDelimiter ctx from.now) }
     ensures refused { IfErr result (λ e. RefusesShort (wanted_len ctx) from.now e
         ⊎ RefusesMissing ctx from.now e) }

@@ -1,5 +1,5 @@
 -- Lemmas for callers: round trips. What was read is written back, and what was written reads back.
-use Rattle.std.proofs.Common.{◌≡◌, ◌≢◌, ℕ, ◌+◌, ◌<◌, ◌++◌, ◌==◌, true, List, [], ◌∷◌, length, take, drop, get_or, slice_index, Fits, w8, refl, sym, ap, ◌∙◌, arith, IsUtf8, append_assoc, length-append}
+use Rattle.std.proofs.Common.{◌≡◌, ◌≢◌, ℕ, ◌+◌, ◌<◌, ◌++◌, ◌==◌, true, List, [], ◌∷◌, length, take, drop, get_or, slice_index, Fits, w8, refl, sym, ap, ◌∙◌, arith, IsUtf8, append_assoc, length-append, length-take-le}
 use Rattle.std.proofs.Math.Seq.{take-add}
 use Rattle.std.proofs.lemmas.List.{append-nil, take_at, take_all, take_more, get_or-drop}
 use Rattle.std.proofs.lemmas.List.Elements.{All-from_get_or}
@@ -33,7 +33,9 @@ pub required-back : (d : ℕ) (s text : List ℕ) (n : ℕ) → ReadsText (Requi
 required-back d s text n r =
     let byte : get_or s (index_of d s) 0 ≡ d =
     is-byte (get_or s (index_of d s) 0) d (passes_at_first (λ b. b == d) s 0 r.there) in
-    ap (λ m. take m s) r.size ∙ take_more s (index_of d s) 0 r.there
+    let text = length-take-le (index_of d s) s (omega (arith, r.there)) in
+    let size : n ≡ index_of d s + 1 = omega (arith, r.size, ap length r.prefix, text) in
+    ap (λ m. take m s) size ∙ take_more s (index_of d s) 0 r.there
     ∙ ap (λ b. take (index_of d s) s ++ b ∷ []) byte ∙ ap (λ t. t ++ d ∷ []) (sym r.prefix)
 
 -- a string without the delimiter, followed by the delimiter, reads back
@@ -46,7 +48,7 @@ required-again d text rest h utf8 =
       prefix =
           sym (ap (λ n. take n (text ++ d ∷ rest)) at ∙ take_at text (d ∷ rest) (length text) refl);
       utf8 = utf8;
-      size = ap (λ n. n + 1) (sym at);
+      size = refl;
       there = omega (arith, at, length-append text (d ∷ rest));
     }
 

@@ -27,7 +27,13 @@ pub text-begins : (bytes : List ℕ) (n : ℕ) → length bytes ≡ n → IsUtf8
     → ReadsText (Length n) (bytes ++ rest) bytes n
 text-begins bytes n size utf8 rest =
     let prefix = slice-begins bytes n size rest in
-    record { room = prefix.room; prefix = prefix.value; utf8 = utf8; size = omega arith; there = _ }
+    record {
+      room = prefix.room;
+      prefix = prefix.value;
+      utf8 = utf8;
+      size = omega (arith, size);
+      there = _;
+    }
 
 -- a number in LEB128
 pub uleb-begins : (x : Counted ℕ) → HasEncoding x.value x.count → (rest : List ℕ)
