@@ -4,6 +4,7 @@ import re
 from pathlib import Path
 from typing import Any, Dict, Iterator, List, Set, Tuple
 
+from fixed_types import names_of
 from items import Item, SourceFile
 from model import Crate, Enum
 from names import CHOICE, CODE, GHOST
@@ -57,7 +58,9 @@ def print_file(crate: Crate, file: SourceFile, items: List[Tuple[Item, Any]]) ->
     around: Set[str] = set()
     for item, form in items:
         if form is None:
-            texts.append(record_text(crate.record(item)))
+            record = crate.record(item)
+            texts.append(record_text(record))
+            own |= {name for _, of in record.fields for name in names_of(of)}
             continue
         printer = Printer(form)
         texts += printer.print()
@@ -103,7 +106,8 @@ def imports(crate: Crate, own: Set[str], modules: Dict[str, str], body: str) -> 
             yield f"ghost use {module}.{{{', '.join(found)}}};"
     yield from (f"ghost use {module} as {name};" for module, name in modules.items() if f"{name}." in ghost)
     yield ""
-    words = {*re.findall(r"[\w-]+", body)}
+    # (not the variants of enums)
+    words = {*re.findall(r"(?<![\w.:-])[\w-]+", body)}
     yield from use_lines("super", own & words)
     for module, names in CODE.items():
         called = {it for it in names if f"{it}(" in body or f"{it}::<" in body}

@@ -75,6 +75,14 @@ class Part:
     inside: Any = None
     aliases: Sequence[Tuple[str, str]] = ()
 
+    @property
+    def has_array(self) -> bool:
+        return any(isinstance(of, Array) for _, of in self.fields)
+
+    @property
+    def is_optional_list(self) -> bool:
+        return bool(self.listed) and self.type.startswith("Option<")
+
     def around(self, name: str, type_: str, ghost: str, code: str) -> "Part":
         """Returns the part in a context around its own."""
         context = Value(record(ghost, self.context.ghost), call(name, code, self.context.code))

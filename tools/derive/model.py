@@ -3,6 +3,7 @@
 import ast
 import re
 from dataclasses import dataclass
+from functools import partial
 from pathlib import Path
 from typing import Any, Callable, Dict, List, Optional, Tuple
 
@@ -12,6 +13,7 @@ from forms import Part
 from inverses import Inverse, variant_again
 from items import Item, RawField, SourceFile, Type, read_file
 from names import CHOICES, RECORDS, TAKEN
+from pointers import read_pointer
 from sums import bracketed, number_of
 from text import alias_of, call
 from tokens import MARK, Refused
@@ -95,21 +97,12 @@ class Variant:
         """The part in code, of the values that are borrowed."""
         return self.part.split.replace("self.v", "*v")
 
-    @property
-    def has_array(self) -> bool:
-        """(The borrow checker's part of a proof doesn't cover an array in a pattern.)"""
-        return any(isinstance(of, Array) for _, of in self.part.fields)
-
-    @property
-    def pattern(self) -> str:
-        return "it" if self.has_array else self.part.join
-
-    def arm(self, pattern: str, made: str) -> str:
-        """Returns the arm of a match that takes the part apart."""
-        if not self.has_array:
-            return f"\n            {pattern} => {made},"
+    def arm(self, ways: Callable[[str], str], made: str, is_apart: bool) -> str:
+        """Returns the arm of a match that takes the part apart, perhaps by a line of its own."""
+        if not is_apart:
+            return f"\n            {ways(self.part.join)} => {made},"
         return f"""
-            {pattern} => {{
+            {ways("it")} => {{
                 let {self.part.join} = it;
                 {made}
             }}"""
@@ -163,13 +156,18 @@ class Enum(Form):
 
     def arms(self, at: int = 0) -> str:
         """Returns the arms of a match that makes the enum of a choice between the variants from one on."""
-        it, *others = self.variants[at:]
         if self.is_flat:
-            return "".join(it.arm(self.chosen(at, it.pattern), self.pattern(it)) for at, it in enumerate(self.variants))
-        first = it.arm(call("First", it.pattern), self.pattern(it))
+            return "".join(self.arm(it, partial(self.chosen, at)) for at, it in enumerate(self.variants))
+        it, *others = self.variants[at:]
+        first = self.arm(it, partial(call, "First"))
         if len(others) == 1:
-            return first + others[0].arm(call("Second", others[0].pattern), self.pattern(others[0]))
+            return first + self.arm(others[0], partial(call, "Second"))
         return f"{first}{inner_match('Second(rest)', self.arms(at + 1))}"
+
+    def arm(self, of: Variant, ways: Callable[[str], str]) -> str:
+        """Returns the arm of a variant. (In a pattern the borrow checker's part of a proof doesn't cover an array, and of an enum
+        with its own tag a list isn't found to be read.)"""
+        return of.arm(ways, self.pattern(of), of.part.has_array or (self.is_own and bool(of.part.listed)))
 
     def ghost(self, at: int) -> str:
         """Returns a variant's choice in the logic."""
@@ -314,6 +312,8 @@ class Crate:
             return True
         if of.name == "[;]":
             return self.is_fixed_type(item, of.arguments[0], outer)
+        if of.name == "Pointer":
+            return True
         found = self.find(of.name, item.path) if of.text == of.name else None
         return bool(found and found.is_marked and self.is_fixed(found, outer))
 
@@ -326,6 +326,8 @@ class Crate:
             if length < 0:
                 at.refuse(f"has the length {of.length}, which is no literal and no constant of this file that is one")
             return Array(element, length, of.text)
+        if of.name == "Pointer":
+            return read_pointer(self, item, at, of)
         found = self.find(of.name, item.path)
         if not found or not self.is_fixed_type(item, of):
             at.refuse(self.why_not(item, of))

@@ -31,7 +31,7 @@ CODE: Dict[str, Sequence[str]] = {
     CHOICE: ("First", "Second"),
     "scroll_layouts": tuple(
         "Behind Choice Choose Count Decimal EndMark Ends Field Filled Given Head Headed Hexadecimal IsList Items "
-        "ListOf ListPart Listed Low Marked NameEnd Octal Ordered Packed Padded Part ReadPart Run Shape Sleb Split "
+        "ListOf ListPart Listed Low Marked NameEnd Octal Ordered Packed Padded Part Pointer ReadPart Run Shape Sleb Split "
         "ToMark TwoZeroUlebs U24 Uleb Unmarked Vlq When Within ZeroUleb Zigzag begins_with is kept_exact kept_whole "
         "read_exact read_whole shifted write_whole".split()
     ),

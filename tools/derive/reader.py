@@ -7,7 +7,7 @@ from typing import Any, List, Sequence, Tuple
 
 from conditions import Both, Condition, read_condition
 from fields import KINDS, FixedSize, Nested
-from fixed_types import PLAIN, Fixed, Record
+from fixed_types import PLAIN, Fixed, names_of
 from forms import Number, Part, Rule, numbers
 from items import Item, Note, Notes, RawField, Type
 from model import Crate, Form
@@ -41,8 +41,7 @@ class Reader:
     # Other structs and enums
 
     def use(self, of: Fixed) -> None:
-        if isinstance(of, Record):
-            self.used.append(of.text)
+        self.used += names_of(of)
 
     def inner(self, at: RawField, of: Type) -> Any:
         """Returns the struct of any size, the enum or the list that a type is."""

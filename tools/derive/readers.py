@@ -63,8 +63,19 @@ class StructReader(Reader):
             if made.fields and made.context == NOTHING and last and last.fields and last.context == NOTHING:
                 self.parts.pop()
                 made = self.together([*last.fields, *made.fields])
-            self.parts.append(made)
+            self.parts.append(self.apart(made))
             self.read_check(field)
+
+    def apart(self, made: Part) -> Part:
+        """Binds a part with an array by a line of its own, if an optional list stands before it: behind such a one, the borrow
+        checker doesn't cover an array that is taken out of its part in the same pattern."""
+        every = [it for part in self.parts for it in (part.inside.parts if part.inside else [part])]
+        if not made.has_array or not any(it.is_optional_list for it in every):
+            return made
+        variable = f"part_{len(every) + 1}"
+        while variable in self.item.names:
+            variable += "_"
+        return replace(made, join=variable, after=f"\n        let {made.join} = {variable};{made.after}")
 
     def read_padding(self, field: RawField) -> bool:
         """Reads zeros up to a multiple, and returns whether a field is these."""

@@ -2,7 +2,7 @@
 
 from typing import List, Sequence
 
-from fixed_types import Array, Fixed, Plain, Record, width_of
+from fixed_types import Array, Fixed, Plain, Pointer, Record, width_of
 from text import call, in_tuple, label, nested, paths, right
 
 
@@ -16,6 +16,8 @@ def made(of: Fixed, source: str, value: str) -> str:
         word = {"unsigned": "number", "signed": "signed_number", "float": f"float binary{8 * of.width}"}[of.kind]
         width = "" if of.kind == "float" else f" {of.width}"
         return f"({value} ≡ {word} order{width} {source})"
+    if isinstance(of, Pointer):
+        return made(of.offset, source, f"{value}.offset")
     if isinstance(of, Array):
         element = f"(λ s x. {made(of.element, 's', 'x')})"
         return f"(MakesArray {width_of(of.element)} {element} {of.length} {source} {value})"

@@ -127,7 +127,7 @@ def lay_out_ghost(head: str, text: str, tail: str, indent: int) -> List[str]:
         fields = [part.partition(" = ") for part in split_top(text[8:-1].strip(), ";")]
         inside = [row for name, _, value in fields for row in lay_out_ghost(f"{name} = ", value, ";", indent + 2)]
         return [f"{space}{head}record {{", *inside, f"{space}}}{tail}"]
-    return filled(f"{space}{head}".rstrip(), re.split(r" (?=[×⊎] |\(codes )", text + tail), " " * (indent + 3))
+    return filled(f"{space}{head}".rstrip(), re.split(r" (?=[×⊎] |\(codes |\(λ v\. )", text + tail), " " * (indent + 3))
 
 
 def filled(row: str, words: Sequence[str], space: str) -> List[str]:

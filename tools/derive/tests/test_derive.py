@@ -104,6 +104,14 @@ class Derive(unittest.TestCase):
         self.assertEqual(self.call(str(self.crate)), (0, "", ""))
         self.assertIn("use super::Point;", (self.crate / "src" / "derived.rt").read_text(encoding="utf-8"))
 
+    def test_a_struct_of_another_file(self) -> None:
+        point = "mod derived;\n// #[derive(Pread, Pwrite)]\nstruct Point {\n    x: u8,\n}\n"
+        (self.crate / "src" / "points.rt").write_text(point, encoding="utf-8")
+        line = "use crate::points::Point;\nmod derived;\n// #[derive(Pread, Pwrite)]\nstruct Line {\n    from: Point,\n}\n"
+        self.file.write_text(line, encoding="utf-8")
+        self.assertEqual(self.call(str(self.crate)), (0, "", ""))
+        self.assertIn("use super::{Line, Point};", self.derived.read_text(encoding="utf-8"))
+
     def test_the_imports(self) -> None:
         """A field has a name that another text would import, and a message has a word that is a function's name."""
         names = ("last", "refuses", "length", "codes", "rules", "is", "read_exact")

@@ -18,7 +18,7 @@ use super::{
 };
 use scroll::ctx::{TryFromCtx, TryIntoCtx};
 use scroll::{Endian, Error, LE};
-use scroll_formats::{Table, Zeros};
+use scroll_formats::Zeros;
 use scroll_layouts::Choice::{First, Second};
 use scroll_layouts::{
     Behind, Choice, Choose, Count, Given, Head, Headed, IsList, Items, ListOf, ListPart, Listed,

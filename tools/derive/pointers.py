@@ -1,0 +1,34 @@
+"""Fields that are offsets, with what stands there."""
+
+import re
+from typing import TYPE_CHECKING, Tuple
+
+from fixed_types import PLAIN, Pointer
+from items import Item, RawField, Type
+
+if TYPE_CHECKING:
+    from model import Crate
+
+# The numbers that may say an offset.
+OFFSETS = ("u16", "u32", "u64")
+
+
+def read_pointer(crate: "Crate", item: Item, at: RawField, of: Type) -> Pointer:
+    """Returns a pointer to a struct of a fixed size, or to a value of a list."""
+    number, target = [it.name for it in of.arguments] if len(of.arguments) == 2 else ("", "")
+    if number not in OFFSETS:
+        said = f"write its number, {', '.join(OFFSETS)}, and what stands there, as `Pointer<u32, Section>`"
+        at.refuse(f"is of {of.text}: {said}")
+    found = crate.find(target, item.path)
+    is_fixed = found and found.is_marked and crate.is_fixed(found) and not leads_to(crate, found, item.name)
+    if not found or not (is_fixed or "items" in found.notes):
+        said = f"name it, `// #[scroll(items = {target})] struct {target}s;`, and take `Pointer<{number}, {target}s>`"
+        at.refuse(f"points to {target}: {said}")
+    return Pointer(of.text, PLAIN[number], target)
+
+
+def leads_to(crate: "Crate", item: Item, name: str, seen: Tuple[str, ...] = ()) -> bool:
+    """Returns whether a struct, or one that its fields name, names another. (The prover doesn't cover such types in a cycle.)"""
+    names = {it for field in item.fields for it in re.findall(r"\w+", field.type.text)}
+    inner = [found for found in (crate.find(it, item.path) for it in names) if found and found.name not in (*seen, item.name)]
+    return name in (item.name, *names) or any(leads_to(crate, it, name, (*seen, item.name)) for it in inner)
