@@ -8,6 +8,7 @@ from descriptions.counts import FLOATS, KEPT, PART, SIGNED, UNSIGNED, Fixed, Gro
 from descriptions.expressions import Product, Quotient, Rest, Shifted
 from descriptions.kinds import Ended, Filled, Gap, Kind, Leb, Listing, Number, Numeral, Slice, Table
 from descriptions.nested import Enum, Inner, Tagged, Variant
+from descriptions.pointers import add_pointers
 from descriptions.structs import SMALL, AnyCondition, Condition, Field, IsLeft, Joined, OwnError, Struct
 
 MADE = ("a quotient", "a product of two", "a shift", "a shift of bits")
@@ -37,9 +38,10 @@ PADDED, SMALL_ERROR, IS_KEPT, TOP_ENUM = "a whole struct padded", "a small error
 ORDERED, FIELD_ORDER, TEST = "a struct's byte order", "a field's byte order", "a check"
 RANGE, ANY_TAG = "enum: several tags", "enum: all other tags"
 LOW, REST, IS_LEFT, ZERO_MARK = "bits from the lowest on", "the rest", "an option of the rest", "a mark of zeros"
+POINTER = "a pointer"
 OTHERS = (
     *(OWN_CONSTANT, OWN_COUNT, OWN_TAG, PADDED, SMALL_ERROR, IS_KEPT, TOP_ENUM, ORDERED, FIELD_ORDER, TEST, RANGE, ANY_TAG),
-    *(LOW, REST, IS_LEFT, ZERO_MARK),
+    *(LOW, REST, IS_LEFT, ZERO_MARK, POINTER),
     *("enum: its own tag", "enum: an earlier tag"),
 )
 # Those that want a number of their own.
@@ -456,4 +458,6 @@ def draw(name: str, seed: str, at: int, bag: List[str]) -> Drawn:
     for it in made.items[:-1]:
         if isinstance(it, (Struct, Enum)) and it.is_alone and (is_deep or drawing.chance(75)):
             it.mark = PART
+    if isinstance(made.top, Struct) and add_pointers(made.items, random.Random(f"{seed} pointers")):
+        made.kinds.append(POINTER)
     return made

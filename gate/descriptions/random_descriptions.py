@@ -7,8 +7,8 @@ COUNT structs (8) are drawn from SEED (34:1) by gate/descriptions/draw.py, of 2 
 nested to depth 3; the last of twenty-four is nested to depth 10. (`34:1` is the second draw from 34, whose fourth struct isn't
 proved where `number` is an `abbrev`.) `python3 tools/derive` prints what they need, in crates of some structs over the
 libraries as `rt lib` proves them in this repository. Each struct has functions that use it, with no proof by hand: a reader that
-says where fields stand and which error a short source is, a writer that reads a field back, a walk over a list, and without
-floats a copier. `rt check` proves each crate.
+says where fields stand and which error a short source is, a writer that reads a field back, a walk over a list, a read of what
+a pointer says, and without floats a copier. `rt check` proves each crate.
 
 Then values are drawn, and their bytes made, by gate/descriptions/structs.py, which knows the descriptions alone. A program of
 the same text, which promises nothing more and so is built by `rt try`, reads them, and them cut, with each number one greater

@@ -8,6 +8,7 @@ from descriptions.counts import KEPT, SIGNED, UNSIGNED, Group, Sum, bracket
 from descriptions.draw import Drawn
 from descriptions.kinds import Ended, Filled, Gap, Kind, Leb, Listing, Number, Numeral, Slice, Table
 from descriptions.nested import Enum, Inner, Tagged
+from descriptions.pointers import pointer_of
 from descriptions.structs import Field, Struct
 
 # How a field is said.
@@ -198,7 +199,7 @@ def draw_whole(made: Drawn) -> Optional[Back]:
 
 
 def print_users(made: Drawn) -> str:
-    """Prints a reader, a writer, a walk over a list, and without floats a copier."""
+    """Prints a reader, a writer, a walk over a list, a read of what a pointer says, and without floats a copier."""
     struct, of = made.struct, made.struct.error
     error = of.name if of else "Error"
     name, facts, least, back = struct.name.lower(), facts_of(struct), least_of(struct), draw_whole(made)
@@ -247,6 +248,17 @@ pub fn count_{name}(value: {struct.name}) -> usize {{
         count = count.saturating_add(1);
     }}
     count
+}}
+"""
+    pointer = pointer_of(struct)
+    if pointer:
+        field, kind = pointer
+        item, entry = kind.target.item.type, ".entry" if "'a" in made.top.type else ""
+        text += f"""
+pub fn point_{name}<'a>(file: &'a [u8], value: {struct.name}, order: Endian) -> Result<{item}, At<{error}>>
+    ensures {{ IfErr result (λ located. located.offset ≡ value{entry}.{field}.offset) }}
+{{
+    value.{field}.read(file, order)
 }}
 """
     if struct.is_exact:

@@ -36,7 +36,7 @@ SECTIONS = {
     + [f"{LAYOUTS}/{it}" for it in ("bytes", "padding", "texts", "c_strings", "std_c_strings", "fills", "leb128", "leb128/parts")]
     + [f"{LAYOUTS}/{it}" for it in ("leb128/zigzags", "vlq", "vlq/parts", "numerals", "numerals/parts", "shifts")]
     + [f"{LAYOUTS}/{it}" for it in ("bits", "bits/fields", "bits/words", "bits/three_bytes", "tables", "items", "lists", "marked", "marked/ends", "marked/until", "marked/values")]
-    + [f"{LAYOUTS}/walk"]
+    + [f"{LAYOUTS}/walk", f"{LAYOUTS}/pointer"]
     + [f"{LAYOUTS}/{it}" for it in ("pairs", "head", "within", "behind", "ordered", "optional", "choice", "variants", "borrowed", "shape", "whole", "append", "each")],
 }
 ITEM = re.compile(r"(?P<indent>(?:    )?)(?P<open>pub )?(?:final |const |unsafe )*(?P<kind>trait|struct|enum|fn|const|type|impl)\b(?P<rest>.*)")

@@ -19,5 +19,6 @@ pub mod Fields
 pub mod Bits
 pub mod Wholes
 pub mod Each
+pub mod Pointers
 -- Lemmas, and no definitions, which the laws of implementations cite.
 pub mod lemmas

@@ -8,6 +8,7 @@ mod fixed;
 mod many;
 mod parts;
 mod places;
+mod pointers;
 mod rest;
 mod results;
 mod stored;

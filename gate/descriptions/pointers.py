@@ -1,0 +1,56 @@
+"""Pointers in drawn structs: some numbers that no note names say where a value stands."""
+
+import random
+import re
+from typing import List, Optional, Tuple, Union
+
+from descriptions.counts import Group, Plain, Sum
+from descriptions.kinds import Kind, Leb, Listing, Number
+from descriptions.nested import Enum, Inner
+from descriptions.structs import Field, OwnError, Struct
+
+Item = Union[Struct, Enum, Group, Listing, OwnError]
+OFFSETS = ("u16", "u32", "u64")
+# How many of these numbers are pointers, in a hundred.
+SHARE = 50
+
+
+class Pointer(Number):
+    """An offset, and the struct without fields that names what stands there."""
+
+    def __init__(self, of: Plain, target: Listing) -> None:
+        super().__init__(Group(f"Pointer<{of.type}, {target.name}>", ((".offset", of),)))
+        self.target = target
+
+
+def add_pointers(items: List[Item], rng: random.Random) -> bool:
+    """Makes pointers of some numbers of the structs, and returns whether there are any."""
+    structs = [it for it in items if isinstance(it, Struct)]
+    notes = "\n".join(re.findall(r"(?m)^ *// #\[scroll.*", "\n".join(it.print() for it in items)))
+    inner = {*re.findall(r"\.(\w+)", notes)}
+    fields = [field for it in structs for field in it.fields if can_point(it, field, inner) and rng.randrange(100) < SHARE]
+    if not fields:
+        return False
+    values: List[Kind] = [Leb("Uleb"), *(Inner(it) for it in structs[:-1] if not it.is_given)]
+    item = rng.choice(values)
+    made = Listing(f"{structs[-1].name}Places", item, "bytes", Sum([]))
+    made.error = f", {structs[-1].error.note}" if structs[-1].error and not isinstance(item, Inner) else ""
+    for it in fields:
+        assert isinstance(it.kind, Number) and isinstance(it.kind.of, Plain)
+        it.kind = Pointer(it.kind.of, made)
+    items.insert(0, made)
+    return True
+
+
+def can_point(struct: Struct, of: Field, inner: "set[str]") -> bool:
+    """Returns whether a field is a number that nothing names."""
+    kind = of.kind
+    if not (isinstance(kind, Number) and isinstance(kind.of, Plain) and kind.of.type in OFFSETS):
+        return False
+    notes = re.findall(r"(?m)^ *// #\[scroll.*", struct.print())
+    return not (kind.bits or kind.constant is not None or of.name in inner or any(re.search(rf"\b{of.name}\b", it) for it in notes))
+
+
+def pointer_of(struct: Struct) -> Optional[Tuple[str, Pointer]]:
+    """Returns a field of a struct that is a pointer, if it has one."""
+    return next(((it.name, it.kind) for it in struct.fields if isinstance(it.kind, Pointer) and not it.condition), None)
