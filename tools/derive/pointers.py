@@ -27,8 +27,11 @@ def read_pointer(crate: "Crate", item: Item, at: RawField, of: Type) -> Pointer:
     return Pointer(of.text, PLAIN[number], target)
 
 
-def leads_to(crate: "Crate", item: Item, name: str, seen: Tuple[str, ...] = ()) -> bool:
-    """Returns whether a struct, or one that its fields name, names another. (The prover doesn't cover such types in a cycle.)"""
-    names = {it for field in item.fields for it in re.findall(r"\w+", field.type.text)}
-    inner = [found for found in (crate.find(it, item.path) for it in names) if found and found.name not in (*seen, item.name)]
-    return name in (item.name, *names) or any(leads_to(crate, it, name, (*seen, item.name)) for it in inner)
+def leads_to(crate: "Crate", item: Item, name: str) -> bool:
+    """Returns whether a struct, or one that its fields name, has a name. (The prover doesn't cover such types in a cycle.)"""
+    names, left = {item.name}, [item]
+    while left:
+        words = {it for field in left.pop().fields for it in re.findall(r"\w+", field.type.text)}
+        left += [found for found in (crate.find(it, item.path) for it in words - names) if found]
+        names |= words
+    return name in names

@@ -32,7 +32,7 @@ before-le : (stop : Option ℕ) (s : List ℕ) → length (before stop s) ≤ le
 before-le None s = omega arith
 before-le (Some d) s = omega (arith, length-take (index_of d s) s)
 
-pub text_in-le : (ctx : StrCtx) (s : List ℕ) → length (text_in ctx s) ≤ length s
+text_in-le : (ctx : StrCtx) (s : List ℕ) → length (text_in ctx s) ≤ length s
 text_in-le ctx s =
     let inner = within-le (ending ctx).limit s in
     let text = before-le (ending ctx).stop (within (ending ctx).limit s) in
