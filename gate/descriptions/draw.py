@@ -15,7 +15,9 @@ MADE = ("a quotient", "a product of two", "a shift", "a shift of bits")
 # The kinds of fields, of counts, of conditions and of types of a fixed size.
 SHORT = ("text to a byte", "C string", "ULEB128", "SLEB128", "high groups", "zigzag", "digits", "filled text")
 LEAVES = (*SHORT, "slice", "text", "zeros", "table", "table of records", "numbers")
-LISTS = {"list in a length": "bytes", "list of a count": "values", "list to a mark": "mark"}
+LISTS = {"list in a length": "bytes", "list of a count": "values", "list to a mark": "mark", "list to its last value": "last"}
+# Those that want no count.
+ENDED = ("list to a mark", "list to its last value")
 NESTED = ("struct", "struct that is given a number", "enum")
 WRAPPED = ("padded", "within", "optional")
 PARTS = (*LEAVES, *LISTS, *NESTED, *WRAPPED, "bits", "three bytes", "padding")
@@ -83,6 +85,13 @@ class Drawn(NamedTuple):
         made = self.items[-1]
         assert isinstance(made, (Struct, Enum))
         return made
+
+
+def is_open(kind: Kind) -> bool:
+    """Returns whether a field is a number that no constant says."""
+    if isinstance(kind, Number):
+        return kind.constant is None and is_count(kind.of)
+    return isinstance(kind, Numeral) or (isinstance(kind, Leb) and not kind.is_signed)
 
 
 class Draw(random.Random):
@@ -263,6 +272,8 @@ class Draw(random.Random):
         return makers[kind]()
 
     def listing(self, how: str, known: Sequence[Known], depth: int, can_differ: bool) -> Listing:
+        if how == "last":
+            return self.listing_to_last(depth)
         can_nest, leaf = depth < DEEPEST and self.structs_left > 0, self.choice([*map(Leb, ("Uleb", "Sleb", "Vlq", "Zigzag")), Ended(-1), None])
         if can_nest and self.chance(50):
             item: Kind = Inner(self.struct(depth + 1))
@@ -279,6 +290,23 @@ class Draw(random.Random):
         self.items.append(made)
         return made
 
+    def listing_to_last(self, depth: int) -> Listing:
+        """A list up to the value that says, by a bit of one of its numbers, that it is the last."""
+        group = Group(self.new_type(), ((".r0", Plain(self.choice([*UNSIGNED]))), (".r1", Plain("u16"))))
+        item, names = Number(group), ["r0", "r1"]
+        if depth < DEEPEST and self.structs_left > 0:
+            inner = Inner(self.struct(depth + 1))
+            found = [it.name for it in inner.struct.fields if it.is_plain and is_open(it.kind)]
+            item, names = (inner, found) if found else (item, names)
+        if isinstance(item, Number):
+            self.items.append(group)
+        made = Listing(f"{self.new_type()}s", item, "last", Sum([]))
+        made.last = Condition(self.choice(names), self.choice(["==", "!="]), 0, bit=1)
+        if self.error and not isinstance(item, Inner):
+            made.error = f", {self.error.note}"
+        self.items.append(made)
+        return made
+
     def enum(self, known: Sequence[Known], depth: int, name: str = "") -> Tagged:
         own = {it.name: it for it in known if it.how == "number" and it.is_free}
         is_own, name, variants = not own or self.chance(40), name or self.new_type(), []
@@ -286,7 +314,7 @@ class Draw(random.Random):
         given = [] if is_own else [Known("given", "usize", "given")]
         for at, number in enumerate(self.sample(range(200), self.randint(2, 4))):
             leaves = [*SHORT, "zeros", *LISTS] if is_own else [*LEAVES, *LISTS]
-            kinds = [it for it in leaves if it != "numbers" and not (is_own and it in LISTS and it != "list to a mark")]
+            kinds = [it for it in leaves if it != "numbers" and not (is_own and it in LISTS and it not in ENDED)]
             kinds += ["struct"] if depth < DEEPEST and self.structs_left else []
             made: List[Kind] = [self.kind(self.take("", kinds), given, depth, False)] if self.chance(50) else []
             if not made and self.chance(80):

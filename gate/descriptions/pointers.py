@@ -27,7 +27,7 @@ def add_pointers(items: List[Item], rng: random.Random) -> bool:
     """Makes pointers of some numbers of the structs, and returns whether there are any."""
     structs = [it for it in items if isinstance(it, Struct)]
     notes = "\n".join(re.findall(r"(?m)^ *// #\[scroll.*", "\n".join(it.print() for it in items)))
-    inner = {*re.findall(r"\.(\w+)", notes)}
+    inner = {*re.findall(r"\.(\w+)", notes), *re.findall(r"last = (\w+)", notes)}
     fields = [field for it in structs for field in it.fields if can_point(it, field, inner) and rng.randrange(100) < SHARE]
     if not fields:
         return False

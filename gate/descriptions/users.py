@@ -240,7 +240,7 @@ pub fn keep_{name}{life}(to: &mut [u8], value: {made.top.type}, at: usize, order
 """
     walked = next((it for it in struct.fields if isinstance(it.kind, Listing) and not it.condition), None)
     if walked:
-        values = "values_to_mark" if walked.kind.how == "mark" else "values"
+        values = {"mark": "values_to_mark", "last": "values_to_last"}.get(walked.kind.how, "values")
         text += f"""
 pub fn count_{name}(value: {struct.name}) -> usize {{
     let mut count: usize = 0;

@@ -35,7 +35,8 @@ SECTIONS = {
     "Formats in the logic": [f"{LAYOUTS}/{it}" for it in ("lib", "run", "run/contexts", "fixed", "fixed/numbers", "fixed/arrays", "fixed/records")]
     + [f"{LAYOUTS}/{it}" for it in ("bytes", "padding", "texts", "c_strings", "std_c_strings", "fills", "leb128", "leb128/parts")]
     + [f"{LAYOUTS}/{it}" for it in ("leb128/zigzags", "vlq", "vlq/parts", "numerals", "numerals/parts", "shifts")]
-    + [f"{LAYOUTS}/{it}" for it in ("bits", "bits/fields", "bits/words", "bits/three_bytes", "tables", "items", "lists", "marked", "marked/ends", "marked/until", "marked/values")]
+    + [f"{LAYOUTS}/{it}" for it in ("bits", "bits/fields", "bits/words", "bits/three_bytes", "tables", "items", "lists")]
+    + [f"{LAYOUTS}/{it}" for it in ("marked", "marked/ends", "marked/until", "marked/values", "closed")]
     + [f"{LAYOUTS}/walk", f"{LAYOUTS}/pointer"]
     + [f"{LAYOUTS}/{it}" for it in ("pairs", "head", "within", "behind", "ordered", "optional", "choice", "variants", "borrowed", "shape", "whole", "append", "each")],
 }

@@ -1,12 +1,12 @@
 """The fields of a struct of any size: one class for each kind, which reads the notes before a field and makes its part."""
 
 import re
-from typing import TYPE_CHECKING, Dict, Tuple, Type as TypeOf
+from typing import TYPE_CHECKING, Dict, List, Tuple, Type as TypeOf
 
 from fixed_types import PLAIN, Array, Fixed, Record, is_counter
 from forms import NOTHING, Number, Part, around_list, numbers, one, there
 from items import Note, RawField, Type
-from model import Enum, ListType, Struct
+from model import Enum, Form, ListType, Struct
 from names import HOMES
 from rules import bytes_rule, constant_rule, guarded, tag_rule
 from sums import Value
@@ -162,7 +162,7 @@ class TableOf(Kind):
 
 class ListOf(Kind):
     words = ("ctx", "else")
-    example = "as `ctx = len as usize` for so many bytes, `ctx = Count(n as usize)` for so many values, or `ctx = ToMark`"
+    example = "as `ctx = len as usize` of so many bytes, `ctx = Count(n as usize)` of so many values, `ctx = ToMark` or `ctx = ToLast`"
 
     def make(self) -> Part:
         element = self.element
@@ -173,12 +173,13 @@ class ListOf(Kind):
             self.at.refuse(f"is a list of {element.text}: {said}")
         form = self.reader.inner(self.at, element)
         called, (inside, *_) = self.reader.call(self.ctx)
-        if form.ends and self.ctx.text != "ToMark":
-            self.at.refuse(f"is a list within a length or by a count, and {element.text} has a mark: take `ctx = ToMark`")
-        if self.ctx.text == "ToMark":
-            if not form.ends:
-                self.at.refuse(f"is a list up to a mark, and {element.text} has no `ends = ..`, which says its mark")
-            part = self.one("ToMark", Value("record {}", "ToMark"))
+        said = self.ctx.text
+        if form.context and said != form.context:
+            self.at.refuse(f"has the context {said}, and {element.text} says where it ends: take `ctx = {form.context}`")
+        if said in ("ToMark", "ToLast"):
+            if not form.context:
+                self.at.refuse(f"has the context {said}, and {element.text} has no `{'ends' if said == 'ToMark' else 'last'} = ..`")
+            part = self.one(said, Value("record {}", said))
         elif called == "Count":
             part = self.one("Count", around("Count", self.reader.count(self.at, inside)))
         else:
@@ -226,6 +227,16 @@ def is_of_numbers(of: Fixed) -> bool:
     return is_of_numbers(of.element) if isinstance(of, Array) else not isinstance(of, Record)
 
 
+def counting(form: Form) -> List[Number]:
+    """Returns the numbers of a struct."""
+    if not isinstance(form, Struct):
+        return []
+    kinds = {it.name: it.type.name for it in form.item.fields}
+    found = [(it, kind, "") for it, kind in kinds.items() if kind in PLAIN and is_counter(PLAIN[kind])]
+    found += [(it, "u64", ".value") for it, kind in kinds.items() if kind in COUNTED]
+    return [Number(it, kind, f".{it}{way}") for it, kind, way in found]
+
+
 class Nested(Kind):
     """A struct of any size, or an enum whose tag stands before it."""
 
@@ -245,11 +256,7 @@ class Nested(Kind):
         else:
             part = self.one("()", NOTHING)
         part.is_exact, part.has_enum = form.is_exact, form.has_enum
-        if isinstance(form, Struct):
-            kinds = {it.name: it.type.name for it in form.item.fields}
-            counting = [(it, kind, "") for it, kind in kinds.items() if kind in PLAIN and is_counter(PLAIN[kind])]
-            counting += [(it, "u64", ".value") for it, kind in kinds.items() if kind in COUNTED]
-            part.numbers = [Number(f"{self.at.name}.{it}", kind, f".{it}{way}") for it, kind, way in counting]
+        part.numbers = [it._replace(name=f"{self.at.name}.{it.name}") for it in counting(form)]
         return part
 
     def tag(self, form: Enum) -> Value:

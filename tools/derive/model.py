@@ -14,7 +14,7 @@ from inverses import Inverse, variant_again
 from items import Item, RawField, SourceFile, Type, read_file
 from names import CHOICES, RECORDS, TAKEN
 from pointers import read_pointer
-from sums import bracketed, number_of
+from sums import Value, bracketed, number_of
 from text import alias_of, call
 from tokens import MARK, Refused
 
@@ -209,10 +209,17 @@ class Enum(Form):
 
 @dataclass
 class ListType(Form):
-    """A struct without fields that names the values of a list: their type, and what ends a list of them."""
+    """A struct without fields that names the values of a list: their type, and what ends a list of them: a mark; or which of
+    them says that it is the last, of a value `x`."""
 
     of: str
     ends: str
+    last: Optional[Value]
+
+    @property
+    def context(self) -> str:
+        """The context of a list, which alone says where it ends; or nothing."""
+        return "ToMark" if self.ends else "ToLast" if self.last else ""
 
 
 class Crate:

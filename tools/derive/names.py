@@ -12,6 +12,7 @@ GHOST: Dict[str, Sequence[str]] = {
     "Rattle.scroll.specs.Numbers": ("float", "number", "signed_number"),
     "Rattle.scroll.specs.lemmas.Frames": ("WritesPrefix-keeps",),
     "Rattle.scroll_formats.specs.SmallErrors": ("small_error",),
+    "Rattle.scroll_layouts.specs.Closed": ("CountedClosed",),
     "Rattle.scroll_layouts.specs.Errors": ("GivesBadInput", "IsNot"),
     "Rattle.scroll_layouts.specs.Formats": ("refuses", "shape"),
     "Rattle.scroll_layouts.specs.ListEnds": ("bytes_mark",),
@@ -30,9 +31,9 @@ CODE: Dict[str, Sequence[str]] = {
     "scroll_formats": ("Kept", "SmallError", "Table", "Zeros"),
     CHOICE: ("First", "Second"),
     "scroll_layouts": tuple(
-        "Behind Choice Choose Count Decimal EndMark Ends Field Filled Given Head Headed Hexadecimal IsList Items "
+        "Behind Choice Choose Closed Count Decimal EndMark Ends Field Filled Given Head Headed Hexadecimal IsList Items "
         "ListOf ListPart Listed Low Marked NameEnd Octal Ordered Packed Padded Part Pointer ReadPart Run Shape Sleb Split "
-        "ToMark TwoZeroUlebs U24 Uleb Unmarked Vlq When Within ZeroUleb Zigzag begins_with is kept_exact kept_whole "
+        "ToLast ToMark TwoZeroUlebs U24 Uleb Unmarked Vlq When Within ZeroUleb Zigzag begins_with is kept_exact kept_whole "
         "read_exact read_whole shifted write_whole".split()
     ),
     "std::marker": ("PhantomData",),

@@ -154,8 +154,20 @@ class Printer:
         if end:
             trait, more = "Marked", f"    type End = {end};\n\n"
             said = f"CountedMarked ⟦<{end} as EndMark>⟧.mark\n        {values} (length s) n"
+        elif form.last:
+            closes = f"λ x. {form.last.ghost}"
+            trait, more = "Closed", f"    ghost closes = {{ {closes} }};\n\n"
+            said = f"CountedClosed\n        {values.removesuffix(' order s')} ({closes})\n        order s (length s) n"
         else:
             trait, more, said = "Unmarked", "", f"CountedItems\n        {values} 0 (length s) n"
+        is_last = ""
+        if form.last:
+            is_last = f"""
+
+    #[inline(always)]
+    fn is_last(x: &{form.of}) -> bool {{
+        {form.last.code}
+    }}"""
         self.texts += [
             f"impl IsList for {self.name} {{\n    ghost is_list = {{ λ order s n. {said} }};\n}}",
             f"""impl<'a> Listed<'a> for {self.name} {{
@@ -178,7 +190,7 @@ class Printer:
             f"""impl<'a> {trait}<'a> for {self.name} {{
 {more}    ghost from_values = {{ λ order s n h. h }};
 
-    ghost into_values = {{ λ order s n h. h }};
+    ghost into_values = {{ λ order s n h. h }};{is_last}
 }}""",
         ]
         if is_bytes:

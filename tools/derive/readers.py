@@ -3,15 +3,15 @@
 from dataclasses import replace
 from typing import List, Optional, Tuple, Type as TypeOf
 
-from fields import FixedSize
-from fixed_types import PLAIN, Record, is_counter
-from forms import NOTHING, Part, bits, nothing, numbers, optional
+from fields import FixedSize, counting
+from fixed_types import PLAIN, Record, is_counter, numbers_of
+from forms import NOTHING, Number, Part, bits, nothing, numbers, optional
 from items import Item, Note, RawField, read_type
 from model import Crate, Enum, Form, ListType, Struct, Variant
 from reader import Reader
 from rules import check_rule, own_variant, tag_rule
-from shapes import Chain, leaving, together
-from sums import number_of
+from shapes import Chain, leaving, resolve, together
+from sums import Value, number_of
 from tokens import read_tokens
 
 TAGS = ("u8", "u16", "u32", "u64")
@@ -248,7 +248,9 @@ class EnumReader(Reader):
 
 
 class ListReader(Reader):
-    words = ("items", "ends", "error")
+    words = ("items", "ends", "last", "error")
+    # The numbers of a value, by which one may say that it is the last.
+    inside: List[Number] = []
 
     def read(self) -> ListType:
         """Reads a struct that names the values of a list."""
@@ -261,6 +263,7 @@ class ListReader(Reader):
             return self.list(of.text if of.name != "CStr" else "CStr<'a>")
         if is_fixed:
             made = FixedSize(self, at, of).fixed()
+            self.inside = [Number(way[1:], kind, f".0.0{way}") for way, kind in numbers_of(made)]
             return self.list(f"Run<Field<{made.text}>>" if isinstance(made, Record) else f"Run<{made.text}>")
         if not found or not found.is_marked:
             item.refuse(self.crate.why_not(item, of).replace("is of", "is a list of", 1), note)
@@ -268,6 +271,7 @@ class ListReader(Reader):
         if isinstance(form, ListType) or form.given or (isinstance(form, Enum) and not form.is_own):
             item.refuse(f"is a list of {of.text}, which is given a number: put it into a struct with that", note)
         self.error = form.error
+        self.inside = counting(form)
         return self.list(form.type)
 
     def check_error(self, at: RawField, form: Form) -> None:
@@ -276,7 +280,25 @@ class ListReader(Reader):
             super().check_error(at, form)
 
     def list(self, of: str) -> ListType:
-        return ListType(self.item, self.error, self.used, of, self.read_ends())
+        return ListType(self.item, self.error, self.used, of, self.read_ends(), self.read_last(of))
+
+    def read_last(self, of: str) -> Optional[Value]:
+        """Returns which value says that it is the last."""
+        note = self.item.notes.get("last")
+        if not note:
+            return None
+        if "ends" in self.item.notes:
+            self.item.refuse("has both `ends = ..` and `last = ..`", note)
+        at = RawField(self.item.path, self.item.word, self.item.name, note.line, {}, [])
+        said = self.condition(at, note).said()
+        return Value(*(resolve(it, {one.name: f"x{one.way}" for one in self.inside}) for it in said))
+
+    def number(self, at: RawField, note: Note, name: str) -> Number:
+        """Returns a number of a value."""
+        for it in self.inside:
+            if it.name == name:
+                return it
+        at.refuse(f"has a note that names {name}, which is no unsigned number of a value", note)
 
     def read_ends(self) -> str:
         """Returns what ends a list: the bytes of a mark, or the name of a type that says it."""

@@ -14,6 +14,7 @@ pub mod Lists
 pub mod MarkSizes
 pub mod Marks
 pub mod ListEnds
+pub mod Closed
 pub mod ListLeaves
 pub mod Fields
 pub mod Bits

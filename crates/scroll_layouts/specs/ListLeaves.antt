@@ -2,14 +2,16 @@
 use Rattle.std.proofs.Common.{refl, sym, ap, ◌∙◌, arith, length-drop}
 use Rattle.std.proofs.lemmas.List.Elements.{All-drop}
 use Rattle.std.specs.List.{All}
-use Rattle.std.specs.Prelude.{◌≡◌, ◌≢◌, ◌+◌, ◌<◌, ◌≤◌, ◌⊎◌, ⊤, ℕ, List, length, take, drop, codes}
+use Rattle.std.specs.Prelude.{◌≡◌, ◌≢◌, ◌+◌, ◌<◌, ◌≤◌, ◌⊎◌, ⊤, ℕ, Bool, List, length, take, drop, codes}
 use Rattle.scroll.specs.declared.endian.Endian.{Endian}
 use Rattle.scroll.specs.declared.error.Error.{Error}
+use Rattle.scroll_layouts.specs.Closed.{alike, ClosedItems, RefusesClosed, RefusesToLast}
 use Rattle.scroll_layouts.specs.Errors.{NoRoom, GivesBadInput}
 use Rattle.scroll_layouts.specs.Formats.{Format, Leaf}
 use Rattle.scroll_layouts.specs.Lists.{SomeItems, CountedItems, RefusesItems, RefusesCounted}
 use Rattle.scroll_layouts.specs.Marks.{Mark, MarkedItems, RefusesMarked, RefusesToMark}
 use Rattle.scroll_layouts.specs.OneWay.{told, one_way}
+use Rattle.scroll_layouts.specs.lemmas.ClosedLemmas.{closed-one, closed-clash}
 use Rattle.scroll_layouts.specs.lemmas.ListClashes.{within-clash, counted-clash, marked-clash}
 use Rattle.scroll_layouts.specs.lemmas.ListLemmas.{counted-one}
 use Rattle.scroll_layouts.specs.lemmas.MarkLemmas.{marked-one}
@@ -98,3 +100,14 @@ list_until gives mark f = held (told f) (one_way f)
     (λ t order s. marked-one mark f t order s)
     (marked-clash gives mark f)
     (RefusesToMark gives mark f)
+
+-- a list of values up to the one that says that it is the last. One that has bytes behind it is
+-- `BadInput` with the offset where it ends and the message `another length than its values`
+abbrev pub list_to_last : {E X : Type 0} → (Error → E → Type 0) → Format E X → (X → Bool)
+    → Leaf E (List ℕ)
+list_to_last gives f closes = held (told f × alike f closes) (one_way f × alike f closes)
+    (λ order x. ∥ ClosedItems f closes order x (length x) ∥₁)
+    (λ order s e. RefusesClosed gives f closes order s e)
+    (λ t order s. closed-one f closes t.0 t.1 order s)
+    (λ t order s. closed-clash gives f closes t.0 t.1 order s)
+    (RefusesToLast gives f closes)

@@ -1,6 +1,7 @@
 pub mod ArrayLemmas
 pub mod BitLemmas
 pub mod ByteMarks
+pub mod ClosedLemmas
 pub mod EachLemmas
 pub mod EndLemmas
 pub mod EqualLemmas

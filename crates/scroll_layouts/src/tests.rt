@@ -2,6 +2,7 @@
 // proved with no word.
 mod appends;
 mod calls;
+mod closed;
 mod encoded;
 mod equal;
 mod fixed;

@@ -30,9 +30,20 @@ impl<'a, K: Unmarked<'a>> Items<'a, K> {
         ensures list { ∥ SomeItems K.item result.order result.bytes.now 0
             (length result.bytes.now) ∥₁ }
     {
+        Values::of(self.bytes, self.order)
+    }
+}
+
+impl<'a, E, K> Values<'a, E, K> {
+    // Returns the values of a list, all of which are left.
+    #[inline(always)]
+    pub(crate) fn of(bytes: &'a [u8], order: Endian) -> Values<'a, E, K>
+        ensures bytes { result.bytes.now ≡ bytes.now }
+        ensures order { result.order ≡ order }
+    {
         Values {
-            bytes: self.bytes,
-            order: self.order,
+            bytes,
+            order,
             of: PhantomData,
         }
     }

@@ -18,7 +18,7 @@ use Rattle.scroll_layouts.specs.lemmas.OneWayLemmas.{no-clash}
 use Rattle.scroll_layouts.specs.lemmas.SameLaws.{one-len, tells}
 
 -- a value that has a byte isn't read where none can be read
-stop-clash : {E X : Type 0} (gives : Error → E → Type 0) (f : Format E X) → one_way f
+pub stop-clash : {E X : Type 0} (gives : Error → E → Type 0) (f : Format E X) → one_way f
     → (order : Endian) (s : List ℕ) (stop : ℕ) (x : X) (e : E) → All (λ b. b < 256) s
     → reads f order s stop x → 1 ≤ len f x → StopsAtItem gives f order s stop e → ⊥
 stop-clash gives f t order s stop x e all h some (inl r) = no-clash f t order s stop x e all h r

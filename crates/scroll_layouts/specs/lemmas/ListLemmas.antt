@@ -14,7 +14,7 @@ use Rattle.scroll_layouts.specs.lemmas.Parts.{same-part}
 use Rattle.scroll_layouts.specs.lemmas.SameLaws.{one-len}
 
 -- one more value
-push : {E X : Type 0} (f : Format E X) (order : Endian) (s : List ℕ) (at : ℕ) (xs : List X)
+pub push : {E X : Type 0} (f : Format E X) (order : Endian) (s : List ℕ) (at : ℕ) (xs : List X)
     (mid : ℕ) (x : X) → Items f order s at xs mid → reads f order s mid x → 1 ≤ len f x
     → Items f order s at (xs ++ x ∷ []) (mid + len f x)
 push f order s at [] mid x h r some =
@@ -39,7 +39,7 @@ ends f order s at [] to h = omega (arith, h)
 ends f order s at (x ∷ xs) to h = omega (arith, ends f order s (at + len f x) xs to h.2)
 
 -- they are values of the bytes up to their end
-items-cut : {E X : Type 0} (f : Format E X) (order : Endian) (s : List ℕ) (at : ℕ) (xs : List X)
+pub items-cut : {E X : Type 0} (f : Format E X) (order : Endian) (s : List ℕ) (at : ℕ) (xs : List X)
     (to : ℕ) → All (λ b. b < 256) s → to ≤ length s → Items f order s at xs to
     → Items f order (take to s) at xs to
 items-cut f order s at [] to all le h = h

@@ -1,0 +1,45 @@
+-- The values are values of their own bytes.
+use Rattle.std.proofs.Common.{◌-◌, length, drop, take, sym, subst, rules}
+use Rattle.scroll_layouts.specs.Closed.{CountedClosed, ClosedItems}
+use Rattle.scroll_layouts.specs.lemmas.ClosedLemmas.{counted-closed, closed-cut}
+use Rattle.scroll_layouts.specs.lemmas.Parts.{bytes-taken, cut-there}
+use Rattle.scroll_layouts.specs.lemmas.WholeLemmas.{bytes-below}
+use Rattle.scroll_layouts.proofs.closed.ListOfReadPartToLastError.read_at.Goals as goal
+
+pub of-list-requires : goal.of-list-requires
+of-list-requires g c =
+    let s = c.args.from.now in
+    let o = c.args.offset in
+    let end = c.in_ok-end.end in
+    let rest = take (length s - o) (drop o s) in
+    let f = g.K.Listed.item in
+    let closes = g.K.Closed.closes in
+    let n = c.in_ok-end.count in
+    let lists : CountedClosed f closes c.args.order (take end rest) (length (take end rest)) n
+    → g.K.IsList.is_list c.args.order (take end rest) n = λ h. search rules in
+    λ k. (
+      search rules,
+      ∣ lists (closed-cut f closes c.args.order rest end n
+          (bytes-taken (length s - o) o s (bytes-below s c.type_inv.from))
+          c.in_ok-end.ensures.inside c.in_ok-end.ensures.read) ∣₁,
+    )
+
+pub returns-clause-read : goal.returns-clause-read
+returns-clause-read g c =
+    let s = c.args.from.now in
+    let o = c.args.offset in
+    let end = c.in_ok-end.end in
+    let rest = take (length s - o) (drop o s) in
+    let f = g.K.Listed.item in
+    let closes = g.K.Closed.closes in
+    let inside = c.in_ok-end.ensures.inside in
+    let list = g.L.ListPart.seen c.of-list.result in
+    let there = cut-there s o end list c.requires inside c.of-list.ensures in (
+      there.1,
+      there.2,
+      subst (λ l. ∥ ClosedItems f closes c.args.order l (length l) ∥₁)
+          (sym c.of-list.ensures)
+          ∣ counted-closed (closed-cut f closes c.args.order rest end c.in_ok-end.count
+          (bytes-taken (length s - o) o s (bytes-below s c.type_inv.from)) inside
+          c.in_ok-end.ensures.read) ∣₁,
+    )
