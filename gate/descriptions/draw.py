@@ -292,7 +292,7 @@ class Draw(random.Random):
 
     def listing_to_last(self, depth: int) -> Listing:
         """A list up to the value that says, by a bit of one of its numbers, that it is the last."""
-        group = Group(self.new_type(), ((".r0", Plain(self.choice([*UNSIGNED]))), (".r1", Plain("u16"))))
+        group = Group(self.new_type(), ((".r0", Plain(self.choice(["u8", "u16", "u32", "u64"]))), (".r1", Plain("u16"))))
         item, names = Number(group), ["r0", "r1"]
         if depth < DEEPEST and self.structs_left > 0:
             inner = Inner(self.struct(depth + 1))

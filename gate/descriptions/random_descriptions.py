@@ -4,8 +4,8 @@
     python3 gate/descriptions/random_descriptions.py [SEED [COUNT]]
 
 COUNT structs (8) are drawn from SEED (34:1) by gate/descriptions/draw.py, of 2 to 14 fields of all kinds that tools/derive takes,
-nested to depth 3; the last of twenty-four is nested to depth 10. (`34:1` is the second draw from 34, whose fourth struct isn't
-proved where `number` is an `abbrev`.) `python3 tools/derive` prints what they need, in crates of some structs over the
+nested to depth 3; the last of twenty-four is nested to depth 10. (`34:1` is the second draw from 34, which
+has two lists to their last values.) `python3 tools/derive` prints what they need, in crates of some structs over the
 libraries as `rt lib` proves them in this repository. Each struct has functions that use it, with no proof by hand: a reader that
 says where fields stand and which error a short source is, a writer that reads a field back, a walk over a list, a read of what
 a pointer says, and without floats a copier. `rt check` proves each crate.
