@@ -1,7 +1,7 @@
 """Prints the implementations for structs of any size, enums and lists."""
 
 import re
-from typing import Any, Dict, List, Set, Tuple
+from typing import Any, Dict, List, NamedTuple, Set, Tuple
 
 from forms import Part, fixed_type, local
 from inverses import Inverse, struct_again
@@ -11,6 +11,16 @@ from shapes import Chain, Group, resolve
 from sums import Value
 from tagged import tagged_texts
 from text import call, lifetime, record
+
+
+class ListEnd(NamedTuple):
+    """Where a list ends: the trait that says it, and which bytes are a list; and what the implementation of that trait has before
+    and behind the two laws of each list."""
+
+    trait: str
+    said: str
+    before: str = ""
+    behind: str = ""
 
 
 class Printer:
@@ -145,31 +155,12 @@ class Printer:
             self.print_calls()
 
     def print_list(self) -> None:
-        """Prints which bytes are a list, the type of its values, and what ends one."""
+        """Prints which bytes are a list, the type of its values, and where one ends."""
         form: ListType = self.form
-        is_bytes = form.ends.startswith("[")
-        end = self.name if is_bytes else form.ends
         always = form.of.replace("'a", "'static")
-        values = f"(⟦<{always} as ReadPart<'static, (), {self.error}>>⟧.format tt) order s"
-        if end:
-            trait, more = "Marked", f"    type End = {end};\n\n"
-            said = f"CountedMarked ⟦<{end} as EndMark>⟧.mark\n        {values} (length s) n"
-        elif form.last:
-            closes = f"λ x. {form.last.ghost}"
-            trait, more = "Closed", f"    ghost closes = {{ {closes} }};\n\n"
-            said = f"CountedClosed\n        {values.removesuffix(' order s')} ({closes})\n        order s (length s) n"
-        else:
-            trait, more, said = "Unmarked", "", f"CountedItems\n        {values} 0 (length s) n"
-        is_last = ""
-        if form.last:
-            is_last = f"""
-
-    #[inline(always)]
-    fn is_last(x: &{form.of}) -> bool {{
-        {form.last.code}
-    }}"""
+        end = self.list_end(f"(⟦<{always} as ReadPart<'static, (), {self.error}>>⟧.format tt)")
         self.texts += [
-            f"impl IsList for {self.name} {{\n    ghost is_list = {{ λ order s n. {said} }};\n}}",
+            f"impl IsList for {self.name} {{\n    ghost is_list = {{ λ order s n. {end.said} }};\n}}",
             f"""impl<'a> Listed<'a> for {self.name} {{
     type Error = {self.error};
 
@@ -187,26 +178,49 @@ class Printer:
         <{form.of} as ReadPart<'a, (), {self.error}>>::end_at(from, offset, order, &())
     }}
 }}""",
-            f"""impl<'a> {trait}<'a> for {self.name} {{
-{more}    ghost from_values = {{ λ order s n h. h }};
+            f"""impl<'a> {end.trait}<'a> for {self.name} {{
+{end.before}    ghost from_values = {{ λ order s n h. h }};
 
-    ghost into_values = {{ λ order s n h. h }};{is_last}
+    ghost into_values = {{ λ order s n h. h }};{end.behind}
 }}""",
         ]
-        if is_bytes:
-            mark = f"bytes_mark ({' ∷ '.join([*form.ends[1:-1].split(', '), '[]'])})"
-            self.texts.append(
-                f"""impl EndMark for {self.name} {{
+        if form.ends.startswith("["):
+            self.print_mark(form.ends)
+
+    def list_end(self, item: str) -> ListEnd:
+        """Returns where a list of values ends whose format is said so."""
+        form: ListType = self.form
+        if form.ends:
+            end = self.name if form.ends.startswith("[") else form.ends
+            said = f"CountedMarked ⟦<{end} as EndMark>⟧.mark\n        {item} order s (length s) n"
+            return ListEnd("Marked", said, f"    type End = {end};\n\n")
+        if not form.last:
+            return ListEnd("Unmarked", f"CountedItems\n        {item} order s 0 (length s) n")
+        closes = f"λ x. {form.last.ghost}"
+        said = f"CountedClosed\n        {item} ({closes})\n        order s (length s) n"
+        is_last = f"""
+
+    #[inline(always)]
+    fn is_last(x: &{form.of}) -> bool {{
+        {form.last.code}
+    }}"""
+        return ListEnd("Closed", said, f"    ghost closes = {{ {closes} }};\n\n", is_last)
+
+    def print_mark(self, ends: str) -> None:
+        """Prints that a list ends with fixed bytes."""
+        mark = f"bytes_mark ({' ∷ '.join([*ends[1:-1].split(', '), '[]'])})"
+        self.texts.append(
+            f"""impl EndMark for {self.name} {{
     ghost mark = {{ {mark} }};
 
     #[inline(always)]
     fn mark_size(from: &[u8]) -> Option<usize>
         ensures {{ result ≡ ({mark}).size from.now }}
     {{
-        begins_with(from, &{form.ends})
+        begins_with(from, &{ends})
     }}
 }}"""
-            )
+        )
 
     @staticmethod
     def print_part(name: str) -> str:
