@@ -93,7 +93,8 @@ pub trait Unmarked<'a>: Listed<'a> {
         → CountedItems Self.item order s 0 (length s) n };
 }
 
-/// Values of any size in bytes that are borrowed, one after another, or up to a mark.
+/// Values of any size in bytes that are borrowed: one after another, up to a mark, or up to the one
+/// that says that it is the last.
 ///
 /// They were read when the list was made, so its bytes are good ones: the list is walked where it
 /// lies, without memory, and written by one copy.

@@ -104,6 +104,7 @@ use std::result::Result;
 /// | [`Items`] | `usize` | values of any size, in as many bytes as the context says |
 /// | [`Items`] | [`Count`] | as many values of any size as the context says |
 /// | [`Items`] | [`ToMark`] | values of any size, and the mark that ends them |
+/// | [`Items`] | [`ToLast`] | values of any size, up to the one that says that it is the last |
 /// | [`Table`](scroll_formats::Table) | `usize` | as many elements of one size |
 /// | pairs of numbers | [`Packed`] | fields of bits of a [`Word`], the lower ones by [`Low`] |
 /// | `(A, B)` | `(C, D)` | one after the other |
