@@ -1,20 +1,14 @@
 """Draws random sessions for gate/sessions/random_sessions.py, from the forms of commands in gate/sessions/model.py."""
 
 import random
-from typing import Dict, List, Tuple
+from typing import List, Tuple
 
 from sessions import model
 
-# The first words of the forms of commands, by what a session is about.
-ABOUT: Dict[str, Tuple[str, ...]] = {
-    "numbers": ("W",),
-    "texts, slices and C strings": ("str", "bytes", "cstr", "cstring"),
-    "LEB128": ("uleb", "sleb"),
-    "arrays": ("u8x0", "u16x3", "strx2", "bytesx2"),
-}
-EVERY = tuple(word for words in ABOUT.values() for word in words)
-BAD, LONG = "bad lines", "about 65,536 bytes"
-KINDS: Dict[str, Tuple[str, ...]] = {**ABOUT, "all commands": EVERY, BAD: EVERY, LONG: EVERY}
+# What a session has: commands of one name, of all names, bad lines, or very many bytes.
+NAMES = sorted({form.split(" ")[0] for form in (*model.READS, *model.WRITES)})
+ALL, BAD, LONG = "all commands", "bad lines", "about 65,536 bytes"
+KINDS = (*NAMES, ALL, BAD, LONG)
 # One session in so many is a long one.
 LONG_ONES = 200
 
@@ -102,28 +96,28 @@ class Draw(random.Random):
 
     def end(self) -> str:
         delimiter = bytes([self.choice(self.buffer or EDGES) if self.chance(60) else self.randrange(256)]).hex()
-        length = self.digits(self.length())
-        return self.choice([f"delim {delimiter}", f"until {delimiter} {length}", f"len {length}", f"required {delimiter}"])
+        return self.choice(model.ENDS).replace("HH", delimiter).replace("N", self.digits(self.length()))
 
-    def data(self, name: str) -> bytes:
-        """Bytes that a command of this name may write."""
-        if name == "str":
-            return self.text(self.size(min(self.bits, 6)))
+    def data(self, form: str) -> bytes:
+        """Bytes that a command of this form may write."""
         data = self.content(self.size(min(self.bits, 8)))
-        return data.replace(b"\0", b"") if name == "cstr" else data
+        try:
+            model.WRITES[form][0](data)
+        except model.BadLine:
+            return self.text(self.size(min(self.bits, 6))).replace(b"\0", b"")
+        return data
 
     def words(self, form: str) -> str:
         """Words in a form of gate/sessions/model.py, which in a session with bad lines sometimes are none."""
         said = [self.choice([*"ui"]) + self.choice(["8", "16", "32", "64", "128"]) if it == "W" else it for it in form.split(" ")]
         name = said[0]
-        values = {"uleb": model.integers(64), "sleb": model.integers(64, True), "u16x3": model.integers(16)}
         for place, letters in enumerate(said):
             if letters == "V":
-                said[place] = self.value(values.get(name) or model.parse_width(name)[1])
+                said[place] = self.value(model.values_of(form, name))
             elif letters == "N":
                 said[place] = self.digits(self.length())
             elif letters == "HEX":
-                said[place] = self.hexadecimal(self.data(name))
+                said[place] = self.hexadecimal(self.data(form))
             elif letters == "ORD":
                 said[place] = self.choice(["le", "be"])
             elif letters == "T":
@@ -135,7 +129,7 @@ class Draw(random.Random):
     def command(self) -> str:
         verb = self.choice(["pread", "pread", "pwrite", "gread", "gwrite"])
         forms = model.READS if verb[1:] == "read" else model.WRITES
-        words = self.words(self.choice([it for it in forms if it.split(" ")[0] in KINDS[self.kind]]))
+        words = self.words(self.choice([it for it in forms if it.split(" ")[0] == self.kind] or [*forms]))
         return f"{verb} {self.digits(self.offset())} {words}" if verb[0] == "p" else f"{verb} {words}"
 
     def spoil(self, given: bytes) -> bytes:

@@ -183,6 +183,8 @@ def parse_end(words: str) -> End:
     return rule, bytes.fromhex(first), parse_integer(more[0]) if more else None
 
 
+# Where a text ends: `HH` stands for a delimiter, and `N` for a length.
+ENDS = ("delim HH", "required HH", "until HH N", "len N")
 # What stands for words of a line in the program's page: their form, and what they mean.
 BYTE = "[0-9A-Fa-f]{2}"
 WORDS: Dict[str, Tuple[str, Callable[[str], Any]]] = {
@@ -191,7 +193,7 @@ WORDS: Dict[str, Tuple[str, Callable[[str], Any]]] = {
     "HEX": (f"-|(?:{BYTE})+", lambda word: bytes.fromhex(word.replace("-", ""))),
     "W": ("[ui](?:8|16|32|64|128)", parse_width),
     "ORD": ("le|be", str),
-    "T": (f"(?:delim|required) {BYTE}|until {BYTE} [0-9]+|len [0-9]+", parse_end),
+    "T": ("|".join(ENDS).replace("HH", BYTE).replace("N", "[0-9]+"), parse_end),
 }
 # What is read, with the first word of its line, and what is written. The meanings of the words follow what stands here.
 READS: Dict[str, Tuple[Any, ...]] = {
@@ -216,6 +218,12 @@ WRITES: Dict[str, Tuple[Any, ...]] = {
     "bytes HEX": (put_slices,),
     "bytesx2 HEX HEX": (put_slices,),
 }
+
+
+def values_of(form: str, name: str) -> range:
+    """Returns the numbers that a command of this form and name may write."""
+    put, *how = WRITES[form]
+    return integers(64, *how) if put is put_leb128 else (how[0] if how else parse_width(name))[1]
 
 
 @lru_cache(maxsize=None)
