@@ -3,7 +3,7 @@
 import itertools
 import random
 from dataclasses import dataclass, field
-from typing import Any, Callable, Dict, List, Tuple, Union
+from typing import Any, Callable, Dict, List, NamedTuple, Tuple, Union
 
 # The numbers that are known, by the names that notes have for them.
 Known = Dict[str, int]
@@ -229,3 +229,35 @@ def lines_of(of: Fixed, path: str) -> List[str]:
     """Returns the lines that add the numbers at a path to a digest."""
     said = [f"{it.type}_to_bits_with_nan({where})" if it.type in FLOATS else where for where, it in of.leaves(path)]
     return [f"let made = mix(made, &{it}.to_le_bytes());" for it in said]
+
+
+SMALL = "SmallError"
+
+
+class OwnError(NamedTuple):
+    """An error that holds the library's, and variants with the types of the numbers in them; or that of `scroll_formats`."""
+
+    name: str
+    variants: List[Tuple[str, str]]
+
+    @property
+    def is_small(self) -> bool:
+        return self.name == SMALL
+
+    @property
+    def note(self) -> str:
+        return f"error = {self.name}" + ("" if self.is_small else "::Refused")
+
+    def print(self) -> str:
+        lines = "".join(f"    {name}({kind}),\n" for name, kind in self.variants)
+        gives = f"    ghost from_gives = {{ λ error e. e ≡ Refused error }};\n\n    fn from(error: Error) -> {self.name} {{\n"
+        return f"""#[derive(Drop)]
+pub enum {self.name} {{
+    Refused(Error),
+{lines}}}
+
+impl From<Error> for {self.name} {{
+{gives}        {self.name}::Refused(error)
+    }}
+}}
+"""

@@ -4,9 +4,9 @@ import random
 from dataclasses import dataclass
 from typing import Any, List, NamedTuple, Optional, Tuple
 
-from descriptions.counts import MARK, Known, Misfit, Plain, Refused, Rule, Sum, bad, take_bytes
+from descriptions.counts import MARK, Known, Misfit, OwnError, Plain, Refused, Rule, Sum, bad, take_bytes
 from descriptions.kinds import Kind, Leb, Number, Numeral
-from descriptions.structs import OwnError, Struct
+from descriptions.structs import Struct
 
 
 class Variant(NamedTuple):

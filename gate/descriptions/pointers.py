@@ -4,10 +4,11 @@ import random
 import re
 from typing import List, Optional, Tuple, Union
 
-from descriptions.counts import Group, Plain, Sum
-from descriptions.kinds import Kind, Leb, Listing, Number
+from descriptions.counts import Group, OwnError, Plain, Sum
+from descriptions.kinds import Kind, Leb, Number
+from descriptions.lists import Listing
 from descriptions.nested import Enum, Inner
-from descriptions.structs import Field, OwnError, Struct
+from descriptions.structs import Field, Struct
 
 Item = Union[Struct, Enum, Group, Listing, OwnError]
 OFFSETS = ("u16", "u32", "u64")

@@ -35,7 +35,7 @@ from pathlib import Path
 from typing import Dict, Iterator, List, NamedTuple, Optional
 
 sys.path.insert(0, str(Path(__file__).resolve().parents[1]))
-from descriptions import draw
+from descriptions import draw, draw_numbers
 from descriptions.counts import UNSIGNED, Hopeless, Plain, Refused, Sum
 from descriptions.kinds import Leb, Number, Slice
 from descriptions.program import changes_of, print_main, print_tried
@@ -82,21 +82,21 @@ def draw_all(seed: str, count: int) -> List[Module]:
     seed, _, first = seed.partition(":")
     for again in range(int(first or 0), AGAIN):
         modules = draw_modules(f"{seed} {again}", count)
-        if count < draw.ALL or not missing_of(modules):
+        if count < draw_numbers.ALL or not missing_of(modules):
             break
     return modules
 
 
 def missing_of(modules: List[Module]) -> List[str]:
-    return [kind for kind in (*draw.KINDS, *draw.OTHERS) if not any(kind in it.made.kinds for it in modules)]
+    return [kind for kind in (*draw_numbers.KINDS, *draw_numbers.OTHERS) if not any(kind in it.made.kinds for it in modules)]
 
 
 def draw_modules(seed: str, count: int) -> List[Module]:
     """Draws structs, and prints each as a module."""
     modules, bag, again = [], [], 0
     for at in range(count):
-        if len(bag) < len(draw.KINDS):
-            more = [*draw.KINDS]
+        if len(bag) < len(draw_numbers.KINDS):
+            more = [*draw_numbers.KINDS]
             random.Random(f"{seed} {at}").shuffle(more)
             bag += more
         crate = f"formats{at % -(-count // MOST)}"
@@ -364,9 +364,9 @@ def work(step: Step, given: argparse.Namespace) -> None:
         for name, proof in proofs.items():
             judge(step, [it for it in modules if it.crate == name], lie, proof.result().said)
         compare(step, cases, tried.result())
-    if given.count >= draw.ALL:
+    if given.count >= draw_numbers.ALL:
         step.count("kinds that no struct has", f"    {', '.join(missing_of(modules))}\n" if missing_of(modules) else None)
-    kinds = ", ".join(f"{sum(kind in it.made.kinds for it in modules)} with {kind}" for kind in (*draw.KINDS, *draw.OTHERS))
+    kinds = ", ".join(f"{sum(kind in it.made.kinds for it in modules)} with {kind}" for kind in (*draw_numbers.KINDS, *draw_numbers.OTHERS))
     step.tell(f"seed {given.seed}, {len(modules)} structs, {sum(map(len, cases.values()))} lines compared: {kinds}")
 
 

@@ -3,108 +3,17 @@
 import random
 from dataclasses import dataclass, field
 from functools import cached_property
-from typing import Any, Dict, List, NamedTuple, Optional, Tuple, Union
+from typing import Any, Dict, List, Optional, Tuple
 
-from descriptions.counts import GREATEST, MARK, UNSIGNED, Hopeless, Known, Misfit, Plain, Rule, Sum, bad, padding, take_bytes, take_zeros
+from descriptions.conditions import AnyCondition
+from descriptions.counts import GREATEST, MARK, UNSIGNED, Hopeless, Known, Misfit, OwnError, Plain, Rule, Sum, bad, padding, take_bytes
+from descriptions.counts import take_zeros
 from descriptions.kinds import Gap, Kind, Leb, Number, Numeral
 
 # How often a number is changed so that a value agrees.
 TRIES = 30
-
-
-class Condition(NamedTuple):
-    """When a field is there: a number compared with a literal one or with another field, or a bit of it."""
-
-    name: str
-    sign: str
-    number: int
-    bit: int = 0
-    other: str = ""
-
-    @property
-    def names(self) -> List[str]:
-        return [self.name, *([self.other] if self.other else [])]
-
-
-    @property
-    def parts(self) -> "List[Condition]":
-        return [self]
-
-    def text(self) -> str:
-        return f"{self.name}{f' & {self.bit}' if self.bit else ''} {self.sign} {self.other or self.number}"
-
-    def holds(self, known: Known) -> bool:
-        found, other = known[self.name], known[self.other] if self.other else self.number
-        found = found & self.bit if self.bit else found
-        of = {"==": found == other, "!=": found != other, "<": found < other, "<=": found <= other}
-        return {**of, ">": found > other, ">=": found >= other}[self.sign]
-
-
-class Joined(NamedTuple):
-    """Conditions that hold together, or of which one holds."""
-
-    parts: List[Condition]
-    is_any: bool
-
-    @property
-    def names(self) -> List[str]:
-        return [name for it in self.parts for name in it.names]
-
-    def text(self) -> str:
-        return (" || " if self.is_any else " && ").join(it.text() for it in self.parts)
-
-    def holds(self, known: Known) -> bool:
-        return (any if self.is_any else all)(it.holds(known) for it in self.parts)
-
-
-class IsLeft:
-    """Whether the fields before leave any bytes."""
-
-    names: List[str] = []
-    parts: List[Condition] = []
-
-    def text(self) -> str:
-        return "rest"
-
-    def holds(self, known: Known) -> bool:
-        return known["rest"] > 0
-
-
-AnyCondition = Union[Condition, Joined, IsLeft]
 # How notes say a byte order.
 ORDERS = {"little": "LE", "big": "BE"}
-
-
-SMALL = "SmallError"
-
-
-class OwnError(NamedTuple):
-    """An error that holds the library's, and variants with the types of the numbers in them; or that of `scroll_formats`."""
-
-    name: str
-    variants: List[Tuple[str, str]]
-
-    @property
-    def is_small(self) -> bool:
-        return self.name == SMALL
-
-    @property
-    def note(self) -> str:
-        return f"error = {self.name}" + ("" if self.is_small else "::Refused")
-
-    def print(self) -> str:
-        lines = "".join(f"    {name}({kind}),\n" for name, kind in self.variants)
-        gives = f"    ghost from_gives = {{ λ error e. e ≡ Refused error }};\n\n    fn from(error: Error) -> {self.name} {{\n"
-        return f"""#[derive(Drop)]
-pub enum {self.name} {{
-    Refused(Error),
-{lines}}}
-
-impl From<Error> for {self.name} {{
-{gives}        {self.name}::Refused(error)
-    }}
-}}
-"""
 
 
 @dataclass

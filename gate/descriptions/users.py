@@ -6,7 +6,8 @@ from typing import List, NamedTuple, Optional, Sequence
 
 from descriptions.counts import KEPT, SIGNED, UNSIGNED, Group, Sum, bracket
 from descriptions.draw import Drawn
-from descriptions.kinds import Ended, Filled, Gap, Kind, Leb, Listing, Number, Numeral, Slice, Table
+from descriptions.kinds import Ended, Filled, Gap, Kind, Leb, Number, Numeral, Slice
+from descriptions.lists import Listing, Table
 from descriptions.nested import Enum, Inner, Tagged
 from descriptions.pointers import pointer_of
 from descriptions.structs import Field, Struct
