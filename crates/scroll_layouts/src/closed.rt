@@ -1,7 +1,7 @@
 // Lists whose last value says that it is the last.
 ghost use Rattle.std.specs.Prelude.{◌≡◌, ◌≢◌, ◌≤◌, ◌<◌, ◌+◌, ◌-◌, ◌^◌, ◌++◌, ◌⊎◌, Bool, ℕ, List, length, take, drop, min, codes, IfOk, IfErr, OnOk};
 ghost use Rattle.scroll.specs.declared.endian.Endian.{Endian};
-ghost use Rattle.scroll_layouts.specs.Closed.{CountedClosed, RefusesClosed, RefusesToLast};
+ghost use Rattle.scroll_layouts.specs.Closed.{ClosedItems, CountedClosed, RefusesClosed, RefusesToLast};
 ghost use Rattle.scroll_layouts.specs.Formats.{leaf, last, len, reads, refuses};
 ghost use Rattle.scroll_layouts.specs.ListLeaves.{list_to_last};
 ghost use Rattle.scroll_layouts.specs.Lists.{SomeItems, StopsAtItem};
@@ -139,6 +139,8 @@ impl<'a, K: Closed<'a>> Items<'a, K> {
         ensures bytes { result.bytes.now ≡ self.now.bytes.now }
         ensures order { result.order ≡ self.now.order }
         ensures list { ∥ SomeItems K.item result.order result.bytes.now 0
+            (length result.bytes.now) ∥₁ }
+        ensures closed { ∥ ClosedItems K.item K.closes result.order result.bytes.now
             (length result.bytes.now) ∥₁ }
     {
         Values::of(self.bytes, self.order)
