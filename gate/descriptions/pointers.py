@@ -17,10 +17,11 @@ SHARE = 50
 
 
 class Pointer(Number):
-    """An offset, and the struct without fields that names what stands there."""
+    """An offset, and the list whose value stands there, or the struct of a fixed size."""
 
-    def __init__(self, of: Plain, target: Listing) -> None:
-        super().__init__(Group(f"Pointer<{of.type}, {target.name}>", ((".offset", of),)))
+    def __init__(self, of: Plain, target: Union[Listing, Group]) -> None:
+        name = target.name if isinstance(target, Listing) else target.type
+        super().__init__(Group(f"Pointer<{of.type}, {name}>", ((".offset", of),)))
         self.target = target
 
 
@@ -36,9 +37,10 @@ def add_pointers(items: List[Item], rng: random.Random) -> bool:
     item = rng.choice(values)
     made = Listing(f"{structs[-1].name}Places", item, "bytes", Sum([]))
     made.error = f", {structs[-1].error.note}" if structs[-1].error and not isinstance(item, Inner) else ""
+    groups = [it for it in items if isinstance(it, Group)]
     for it in fields:
         assert isinstance(it.kind, Number) and isinstance(it.kind.of, Plain)
-        it.kind = Pointer(it.kind.of, made)
+        it.kind = Pointer(it.kind.of, rng.choice([made, *groups]))
     items.insert(0, made)
     return True
 

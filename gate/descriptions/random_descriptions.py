@@ -3,10 +3,10 @@
 
     python3 gate/descriptions/random_descriptions.py [SEED [COUNT]]
 
-COUNT structs (8) are drawn from SEED (34:1) by gate/descriptions/draw.py, of 2 to 14 fields of all kinds that tools/derive takes,
-nested to depth 3; the last of twenty-four is nested to depth 10. (`34:1` is the second draw from 34, which
-has two lists to their last values.) `python3 tools/derive` prints what they need, in crates of some structs over the
-libraries as `rt lib` proves them in this repository. Each struct has functions that use it, with no proof by hand: a reader that
+COUNT structs (8) are drawn from SEED (34:9) by gate/descriptions/draw.py, of 2 to 14 fields of all kinds that tools/derive takes,
+nested to depth 3; the last of twenty-four is nested to depth 10. (`34:9` is the tenth draw from 34, which has lists to their last
+values, and a pointer to a struct of a fixed size.) `python3 tools/derive` prints what they need, in crates of some structs over
+the libraries as `rt lib` proves them in this repository. Each struct has functions that use it, with no proof by hand: a reader that
 says where fields stand and which error a short source is, a writer that reads a field back, a walk over a list, a read of what
 a pointer says, and without floats a copier. `rt check` proves each crate.
 
@@ -45,7 +45,7 @@ from edits.judge import WAITS
 from step import FOLDERS, TOP, Ran, Step, Stop, below, copy_kept, count_workers, read_crates, run_step
 
 LIBRARY = "scroll_layouts"
-SEED, COUNT = "34:1", 8
+SEED, COUNT = "34:9", 8
 # How often structs are drawn again, so that they have all kinds.
 AGAIN = 500
 # How many structs are in a crate at most: the more, the more memory a check takes.

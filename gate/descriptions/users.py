@@ -254,12 +254,14 @@ pub fn count_{name}(value: {struct.name}) -> usize {{
     pointer = pointer_of(struct)
     if pointer:
         field, kind = pointer
-        item, entry = kind.target.item.type, ".entry" if "'a" in made.top.type else ""
+        entry, target = ".entry" if "'a" in made.top.type else "", kind.target
+        is_fixed = isinstance(target, Group)
+        read, item, its_error = ("read_fixed", target.type, "Error") if is_fixed else ("read", target.item.type, error)
         text += f"""
-pub fn point_{name}<'a>(file: &'a [u8], value: {struct.name}, order: Endian) -> Result<{item}, At<{error}>>
+pub fn point_{name}<'a>(file: &'a [u8], value: {struct.name}, order: Endian) -> Result<{item}, At<{its_error}>>
     ensures {{ IfErr result (λ located. located.offset ≡ value{entry}.{field}.offset) }}
 {{
-    value.{field}.read(file, order)
+    value.{field}.{read}(file, order)
 }}
 """
     if struct.is_exact:
