@@ -9,8 +9,8 @@ from sessions import model
 NAMES = sorted({form.split(" ")[0] for form in (*model.READS, *model.WRITES)})
 ALL, BAD, LONG = "all commands", "bad lines", "about 65,536 bytes"
 KINDS = (*NAMES, ALL, BAD, LONG)
-# One session in so many is a long one.
-LONG_ONES = 200
+# One session in so many is a long one; and of all commands, or with bad lines, are so many times as many as of one name.
+LONG_ONES, MIXED = 200, 3
 
 # The bytes at which UTF-8 and LEB128 change what they mean.
 EDGES = bytes.fromhex("0001093f40617e7f8081bfc0c1c2dfe0edeff0f4f5ff")
@@ -165,6 +165,6 @@ class Draw(random.Random):
 def draw_session(seed: int, number: int, bits: int) -> Tuple[str, bytes]:
     """Returns the kind of a session and its input."""
     draw = Draw(f"{seed} {number}")
-    draw.kind = draw.choice([it for it in KINDS if it != LONG]) if draw.randrange(LONG_ONES) else LONG
+    draw.kind = draw.choice([*NAMES, *[ALL, BAD] * MIXED]) if draw.randrange(LONG_ONES) else LONG
     draw.bits = bits
     return draw.kind, draw.session()

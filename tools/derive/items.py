@@ -82,6 +82,11 @@ class Item(Named):
     def names(self) -> List[str]:
         return [it.name for it in self.fields]
 
+    @property
+    def says_last(self) -> bool:
+        """Whether it names a list to a last value, or has one."""
+        return "last" in self.notes or any("ctx" in it.notes and it.notes["ctx"].text == "ToLast" for it in self.fields)
+
 
 @dataclass
 class SourceFile:

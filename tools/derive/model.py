@@ -12,7 +12,7 @@ from fixed_types import PLAIN, Array, Fixed, Record, width_of
 from forms import Part
 from inverses import Inverse, variant_again
 from items import Item, RawField, SourceFile, Type, read_file
-from names import CHOICES, RECORDS, TAKEN
+from names import CHOICES, LASTS, RECORDS, TAKEN
 from pointers import read_pointer
 from sums import Value, bracketed, number_of
 from text import alias_of, call
@@ -249,6 +249,7 @@ class Crate:
         names: Dict[str, Item] = {}
         taken = {*TAKEN, *(RECORDS if any(map(self.is_fixed, self.marked(file))) else ())}
         taken |= {*(CHOICES if any(it.is_enum for it in self.marked(file)) else ())}
+        taken |= {*(LASTS if any(it.says_last for it in self.marked(file)) else ())}
         for item in file.items:
             if item.name in names and (item.is_marked or names[item.name].is_marked):
                 raise Refused(file.path, item.line, f"there is a second {item.word} {item.name} in this file")

@@ -41,6 +41,6 @@ CODE: Dict[str, Sequence[str]] = {
 }
 # Where a file that describes imports a type of a field from. (Of C strings std has others.)
 HOMES = {"CStr": "scroll::cstr", **{name: it for it in ("scroll_formats", "scroll_layouts") for name in CODE[it]}}
-# What no struct or enum may be named; and what it may not be beside one of a fixed size, and beside an enum.
-RECORDS, CHOICES = ("Record", "Written"), ("First", "Second")
-TAKEN = {"CStr", "Option", "String", "Vec", *(it for names in CODE.values() for it in names)} - {*RECORDS, *CHOICES}
+# What no struct or enum may be named; and what it may not be beside one of a fixed size, an enum, and a list to a last value.
+RECORDS, CHOICES, LASTS = ("Record", "Written"), ("First", "Second"), ("Closed", "ToLast")
+TAKEN = {"CStr", "Option", "String", "Vec", *(it for names in CODE.values() for it in names)} - {*RECORDS, *CHOICES, *LASTS}
