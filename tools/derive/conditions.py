@@ -4,22 +4,27 @@ from dataclasses import dataclass
 from typing import Callable, List, NamedTuple, Optional, Sequence, Tuple, Union
 
 from items import Note
-from sums import Value, bracketed, number_of, read_path
+from literals import number_of
+from sums import Value, bracketed, read_path
 from tokens import Tokens
 
 # What holds where a comparison doesn't.
 OTHER = {"==": "!=", "!=": "==", "<": ">=", "<=": ">", ">": "<=", ">=": "<"}
+# The greatest numbers of the types.
+GREATEST = tuple(256**width - 1 for width in (1, 2, 4, 8))
 # How a comparison is said in the logic, and whether its sides are exchanged.
 SAID = {"==": ("≡", 1), "!=": ("≢", 1), "<": ("<", 1), "<=": ("≤", 1), ">": ("<", -1), ">=": ("≤", -1)}
 
 
 class Comparison(NamedTuple):
-    """A number is compared with a literal one or with another number; or a bit of it is there or not, where `bit` isn't 0."""
+    """A number is compared with a literal one, perhaps a `constant`, or with another number; or a bit of it is there or not, where
+    `bit` isn't 0."""
 
     name: str
     sign: str
     other: Union[int, str]
     bit: int = 0
+    constant: Optional[Value] = None
 
     @property
     def names(self) -> List[str]:
@@ -28,12 +33,16 @@ class Comparison(NamedTuple):
     def sides(self) -> Tuple[str, str]:
         """What is compared, in the logic."""
         left = f"@{self.name}@{f' / {self.bit}' * (self.bit > 1)}{' % 2' * (self.bit > 0)}"
-        return left, f"@{self.other}@" if isinstance(self.other, str) else str(self.other)
+        if isinstance(self.other, str):
+            return left, f"@{self.other}@"
+        return left, self.constant.ghost if self.constant else str(self.other)
 
     def said(self) -> Value:
         """It as a value of `bool`. (`nat_eq` and `nat_lt` are what the prover computes with.)"""
         left, right = sides = self.sides()
         codes = [f"{it} as u64" for it in sides] if isinstance(self.other, str) else [*sides]
+        if self.constant:
+            codes[1] = self.constant.code
         if self.sign == "<" and isinstance(self.other, str):
             # (behind a type `<` would begin its arguments)
             codes[0] = f"({codes[0]})"
@@ -43,7 +52,7 @@ class Comparison(NamedTuple):
             return said if self.sign == "==" else self.negation(said, codes)
         if self.sign in ("<", ">"):
             return Value(f"(nat_lt {' '.join((left, right)[::SAID[self.sign][1]])})", f" {self.sign} ".join(codes))
-        if isinstance(self.other, int):
+        if isinstance(self.other, int) and not self.constant and not (self.sign == "<=" and self.other in GREATEST):
             return self._replace(sign=self.sign[0], other=self.other + SAID[self.sign][1], bit=0).said()
         return self.negation(self._replace(sign=OTHER[self.sign]).said(), codes)
 

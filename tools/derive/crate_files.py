@@ -6,12 +6,15 @@ from typing import Any, Dict, Iterator, List, Set, Tuple
 
 from fixed_types import names_of
 from items import Item, SourceFile
-from model import Crate, Enum
-from names import CHOICE, CODE, GHOST
+from model import Crate, Enum, Struct
+from names import CHOICE, CODE, GHOST, qualified
 from printing import Printer
 from readers import read_form
 from records import record_text
+from scopes import Target
+from tables import table
 from text import alias_of, formatted, lay_out
+from tokens import OWN
 
 HEAD = "// Printed by tools/derive from "
 
@@ -49,6 +52,9 @@ def left_over(folder: Path, files: Dict[Path, str]) -> List[Path]:
 
 def print_file(crate: Crate, file: SourceFile, items: List[Tuple[Item, Any]]) -> str:
     texts: List[str] = []
+    # The constants that are named, by their modules in the logic, and in code where these are others.
+    inside: Dict[str, Set[str]] = {}
+    outside: Dict[str, Set[str]] = {}
     # (a C string is that of the crate or of std, as the file imports it)
     own: Set[str] = {"CStr", *(item.name for item, _ in items)}
     modules: Dict[str, str] = {}
@@ -56,7 +62,9 @@ def print_file(crate: Crate, file: SourceFile, items: List[Tuple[Item, Any]]) ->
     inner: Dict[str, str] = {}
     # (the lists that a type is printed around)
     around: Set[str] = set()
+    constants: List[Target] = []
     for item, form in items:
+        constants += crate.lengths.get((item.path, item.name), [])
         if form is None:
             record = crate.record(item)
             texts.append(record_text(record))
@@ -65,6 +73,7 @@ def print_file(crate: Crate, file: SourceFile, items: List[Tuple[Item, Any]]) ->
         printer = Printer(form)
         texts += printer.print()
         own |= {*form.used}
+        constants += form.constants
         if form.error and form.error.module:
             own.add(form.error.name)
             modules[form.error.module] = alias_of(form.error.name)
@@ -77,11 +86,39 @@ def print_file(crate: Crate, file: SourceFile, items: List[Tuple[Item, Any]]) ->
                 item.refuse(f"has a type {name} printed, whose name another has")
         texts += [Printer.print_part(it) for it in lists if it not in around]
         around |= {*lists}
+    for it in constants:
+        assert it.file
+        module = crate.module(it.file.path)
+        inside.setdefault(".".join(["Rattle", crate.name, "specs.declared", *module, "TheConstants"]), set()).add(it.name)
+        if it.file is file:
+            own.add(it.name)
+        else:
+            outside.setdefault("::".join(["crate", *module]), set()).add(it.name)
     here = ".".join(["Rattle", crate.name, "specs.declared", *crate.module(file.path), "derived"])
     inner |= {f"{it}Part": f"{here}.{it}Part.{{{it}Part}}" for it in around}
     texts = [with_imports(it, inner) for it in texts]
+    clashes = {it[1:] for it in own if it.startswith(OWN)}
+    texts, own = [qualified(it, clashes, crate.name) for it in texts], {it.replace(OWN, "") for it in own}
+    tables = {it.name.replace(OWN, ""): table(crate, it, form.words if isinstance(form, Struct) else {}) for it, form in items}
+    texts = [with_table(it, tables) for it in texts]
     body = "\n".join(row for line in "\n\n".join(texts).split("\n") for row in lay_out(line))
-    return "\n".join([f"{HEAD}{Path(file.path).name}.", *imports(crate, own, modules, body), "", body, ""])
+    lines = [*constant_lines(inside, body), *imports(crate, own, modules, body), *(row for it in outside.items() for row in use_lines(*it))]
+    return "\n".join([f"{HEAD}{Path(file.path).name}.", *lines, "", body, ""]).replace(OWN, "")
+
+
+def constant_lines(modules: Dict[str, Set[str]], body: str) -> Iterator[str]:
+    """Returns the lines that import the constants that clauses name."""
+    ghost = clauses(body)
+    for module, names in modules.items():
+        found = [it for it in sorted(names) if is_said(it, ghost)]
+        if found:
+            yield f"ghost use {module}.{{{', '.join(found)}}};"
+
+
+def with_table(text: str, tables: Dict[str, List[str]]) -> str:
+    """Returns an item with its table, if it is the implementation that says what a struct, an enum or a list is."""
+    found = re.match(r"impl(?:<'a>)? (?:Shape|Record|Split|Listed<'a>) for (\w+)[^{]*\{\n", text)
+    return f"{found[0]}{chr(10).join(tables[found[1]])}\n\n{text[found.end():]}" if found and found[1] in tables else text
 
 
 def clauses(text: str) -> str:
@@ -106,11 +143,12 @@ def imports(crate: Crate, own: Set[str], modules: Dict[str, str], body: str) -> 
             yield f"ghost use {module}.{{{', '.join(found)}}};"
     yield from (f"ghost use {module} as {name};" for module, name in modules.items() if f"{name}." in ghost)
     yield ""
-    # (not the variants of enums)
-    words = {*re.findall(r"(?<![\w.:-])[\w-]+", body)}
+    # (not the variants of enums, and not what only a comment names)
+    code = re.sub(r"(?m)^ *//.*", "", body)
+    words = {*re.findall(r"(?<![\w.:-])[\w-]+", code)}
     yield from use_lines("super", own & words)
     for module, names in CODE.items():
-        called = {it for it in names if f"{it}(" in body or f"{it}::<" in body}
+        called = {it for it in names if f"{it}(" in code or f"{it}::<" in code}
         found = {it for it in names if it in (called if it.islower() or module == CHOICE else words)}
         yield from use_lines(re.sub(rf"^{crate.name}\b", "crate", module), found - own)
 

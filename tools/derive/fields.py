@@ -1,6 +1,5 @@
 """The fields of a struct of any size: one class for each kind, which reads the notes before a field and makes its part."""
 
-import re
 from typing import TYPE_CHECKING, Dict, List, Tuple, Type as TypeOf
 
 from fixed_types import PLAIN, Array, Fixed, Record, is_counter
@@ -49,7 +48,7 @@ class Kind:
             at.refuse(f"borrows, and the {reader.item.word} has no lifetime: `{reader.item.name}<'a>`")
         if of.name in BORROWED and not of.has_lifetime:
             at.refuse(f"borrows, and has no lifetime of the {reader.item.word}: write `{borrowed(of)}`")
-        if of.name in HOMES and not {of.name, "*"} & reader.crate.files[reader.item.path].imported:
+        if of.name in HOMES and not reader.crate.is_library(of.name, reader.item.path):
             at.refuse(f"is of {of.text}, which this file doesn't import: `use {HOMES[of.name]}::{of.name};`")
 
     @property
@@ -74,11 +73,12 @@ class Kind:
 
     def byte(self, note: Note, said: str) -> Value:
         """Returns a literal of a byte, perhaps of a letter."""
-        letter = re.fullmatch(r"b'(.)'", note.text)
-        byte = ord(letter[1]) if letter else self.reader.constant(note.text)
-        if not 0 <= byte < 256:
+        found = self.reader.known(self.at, note.text, self.ctx)
+        if not 0 <= found.value < 256:
             self.at.refuse(f"{said} {note.text}, which is no literal of a byte", self.ctx)
-        return Value(str(byte), str(byte))
+        if found.type not in ("", "u8"):
+            self.at.refuse(f"{said} {note.text}, which is of {found.type}: make it of u8", self.ctx)
+        return found.said
 
 
 class Slice(Kind):
@@ -135,7 +135,7 @@ class Numeral(Leb):
     """A number in digits."""
 
     def make(self) -> Part:
-        if len(self.of.arguments) != 1 or self.reader.constant(self.of.arguments[0].text) < 1:
+        if len(self.of.arguments) != 1 or self.reader.known(self.at, self.of.arguments[0].text).value < 1:
             self.at.refuse(f"is of {self.of.text}: write the size of its field, as `{self.of.name}<12>`")
         return super().make()
 
@@ -153,7 +153,7 @@ class TableOf(Kind):
         crate, element = self.reader.crate, self.element
         if element.name == "[;]":
             self.at.refuse(f"is a table of arrays: put {element.text} into a struct of one field, and take a table of it")
-        found = crate.find(element.name, self.reader.item.path)
+        found = crate.find(element.name, self.reader.item)
         if found and found.is_marked and not crate.is_fixed_type(self.reader.item, element):
             self.at.refuse(f"is a table of {element.text}, which has no fixed size: take `Items<'a, {element.text}>`")
         self.reader.use(crate.fixed(self.reader.item, self.at, element))
@@ -166,7 +166,7 @@ class ListOf(Kind):
 
     def make(self) -> Part:
         element = self.element
-        found = self.reader.crate.find(element.name, self.reader.item.path)
+        found = self.reader.crate.find(element.name, self.reader.item)
         if not found or "items" not in found.notes:
             name = f"{element.name}s" if found else "Numbers"
             said = f"name the list, `// #[scroll(items = {element.text})] struct {name};`, and take `Items<'a, {name}>`"

@@ -2,9 +2,10 @@
 
 import re
 from dataclasses import dataclass, field
-from typing import Dict, List, NamedTuple, NoReturn, Optional, Set, Tuple
+from typing import AbstractSet, Dict, List, NamedTuple, NoReturn, Optional, Set, Tuple
 
-from tokens import KEPT, MARK, PART, Refused, Token, Tokens, read_tokens, scan
+from comments import OTHERS, is_near, spelled
+from tokens import KEPT, MARK, PART, Comment, Refused, Token, Tokens, read_tokens, tokens_of
 
 
 class Note(NamedTuple):
@@ -73,6 +74,9 @@ class Item(Named):
     lifetime: str = ""
     has_parameters: bool = False
     is_tuple: bool = False
+    # The lines of what stands before it, and of its end.
+    begin: int = 0
+    end: int = 0
 
     @property
     def is_enum(self) -> bool:
@@ -82,32 +86,44 @@ class Item(Named):
     def names(self) -> List[str]:
         return [it.name for it in self.fields]
 
-    @property
-    def says_last(self) -> bool:
-        """Whether it names a list to a last value, or has one."""
-        return "last" in self.notes or any("ctx" in it.notes and it.notes["ctx"].text == "ToLast" for it in self.fields)
+
+class Import(NamedTuple):
+    """What a `use` line names: a path, of which the last name is `*` where all that a module has is imported, and its name here."""
+
+    path: Tuple[str, ...]
+    name: str
+
+
+class Constant(NamedTuple):
+    """A constant: its type and its value, as they are written; and whether it is there only under a condition, such as for tests."""
+
+    type: str
+    value: str
+    line: int
+    is_conditional: bool
 
 
 @dataclass
 class SourceFile:
-    """A file: its items, its constants, what it imports, and whether it has the module that is printed."""
+    """A file: what stands at its top, not inside a function, a module or a block: items, constants, imports and other types; the
+    comments that look like notes; and whether it has the module that is printed."""
 
     path: str
-    imported: Set[str]
-    has_module: bool
+    has_module: bool = False
     items: List[Item] = field(default_factory=list)
-    constants: Dict[str, str] = field(default_factory=dict)
+    constants: Dict[str, List[Constant]] = field(default_factory=dict)
+    imports: List[Import] = field(default_factory=list)
+    others: Set[str] = field(default_factory=set)
+    comments: List[Comment] = field(default_factory=list)
 
 
-def read_file(path: str, text: str) -> SourceFile:
-    """Returns the structs, the enums and the constants of a file."""
-    uses = re.findall(r"(?m)^\s*(?:pub(?:\([^()]*\))?\s+)?use\b[^;]*;", text)
-    imported = {word for it in uses for word in re.findall(r"\w+|\*", it)}
-    has_module = bool(re.search(r"(?m)^\s*mod\s+derived;", text))
-    file = SourceFile(path, imported, has_module)
-    tokens = read_tokens(path, text)
+def read_file(path: str, text: str, own: AbstractSet[str] = frozenset()) -> SourceFile:
+    """Returns what stands at the top of a file, in which some names are the crate's own and the libraries' too."""
+    tokens, comments = read_tokens(path, text, own)
+    file = SourceFile(path, comments=comments)
     notes: Notes = {}
     mark: Optional[Token] = None
+    depth, begin, is_conditional = 0, 0, False
     while True:
         token = tokens.take()
         if token.kind == "mark":
@@ -115,15 +131,80 @@ def read_file(path: str, text: str) -> SourceFile:
                 tokens.refuse(token.line, f"this is a second line `// {MARK}` before one struct")
             mark = token
         elif token.kind == "name" and token.text in ("struct", "enum") and tokens.next.kind == "name":
-            file.items.append(read_item(tokens, token, notes, mark))
-            notes, mark = {}, None
+            item = read_item(tokens, token, notes, mark)
+            item.begin, item.end = begin, tokens.line
+            refuse_comments(item, comments)
+            if depth and item.is_marked:
+                item.refuse("stands inside a module, a function or a block of this file: write it at the top of a file")
+            if not depth:
+                file.items.append(item)
+            notes, mark, begin, is_conditional = {}, None, tokens.line, False
+        elif token.text == "#":
+            is_conditional |= skip_attribute(tokens, token.line) == "cfg"
         elif not read_between(tokens, token, notes):
             if mark or notes:
                 tokens.refuse((mark or next(iter(notes.values()))).line, "the note stands before no struct, enum or field")
             if token.kind == "end":
                 return file
-            if token.text == "const" and tokens.next.kind == "name":
-                read_constant(tokens, file)
+            depth += (token.text == "{") - (token.text == "}")
+            if not depth:
+                read_other(tokens, token, file, is_conditional)
+            begin, is_conditional = tokens.line, False
+
+
+def refuse_comments(item: Item, comments: List[Comment]) -> None:
+    """Refuses comments above a struct or an enum, or inside it, that look like notes and are none."""
+    for it in comments:
+        if not item.begin < it.line <= item.end:
+            continue
+        if it.is_mark:
+            said = f"this line isn't read, and looks like one of `// {MARK}`, `// {KEPT}` and `// {PART}`: write one of them"
+            raise Refused(item.path, it.line, said)
+        if item.is_marked:
+            said = spelled(it.text)
+            said = f"write `{said}` on a line of its own" if said else "a note is a line of its own, `// #[scroll(NAME = ..)]`"
+            raise Refused(item.path, it.line, f"this comment looks like a note, and is none: {said}")
+
+
+def read_other(tokens: Tokens, token: Token, file: SourceFile, is_conditional: bool) -> None:
+    """Reads another item, of which the first word was taken, as far as others may name it."""
+    if token.text == "ghost" and tokens.next.text == "use":
+        tokens.until(";")
+    elif token.text == "use":
+        inside = tokens.until(";")
+        inside.has("::")
+        file.imports += read_use(inside, ())
+    elif token.text == "mod" and tokens.next.text == "derived":
+        file.has_module = True
+    elif token.text == "const" and tokens.next.kind == "name" and tokens.before not in ("<", ",") and tokens.next.text != "fn":
+        name, line = tokens.take().text, token.line
+        inside = tokens.until(";")
+        inside.has(":")
+        type_, value = inside.until("=").said, Tokens(inside.path, inside.tokens[inside.place :]).said
+        file.constants.setdefault(name, []).append(Constant(type_, value, line, is_conditional))
+    elif token.text in ("type", "trait", "union", "static") and tokens.next.kind == "name":
+        file.others.add(tokens.next.text)
+
+
+def read_use(tokens: Tokens, before: Tuple[str, ...]) -> List[Import]:
+    """Reads what stands behind `use`, or between its brackets."""
+    found: List[Import] = []
+    for inside in tokens.split("{", "}"):
+        path = before
+        while inside.next.kind == "name" or inside.next.text == "*":
+            path = (*path, inside.take().text)
+            if not inside.has("::"):
+                break
+        if inside.next.text == "{":
+            found += read_use(inside.inside(), path)
+            continue
+        name = path[-1] if path else ""
+        if name == "self":
+            path, name = path[:-1], path[-2] if len(path) > 1 else ""
+        if inside.has("as"):
+            name = inside.take().text
+        found.append(Import(path, name))
+    return found
 
 
 def read_between(tokens: Tokens, token: Token, notes: Notes) -> bool:
@@ -140,29 +221,25 @@ def read_between(tokens: Tokens, token: Token, notes: Notes) -> bool:
     return True
 
 
-def read_constant(tokens: Tokens, file: SourceFile) -> None:
-    """Reads the value of a constant."""
-    name, begin = tokens.take().text, tokens.place
-    texts = [it.text for it in tokens.tokens[begin:]]
-    if "=" in texts and ";" in texts[texts.index("=") :]:
-        equal = texts.index("=")
-        end = texts.index(";", equal)
-        file.constants[name] = Tokens(tokens.path, tokens.tokens[begin + equal + 1 : begin + end]).said
-
-
-def skip_attribute(tokens: Tokens, line: int) -> None:
-    """Skips an attribute, of which `#` was taken."""
+def skip_attribute(tokens: Tokens, line: int) -> str:
+    """Skips an attribute, of which `#` was taken, and returns its name."""
+    tokens.has("!")
     if tokens.next.text != "[":
-        return
+        return ""
     inside = tokens.inside()
     name = inside.next.text
-    if name == "scroll" or (name == "derive" and any(it.text in ("Pread", "Pwrite", "Part") for it in inside.tokens)):
+    if is_near(name.lower(), "scroll", 2):
+        tokens.refuse(line, f"`#[{name}(..)]` has to be a comment: `// #[scroll(..)]`")
+    if name == "derive" and any(it.text in ("Pread", "Pwrite", "Part") for it in inside.tokens):
         tokens.refuse(line, f"`#[{name}(..)]` has to be a comment: `// #[{name}(..)]`")
+    if name in OTHERS:
+        tokens.refuse(line, f"`#[{name}(..)]` isn't read: write `// #[scroll(..)]`")
+    return name
 
 
 def read_note(tokens: Tokens, text: str, line: int, notes: Notes) -> None:
     """Adds what a note says."""
-    inside = Tokens(tokens.path, [it._replace(line=line) for it in scan(tokens.path, text, line)])
+    inside = tokens_of(tokens.path, text, line, tokens.own)
     if inside.is_done:
         tokens.refuse(line, "the note is empty")
     for said in inside.split("([{", ")]}"):
@@ -171,7 +248,7 @@ def read_note(tokens: Tokens, text: str, line: int, notes: Notes) -> None:
             tokens.refuse(line, f"`{said.said}` is not `NAME = ..`")
         if name in notes:
             tokens.refuse(line, f"there are two notes `{name} = ..`")
-        value = Tokens(tokens.path, said.tokens[said.place :])
+        value = Tokens(tokens.path, said.tokens[said.place :], tokens.own)
         notes[name] = Note(value, value.said, line)
 
 

@@ -1,20 +1,21 @@
 """A crate, its structs and enums, and what they are by their notes."""
 
-import ast
 import re
 from dataclasses import dataclass
 from functools import partial
 from pathlib import Path
-from typing import Any, Callable, Dict, List, Optional, Tuple
+from typing import Any, Callable, Dict, List, NamedTuple, Optional, Tuple
 
 from conditions import Both, Comparison, Condition
 from fixed_types import PLAIN, Array, Fixed, Record, width_of
 from forms import Part
 from inverses import Inverse, variant_again
-from items import Item, RawField, SourceFile, Type, read_file
-from names import CHOICES, LASTS, RECORDS, TAKEN
+from items import Item, Named, Note, RawField, SourceFile, Type, read_file
+from literals import bytes_of, number_of
+from names import PLACES
 from pointers import read_pointer
-from sums import Value, bracketed, number_of
+from scopes import Scopes, Target
+from sums import Value, bracketed
 from text import alias_of, call
 from tokens import MARK, Refused
 
@@ -41,6 +42,20 @@ class OwnError:
         return f"{alias_of(self.name)}.{variant}"
 
 
+class Known(NamedTuple):
+    """A number or bytes that a note says by a literal, or by the name of a constant: the value, how it is written in code and in the
+    logic, and the constant's type, or nothing."""
+
+    value: Any
+    said: Value
+    type: str = ""
+
+    @property
+    def named(self) -> Optional[Value]:
+        """How it is written where it is a constant."""
+        return self.said if self.type else None
+
+
 @dataclass
 class Form:
     """What a struct of any size, an enum or a list is: its error, and the types of the crate that it names."""
@@ -48,10 +63,18 @@ class Form:
     item: Item
     error: Optional[OwnError]
     used: List[str]
+    constants: List[Target]
 
     @property
     def type(self) -> str:
         return self.item.name + ("<'a>" if self.item.lifetime else "")
+
+
+class Tags(NamedTuple):
+    """The tags of a variant, from the least to the greatest."""
+
+    low: Known
+    high: Known
 
 
 @dataclass
@@ -60,11 +83,13 @@ class Struct(Form):
     fields that are zeros up to a multiple."""
 
     parts: List[Part]
-    multiple: int
+    multiple: Optional[Value]
     given: str
     gaps: Tuple[str, ...]
     # Its byte order, in the logic and in code, if it has one of its own.
     order: Tuple[str, ...]
+    # The bytes of each number that fields of bits fill, by the last of these.
+    words: Dict[str, int]
 
     @property
     def is_exact(self) -> bool:
@@ -80,7 +105,7 @@ class Variant:
     """A variant of an enum, and which tags say it: one number, those from a number to another, or any other one."""
 
     name: str
-    tags: Optional[Tuple[int, int]]
+    tags: Optional[Tags]
     fields: List[str]
     part: Part
 
@@ -88,9 +113,16 @@ class Variant:
         """Returns that a tag says it."""
         assert self.tags
         low, high = self.tags
-        if low == high:
-            return Comparison(tag, "==", low)
-        return Both(tuple([*([Comparison(tag, ">=", low)] if low else []), Comparison(tag, "<=", high)]), False)
+        if low.value == high.value:
+            return Comparison(tag, "==", low.value, constant=low.named)
+        least = [Comparison(tag, ">=", low.value, constant=low.named)] if low.value else []
+        return Both((*least, Comparison(tag, "<=", high.value, constant=high.named)), False)
+
+    @property
+    def own_tag(self) -> Value:
+        """The tag where it is one number."""
+        assert self.tags
+        return self.tags.low.said
 
     @property
     def code(self) -> str:
@@ -231,25 +263,30 @@ class Crate:
         if not source.is_dir():
             raise Refused(str(folder), 0, "there is no src/ in this folder, so it is no crate")
         self.files: Dict[str, SourceFile] = {}
+        texts: Dict[str, str] = {}
         self.forms: Dict[int, Any] = {}
         # The lists that are parts of each struct or enum, by its file and its name.
         self.lists: Dict[Tuple[str, str], List[str]] = {}
+        # The constants that are lengths of arrays, by the file and the name of what has these.
+        self.lengths: Dict[Tuple[str, str], List[Target]] = {}
         for path in sorted(source.rglob("*.rt")):
             if path.name != "derived.rt":
                 try:
                     text = path.read_text(encoding="utf-8")
                 except (OSError, UnicodeDecodeError) as error:
                     raise Refused(str(path), 0, str(error)) from error
+                texts[str(path)] = text
                 self.files[str(path)] = read_file(str(path), text)
+        self.scopes = Scopes(source, self.files)
+        own = {path: {it for it in PLACES if self.is_own(it, path)} for path in self.files}
+        self.files = {path: read_file(path, text, own[path]) for path, text in texts.items()}
+        self.scopes = Scopes(source, self.files)
         for file in self.files.values():
             self.check(file)
 
     def check(self, file: SourceFile) -> None:
         """Refuses what no struct can be."""
         names: Dict[str, Item] = {}
-        taken = {*TAKEN, *(RECORDS if any(map(self.is_fixed, self.marked(file))) else ())}
-        taken |= {*(CHOICES if any(it.is_enum for it in self.marked(file)) else ())}
-        taken |= {*(LASTS if any(it.says_last for it in self.marked(file)) else ())}
         for item in file.items:
             if item.name in names and (item.is_marked or names[item.name].is_marked):
                 raise Refused(file.path, item.line, f"there is a second {item.word} {item.name} in this file")
@@ -260,8 +297,6 @@ class Crate:
                 item.refuse("needs `mod derived;` in this file")
             if item.has_parameters:
                 item.refuse("has parameters, and takes one lifetime at most")
-            if item.name in taken:
-                item.refuse("has a name that the printed text has: give it another")
             if (item.is_kept or item.is_part) and ("items" in item.notes or "given" in item.notes or self.is_fixed(item)):
                 word = "Kept" if item.is_kept else "Part"
                 item.refuse(f"takes no `{word}`, being of a fixed size or not written alone: write `#[derive(Pread, Pwrite)]`")
@@ -269,6 +304,9 @@ class Crate:
                 item.refuse(f"names a list: write `struct {item.name};`")
             if not item.fields and "items" not in item.notes:
                 item.refuse(f"has no {'variants' if item.is_enum else 'fields'}")
+            for at, it in enumerate(item.fields):
+                if it.name in item.names[:at]:
+                    it.refuse(f"has the name of another {it.word}")
 
     def form(self, item: Item, outer: Tuple[Item, ...] = ()) -> Any:
         """Returns a struct of any size, an enum or a list, which is read once."""
@@ -279,32 +317,77 @@ class Crate:
     def marked(self, file: SourceFile) -> List[Item]:
         return [it for it in file.items if it.is_marked]
 
-    def find(self, name: str, path: str) -> Optional[Item]:
-        """Returns the struct or the enum of this name that a file has, or else the crate."""
-        found = [it for file in self.files.values() for it in file.items if it.name == name]
-        found = [it for it in found if it.path == path] or [it for it in found if it.is_marked] or found
+    def find(self, name: str, at: Named) -> Optional[Item]:
+        """Returns the struct or the enum that a name means where something stands."""
+        found = [it for target in self.scopes.lookup(self.files[at.path], name) for it in target.items]
+        if found and found[0].name != name:
+            at.refuse(f"names {name}, which is {found[0].name} of {found[0].path}: import it by its own name")
+        if len(found) > 1:
+            places = " and ".join(sorted(it.path for it in found))
+            at.refuse(f"names {name}, which may be that of {places}: import one of them by its name")
         return found[0] if found else None
+
+    def is_library(self, name: str, path: str) -> bool:
+        """Returns whether a name that the libraries or std have means what is theirs in a file."""
+        home = PLACES[name].split("::")[0]
+        targets = self.scopes.lookup(self.files[path], name)
+        if home == self.name:
+            return any(it.file and it.name == name for it in targets)
+        return any(not it.file and it.name == name and it.path[0] in (home, "scroll_layouts", "std", "core") for it in targets)
+
+    def is_own(self, name: str, path: str) -> bool:
+        """Returns whether such a name means what the crate itself has, and isn't a library's crate."""
+        targets = self.scopes.lookup(self.files[path], name)
+        return any(it.file for it in targets) and not self.is_library(name, path)
 
     def module(self, path: str) -> List[str]:
         """Returns the module of a file."""
-        parts = list(Path(path).relative_to(self.folder / "src").with_suffix("").parts)
-        return [] if parts in (["lib"], ["main"]) else parts
+        return [*self.scopes.module(path)]
 
     def declared(self, item: Item) -> str:
         """Returns how clauses name a struct or an enum."""
         return ".".join(["Rattle", self.name, "specs", "declared", *self.module(item.path), item.name])
 
-    def constant(self, path: str, text: str) -> int:
-        """Returns a literal number, or a constant of the file that is one, or -1."""
-        return number_of(self.files[path].constants.get(text, text))
+    # Literals and constants
 
-    def constant_bytes(self, path: str, text: str) -> Optional[bytes]:
-        """Returns a literal of bytes, or a constant of the file that is one, or nothing."""
-        try:
-            found = ast.literal_eval(self.files[path].constants.get(text, text).lstrip("*& "))
-            return bytes(found) if isinstance(found, (bytes, list)) else None
-        except (SyntaxError, TypeError, ValueError):
+    def constant(self, at: Named, text: str, note: Optional[Note] = None) -> Optional[Target]:
+        """Returns the constant that a name means where something stands, if it means one."""
+        if not re.fullmatch(r"[A-Za-z_]\w*(::\w+)*", text):
             return None
+        found = [it for it in self.scopes.lookup(self.files[at.path], text) if it.constants]
+        if len(found) > 1 or (found and len(found[0].constants) > 1):
+            at.refuse(f"names the constant {text}, of which there are two", note)
+        if found and found[0].constants[0].is_conditional:
+            at.refuse(f"names the constant {text}, which is there under a condition alone", note)
+        return found[0] if found else None
+
+    def number(self, at: Named, text: str, constants: List[Target], note: Optional[Note] = None) -> Known:
+        """Returns a literal number, or a constant that is one, of which a use is added to `constants`; or one below zero."""
+        value = number_of(text)
+        if value >= 0:
+            said = str(value) if text.startswith("b") else text
+            return Known(value, Value(str(value), said))
+        found = self.constant(at, text, note)
+        value = number_of(found.constants[0].value) if found else -1
+        if not found or value < 0:
+            return Known(-1, Value("", ""))
+        constants.append(found)
+        return Known(value, Value(found.name, found.name), found.constants[0].type)
+
+    def bytes(self, at: Named, text: str, constants: List[Target], note: Optional[Note] = None) -> Optional[Known]:
+        """Returns a literal of bytes, or a constant that is an array of them, or nothing."""
+        value = bytes_of(text)
+        if value is not None:
+            listed = [*map(str, value)]
+            return Known(value, Value(f"({' ∷ '.join([*listed, '[]'])})", f"[{', '.join(listed)}]"))
+        found = self.constant(at, text, note)
+        value = bytes_of(found.constants[0].value) if found else None
+        if not found or value is None:
+            return None
+        if not re.fullmatch(r"\[u8; ?\w+\]", found.constants[0].type):
+            at.refuse(f"is {text}, which is of {found.constants[0].type}: make it an array, `[u8; {len(value)}]`", note)
+        constants.append(found)
+        return Known(value, Value(found.name, found.name), found.constants[0].type)
 
     # Types of a fixed size
 
@@ -322,7 +405,7 @@ class Crate:
             return self.is_fixed_type(item, of.arguments[0], outer)
         if of.name == "Pointer":
             return True
-        found = self.find(of.name, item.path) if of.text == of.name else None
+        found = self.find(of.name, item) if of.text == of.name else None
         return bool(found and found.is_marked and self.is_fixed(found, outer))
 
     def fixed(self, item: Item, at: RawField, of: Type) -> Fixed:
@@ -330,13 +413,14 @@ class Crate:
         if of.name in PLAIN:
             return PLAIN[of.name]
         if of.name == "[;]":
-            element, length = self.fixed(item, at, of.arguments[0]), self.constant(item.path, of.length)
+            constants = self.lengths.setdefault((item.path, item.name), [])
+            element, length = self.fixed(item, at, of.arguments[0]), self.number(at, of.length, constants).value
             if length < 0:
-                at.refuse(f"has the length {of.length}, which is no literal and no constant of this file that is one")
+                at.refuse(f"has the length {of.length}, which is no literal, and no constant that is one")
             return Array(element, length, of.text)
         if of.name == "Pointer":
             return read_pointer(self, item, at, of)
-        found = self.find(of.name, item.path)
+        found = self.find(of.name, item)
         if not found or not self.is_fixed_type(item, of):
             at.refuse(self.why_not(item, of))
         return self.record(found)
@@ -349,7 +433,7 @@ class Crate:
 
     def why_not(self, item: Item, of: Type) -> str:
         """Says why a type can't be that of a field."""
-        found = self.find(of.name, item.path)
+        found = self.find(of.name, item)
         if found and not found.is_marked:
             return f"is of {of.text}, before which there is no line `// {MARK}`"
         if of.name in ("usize", "isize"):
@@ -368,6 +452,10 @@ class Crate:
             return f"is of {of.name}, which is no type: take a greater number, as `u32` with `bits = 24`"
         if found:
             return f"is of {of.text}, which has no fixed size"
+        elsewhere = [it for file in self.files.values() for it in file.items if it.name == of.name]
+        if elsewhere:
+            path = "::".join(["crate", *self.module(elsewhere[0].path), of.name])
+            return f"is of {of.text}, which this file doesn't import: `use {path};`"
         return f"is of the type {of.text}, which is none of `scroll_layouts` and no struct or enum of this crate"
 
     # Errors
@@ -380,7 +468,7 @@ class Crate:
         if note.text == "SmallError":
             return OwnError("SmallError", "", "", ())
         name, _, variant = note.text.partition("::")
-        found = self.find(name, item.path)
+        found = self.find(name, item)
         if not found or not found.is_enum:
             said = f"the error {note.text} is no `SmallError`, and no variant of an enum of this crate"
             raise Refused(item.path, note.line, said)

@@ -1,6 +1,9 @@
 """The names that printed text imports, by their modules."""
 
-from typing import Dict, Sequence
+import re
+from typing import Dict, Sequence, Set
+
+from tokens import OWN
 
 PRELUDE = ("◌≡◌", "◌≢◌", "◌<◌", "◌≤◌", "◌+◌", "◌-◌", "◌*◌", "◌/◌", "◌%◌", "◌^◌", "◌⊎◌", "[]", "◌∷◌", "◌&&◌", "◌||◌")
 GHOST: Dict[str, Sequence[str]] = {
@@ -41,6 +44,21 @@ CODE: Dict[str, Sequence[str]] = {
 }
 # Where a file that describes imports a type of a field from. (Of C strings std has others.)
 HOMES = {"CStr": "scroll::cstr", **{name: it for it in ("scroll_formats", "scroll_layouts") for name in CODE[it]}}
-# What no struct or enum may be named; and what it may not be beside one of a fixed size, an enum, and a list to a last value.
-RECORDS, CHOICES, LASTS = ("Record", "Written"), ("First", "Second"), ("Closed", "ToLast")
-TAKEN = {"CStr", "Option", "String", "Vec", *(it for names in CODE.values() for it in names)} - {*RECORDS, *CHOICES, *LASTS}
+# Where each name of printed code is from.
+PLACES = {"Option": "std::option", "CStr": "scroll::cstr", **{name: module for module, names in CODE.items() for name in names}}
+
+
+def qualified(text: str, names: Set[str], crate: str) -> str:
+    """Returns printed text in which the crate's own names are marked, without the marks, and with whole paths for these names
+    where they are the libraries'. (In the logic that is so between brackets alone.)"""
+
+    def in_code(code: str) -> str:
+        for name in names:
+            path = re.sub(rf"^{crate}\b", "crate", PLACES[name])
+            code = re.sub(rf"(?<![\w.:{OWN}])(?<!type ){name}\b", f"{path}::{name}", code)
+        return code
+
+    parts = re.split(r"(ghost \w+ = \{.*?(?=\n\n|\Z)|ensures \{.*?(?=\n    \{))", text, flags=re.S)
+    for at, part in enumerate(parts):
+        parts[at] = re.sub(r"⟦.*?⟧", lambda it: in_code(it[0]), part, flags=re.S) if at % 2 else in_code(part)
+    return "".join(parts).replace(OWN, "")

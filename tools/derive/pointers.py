@@ -19,7 +19,10 @@ def read_pointer(crate: "Crate", item: Item, at: RawField, of: Type) -> Pointer:
     if number not in OFFSETS:
         said = f"write its number, {', '.join(OFFSETS)}, and what stands there, as `Pointer<u32, Section>`"
         at.refuse(f"is of {of.text}: {said}")
-    found = crate.find(target, item.path)
+    if target in PLAIN or not re.fullmatch(r"[A-Za-z_]\w*", target):
+        pointed = of.arguments[1].text
+        at.refuse(f"points to {pointed}, which is no struct: put what stands there into one, and point to that, `Pointer<{number}, Section>`")
+    found = crate.find(target, item)
     is_fixed = found and found.is_marked and crate.is_fixed(found) and not leads_to(crate, found, item.name)
     if not found or not (is_fixed or "items" in found.notes):
         said = f"name it, `// #[scroll(items = {target})] struct {target}s;`, and take `Pointer<{number}, {target}s>`"
@@ -32,6 +35,6 @@ def leads_to(crate: "Crate", item: Item, name: str) -> bool:
     names, left = {item.name}, [item]
     while left:
         words = {it for field in left.pop().fields for it in re.findall(r"\w+", field.type.text)}
-        left += [found for found in (crate.find(it, item.path) for it in words - names) if found]
+        left += [found for found in (crate.find(it, item) for it in words - names) if found]
         names |= words
     return name in names

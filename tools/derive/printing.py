@@ -140,7 +140,7 @@ class Printer:
         self.print_chain(chain)
         whole = chain.whole
         if form.multiple:
-            whole = whole.around("Padded", "", str(form.multiple), str(form.multiple))
+            whole = whole.around("Padded", "", *form.multiple)
         if form.order:
             whole = whole.around("Ordered", "", *form.order)
         split, join = f"{chain.before}\n        {whole.split}", f"\n        let {whole.join} = parts;{chain.after}"

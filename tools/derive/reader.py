@@ -3,15 +3,16 @@
 import re
 from dataclasses import replace
 from math import prod
-from typing import Any, List, Sequence, Tuple
+from typing import Any, List, Optional, Sequence, Tuple
 
 from conditions import Both, Condition, read_condition
 from fields import KINDS, FixedSize, Nested
 from fixed_types import PLAIN, Fixed, names_of
 from forms import Number, Part, Rule, numbers
-from items import Item, Note, Notes, RawField, Type
-from model import Crate, Form
+from items import Item, Named, Note, Notes, RawField, Type
+from model import Crate, Form, Known
 from rules import below_rule, great_rule, multiple_rule
+from scopes import Target
 from sums import PLACE, Sum, Term, Value, read_sum
 
 
@@ -26,8 +27,9 @@ class Reader:
         self.error = crate.error(item)
         self.parts: List[Part] = []
         self.rules: List[Rule] = []
-        # The types of the crate that are named.
+        # The types and the constants of the crate that are named.
         self.used: List[str] = []
+        self.constants: List[Target] = []
         # The number that it is given.
         self.given: List[Number] = []
         for word, note in item.notes.items():
@@ -45,7 +47,7 @@ class Reader:
 
     def inner(self, at: RawField, of: Type) -> Any:
         """Returns the struct of any size, the enum or the list that a type is."""
-        found = self.crate.find(of.name, self.item.path)
+        found = self.crate.find(of.name, self.item)
         if not found or not found.is_marked:
             at.refuse(self.crate.why_not(self.item, of))
         if any(found is it for it in self.outer):
@@ -166,16 +168,23 @@ class Reader:
                 return name, [Note(it, it.said, note.line) for it in inside.split()] or [note]
         return "", [note]
 
-    def constant(self, text: str) -> int:
-        return self.crate.constant(self.item.path, text)
+    def known(self, at: Named, text: str, note: Optional[Note] = None) -> Known:
+        """Returns a literal number or a constant, or one below zero."""
+        return self.crate.number(at, text, self.constants, note)
 
-    def multiple(self, at: "Item | RawField") -> int:
-        """Returns the size up to a multiple of which something is padded, or 0."""
+    def multiple(self, at: "Item | RawField") -> Optional[Value]:
+        """Returns the size up to a multiple of which something is padded, if it is padded."""
         note = at.notes.get("padded")
-        found = self.constant(note.text) if note else 0
-        if note and found < 1:
-            at.refuse(f"is padded to a multiple of {note.text}, which is no literal", note)
-        return found
+        return self.size(at, note, note.text, f"is padded to a multiple of {note.text}") if note else None
+
+    def size(self, at: Named, note: Note, text: str, message: str) -> Value:
+        """Returns a size in bytes that isn't zero."""
+        found = self.known(at, text, note)
+        if found.value < 1:
+            at.refuse(f"{message}, which is no literal, and no constant that is one", note)
+        if found.value >= 2**63:
+            at.refuse(f"{message}, which is more than memory has", note)
+        return Value(found.said.ghost, f"{found.said.code} as usize" if found.type not in ("", "usize") else found.said.code)
 
     # Parts
 
@@ -196,7 +205,7 @@ class Reader:
             at.refuse(f"has the note `if = ..`, and is of {of.text}: write `Option<{of.text}>`", notes["if"])
         kind = KINDS.get(of.name)
         if not kind:
-            found = self.crate.find(of.name, self.item.path)
+            found = self.crate.find(of.name, self.item)
             is_fixed = of.name == "[;]" or self.crate.is_fixed_type(self.item, of)
             if not is_fixed and not (found and found.is_marked):
                 at.refuse(self.crate.why_not(self.item, of))
@@ -207,7 +216,7 @@ class Reader:
         if "within" in notes:
             made = made.around("Within", made.type, *self.count(replace(at, notes={}), notes["within"]))
         multiple = self.multiple(at)
-        made = made.around("Padded", made.type, str(multiple), str(multiple)) if multiple else made
+        made = made.around("Padded", made.type, *multiple) if multiple else made
         order = self.order(at)
         return made.around("Ordered", made.type, *order) if order else made
 

@@ -1,18 +1,19 @@
 """Reads structs of any size, enums, and lists."""
 
 from dataclasses import replace
-from typing import List, Optional, Tuple, Type as TypeOf
+from typing import Dict, List, Optional, Tuple, Type as TypeOf
 
 from fields import FixedSize, counting
 from fixed_types import PLAIN, Record, is_counter, numbers_of
 from forms import NOTHING, Number, Part, bits, nothing, numbers, optional
 from items import Item, Note, RawField, read_type
-from model import Crate, Enum, Form, ListType, Struct, Variant
+from literals import bytes_of, number_of
+from model import Crate, Enum, Form, ListType, Struct, Tags, Variant
 from reader import Reader
 from rules import check_rule, own_variant, tag_rule
 from shapes import Chain, leaving, resolve, together
-from sums import Value, number_of
-from tokens import read_tokens
+from sums import Value
+from tokens import tokens_of
 
 TAGS = ("u8", "u16", "u32", "u64")
 
@@ -26,7 +27,9 @@ class StructReader(Reader):
         super().__init__(crate, item, outer)
         self.bits: List[Tuple[RawField, int]] = []
         self.gaps: Tuple[str, ...] = ()
-        self.padding, self.heads = 0, 1
+        self.words: Dict[str, int] = {}
+        self.padding: Optional[Value] = None
+        self.heads = 1
 
     def read(self) -> Struct:
         item = self.item
@@ -35,16 +38,16 @@ class StructReader(Reader):
         self.read_given()
         multiple, self.is_low = self.multiple(item), self.read_is_low()
         for at, field in enumerate(item.fields):
-            self.padding = 0
+            self.padding = None
             self.read_field(field)
             # (zeros at the end are those of the whole, unless it has others)
             if self.padding and (at + 1 < len(item.fields) or multiple):
                 self.close(self.padding)
-                self.padding = 0
+                self.padding = None
         self.close_bits()
         self.attach()
         given, multiple = self.given[0].name if self.given else "", self.padding or multiple
-        return Struct(item, self.error, self.used, self.parts, multiple, given, self.gaps, self.order(item))
+        return Struct(item, self.error, self.used, self.constants, self.parts, multiple, given, self.gaps, self.order(item), self.words)
 
     def read_field(self, field: RawField) -> None:
         if field.is_ghost:
@@ -86,13 +89,13 @@ class StructReader(Reader):
         if len(field.notes) > 1:
             field.refuse("has another note beside `padding(..)`, which takes none", note)
         first, *rest = [it.text for it in arguments]
-        self.padding = self.constant(rest[0]) if first == "offset" and len(rest) == 1 else -1
-        if self.padding < 1 or not self.parts:
+        if first != "offset" or len(rest) != 1 or not self.parts:
             field.refuse(f"has the context {note.text}: write `padding(offset, 8)`, behind a field", note)
+        self.padding = self.size(field, note, rest[0], f"is padded to a multiple of {rest[0]}")
         self.gaps = (*self.gaps, field.name)
         return True
 
-    def close(self, multiple: int) -> None:
+    def close(self, multiple: Value) -> None:
         """Puts the parts so far into one, with zeros behind it."""
         self.attach()
         chain = Chain(self.item.name, self.parts, self.heads)
@@ -107,7 +110,7 @@ class StructReader(Reader):
 
     def read_bits(self, field: RawField) -> None:
         note = field.notes["bits"]
-        count, of = self.constant(note.text), PLAIN.get(field.type.name)
+        count, of = number_of(note.text), PLAIN.get(field.type.name)
         if field.notes.keys() - {"bits", "check", "else"}:
             field.refuse("has another note beside `bits = ..`, which takes `check = ..` alone", note)
         if not of or not is_counter(of) or not 0 < count <= 8 * of.width:
@@ -143,6 +146,7 @@ class StructReader(Reader):
             first.refuse(f"fills {word} alone, and needs no `bits = ..`", first.notes["bits"])
         if self.is_low and last.type.name != first.type.name:
             last.refuse(f"has the highest bits of {first.type.name}: make it of that type")
+        self.words[last.name] = 3 if word == "U24" else PLAIN[word].width
         found = self.bits[::-1] if self.is_low else self.bits
         self.parts.append(bits(word, [(it.name, it.type.name) for it, _ in found], [2**it - 1 for _, it in found[1:]]))
         for it, _ in self.bits:
@@ -161,7 +165,9 @@ class StructReader(Reader):
         note = field.notes["ctx" if "ctx" in field.notes else "if"]
         if "check" in field.notes:
             field.refuse("has the rest, which no `check = ..` tests", note)
-        if not self.given or not self.parts or field is not self.item.fields[-1]:
+        if self.given and field is self.item.fields[-1] and not self.parts:
+            field.refuse(f"has the rest, and no field stands before it: write `ctx = {self.given[0].name}`, all that the struct is given", note)
+        if not self.given or field is not self.item.fields[-1]:
             said = "has the rest, which the last field has of a struct that is given its length: `given = len: usize` before it"
             field.refuse(said, note)
         self.attach()
@@ -175,7 +181,7 @@ class StructReader(Reader):
             rest = optional(made, field.name)
         elif field.type.name in ("&[u8]", "&str", "Items") and not others:
             ctx = "StrCtx::Length(0)" if field.type.name == "&str" else "0"
-            rest = self.part(field, field.type, {"ctx": Note(read_tokens(self.item.path, ctx), ctx, note.line)})
+            rest = self.part(field, field.type, {"ctx": Note(tokens_of(self.item.path, ctx), ctx, note.line)})
         else:
             said = "write `ctx = rest` before a slice, a text or a list, or `if = rest` before an option"
             field.refuse(f"has the rest: {said}", note)
@@ -198,13 +204,13 @@ class EnumReader(Reader):
             variants.append(self.read_variant(raw, tag, [it.tags for it in variants]))
         note = item.notes.get("else")
         other = own_variant(self, item, note) if note else ""
-        made = Enum(item, self.error, self.used, tag, given, variants, other)
+        made = Enum(item, self.error, self.used, self.constants, tag, given, variants, other)
         if own:
             made.head = numbers([("tag", PLAIN[tag])], "")
             made.head.rules.append(tag_rule(self, item, made, "tag"))
         return made
 
-    def read_variant(self, raw: RawField, tag: str, before: List[Optional[Tuple[int, int]]]) -> Variant:
+    def read_variant(self, raw: RawField, tag: str, before: List[Optional[Tags]]) -> Variant:
         if raw.has_names:
             raw.refuse("has fields with names: put them into a struct")
         if "is" not in raw.notes:
@@ -214,7 +220,7 @@ class EnumReader(Reader):
         for other in before:
             if not other:
                 raw.refuse("stands behind `is = _`, which has all other tags", note)
-            if tags and tags[0] <= other[1] and other[0] <= tags[1]:
+            if tags and tags.low.value <= other.high.value and other.low.value <= tags.high.value:
                 raw.refuse(f"has the tag {note.text}, which is that of another", note)
         notes = {word: it for word, it in raw.notes.items() if word != "is"}
         if "check" in notes:
@@ -233,18 +239,24 @@ class EnumReader(Reader):
             raw.refuse("has a note with a rule, which a variant doesn't take: put it into a struct", note)
         return Variant(raw.name, tags, names, part)
 
-    def read_tags(self, raw: RawField, note: Note, tag: str) -> Optional[Tuple[int, int]]:
+    def read_tags(self, raw: RawField, note: Note, tag: str) -> Optional[Tags]:
         """Returns the least and the greatest tag of a variant, or nothing where it has all others."""
         is_any, is_own = note.text == "_", "tag" in self.item.notes
         if is_any and not is_own:
             return None
         low, _, high = note.text.partition(".. =")
-        found = [self.constant(it.strip()) for it in (low, high or low)]
+        found = [self.known(raw, it.strip(), note) for it in (low, high or low)]
         if is_own and (is_any or high):
             raw.refuse("has several tags, of which none is kept: take the tag as a field, and `given = ..`", note)
-        if min(found) < 0 or max(found) >= 256 ** PLAIN[tag].width or found[1] < found[0]:
-            raw.refuse(f"has the tag {note.text}, which is no literal that fits {tag}", note)
-        return found[0], found[1]
+        if bytes_of(note.text) is not None:
+            raw.refuse(f"has the tag {note.text}: a tag is a number, so write the number that the bytes are", note)
+        if min(it.value for it in found) < 0 or max(it.value for it in found) >= 256 ** PLAIN[tag].width:
+            raw.refuse(f"has the tag {note.text}, which is no literal, and no constant, that fits {tag}", note)
+        if found[1].value < found[0].value:
+            raw.refuse(f"has the tag {note.text}, which no number is", note)
+        if any(it.type not in ("", tag) for it in found):
+            raw.refuse(f"has the tag {note.text}, a constant that isn't of {tag}", note)
+        return Tags(*found)
 
 
 class ListReader(Reader):
@@ -258,7 +270,7 @@ class ListReader(Reader):
         of = read_type(note.tokens)
         at = RawField(item.path, item.word, item.name, note.line, {}, [of])
         is_fixed = self.crate.is_fixed_type(item, of)
-        found = self.crate.find(of.name, item.path)
+        found = self.crate.find(of.name, item)
         if of.name in ("Uleb", "Sleb", "Vlq", "Zigzag", "CStr"):
             return self.list(of.text if of.name != "CStr" else "CStr<'a>")
         if is_fixed:
@@ -280,7 +292,7 @@ class ListReader(Reader):
             super().check_error(at, form)
 
     def list(self, of: str) -> ListType:
-        return ListType(self.item, self.error, self.used, of, self.read_ends(), self.read_last(of))
+        return ListType(self.item, self.error, self.used, self.constants, of, self.read_ends(), self.read_last(of))
 
     def read_last(self, of: str) -> Optional[Value]:
         """Returns which value says that it is the last."""
@@ -305,10 +317,11 @@ class ListReader(Reader):
         note = self.item.notes.get("ends")
         if not note:
             return ""
-        found = [number_of(it.strip()) for it in note.text.strip("[]").split(",")]
-        if all(0 <= it < 256 for it in found):
+        byte = number_of(note.text)
+        found = bytes([byte]) if 0 <= byte < 256 else bytes_of(note.text)
+        if found:
             return f"[{', '.join(map(str, found))}]"
-        if self.crate.find(note.text, self.item.path):
+        if self.crate.find(note.text, self.item):
             self.used.append(note.text)
         elif note.text not in ("NameEnd", "TwoZeroUlebs", "ZeroUleb"):
             said = "write the mark's bytes, as `ends = 0` or `ends = [0, 0]`, or a type that says it, as `ends = ZeroUleb`"

@@ -7,8 +7,9 @@ from conditions import Both, Condition
 from fixed_types import Array, Fixed, is_counter
 from forms import Rule
 from items import Named, Note, RawField
+from literals import number_of
 from model import Enum
-from sums import Sum, Term, as_usize, bracketed, number_of
+from sums import Sum, Term, as_usize, bracketed
 
 if TYPE_CHECKING:
     from reader import Reader
@@ -54,18 +55,21 @@ def tested(holds: str, is_not: str, test: str, error: Tuple[str, str]) -> Rule:
 def constant_rule(reader: "Reader", at: RawField, of: Fixed) -> Rule:
     """A number is a constant."""
     note, other = at.notes["is"], at.notes.get("else")
-    value = reader.constant(note.text)
     if note.text.startswith(('b"', '"', "[")):
         at.refuse(f"is {note.text}: take an array of bytes, or write the literal number that they are", note)
-    if value < 0:
-        at.refuse(f"is {note.text}, which is no literal, and no constant of this file that is one", note)
+    found = reader.known(at, note.text, note)
+    if found.value < 0:
+        at.refuse(f"is {note.text}, which is no literal, and no constant that is one", note)
     if not is_counter(of):
         at.refuse("has a constant, and is no unsigned number of at most 64 bits", note)
-    if value >= 256**of.width:
+    if found.value >= 256**of.width:
         at.refuse(f"is {note.text}, which doesn't fit {of.text}", note)
-    name, said, text = f"@{at.name}@", note.text if number_of(note.text) >= 0 else str(value), f"{at.name} is not {note.text}"
+    if found.type not in ("", of.text):
+        at.refuse(f"is {note.text}, a constant of {found.type}: make it of {of.text}", note)
+    name, (value, said), text = f"@{at.name}@", found.said, f"{at.name} is not {as_text(note.text)}"
     if not reader.error and not other:
-        code = f'\n        is({as_usize(at.name)}, {said}, "{text}")?;'
+        wanted = f"{said} as usize" if found.type else said
+        code = f'\n        is({as_usize(at.name)}, {wanted}, "{text}")?;'
         return Rule(f"({name} ≡ {value})", f'IsNot {value} {name} (codes "{text}") e', "", code)
     if other:
         error = own_error(reader, own_variant(reader, at, other), name)
@@ -77,17 +81,22 @@ def constant_rule(reader: "Reader", at: RawField, of: Fixed) -> Rule:
 def bytes_rule(reader: "Reader", at: RawField, of: Array) -> Rule:
     """The bytes of an array are constant."""
     note, name = at.notes["is"], f"@{at.name}@"
-    value = reader.crate.constant_bytes(reader.item.path, note.text)
-    if value is None:
-        at.refuse(f"is {note.text}, which is no literal of bytes, and no constant of this file that is one", note)
-    if len(value) != of.length:
-        at.refuse(f"is {note.text}, which has {len(value)} bytes, not {of.length}", note)
+    found = reader.crate.bytes(at, note.text, reader.constants, note)
+    if not found:
+        at.refuse(f"is {note.text}, which is no literal of bytes, and no constant that is one", note)
+    if len(found.value) != of.length:
+        at.refuse(f"is {note.text}, which has {len(found.value)} bytes, not {of.length}", note)
     if "else" in at.notes:
         at.refuse("has the note `else = ..`, whose variant holds a number, and is bytes", at.notes["else"])
-    text = re.sub(r'^b?"|"$', "", note.text).replace("\\", "")
-    wanted = f"({' ∷ '.join([*map(str, value), '[]'])})"
-    error = bad_input(reader, at, "0", "0", f"{at.name} is not {text}")
-    return tested(f"{name} ≡ {wanted}", f"({name} ≢ {wanted})", f"{name} != [{', '.join(map(str, value))}]", error)
+    wanted, said = found.said
+    error = bad_input(reader, at, "0", "0", f"{at.name} is not {as_text(note.text)}")
+    return tested(f"{name} ≡ {wanted}", f"({name} ≢ {wanted})", f"{name} != {said}", error)
+
+
+def as_text(said: str) -> str:
+    """Returns how a message says a literal or a constant: without quotes, and without what is read otherwise between quotes."""
+    text = re.sub(r"""^b?["']|["']$""", "", said).replace("\\", "").replace('"', "")
+    return text or str(number_of(said))
 
 
 def check_rule(reader: "Reader", at: RawField, note: Note, condition: Condition) -> Rule:

@@ -104,10 +104,10 @@ def grouped(parts: Sequence[Part]) -> List[Group]:
     return groups
 
 
-def together(chain: Chain, multiple: int, index: int) -> Part:
+def together(chain: Chain, multiple: Value, index: int) -> Part:
     """Parts with zeros behind them up to a multiple of a size, counted from the first one. They are the padded ones so far."""
     name = f"{chain.name}Padded{index if index > 1 else ''}"
-    made = chain.whole.around("Padded", name + lifetime(chain.types[0]), str(multiple), str(multiple))
+    made = chain.whole.around("Padded", name + lifetime(chain.types[0]), *multiple)
     aliases = ((name, chain.types[0]), (f"{name}Ctx", f"Padded<{chain.whole.context_type}>"))
     made = replace(made, context_type=f"{name}Ctx", before=chain.before, after=chain.after, inside=chain, aliases=aliases)
     made.is_exact, made.has_enum = all(it.is_exact for it in chain.parts), any(it.has_enum for it in chain.parts)

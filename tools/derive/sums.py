@@ -8,6 +8,7 @@ from dataclasses import dataclass, replace
 from typing import List, NamedTuple, Optional, Sequence, Tuple
 
 from items import Note
+from literals import number_of
 from text import call
 from tokens import Tokens
 
@@ -148,14 +149,6 @@ def as_usize(name: str) -> str:
     return Factor(name).said().code
 
 
-def number_of(text: str) -> int:
-    """Returns a literal number, or -1."""
-    try:
-        return int(text.replace("_", ""), 0)
-    except ValueError:
-        return -1
-
-
 def read_path(tokens: Tokens) -> str:
     """Takes the name of a number, or nothing."""
     if tokens.next.kind != "name":
@@ -252,8 +245,9 @@ def read_factor(tokens: Tokens, lengths: Sequence[str]) -> Sum:
         name = read_path(tokens)
         if not name or not (tokens.has("as", "usize") or name.endswith("()") or name in lengths):
             raise NoSum
-        by = number_of(tokens.take().text) if tokens.has("/") else 0
-        found = Sum((Term((Factor(name, by or 1),)),), 0) if by == 0 or by > 1 else None
+        is_divided = tokens.has("/")
+        by = number_of(tokens.take().text) if is_divided else 1
+        found = Sum((Term((Factor(name, by),)),), 0) if by > is_divided else None
     if not found:
         raise NoSum
     return found

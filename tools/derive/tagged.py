@@ -9,10 +9,10 @@ from text import lifetime
 
 def tagged_texts(form: Enum, error: str, parts: str, context: str, said: Value) -> List[str]:
     """Returns the implementations of `Split`, `Part` and `ReadPart`. The parts are a pair in a context."""
-    cases = [f"(record {{ 0 = {it.tags[0]} }}, {form.ghost(at)})" for at, it in enumerate(form.variants)]
+    cases = [f"(record {{ 0 = {it.own_tag.ghost} }}, {form.ghost(at)})" for at, it in enumerate(form.variants)]
     made, proof, _ = form.again()
     whole = f"⟦<{form.type} as Split>⟧"
-    arms = "".join(f"\n{form.pattern(it)} => (Run({it.tags[0]}), {form.chosen(at, it.code)})," for at, it in enumerate(form.variants))
+    arms = "".join(f"\n{form.pattern(it)} => (Run({it.own_tag.code}), {form.chosen(at, it.code)})," for at, it in enumerate(form.variants))
 
     def format_of(part: str) -> str:
         return f"""    ghost format = {{ λ _. shape (⟦<{parts} as {part}{context}, {error}>>⟧.format

@@ -10,7 +10,7 @@ import tempfile
 from pathlib import Path
 from typing import Callable, Iterator, List, Sequence, Tuple
 
-from tokens import Refused
+from tokens import OWN, Refused
 
 # A tuple has at most so many parts.
 MOST = 4
@@ -32,7 +32,7 @@ def label(name: str) -> str:
 
 def alias_of(name: str) -> str:
     """Returns what an enum's variants stand behind in the logic, where two enums may have variants of one name."""
-    return re.sub(r"(?<=[a-z0-9])(?=[A-Z])", "_", name).lower() + "_is"
+    return re.sub(r"(?<=[a-z0-9])(?=[A-Z])", "_", name.replace(OWN, "")).lower() + "_is"
 
 
 def lifetime(type_: str) -> str:

@@ -1,7 +1,9 @@
 """The tokens of Rattle code, and notes, which are comments of one line."""
 
 import re
-from typing import Iterator, List, NamedTuple, NoReturn, Sequence
+from typing import AbstractSet, Iterator, List, NamedTuple, NoReturn, Sequence, Tuple
+
+from comments import is_doc, looks_like_mark, looks_like_note
 
 # The line that asks for the implementations of a struct or an enum.
 MARK = "#[derive(Pread, Pwrite)]"
@@ -11,10 +13,8 @@ KEPT = "#[derive(Pread, Pwrite, Kept)]"
 PART = "#[derive(Part)]"
 TOKEN = re.compile(
     r"""(?P<space>\s+)
-    |(?P<doc>//[/!][^\n]*)
     |(?P<comment>//[^\n]*)
-    |(?P<block>/\*.*?\*/)
-    |(?P<string>b?r?"(?:\\.|[^"\\])*"|b?'(?:\\.[^']*|[^'\\])')
+    |(?P<string>b?r(?P<hashes>\#*)".*?"(?P=hashes)|b?"(?:\\.|[^"\\])*"|b?'(?:\\.[^']*|[^'\\])')
     |(?P<lifetime>'[A-Za-z_]\w*)
     |(?P<number>\d\w*)
     |(?P<name>r\#[A-Za-z_]\w*|[A-Za-z_]\w*)
@@ -24,11 +24,15 @@ TOKEN = re.compile(
 OPENING, CLOSING = "([{<", ")]}>"
 
 
+# What stands before a name of the crate's own that the libraries have too (`names.qualified`).
+OWN = "\ue000"
+
+
 class Refused(Exception):
     """What isn't supported: its file, its line, and why."""
 
     def __init__(self, path: str, line: int, message: str) -> None:
-        super().__init__(f"{path}:{line}: {message}" if line else f"{path}: {message}")
+        super().__init__((f"{path}:{line}: {message}" if line else f"{path}: {message}").replace(OWN, ""))
 
 
 class Token(NamedTuple):
@@ -39,11 +43,19 @@ class Token(NamedTuple):
     line: int
 
 
-class Tokens:
-    """The tokens of a file, with a place among them."""
+class Comment(NamedTuple):
+    """A comment that looks like a note, or else like the line that asks for implementations, and is neither."""
 
-    def __init__(self, path: str, tokens: Sequence[Token]) -> None:
-        self.path, self.tokens, self.place = path, tokens, 0
+    text: str
+    line: int
+    is_mark: bool
+
+
+class Tokens:
+    """The tokens of a file, with a place among them. `own` are the names of the crate's own that the libraries have too."""
+
+    def __init__(self, path: str, tokens: Sequence[Token], own: AbstractSet[str] = frozenset()) -> None:
+        self.path, self.tokens, self.place, self.own = path, tokens, 0, own
 
     def refuse(self, line: int, message: str) -> NoReturn:
         raise Refused(self.path, line, message)
@@ -61,6 +73,16 @@ class Tokens:
         self.place += 1
         return token
 
+    @property
+    def line(self) -> int:
+        """The line of the token that was taken last."""
+        return self.tokens[self.place - 1].line if 0 < self.place <= len(self.tokens) else 0
+
+    @property
+    def before(self) -> str:
+        """The token before the one that was taken last."""
+        return self.tokens[self.place - 2].text if self.place > 1 else ""
+
     def has(self, *texts: str) -> bool:
         """Takes some tokens if they are the next ones."""
         if [it.text for it in self.tokens[self.place : self.place + len(texts)]] != list(texts):
@@ -69,23 +91,38 @@ class Tokens:
         return True
 
     def inside(self) -> "Tokens":
-        """Takes an opening bracket, and what is in it, which is returned, and the closing one."""
+        """Takes an opening bracket, and what is in it, which is returned, and the closing one. (Only between `<` and `>` are these
+        brackets.)"""
+        opening, closing = ("([{<", ")]}>") if self.next.text == "<" else ("([{", ")]}")
         begin, depth = self.place + 1, 0
         while not self.is_done:
             text = self.take().text
-            depth += (text in OPENING) - (text in CLOSING)
+            depth += (text in opening) - (text in closing)
             if depth == 0:
                 break
-        return Tokens(self.path, self.tokens[begin : self.place - 1])
+        return Tokens(self.path, self.tokens[begin : self.place - 1], self.own)
 
     def until_comma(self, opening: str = OPENING, closing: str = CLOSING) -> "Tokens":
         """Takes what stands before the next comma outside brackets, which is returned, and the comma."""
         begin, depth = self.place, 0
         while not self.is_done and (depth or self.next.text != ","):
+            if self.next.text == "{":
+                self.inside()
+                continue
             text = self.take().text
             depth += (text in opening) - (text in closing)
-        found = Tokens(self.path, self.tokens[begin : self.place])
+        found = Tokens(self.path, self.tokens[begin : self.place], self.own)
         self.has(",")
+        return found
+
+    def until(self, sign: str) -> "Tokens":
+        """Takes what stands before the next such sign outside braces, which is returned, and the sign."""
+        begin, depth = self.place, 0
+        while not self.is_done and (depth or self.next.text != sign):
+            text = self.take().text
+            depth += (text in "([{") - (text in ")]}")
+        found = Tokens(self.path, self.tokens[begin : self.place], self.own)
+        self.has(sign)
         return found
 
     def split(self, opening: str = OPENING, closing: str = CLOSING) -> "Iterator[Tokens]":
@@ -102,32 +139,65 @@ class Tokens:
         return re.sub(r"(?<=[\w>]) \((?=\))|(?<=[a-z]) \(", "(", text)
 
 
-def read_tokens(path: str, text: str) -> Tokens:
-    """Returns the tokens of a file."""
-    return Tokens(path, scan(path, text, 1))
+def read_tokens(path: str, text: str, own: AbstractSet[str]) -> Tuple[Tokens, List[Comment]]:
+    """Returns the tokens of a file, and its comments that look like notes and are none."""
+    comments: List[Comment] = []
+    return Tokens(path, marked(scan(path, text, 1, comments), own), own), comments
 
 
-def scan(path: str, text: str, line: int) -> List[Token]:
+def tokens_of(path: str, text: str, line: int = 1, own: AbstractSet[str] = frozenset()) -> Tokens:
+    """Returns the tokens of a text in which no comment stands."""
+    return Tokens(path, marked(scan(path, text, line, []), own), own)
+
+
+def marked(tokens: List[Token], own: AbstractSet[str]) -> List[Token]:
+    """Returns tokens with the mark before each of the crate's own names."""
+    return [it._replace(text=OWN + it.text) if it.kind == "name" and it.text in own else it for it in tokens]
+
+
+def scan(path: str, text: str, line: int, comments: List[Comment]) -> List[Token]:
     tokens: List[Token] = []
-    for found in TOKEN.finditer(text):
-        kind, said = found.lastgroup or "", found[0]
+    place = 0
+    while place < len(text):
+        if text.startswith("/*", place):
+            said, kind = block_comment(text, place), "comment"
+        else:
+            found = TOKEN.match(text, place)
+            assert found
+            said, kind = found[0], found.lastgroup or ""
         if kind == "comment":
             is_behind = bool(tokens) and tokens[-1].line == line and tokens[-1].kind not in ("note", "mark")
-            tokens += read_comment(path, said, line, is_behind)
-        elif kind == "doc" and re.match(r"//[/!]\s*#\[(scroll\(|derive\(Pread)", said):
-            raise Refused(path, line, "this is a line of documentation, which is no note: begin it with `//`")
-        elif kind not in ("space", "doc", "block"):
+            read = read_comment(path, said, line, is_behind)
+            tokens += read
+            if not read and not said.startswith("//!") and (looks_like_note(said) or looks_like_mark(said)):
+                comments.append(Comment(said, line, looks_like_mark(said)))
+        elif kind != "space":
             tokens.append(Token(kind, said, line))
+        place += len(said)
         line += said.count("\n")
     return tokens
+
+
+def block_comment(text: str, place: int) -> str:
+    """Returns the comment that begins at a place, in which others may stand."""
+    depth = 0
+    for found in re.finditer(r"/\*|\*/", text[place:]):
+        depth += 1 if found[0] == "/*" else -1
+        if depth == 0:
+            return text[place : place + found.end()]
+    return text[place:]
 
 
 def read_comment(path: str, comment: str, line: int, is_behind: bool) -> List[Token]:
     """Returns the note or the mark that a comment is, or nothing."""
     found = re.search(r"#\[(?:scroll\b|derive\(P(?:read|write|art)\b)", comment)
-    if not found:
+    if not found or comment.startswith("/*"):
         return []
     text = comment[2:].strip()
+    if is_doc(comment):
+        if comment[3 : found.start()].strip():
+            return []
+        raise Refused(path, line, "this is a line of documentation, which is no note: begin it with `//`")
     if is_behind:
         raise Refused(path, line, "the note stands behind code: write it on a line of its own, before what it is for")
     if comment[2 : found.start()].strip():

@@ -54,6 +54,12 @@ type AttributeParts = (Uleb, AttributeRest);
 type AttributeCtx = ((), Headed<(), AttributeNext, AttributeSays>);
 
 impl Shape for Attribute {
+    // error = TableError::Read
+    // field     offset        size           notes
+    // name      0             1 to 10
+    // form      after `name`  1 to 10
+    // constant  after `form`  1 to 10, or 0  if = form == 0x21
+
     type Ctx = ();
 
     type Inner = AttributeCtx;
@@ -130,6 +136,9 @@ impl IsList for Attributes {
 }
 
 impl<'a> Listed<'a> for Attributes {
+    // values     end
+    // Attribute  the mark TwoZeroUlebs
+
     type Error = TableError;
 
     type Item = Attribute;
@@ -192,6 +201,13 @@ type ChildrenParts = (ChildrenHead, Choice<Zeros, Zeros>);
 type ChildrenCtx = Headed<(), ChildrenNext, ChildrenSays>;
 
 impl Split for Children {
+    // tag = u8
+    // error = TableError::Read
+    // else = TableError::BadChildren
+    // variant  tag  values
+    // No       0    none
+    // Yes      1    none
+
     ghost use Rattle.debug_tables.specs.declared.declaration.Children.TheVariants as children_is;
 
     type Parts = ChildrenParts;
@@ -320,6 +336,13 @@ type DeclarationParts<'a> = (Uleb, (Uleb, (Children, ListOf<'a, AttributesPart<'
 type DeclarationCtx = ((), ((), ((), ToMark)));
 
 impl<'a> Shape for Declaration<'a> {
+    // error = TableError::Read
+    // field       offset            size                notes
+    // code        0                 1 to 10
+    // tag         after `code`      1 to 10
+    // children    after `tag`       that of `Children`
+    // attributes  after `children`  up to its mark      ctx = ToMark
+
     type Ctx = ();
 
     type Inner = DeclarationCtx;
@@ -433,6 +456,9 @@ impl IsList for Declarations {
 }
 
 impl<'a> Listed<'a> for Declarations {
+    // values       end
+    // Declaration  the mark ZeroUleb
+
     type Error = TableError;
 
     type Item = Declaration<'a>;

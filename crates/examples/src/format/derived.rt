@@ -7,6 +7,11 @@ use super::{Data, Format};
 use scroll::ctx::{Record, Written};
 
 impl Record for Format {
+    // field     offset  size
+    // tag       0       2
+    // channels  2       2
+    // rate      4       4
+
     type Parts = (u16, u16, u32);
 
     ghost parts_of = { λ x. (x.tag, x.channels, x.rate) };
@@ -53,6 +58,11 @@ impl<'a> Written for &'a Format {
 }
 
 impl Record for Data {
+    // field  offset  size
+    // one    0       4
+    // two    4       2
+    // three  6       1
+
     type Parts = (u32, u16, u8);
 
     ghost parts_of = { λ x. (x.one, x.two, x.three) };

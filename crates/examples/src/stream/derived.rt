@@ -7,6 +7,10 @@ use super::Foo;
 use scroll::ctx::{Record, Written};
 
 impl Record for Foo {
+    // field  offset  size
+    // foo    0       8
+    // bar    8       4
+
     type Parts = (i64, u32);
 
     ghost parts_of = { λ x. (x.foo, x.bar) };

@@ -15,6 +15,12 @@ use std::marker::PhantomData;
 use std::result::Result;
 
 impl Record for UdpHeader {
+    // field        offset  size
+    // source       0       2
+    // destination  2       2
+    // len          4       2
+    // checksum     6       2
+
     type Parts = (u16, u16, u16, u16);
 
     ghost parts_of = { λ x. (x.source, x.destination, x.len, x.checksum) };
@@ -63,6 +69,14 @@ impl<'a> Written for &'a UdpHeader {
 }
 
 impl Record for DnsHeader {
+    // field        offset  size
+    // id           0       2
+    // flags        2       2
+    // questions    4       2
+    // answers      6       2
+    // authorities  8       2
+    // additionals  10      2
+
     type Parts = ((u16, u16, u16, u16), (u16, u16));
 
     ghost parts_of = { λ x. (
@@ -160,6 +174,12 @@ type PacketParts<'a> = (PacketHead, &'a [u8]);
 type PacketCtx = Headed<(), PacketNext, PacketSays>;
 
 impl<'a> Shape for Packet<'a> {
+    // error = PacketError::Short
+    // field  offset  size          notes
+    // udp    0       8
+    // dns    8       12
+    // body   20      udp.len - 20  ctx = udp.len as usize - 20, else = PacketError::NoMessage
+
     type Ctx = ();
 
     type Inner = PacketCtx;

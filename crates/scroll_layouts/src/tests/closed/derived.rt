@@ -48,6 +48,12 @@ type BlockParts<'a> = ((u16, u16), BlockRest<'a>);
 type BlockCtx = (Packed<u16, Low<u16, ()>>, Headed<(), BlockNext, BlockSays>);
 
 impl<'a> Shape for Block<'a> {
+    // field    offset  size     notes
+    // is_last  0       1 bit
+    // number   0       15 bits
+    // len      2       1
+    // data     3       len      ctx = len as usize
+
     type Ctx = ();
 
     type Inner = BlockCtx;
@@ -137,6 +143,9 @@ impl IsList for Blocks {
 }
 
 impl<'a> Listed<'a> for Blocks {
+    // values  end
+    // Block   the value of which is_last == 1
+
     type Error = Error;
 
     type Item = Block<'a>;
@@ -176,6 +185,10 @@ type MetadataParts<'a> = (ListOf<'a, BlocksPart<'a>>, Run<u8>);
 type MetadataCtx = (ToLast, ());
 
 impl<'a> Shape for Metadata<'a> {
+    // field   offset          size                  notes
+    // blocks  0               up to its last value  ctx = ToLast
+    // rest    after `blocks`  1
+
     type Ctx = ();
 
     type Inner = MetadataCtx;

@@ -8,6 +8,9 @@ use super::Plane;
 use scroll::ctx::{Record, Written};
 
 impl Record for Plane {
+    // field  offset  size
+    // cells  0       4
+
     type Parts = [[u8; 2]; 2];
 
     ghost parts_of = { λ x. x.cells };

@@ -50,6 +50,11 @@ type MessageFieldParts<'a> = (Run<u8>, MessageFieldRest<'a>);
 type MessageFieldCtx = ((), Headed<(), MessageFieldNext, MessageFieldSays>);
 
 impl<'a> Shape for MessageField<'a> {
+    // field   offset       size     notes
+    // number  0            1
+    // len     1            1 to 10
+    // data    after `len`  len      ctx = len as usize
+
     type Ctx = ();
 
     type Inner = MessageFieldCtx;
@@ -122,6 +127,9 @@ impl IsList for FieldKind {
 }
 
 impl<'a> Listed<'a> for FieldKind {
+    // values        end
+    // MessageField  as its field says
+
     type Error = Error;
 
     type Item = MessageField<'a>;
@@ -179,6 +187,11 @@ type MessageParts<'a> = (MessageHead, (CStr<'a>, ListOf<'a, FieldKindPart<'a>>))
 type MessageCtx = Headed<(), MessageNext, MessageSays>;
 
 impl<'a> Shape for Message<'a> {
+    // field   offset        size          notes
+    // size    0             2
+    // name    2             up to a zero
+    // fields  after `name`  size          ctx = size as usize
+
     type Ctx = ();
 
     type Inner = MessageCtx;
@@ -300,6 +313,10 @@ type ReplyParts<'a> = (ReplyHead, Option<ListOf<'a, FieldKindPart<'a>>>);
 type ReplyCtx = Headed<(), ReplyNext, ReplySays>;
 
 impl<'a> Shape for Reply<'a> {
+    // field   offset  size        notes
+    // size    0       2
+    // fields  2       size, or 0  if = size != 0, ctx = size as usize
+
     ghost use Rattle.scroll_layouts.specs.declared.tests.walk.derived.FieldKindPart.{FieldKindPart};
 
     type Ctx = ();
@@ -310,20 +327,22 @@ impl<'a> Shape for Reply<'a> {
 
     ghost parts_of = { λ x. (
       record { 0 = x.size },
-      option_map {U = ListOf FieldKindPart} (λ v. record { 0 = record { 0 = v }; 1 = record {} }) x.fields,
+      option_map {U = ListOf FieldKindPart}
+          (λ v. record { 0 = record { 0 = v }; 1 = record {} }) x.fields,
     ) };
 
     ghost of_parts = { λ p. record { size = p.0.0; fields = option_map (λ v. v.0.0) p.1 } };
 
     ghost again = { λ x i. record {
       size = x.size;
-      fields =
-          option-again {B = ListOf FieldKindPart} (λ v. record { 0 = record { 0 = v }; 1 = record {} }) (λ v. v.0.0) (λ v. refl) x.fields i;
+      fields = option-again {B = ListOf FieldKindPart}
+          (λ v. record { 0 = record { 0 = v }; 1 = record {} }) (λ v. v.0.0) (λ v. refl) x.fields i;
     } };
 
     ghost there = { λ p i. (
       record { 0 = p.0.0 },
-      option-again {A = ListOf FieldKindPart} (λ v. v.0.0) (λ v. record { 0 = record { 0 = v }; 1 = record {} }) (λ v. refl) p.1 i,
+      option-again {A = ListOf FieldKindPart} (λ v. v.0.0)
+          (λ v. record { 0 = record { 0 = v }; 1 = record {} }) (λ v. refl) p.1 i,
     ) };
 
     ghost inner_of = { λ _. record { 0 = tt; 1 = record {}; 2 = record {} } };

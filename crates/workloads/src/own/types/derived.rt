@@ -7,6 +7,10 @@ use super::{Entry, Sample, Slot};
 use scroll::ctx::{Record, Written};
 
 impl Record for Entry {
+    // field  offset  size
+    // kind   0       1
+    // size   1       4
+
     type Parts = (u8, u32);
 
     ghost parts_of = { λ x. (x.kind, x.size) };
@@ -51,6 +55,11 @@ impl<'a> Written for &'a Entry {
 }
 
 impl Record for Slot {
+    // field  offset  size
+    // key    0       2
+    // flags  2       2
+    // value  4       8
+
     type Parts = (u16, u16, u64);
 
     ghost parts_of = { λ x. (x.key, x.flags, x.value) };
@@ -97,6 +106,12 @@ impl<'a> Written for &'a Slot {
 }
 
 impl Record for Sample {
+    // field  offset  size
+    // time   0       8
+    // level  8       4
+    // low    12      4
+    // high   16      4
+
     type Parts = (u64, i32, u32, u32);
 
     ghost parts_of = { λ x. (x.time, x.level, x.low, x.high) };
