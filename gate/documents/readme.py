@@ -25,6 +25,15 @@ from step import FOLDERS, TOP, Ran, Step, Stop, below, copy_kept, read_crates, r
 COMMANDS = "Three commands"
 FIRST = "One file to paste"
 OWN = "A format of your own"
+# What tools/begin refuses, and why.
+REFUSED = {
+    "first": "there is a crate first already",
+    "hex": "there is a library or a client 'hex'",
+    "zip": "there is a library or a client 'zip'",
+    "fn": "'fn' can't be the name of a crate",
+    "A b": "'A b' can't be the name of a crate",
+    "--help": "usage: python3 tools/begin NAME",
+}
 # The functions of the format's file.
 USERS = ("read_sample", "name_again", "copy_sample")
 PROGRAM = TOP / "crates" / "scroll_run"
@@ -64,9 +73,12 @@ def copy_libraries(step: Step, own: Path) -> None:
         there = [(crate / it).exists() for it in ("src/lib.rt", "out")]
         copied = copied and all(there) and not any((crate / it).exists() for it in (*FOLDERS, "out/incremental"))
     count(step, f"copy {' '.join(LIBRARIES)}", not ran.status and copied, ran)
-    for words, why in ((["first"], "there is a crates.txt already"), (["--help"], "usage: python3 tools/begin NAME")):
-        ran = step.run(own, sys.executable, TOP / "tools" / "begin", *words)
-        count(step, f"refuse {' '.join(words)}", ran.status == 2 and why in ran.said, ran)
+    for name, why in REFUSED.items():
+        ran = step.run(own, sys.executable, TOP / "tools" / "begin", name)
+        count(step, f"refuse {name}", ran.status == 2 and why in ran.said, ran)
+    ran = step.run(own, sys.executable, TOP / "tools" / "begin", "second", "packets")
+    added = [it for it in read_crates(own) if it not in LIBRARIES] == ["first", "packets", "second"]
+    count(step, "add a crate and a client", not ran.status and added and (own / "crates/packets/src/lib.rt").is_file(), ran)
 
 
 def run_examples(step: Step) -> None:

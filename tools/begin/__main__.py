@@ -1,9 +1,10 @@
-"""Begins a repository in the current folder: a crate of one's own over copies of the libraries, with their proofs if they are there.
+"""Begins a crate of one's own over copies of the libraries, with their proofs if they are there.
 
     python3 tools/begin NAME [CLIENT..]
 
-NAME is the crate, in which src/ is empty. Each CLIENT is copied too, and the crate stands over it. The exit status is 2, with a line on
-standard error, where there is a crates.txt already, or no such client; then nothing is written.
+In a folder without a crates.txt it begins a repository. Where there is one, it adds to it: a crate that isn't there, and each CLIENT,
+whose files are copied, and over which the crate then stands. In a new crate src/ is empty. The exit status is 2, with a line on standard
+error, where a name can't be a crate's or nothing would be new; then nothing is written.
 """
 
 import re
@@ -20,11 +21,17 @@ LIBRARIES = ["scroll", "scroll_formats", "scroll_layouts"]
 # What serves the work on a crate, and not its users.
 LEFT_OUT = shutil.ignore_patterns("must-fail", "bugs", "incremental")
 USAGE = "usage: python3 tools/begin NAME [CLIENT..]"
+# Words that no crate is named.
+WORDS = {
+    *"abstract as async await become box break const continue crate do dyn else enum extern false final fn for gen ghost if".split(),
+    *"impl in let loop macro match mod move mut override priv prove pub ref return self static struct super trait true try type".split(),
+    *"typeof union unsafe unsized use virtual where while yield core alloc std test tests out src rattle".split(),
+}
 
 
-def read_crates() -> Dict[str, str]:
+def read_crates(top: Path) -> Dict[str, str]:
     """Returns each line of crates.txt by its crate."""
-    lines = (TOP / "crates.txt").read_text(encoding="utf-8").splitlines()
+    lines = (top / "crates.txt").read_text(encoding="utf-8").splitlines()
     return {re.split(r"[ :]", line)[0]: line for line in lines if line and not line.startswith("#")}
 
 
@@ -36,29 +43,56 @@ def with_those_below(name: str, crates: Dict[str, str]) -> Iterator[str]:
     yield name
 
 
-def fault_of(names: List[str], crates: Dict[str, str]) -> str:
+def kit_has(name: str) -> bool:
+    """Returns whether the kit has a crate of this name."""
+    try:
+        ran = subprocess.run(["rt", "doc"], stdout=subprocess.PIPE, text=True, check=False)
+    except FileNotFoundError:
+        return False
+    return any((Path(it).parent / "rattle" / name).is_dir() for it in ran.stdout.split())
+
+
+def fault_of(names: List[str], crates: Dict[str, str], there: Dict[str, str]) -> str:
+    """Returns why nothing can be written, or nothing."""
     if not names or any(it.startswith("-") for it in names):
         return USAGE
-    if Path("crates.txt").exists():
-        return "begin: there is a crates.txt already"
-    return next((f"begin: there is no client {it}" for it in names[1:] if it not in crates), "")
+    name, *clients = names
+    if not re.fullmatch(r"[a-z][a-z0-9_]*", name) or name in WORDS:
+        return f"begin: '{name}' can't be the name of a crate: take small letters, digits and `_`, and no word of the language"
+    if name in crates or kit_has(name):
+        return f"begin: there is a library or a client '{name}', which the crate's name can't be"
+    unknown = next((it for it in clients if it not in crates), None)
+    if unknown is not None:
+        return f"begin: there is no client {unknown}"
+    if name in there and not {*clients} - {*there}:
+        return f"begin: there is a crate {name} already" + (", and each client" if clients else "")
+    if name not in there and Path("crates", name).exists():
+        return f"begin: there is a folder crates/{name} already"
+    return ""
 
 
 def main(names: List[str]) -> int:
-    crates = read_crates()
-    fault = fault_of(names, crates)
+    crates = read_crates(TOP)
+    is_new = not Path("crates.txt").exists()
+    there = {} if is_new else read_crates(Path())
+    fault = fault_of(names, crates, there)
     if fault:
         print(fault, file=sys.stderr)
         return 2
     name, *clients = names
-    copied = list(dict.fromkeys(it for top in [*LIBRARIES, *clients] for it in with_those_below(top, crates)))
+    used = list(dict.fromkeys(it for top in [*LIBRARIES, *clients] for it in with_those_below(top, crates)))
+    copied = [it for it in used if it not in there]
     for it in copied:
         shutil.copytree(TOP / "crates" / it, Path("crates", it), symlinks=True, ignore=LEFT_OUT)
-    Path("crates", name, "src").mkdir(parents=True)
-    lines = [*(crates[it] for it in copied), f"{name}: {' '.join(copied)}"]
+    Path("crates", name, "src").mkdir(parents=True, exist_ok=True)
+    head, _, before = there.get(name, f"{name}:").partition(":")
+    line = f"{head}: {' '.join(dict.fromkeys([*used, *before.split()]))}"
+    written = [] if is_new else Path("crates.txt").read_text(encoding="utf-8").splitlines()
+    lines = [*(it for it in written if it != there.get(name)), *(crates[it] for it in copied), line]
     Path("crates.txt").write_text("".join(f"{it}\n" for it in lines), encoding="utf-8")
-    shutil.copy(TOP / "HANDLES", ".")
-    return subprocess.run(["git", "init", "-q"], check=False).returncode
+    if not Path("HANDLES").exists():
+        shutil.copy(TOP / "HANDLES", ".")
+    return subprocess.run(["git", "init", "-q"], check=False).returncode if is_new else 0
 
 
 if __name__ == "__main__":

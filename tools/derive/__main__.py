@@ -7,7 +7,8 @@ CRATE is the folder of a crate. For each file of its src/ in which a struct or a
 `// #[derive(Pread, Pwrite)]` a file `derived.rt` is written, a module of that file, which says `mod derived;`. `rt fmt` lays it
 out. docs/GUIDE.md has the notes.
 
-A file that no struct asks for any more is removed. Where nothing asks for one, a line says so.
+A file that no struct asks for any more is removed. Where nothing asks for one, a line says so. So does one for each function that says
+of a struct with a float that what was read is written back, which no proof finds.
 
 The exit status is 0; or 1 if --check finds a file that is stale, missing or left over; or 2 with one line on standard error,
 with the file and the line, where something isn't supported. Then nothing is written.
@@ -32,11 +33,13 @@ def main(words: List[str]) -> int:
         print(USAGE, file=sys.stderr)
         return 2
     try:
-        files = derived_files(Path(names[0]))
+        files, told = derived_files(Path(names[0]))
         left = left_over(Path(names[0]), files)
     except Refused as refused:
         print(f"derive: {refused}", file=sys.stderr)
         return 2
+    for it in told:
+        print(it)
     stale = [path for path, text in files.items() if not path.is_file() or not is_same(path.read_text(encoding="utf-8"), text)]
     if is_check:
         for path, what in [*((it, "stale") for it in stale), *((it, "left over") for it in left)]:

@@ -2,11 +2,12 @@
 
 import re
 from pathlib import Path
-from typing import Any, Dict, Iterator, List, Set, Tuple
+from typing import Any, Dict, Iterator, List, NamedTuple, Set, Tuple
 
-from fixed_types import names_of
+from fixed_types import is_exact_type, names_of
+from floats import too_much
 from items import Item, SourceFile
-from model import Crate, Enum, Struct
+from model import Crate, Enum, ListType, Struct
 from names import CHOICE, CODE, GHOST, qualified
 from printing import Printer
 from readers import read_form
@@ -25,8 +26,14 @@ def derived_path(path: str) -> Path:
     return file.with_name("derived.rt") if file.stem in ("lib", "main") else file.with_suffix("") / "derived.rt"
 
 
-def derived_files(folder: Path) -> Dict[Path, str]:
-    """Returns the text of each file that is to be written."""
+class Written(NamedTuple):
+    """The text of each file that is to be written, and what is told beside it."""
+
+    files: Dict[Path, str]
+    told: List[str]
+
+
+def derived_files(folder: Path) -> Written:
     crate = Crate(folder, read_form)
     marked = [(file, item) for file in crate.files.values() for item in crate.marked(file)]
     forms = {id(item): None if crate.is_fixed(item) else crate.form(item) for _, item in marked}
@@ -35,7 +42,13 @@ def derived_files(folder: Path) -> Dict[Path, str]:
         items = crate.marked(file)
         if items:
             files[derived_path(file.path)] = print_file(crate, file, [(it, forms[id(it)]) for it in items])
-    return dict(zip(files, formatted([*files.values()])))
+    with_floats = [item.name for _, item in marked if not is_exact(crate, item, forms[id(item)])]
+    return Written(dict(zip(files, formatted([*files.values()]))), too_much(crate.texts, with_floats))
+
+
+def is_exact(crate: Crate, item: Item, form: Any) -> bool:
+    """Returns whether what is read of a struct or an enum is written back byte for byte: whether it has no float."""
+    return is_exact_type(crate.record(item)) if form is None else isinstance(form, ListType) or form.is_exact
 
 
 def is_same(text: str, other: str) -> bool:

@@ -161,6 +161,11 @@ class Enum(Form):
     other: str
     head: Optional[Part] = None
 
+    def check_alone(self) -> None:
+        """Refuses to be read alone where a tag may be none of a variant's, which what it stands in tests."""
+        if not self.item.is_part and not self.is_own and not self.takes_any:
+            self.item.refuse("is given its tag, which only what it stands in tests: write `// #[derive(Part)]`, or a last variant `is = _`")
+
     @property
     def takes_any(self) -> bool:
         """Whether the last variant is said by any other tag."""
@@ -263,7 +268,7 @@ class Crate:
         if not source.is_dir():
             raise Refused(str(folder), 0, "there is no src/ in this folder, so it is no crate")
         self.files: Dict[str, SourceFile] = {}
-        texts: Dict[str, str] = {}
+        self.texts: Dict[str, str] = {}
         self.forms: Dict[int, Any] = {}
         # The lists that are parts of each struct or enum, by its file and its name.
         self.lists: Dict[Tuple[str, str], List[str]] = {}
@@ -275,11 +280,11 @@ class Crate:
                     text = path.read_text(encoding="utf-8")
                 except (OSError, UnicodeDecodeError) as error:
                     raise Refused(str(path), 0, str(error)) from error
-                texts[str(path)] = text
+                self.texts[str(path)] = text
                 self.files[str(path)] = read_file(str(path), text)
         self.scopes = Scopes(source, self.files)
         own = {path: {it for it in PLACES if self.is_own(it, path)} for path in self.files}
-        self.files = {path: read_file(path, text, own[path]) for path, text in texts.items()}
+        self.files = {path: read_file(path, text, own[path]) for path, text in self.texts.items()}
         self.scopes = Scopes(source, self.files)
         for file in self.files.values():
             self.check(file)
@@ -297,9 +302,11 @@ class Crate:
                 item.refuse("needs `mod derived;` in this file")
             if item.has_parameters:
                 item.refuse("has parameters, and takes one lifetime at most")
-            if (item.is_kept or item.is_part) and ("items" in item.notes or "given" in item.notes or self.is_fixed(item)):
+            if (item.is_kept or item.is_part) and ("items" in item.notes or self.is_fixed(item)):
                 word = "Kept" if item.is_kept else "Part"
-                item.refuse(f"takes no `{word}`, being of a fixed size or not written alone: write `#[derive(Pread, Pwrite)]`")
+                item.refuse(f"takes no `{word}`, being a list or of a fixed size: write `// {MARK}`")
+            if item.is_kept and "given" in item.notes:
+                item.refuse(f"takes no `Kept`, being given what no call of these says: write `// {MARK}`")
             if "items" in item.notes and (item.fields or item.is_enum or item.lifetime):
                 item.refuse(f"names a list: write `struct {item.name};`")
             if not item.fields and "items" not in item.notes:

@@ -151,8 +151,8 @@ class Printer:
         whole.type, whole.ghost = chain.types[0], f"λ x. {whole.ghost}"
         whole.context = Value(*(resolve(it, {form.given: said}) for it, said in zip(whole.context, ("n", "(*ctx)"))))
         self.print_shape(("usize", "n") if form.given else ("()", "_"), whole, split, join, again)
-        if not form.given and not form.item.is_part:
-            self.print_calls()
+        if not form.item.is_part:
+            self.print_calls("usize" if form.given else "")
 
     def print_list(self) -> None:
         """Prints which bytes are a list, the type of its values, and where one ends."""
@@ -244,43 +244,54 @@ impl<'a> ListPart<'a> for {name}Part<'a> {{
     }}
 }}"""
 
-    def print_calls(self) -> None:
-        """Prints what the calls that read and write take."""
+    def print_calls(self, given: str = "") -> None:
+        """Prints what the calls that read and write take, perhaps beside the byte order what the value is given."""
+        name, error = self.type, self.error
         reads, read = ("ReadsExact", "read_exact") if self.form.is_exact else ("ReadsWhole", "read_whole")
         gives = self.form.error.gives if self.form.error else "(λ e d. d ≡ e)"
-        read_format = f"(⟦<{self.type} as ReadPart<'a, (), {self.error}>>⟧.format tt)"
-        write_format = f"(⟦<{self.type} as Part<(), {self.error}>>⟧.format tt)"
+        if given:
+            inner, context, value, ctx = f"Given<{given}>", f"(Endian, {given})", "\n        (record { 0 = c.1 })", "ctx.0, &Given(ctx.1)"
+        else:
+            inner, context, value, ctx = "()", "Endian", " tt", "ctx, &()"
+        bound, order = ("c", "c.0") if given else ("order", "order")
+        read_format = f"(⟦<{name} as ReadPart<'a, {inner}, {error}>>⟧.format{value})"
+        write_format = f"(⟦<{name} as Part<{inner}, {error}>>⟧.format{value})"
+
+        reads, writes, keeps = f"{reads} {read_format}", f"WritesWhole {write_format}", f"KeepsWhole {gives}\n        {write_format}"
+
+        def relation(said: str) -> str:
+            return f"λ c. {said} c.0" if given else said
+
         self.texts += [
-            f"""impl<'a> TryFromCtx<'a, Endian> for {self.type} {{
-    type Error = {self.error};
+            f"""impl<'a> TryFromCtx<'a, {context}> for {name} {{
+    type Error = {error};
 
-    ghost reads = {{ {reads} {read_format} }};
+    ghost reads = {{ {relation(reads)} }};
 
-    ghost refuses = {{ λ order s.
-        refuses {read_format} order s 0 }};
+    ghost refuses = {{ λ {bound} s.
+        refuses {read_format} {order} s 0 }};
 
-    ghost reads_bounded = {{ λ order s x n h. Prim.search rules }};
+    ghost reads_bounded = {{ λ {bound} s x n h. Prim.search rules }};
 
     #[inline(always)]
-    fn try_from_ctx(from: &'a [u8], ctx: Endian) -> Result<({self.type}, usize), {self.error}> {{
-        {read}::<(), {self.error}, {self.type}>(from, ctx, &())
+    fn try_from_ctx(from: &'a [u8], ctx: {context}) -> Result<({name}, usize), {error}> {{
+        {read}::<{inner}, {error}, {name}>(from, {ctx})
     }}
 }}""",
-            f"""impl{self.life} TryIntoCtx<Endian> for {self.type} {{
-    type Error = {self.error};
+            f"""impl{self.life} TryIntoCtx<{context}> for {name} {{
+    type Error = {error};
 
-    ghost writes = {{ WritesWhole {write_format} }};
+    ghost writes = {{ {relation(writes)} }};
 
-    ghost refuses = {{ KeepsWhole {gives}
-        {write_format} }};
+    ghost refuses = {{ {relation(keeps)} }};
 
-    ghost writes_bounded = {{ λ order x old new n h. Prim.search rules }};
+    ghost writes_bounded = {{ λ {bound} x old new n h. Prim.search rules }};
 
-    ghost writes_keeps = {{ λ order x old new n h. WritesPrefix-keeps _ old new n h.wrote }};
+    ghost writes_keeps = {{ λ {bound} x old new n h. WritesPrefix-keeps _ old new n h.wrote }};
 
     #[inline(always)]
-    fn try_into_ctx(self, dst: &mut [u8], ctx: Endian) -> Result<usize, {self.error}> {{
-        write_whole::<(), {self.error}, {self.type}>(&self, dst, ctx, &())
+    fn try_into_ctx(self, dst: &mut [u8], ctx: {context}) -> Result<usize, {error}> {{
+        write_whole::<{inner}, {error}, {name}>(&self, dst, {ctx})
     }}
 }}""",
         ]
@@ -334,3 +345,5 @@ impl<'a> ListPart<'a> for {name}Part<'a> {{
         cases = form.cases([form.ghost(at) for at in range(len(form.variants))], 6)
         whole.ghost = f"elim [{cases}\n    ]"
         self.print_shape((form.context_type, "t"), whole, f"{split}\n        }}", f"{join}\n        }}", form.again())
+        if not form.item.is_part:
+            self.print_calls(form.context_type)

@@ -208,6 +208,7 @@ class EnumReader(Reader):
         if own:
             made.head = numbers([("tag", PLAIN[tag])], "")
             made.head.rules.append(tag_rule(self, item, made, "tag"))
+        made.check_alone()
         return made
 
     def read_variant(self, raw: RawField, tag: str, before: List[Optional[Tags]]) -> Variant:

@@ -104,7 +104,7 @@ pub struct Resource<'a> {
 }
 
 /// The data of a record, by its kind (sections 3.3 and 3.4; RFC 3596).
-// #[derive(Pread, Pwrite)]
+// #[derive(Part)]
 // #[scroll(given = (kind: u16, len: usize))]
 #[derive(Clone, Copy)]
 pub enum Data<'a> {

@@ -18,7 +18,7 @@ pub struct Handshake<'a> {
 }
 
 /// A ClientHello (section 4.1.2). One without extensions ends behind the compression methods.
-// #[derive(Pread, Pwrite)]
+// #[derive(Part)]
 // #[scroll(given = len: usize)]
 #[derive(Clone, Copy)]
 pub struct ClientHello<'a> {
@@ -65,7 +65,7 @@ pub struct Extension<'a> {
 }
 
 /// What an extension says, by its kind.
-// #[derive(Pread, Pwrite)]
+// #[derive(Part)]
 // #[scroll(given = (kind: u16, len: usize))]
 #[derive(Clone, Copy)]
 pub enum ExtensionBody<'a> {

@@ -4,7 +4,7 @@ mod derived;
 use scroll_layouts::{Items, Uleb};
 
 /// A module of a known length (section 5.5.16).
-// #[derive(Pread, Pwrite)]
+// #[derive(Part)]
 // #[scroll(given = len: usize, order = LE)]
 #[derive(Clone, Copy)]
 pub struct Module<'a> {
@@ -33,7 +33,7 @@ pub struct Section<'a> {
 }
 
 /// The contents of a section, by its number. Those of other sections are bytes.
-// #[derive(Pread, Pwrite)]
+// #[derive(Part)]
 // #[scroll(given = (id: u8, size: usize))]
 #[derive(Clone, Copy)]
 pub enum Contents<'a> {
@@ -61,7 +61,7 @@ pub struct Name<'a> {
 }
 
 /// A custom section (section 5.5.3): a name, and whatever follows it.
-// #[derive(Pread, Pwrite)]
+// #[derive(Part)]
 // #[scroll(given = size: usize)]
 #[derive(Clone, Copy)]
 pub struct Custom<'a> {

@@ -32,6 +32,12 @@ def cases(name: str) -> List[str]:
     return (HERE / name).read_text(encoding="utf-8").split("\n===\n")[1:]
 
 
+def typos(line: str, at: int) -> List[str]:
+    """Returns a line with each slip at a letter."""
+    before, letter, after = line[:at], line[at], line[at + 1 :]
+    return [before + after, before + letter + letter + after, before + letter.swapcase() + after, before + "x" + after, before + after[:1] + letter + after[1:]]
+
+
 class Derive(unittest.TestCase):
     def setUp(self) -> None:
         room = tempfile.TemporaryDirectory()
@@ -111,6 +117,74 @@ class Derive(unittest.TestCase):
         self.file.write_text(line, encoding="utf-8")
         self.assertEqual(self.call(str(self.crate)), (0, "", ""))
         self.assertIn("use super::{Line, Point};", self.derived.read_text(encoding="utf-8"))
+
+    def test_names_by_their_imports(self) -> None:
+        """A type or a constant is that which the file imports, and no other of its name."""
+        for name, tag in (("alpha", 3), ("beta", 5)):
+            text = f"const MARK: u8 = {tag}0;\n// #[derive(Part)]\n// #[scroll(given = kind: u8)]\nenum Body {{\n    // #[scroll(is = {tag})]\n    A,\n}}\n"
+            (self.crate / "src" / f"{name}.rt").write_text(f"mod derived;\n{text}", encoding="utf-8")
+        head = "mod derived;\n// #[derive(Pread, Pwrite)]\nstruct Outer {\n    // #[scroll(is = MARK)]\n    mark: u8,\n    kind: u8,\n"
+        user = head + "    // #[scroll(ctx = kind)]\n    body: Body,\n}\n"
+        inside = "mod tests {\n    use crate::alpha::{Body, MARK};\n}\nfn other() {\n    const MARK: u8 = 7;\n}\n"
+        for line, tag in (
+            ("use crate::alpha::{Body, MARK};\n", 3),
+            ("use crate::beta::{Body, MARK};\n", 5),
+            ("use super::beta::*;\n", 5),
+            ("use crate::{alpha::*, beta::{Body, MARK}};\n", 5),
+            ("use crate::alpha;\nuse alpha::{Body, MARK};\n", 3),
+            (f"{inside}use crate::beta::{{Body, MARK}};\n", 5),
+        ):
+            with self.subTest(line):
+                self.file.write_text(line + user, encoding="utf-8")
+                self.assertEqual(self.call(str(self.crate)), (0, "", ""))
+                printed = self.derived.read_text(encoding="utf-8")
+                home = {3: "alpha", 5: "beta"}[tag]
+                self.assertIn(f"(h.1 ≡ {tag})" if "(h.1" in printed else f"≡ {tag})", printed)
+                self.assertIn(f"use crate::{home}::MARK;", printed)
+                self.assertIn(f"ghost use Rattle.formats.specs.declared.{home}.TheConstants.{{MARK}};", printed)
+        for line, at, said in (
+            ("use crate::beta::MARK;\n", 9, "the field body is of Body, which this file doesn't import: `use crate::alpha::Body;`"),
+            ("use crate::alpha::*;\nuse crate::beta::*;\n", 6, "the field mark names the constant MARK, of which there are two"),
+            ("use crate::beta::{Body as Inner, MARK};\ntype Body = Inner;\n", 10, "the field body is of Body, which this file doesn't import"),
+        ):
+            with self.subTest(line):
+                self.file.write_text(line + user, encoding="utf-8")
+                status, out, err = self.call(str(self.crate))
+                self.assertEqual((status, out), (2, ""))
+                self.assertTrue(err.startswith(f"derive: {self.file}:{at}: {said}"), err)
+
+    def test_typos_in_notes(self) -> None:
+        """A note, or the line before a struct, in which one letter is left out, doubled, another or changed with the next, is refused."""
+        note, mark = "// #[scroll(is = 77)]", "// #[derive(Pread, Pwrite)]"
+        struct = "struct Pair {\n    NOTE\n    a: u8,\n}\nmod derived;\n"
+        for line, text in ((note, f"{mark}\n{struct}"), (mark, f"NOTE\n{struct.replace('NOTE', '/// A byte.')}")):
+            self.file.write_text(text.replace("NOTE", line), encoding="utf-8")
+            self.assertEqual(self.call(str(self.crate)), (0, "", ""))
+            right = self.derived.read_text(encoding="utf-8")
+            for typo in sorted({it for at in range(len(line)) for it in typos(line, at)} - {line}):
+                # (which says another number)
+                if "is = 7)" in typo:
+                    continue
+                with self.subTest(typo):
+                    self.derived.unlink(missing_ok=True)
+                    self.file.write_text(text.replace("NOTE", typo), encoding="utf-8")
+                    status, _, err = self.call(str(self.crate))
+                    if status == 0:
+                        self.assertEqual(self.derived.read_text(encoding="utf-8"), right)
+                    else:
+                        self.assertRegex(err, rf"^derive: {self.file}:\d+: [^\n]+\n$")
+
+    def test_floats(self) -> None:
+        """What no proof finds of a struct with a float is told."""
+        struct = "// #[derive(Pread, Pwrite)]\nstruct Sample {\n    rate: f32,\n}\nmod derived;\n"
+        said = "    ensures back { IfOk result (λ n. take n to.new ≡ take n from.now) }\n"
+        function = f"pub fn copy(from: &[u8], to: &mut [u8]) -> Result<usize>\n{said}{{\n    let sample: Sample = from.pread_with(0, LE)?;\n}}\n"
+        self.file.write_text(struct + function, encoding="utf-8")
+        status, out, err = self.call(str(self.crate))
+        self.assertEqual((status, err), (0, ""))
+        self.assertIn(f"{self.file}:6: the function copy says that what was read of Sample is written back, and Sample has a float", out)
+        self.file.write_text(struct.replace("f32", "u32") + function, encoding="utf-8")
+        self.assertEqual(self.call(str(self.crate)), (0, "", ""))
 
     def test_the_imports(self) -> None:
         """A field has a name that another text would import, and a message has a word that is a function's name."""

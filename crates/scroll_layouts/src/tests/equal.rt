@@ -17,7 +17,7 @@ pub struct Spot {
 }
 
 /// What has happened.
-// #[derive(Pread, Pwrite)]
+// #[derive(Part)]
 // #[scroll(given = kind: u8)]
 #[derive(Clone, Copy)]
 pub enum Event {
