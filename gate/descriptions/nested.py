@@ -4,7 +4,7 @@ import random
 from dataclasses import dataclass
 from typing import Any, List, NamedTuple, Optional, Tuple
 
-from descriptions.counts import MARK, Known, Misfit, OwnError, Plain, Refused, Rule, Sum, bad, take_bytes
+from descriptions.counts import MARK, PART, Known, Misfit, OwnError, Plain, Refused, Rule, Sum, bad, take_bytes
 from descriptions.kinds import Kind, Leb, Number, Numeral
 from descriptions.structs import Struct
 
@@ -59,7 +59,7 @@ class Enum:
         for it in self.variants:
             said = ", ".join([f"is = {it.note}", *(note for kind in it.kinds for note in kind.notes())])
             lines.append(f"    // #[scroll({said})]\n    {it.name}{f'({self.types(it)})' if it.kinds else ''},\n")
-        head = f"{self.mark}// #[scroll({', '.join(notes)})]\n#[derive(Clone, Copy)]\n"
+        head = f"{self.mark if self.is_own else PART}// #[scroll({', '.join(notes)})]\n#[derive(Clone, Copy)]\n"
         return f"{head}pub enum {self.type} {{\n{''.join(lines)}}}\n"
 
     @staticmethod

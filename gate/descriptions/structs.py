@@ -6,7 +6,7 @@ from functools import cached_property
 from typing import Any, Dict, List, Optional, Tuple
 
 from descriptions.conditions import AnyCondition
-from descriptions.counts import GREATEST, MARK, UNSIGNED, Hopeless, Known, Misfit, OwnError, Plain, Rule, Sum, bad, padding, take_bytes
+from descriptions.counts import GREATEST, MARK, PART, UNSIGNED, Hopeless, Known, Misfit, OwnError, Plain, Rule, Sum, bad, padding, take_bytes
 from descriptions.counts import take_zeros
 from descriptions.kinds import Gap, Kind, Leb, Number, Numeral
 
@@ -269,7 +269,8 @@ class Struct:
         notes += ["bits = low"] if self.is_low else []
         head = f"// #[scroll({', '.join(notes)})]\n" if notes else ""
         fields = "".join(it.print() for it in self.fields)
-        return f"{self.mark}{head}#[derive(Clone, Copy)]\npub struct {self.type} {{\n{fields}}}\n"
+        mark = PART if self.is_given else self.mark
+        return f"{mark}{head}#[derive(Clone, Copy)]\npub struct {self.type} {{\n{fields}}}\n"
 
     def put(self, value: Dict[str, Any], order: str) -> bytes:
         made = b"".join(it.put(value, self.order or order) for it in self.parts)

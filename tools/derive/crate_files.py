@@ -129,9 +129,9 @@ def constant_lines(modules: Dict[str, Set[str]], body: str) -> Iterator[str]:
 
 
 def with_table(text: str, tables: Dict[str, List[str]]) -> str:
-    """Returns an item with its table, if it is the implementation that says what a struct, an enum or a list is."""
-    found = re.match(r"impl(?:<'a>)? (?:Shape|Record|Split|Listed<'a>) for (\w+)[^{]*\{\n", text)
-    return f"{found[0]}{chr(10).join(tables[found[1]])}\n\n{text[found.end():]}" if found and found[1] in tables else text
+    """Returns an item with its table before it, if it is the implementation that says what a struct, an enum or a list is."""
+    found = re.match(r"impl(?:<'a>)? (?:\w+::)*(?:Shape|Record|Split|Listed<'a>) for (\w+)", text)
+    return "\n".join([*tables[found[1]], text]) if found and found[1] in tables else text
 
 
 def clauses(text: str) -> str:

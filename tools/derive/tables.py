@@ -1,4 +1,4 @@
-"""The table that a printed implementation begins with: where each field stands, how many bytes it has, and its notes."""
+"""The table that stands before a printed implementation: where each field stands, how many bytes it has, and its notes."""
 
 import re
 from typing import Dict, List, Optional, Tuple
@@ -21,9 +21,9 @@ def table(crate: Crate, item: Item, words: Dict[str, int]) -> List[str]:
         return comments([("values", "end"), (said(item.notes["items"]), end_of(item))])
     if item.is_enum:
         rows = [(it.name, it.notes["is"].text, values_of(it), notes_of(it, ("is",))) for it in item.fields]
-        own = [f"    // {word} = {said(note)}" for word, note in item.notes.items()]
+        own = [f"// {word} = {said(note)}" for word, note in item.notes.items()]
         return [*own, *comments([("variant", "tag", "values", "notes"), *rows])]
-    own = [f"    // {word} = {said(note)}" for word, note in item.notes.items()]
+    own = [f"// {word} = {said(note)}" for word, note in item.notes.items()]
     return [*own, *comments([HEAD, *rows_of(crate, item, words)])]
 
 
@@ -32,7 +32,7 @@ def comments(rows: List[Tuple[str, ...]]) -> List[str]:
     columns = [column for column in zip(*rows) if any(column[1:])]
     widths = [max(map(len, column)) for column in columns]
     lines = ["  ".join(it.ljust(width) for it, width in zip(row, widths)).rstrip() for row in zip(*columns)]
-    return [f"    // {it}".replace(OWN, "").rstrip() for it in lines]
+    return [f"// {it}".replace(OWN, "").rstrip() for it in lines]
 
 
 def said(note: Note) -> str:

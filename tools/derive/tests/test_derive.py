@@ -192,7 +192,7 @@ class Derive(unittest.TestCase):
         fields = "".join(f"    {it}: u8,\n" for it in names)
         self.file.write_text(f"// #[derive(Pread, Pwrite)]\nstruct Data {{\n{fields}}}\nmod derived;\n", encoding="utf-8")
         self.assertEqual(self.call(str(self.crate)), (0, "", ""))
-        head = self.derived.read_text(encoding="utf-8").partition("\n\nimpl")[0].splitlines()
+        head = self.derived.read_text(encoding="utf-8").partition("\n\n// field")[0].splitlines()
         wanted = [
             "// Printed by tools/derive from shapes.rt.",
             "ghost use Rattle.std.specs.Prelude.{◌≡◌, ◌<◌, ◌^◌, drop};",

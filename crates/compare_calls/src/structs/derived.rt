@@ -8,12 +8,11 @@ ghost use Rattle.scroll.specs.Numbers.{float, number, signed_number};
 use super::{Entry, Label, Sample, Wide};
 use scroll::ctx::{Record, Written};
 
+// field  offset  size
+// id     0       4
+// time   4       8
+// parts  12      4
 impl Record for Entry {
-    // field  offset  size
-    // id     0       4
-    // time   4       8
-    // parts  12      4
-
     type Parts = (u32, i64, [u16; 2]);
 
     ghost parts_of = { λ x. (x.id, x.time, x.parts) };
@@ -61,11 +60,10 @@ impl<'a> Written for &'a Entry {
     }
 }
 
+// field  offset  size
+// id     0       4
+// name   4       5
 impl Record for Label {
-    // field  offset  size
-    // id     0       4
-    // name   4       5
-
     type Parts = (u32, [u8; 5]);
 
     ghost parts_of = { λ x. (x.id, x.name) };
@@ -108,15 +106,14 @@ impl<'a> Written for &'a Label {
     }
 }
 
+// field    offset  size
+// kind     0       2
+// weight   2       8
+// height   10      4
+// balance  14      16
+// count    30      8
+// last     38      1
 impl Record for Sample {
-    // field    offset  size
-    // kind     0       2
-    // weight   2       8
-    // height   10      4
-    // balance  14      16
-    // count    30      8
-    // last     38      1
-
     type Parts = ((u16, f64, f32, i128), (u64, u8));
 
     ghost parts_of = { λ x. ((x.kind, x.weight, x.height, x.balance), (x.count, x.last)) };
@@ -178,12 +175,11 @@ impl<'a> Written for &'a Sample {
     }
 }
 
+// field  offset  size
+// flag   0       1
+// wide   1       16
+// small  17      2
 impl Record for Wide {
-    // field  offset  size
-    // flag   0       1
-    // wide   1       16
-    // small  17      2
-
     type Parts = (i8, u128, i16);
 
     ghost parts_of = { λ x. (x.flag, x.wide, x.small) };

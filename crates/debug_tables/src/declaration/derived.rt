@@ -53,13 +53,12 @@ type AttributeParts = (Uleb, AttributeRest);
 
 type AttributeCtx = ((), Headed<(), AttributeNext, AttributeSays>);
 
+// error = TableError::Read
+// field     offset        size           notes
+// name      0             1 to 10
+// form      after `name`  1 to 10
+// constant  after `form`  1 to 10, or 0  if = form == 0x21
 impl Shape for Attribute {
-    // error = TableError::Read
-    // field     offset        size           notes
-    // name      0             1 to 10
-    // form      after `name`  1 to 10
-    // constant  after `form`  1 to 10, or 0  if = form == 0x21
-
     type Ctx = ();
 
     type Inner = AttributeCtx;
@@ -135,10 +134,9 @@ impl IsList for Attributes {
         (⟦<Attribute as ReadPart<'static, (), TableError>>⟧.format tt) order s (length s) n };
 }
 
+// values     end
+// Attribute  the mark TwoZeroUlebs
 impl<'a> Listed<'a> for Attributes {
-    // values     end
-    // Attribute  the mark TwoZeroUlebs
-
     type Error = TableError;
 
     type Item = Attribute;
@@ -200,14 +198,13 @@ type ChildrenParts = (ChildrenHead, Choice<Zeros, Zeros>);
 
 type ChildrenCtx = Headed<(), ChildrenNext, ChildrenSays>;
 
+// tag = u8
+// error = TableError::Read
+// else = TableError::BadChildren
+// variant  tag  values
+// No       0    none
+// Yes      1    none
 impl Split for Children {
-    // tag = u8
-    // error = TableError::Read
-    // else = TableError::BadChildren
-    // variant  tag  values
-    // No       0    none
-    // Yes      1    none
-
     ghost use Rattle.debug_tables.specs.declared.declaration.Children.TheVariants as children_is;
 
     type Parts = ChildrenParts;
@@ -335,14 +332,13 @@ type DeclarationParts<'a> = (Uleb, (Uleb, (Children, ListOf<'a, AttributesPart<'
 
 type DeclarationCtx = ((), ((), ((), ToMark)));
 
+// error = TableError::Read
+// field       offset            size                notes
+// code        0                 1 to 10
+// tag         after `code`      1 to 10
+// children    after `tag`       that of `Children`
+// attributes  after `children`  up to its mark      ctx = ToMark
 impl<'a> Shape for Declaration<'a> {
-    // error = TableError::Read
-    // field       offset            size                notes
-    // code        0                 1 to 10
-    // tag         after `code`      1 to 10
-    // children    after `tag`       that of `Children`
-    // attributes  after `children`  up to its mark      ctx = ToMark
-
     type Ctx = ();
 
     type Inner = DeclarationCtx;
@@ -455,10 +451,9 @@ impl IsList for Declarations {
         (⟦<Declaration<'static> as ReadPart<'static, (), TableError>>⟧.format tt) order s (length s) n };
 }
 
+// values       end
+// Declaration  the mark ZeroUleb
 impl<'a> Listed<'a> for Declarations {
-    // values       end
-    // Declaration  the mark ZeroUleb
-
     type Error = TableError;
 
     type Item = Declaration<'a>;

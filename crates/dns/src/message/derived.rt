@@ -65,13 +65,12 @@ type MessageParts<'a> = (
 
 type MessageCtx = Ordered<Headed<(), MessageNext, MessageSays>>;
 
+// order = BE
+// field      offset             size                                                             notes
+// header     0                  that of `Header`
+// questions  after `header`     header.questions values                                          ctx = Count(header.questions as usize)
+// records    after `questions`  header.answers + header.authorities + header.additionals values  ctx = Count(header.answers as usize + header.authorities as usize + header.additionals as usize)
 impl<'a> Shape for Message<'a> {
-    // order = BE
-    // field      offset             size                                                             notes
-    // header     0                  that of `Header`
-    // questions  after `header`     header.questions values                                          ctx = Count(header.questions as usize)
-    // records    after `questions`  header.answers + header.authorities + header.additionals values  ctx = Count(header.answers as usize + header.authorities as usize + header.additionals as usize)
-
     type Ctx = ();
 
     type Inner = MessageCtx;
@@ -212,22 +211,21 @@ type HeaderCtx = (
     ),
 );
 
+// field             offset  size
+// id                0       2
+// is_response       2       1 bit
+// operation         2       4 bits
+// is_authoritative  2       1 bit
+// is_truncated      2       1 bit
+// wants_recursion   2       1 bit
+// has_recursion     2       1 bit
+// reserved          2       3 bits
+// code              2       4 bits
+// questions         4       2
+// answers           6       2
+// authorities       8       2
+// additionals       10      2
 impl Shape for Header {
-    // field             offset  size
-    // id                0       2
-    // is_response       2       1 bit
-    // operation         2       4 bits
-    // is_authoritative  2       1 bit
-    // is_truncated      2       1 bit
-    // wants_recursion   2       1 bit
-    // has_recursion     2       1 bit
-    // reserved          2       3 bits
-    // code              2       4 bits
-    // questions         4       2
-    // answers           6       2
-    // authorities       8       2
-    // additionals       10      2
-
     type Ctx = ();
 
     type Inner = HeaderCtx;
@@ -386,10 +384,9 @@ type NameParts<'a> = ListOf<'a, LabelsPart<'a>>;
 
 type NameCtx = ToMark;
 
+// field   offset  size            notes
+// labels  0       up to its mark  ctx = ToMark
 impl<'a> Shape for Name<'a> {
-    // field   offset  size            notes
-    // labels  0       up to its mark  ctx = ToMark
-
     type Ctx = ();
 
     type Inner = NameCtx;
@@ -446,10 +443,9 @@ impl IsList for Labels {
         (⟦<Label<'static> as ReadPart<'static, (), Error>>⟧.format tt) order s (length s) n };
 }
 
+// values  end
+// Label   the mark NameEnd
 impl<'a> Listed<'a> for Labels {
-    // values  end
-    // Label   the mark NameEnd
-
     type Error = Error;
 
     type Item = Label<'a>;
@@ -514,11 +510,10 @@ type LabelParts<'a> = (LabelHead, &'a [u8]);
 
 type LabelCtx = Headed<(), LabelNext, LabelSays>;
 
+// field  offset  size  notes
+// len    0       1     check = len < 64
+// text   1       len   ctx = len as usize
 impl<'a> Shape for Label<'a> {
-    // field  offset  size  notes
-    // len    0       1     check = len < 64
-    // text   1       len   ctx = len as usize
-
     type Ctx = ();
 
     type Inner = LabelCtx;
@@ -556,10 +551,9 @@ impl IsList for Questions {
         (⟦<Question<'static> as ReadPart<'static, (), Error>>⟧.format tt) order s 0 (length s) n };
 }
 
+// values    end
+// Question  as its field says
 impl<'a> Listed<'a> for Questions {
-    // values    end
-    // Question  as its field says
-
     type Error = Error;
 
     type Item = Question<'a>;
@@ -591,12 +585,11 @@ type QuestionParts<'a> = (Name<'a>, Run<(u16, u16)>);
 
 type QuestionCtx = ((), ());
 
+// field  offset        size
+// name   0             that of `Name<'a>`
+// kind   after `name`  2
+// class  after `kind`  2
 impl<'a> Shape for Question<'a> {
-    // field  offset        size
-    // name   0             that of `Name<'a>`
-    // kind   after `name`  2
-    // class  after `kind`  2
-
     type Ctx = ();
 
     type Inner = QuestionCtx;
@@ -668,10 +661,9 @@ impl IsList for Resources {
         (⟦<Resource<'static> as ReadPart<'static, (), Error>>⟧.format tt) order s 0 (length s) n };
 }
 
+// values    end
+// Resource  as its field says
 impl<'a> Listed<'a> for Resources {
-    // values    end
-    // Resource  as its field says
-
     type Error = Error;
 
     type Item = Resource<'a>;
@@ -730,15 +722,14 @@ type ResourceParts<'a> = (Name<'a>, ResourceRest<'a>);
 
 type ResourceCtx = ((), Headed<(), ResourceNext, ResourceSays>);
 
+// field  offset         size                notes
+// name   0              that of `Name<'a>`
+// kind   after `name`   2
+// class  after `kind`   2
+// time   after `class`  4
+// len    after `time`   2
+// data   after `len`    that of `Data<'a>`  ctx = (kind, len as usize)
 impl<'a> Shape for Resource<'a> {
-    // field  offset         size                notes
-    // name   0              that of `Name<'a>`
-    // kind   after `name`   2
-    // class  after `kind`   2
-    // time   after `class`  4
-    // len    after `time`   2
-    // data   after `len`    that of `Data<'a>`  ctx = (kind, len as usize)
-
     type Ctx = ();
 
     type Inner = ResourceCtx;
@@ -850,18 +841,17 @@ type DataCtx = Choose<
     >,
 >;
 
+// given = (kind: u16, len: usize)
+// variant      tag  values            notes
+// Address      1    Address           within = len
+// Server       2    Name<'a>          within = len
+// Alias        5    Name<'a>          within = len
+// Pointer      12   Name<'a>          within = len
+// Mail         15   Mail<'a>          within = len
+// Texts        16   Items<'a, Texts>  ctx = len
+// LongAddress  28   LongAddress       within = len
+// Other        _    &'a [u8]          ctx = len
 impl<'a> Shape for Data<'a> {
-    // given = (kind: u16, len: usize)
-    // variant      tag  values            notes
-    // Address      1    Address           within = len
-    // Server       2    Name<'a>          within = len
-    // Alias        5    Name<'a>          within = len
-    // Pointer      12   Name<'a>          within = len
-    // Mail         15   Mail<'a>          within = len
-    // Texts        16   Items<'a, Texts>  ctx = len
-    // LongAddress  28   LongAddress       within = len
-    // Other        _    &'a [u8]          ctx = len
-
     ghost use Rattle.dns.specs.declared.message.Data.TheVariants as data_is;
 
     type Ctx = (u16, usize);
@@ -1024,10 +1014,9 @@ impl<'a> ListPart<'a> for TextsPart<'a> {
     }
 }
 
+// field  offset  size
+// bytes  0       4
 impl Record for Address {
-    // field  offset  size
-    // bytes  0       4
-
     type Parts = [u8; 4];
 
     ghost parts_of = { λ x. x.bytes };
@@ -1066,10 +1055,9 @@ impl<'a> Written for &'a Address {
     }
 }
 
+// field  offset  size
+// bytes  0       16
 impl Record for LongAddress {
-    // field  offset  size
-    // bytes  0       16
-
     type Parts = [u8; 16];
 
     ghost parts_of = { λ x. x.bytes };
@@ -1112,11 +1100,10 @@ type MailParts<'a> = (Run<u16>, Name<'a>);
 
 type MailCtx = ((), ());
 
+// field       offset  size
+// preference  0       2
+// server      2       that of `Name<'a>`
 impl<'a> Shape for Mail<'a> {
-    // field       offset  size
-    // preference  0       2
-    // server      2       that of `Name<'a>`
-
     type Ctx = ();
 
     type Inner = MailCtx;
@@ -1154,10 +1141,9 @@ impl IsList for Texts {
         (⟦<Text<'static> as ReadPart<'static, (), Error>>⟧.format tt) order s 0 (length s) n };
 }
 
+// values  end
+// Text    as its field says
 impl<'a> Listed<'a> for Texts {
-    // values  end
-    // Text    as its field says
-
     type Error = Error;
 
     type Item = Text<'a>;
@@ -1210,11 +1196,10 @@ type TextParts<'a> = (TextHead, &'a [u8]);
 
 type TextCtx = Headed<(), TextNext, TextSays>;
 
+// field  offset  size  notes
+// len    0       1
+// text   1       len   ctx = len as usize
 impl<'a> Shape for Text<'a> {
-    // field  offset  size  notes
-    // len    0       1
-    // text   1       len   ctx = len as usize
-
     type Ctx = ();
 
     type Inner = TextCtx;

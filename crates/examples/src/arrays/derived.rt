@@ -8,12 +8,11 @@ ghost use Rattle.scroll.specs.Numbers.{float, number};
 use super::{Point, Triangle};
 use scroll::ctx::{Record, Written};
 
+// field  offset  size
+// x      0       4
+// y      4       4
+// z      8       4
 impl Record for Point {
-    // field  offset  size
-    // x      0       4
-    // y      4       4
-    // z      8       4
-
     type Parts = (f32, f32, f32);
 
     ghost parts_of = { λ x. (x.x, x.y, x.z) };
@@ -59,12 +58,11 @@ impl<'a> Written for &'a Point {
     }
 }
 
+// field      offset  size
+// normal     0       12
+// corners    12      36
+// attribute  48      2
 impl Record for Triangle {
-    // field      offset  size
-    // normal     0       12
-    // corners    12      36
-    // attribute  48      2
-
     type Parts = (Point, [Point; 3], u16);
 
     ghost parts_of = { λ x. (x.normal, x.corners, x.attribute) };

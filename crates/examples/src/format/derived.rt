@@ -6,12 +6,11 @@ ghost use Rattle.scroll.specs.Numbers.{number};
 use super::{Data, Format};
 use scroll::ctx::{Record, Written};
 
+// field     offset  size
+// tag       0       2
+// channels  2       2
+// rate      4       4
 impl Record for Format {
-    // field     offset  size
-    // tag       0       2
-    // channels  2       2
-    // rate      4       4
-
     type Parts = (u16, u16, u32);
 
     ghost parts_of = { λ x. (x.tag, x.channels, x.rate) };
@@ -57,12 +56,11 @@ impl<'a> Written for &'a Format {
     }
 }
 
+// field  offset  size
+// one    0       4
+// two    4       2
+// three  6       1
 impl Record for Data {
-    // field  offset  size
-    // one    0       4
-    // two    4       2
-    // three  6       1
-
     type Parts = (u32, u16, u8);
 
     ghost parts_of = { λ x. (x.one, x.two, x.three) };

@@ -6,11 +6,10 @@ ghost use Rattle.scroll.specs.Numbers.{number, signed_number};
 use super::Foo;
 use scroll::ctx::{Record, Written};
 
+// field  offset  size
+// foo    0       8
+// bar    8       4
 impl Record for Foo {
-    // field  offset  size
-    // foo    0       8
-    // bar    8       4
-
     type Parts = (i64, u32);
 
     ghost parts_of = { λ x. (x.foo, x.bar) };

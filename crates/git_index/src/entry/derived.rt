@@ -14,21 +14,20 @@ use scroll_formats::Zeros;
 use scroll_layouts::{Field, Padded, Part, ReadPart, Run, Shape, read_exact, write_whole};
 use std::result::Result;
 
+// field           offset  size
+// changed         0       4
+// changed_nanos   4       4
+// modified        8       4
+// modified_nanos  12      4
+// device          16      4
+// inode           20      4
+// mode            24      4
+// user            28      4
+// group           32      4
+// size            36      4
+// id              40      20
+// flags           60      2
 impl Record for Stat {
-    // field           offset  size
-    // changed         0       4
-    // changed_nanos   4       4
-    // modified        8       4
-    // modified_nanos  12      4
-    // device          16      4
-    // inode           20      4
-    // mode            24      4
-    // user            28      4
-    // group           32      4
-    // size            36      4
-    // id              40      20
-    // flags           60      2
-
     type Parts = (
         (u32, u32, u32, u32),
         (u32, u32, u32, u32),
@@ -144,12 +143,11 @@ type EntryParts<'a> = (Run<Field<Stat>>, CStr<'a>);
 
 type EntryCtx = Padded<((), ())>;
 
+// field  offset        size                      notes
+// stat   0             62
+// path   62            up to a zero
+// pad    after `path`  zeros to a multiple of 8  ctx = padding(offset, 8)
 impl<'a> Shape for Entry<'a> {
-    // field  offset        size                      notes
-    // stat   0             62
-    // path   62            up to a zero
-    // pad    after `path`  zeros to a multiple of 8  ctx = padding(offset, 8)
-
     type Ctx = ();
 
     type Inner = EntryCtx;

@@ -6,12 +6,11 @@ ghost use Rattle.scroll.specs.Numbers.{number};
 use super::Header;
 use scroll::ctx::{Record, Written};
 
+// field      offset  size
+// signature  0       4
+// version    4       4
+// count      8       4
 impl Record for Header {
-    // field      offset  size
-    // signature  0       4
-    // version    4       4
-    // count      8       4
-
     type Parts = (u32, u32, u32);
 
     ghost parts_of = { λ x. (x.signature, x.version, x.count) };

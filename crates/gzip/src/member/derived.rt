@@ -20,11 +20,10 @@ use scroll_layouts::{
 use std::marker::PhantomData;
 use std::result::Result;
 
+// field     offset  size
+// checksum  0       4
+// size      4       4
 impl Record for Trailer {
-    // field     offset  size
-    // checksum  0       4
-    // size      4       4
-
     type Parts = (u32, u32);
 
     ghost parts_of = { λ x. (x.checksum, x.size) };
@@ -135,20 +134,19 @@ type HeaderParts<'a> = (
 
 type HeaderCtx = Ordered<Headed<(), HeaderNext, HeaderSays>>;
 
+// order = LE
+// field            offset           size                       notes
+// magic            0                2                          is = [0x1f, 0x8b]
+// method           2                1
+// flags            3                1                          check = flags < 32
+// modified         4                4
+// extra_flags      8                1
+// system           9                1
+// extra            10               that of `Extra<'a>`, or 0  if = flags & 4 != 0
+// name             after `extra`    up to a zero, or 0         if = flags & 8 != 0
+// comment          after `name`     up to a zero, or 0         if = flags & 16 != 0
+// header_checksum  after `comment`  2, or 0                    if = flags & 2 != 0
 impl<'a> Shape for Header<'a> {
-    // order = LE
-    // field            offset           size                       notes
-    // magic            0                2                          is = [0x1f, 0x8b]
-    // method           2                1
-    // flags            3                1                          check = flags < 32
-    // modified         4                4
-    // extra_flags      8                1
-    // system           9                1
-    // extra            10               that of `Extra<'a>`, or 0  if = flags & 4 != 0
-    // name             after `extra`    up to a zero, or 0         if = flags & 8 != 0
-    // comment          after `name`     up to a zero, or 0         if = flags & 16 != 0
-    // header_checksum  after `comment`  2, or 0                    if = flags & 2 != 0
-
     type Ctx = ();
 
     type Inner = HeaderCtx;
@@ -301,11 +299,10 @@ type ExtraParts<'a> = (ExtraHead, ListOf<'a, ExtraFieldsPart<'a>>);
 
 type ExtraCtx = Headed<(), ExtraNext, ExtraSays>;
 
+// field   offset  size  notes
+// len     0       2
+// fields  2       len   ctx = len as usize
 impl<'a> Shape for Extra<'a> {
-    // field   offset  size  notes
-    // len     0       2
-    // fields  2       len   ctx = len as usize
-
     type Ctx = ();
 
     type Inner = ExtraCtx;
@@ -368,10 +365,9 @@ impl IsList for ExtraFields {
         (⟦<ExtraField<'static> as ReadPart<'static, (), Error>>⟧.format tt) order s 0 (length s) n };
 }
 
+// values      end
+// ExtraField  as its field says
 impl<'a> Listed<'a> for ExtraFields {
-    // values      end
-    // ExtraField  as its field says
-
     type Error = Error;
 
     type Item = ExtraField<'a>;
@@ -428,12 +424,11 @@ type ExtraFieldParts<'a> = (ExtraFieldHead, &'a [u8]);
 
 type ExtraFieldCtx = Headed<(), ExtraFieldNext, ExtraFieldSays>;
 
+// field  offset  size  notes
+// id     0       2
+// len    2       2
+// data   4       len   ctx = len as usize
 impl<'a> Shape for ExtraField<'a> {
-    // field  offset  size  notes
-    // id     0       2
-    // len    2       2
-    // data   4       len   ctx = len as usize
-
     type Ctx = ();
 
     type Inner = ExtraFieldCtx;

@@ -6,19 +6,18 @@ ghost use Rattle.scroll.specs.Numbers.{number};
 use super::{Section, Symbol};
 use scroll::ctx::{Record, Written};
 
+// field       offset  size
+// name        0       4
+// kind        4       4
+// flags       8       8
+// address     16      8
+// offset      24      8
+// size        32      8
+// link        40      4
+// info        44      4
+// alignment   48      8
+// entry_size  56      8
 impl Record for Section {
-    // field       offset  size
-    // name        0       4
-    // kind        4       4
-    // flags       8       8
-    // address     16      8
-    // offset      24      8
-    // size        32      8
-    // link        40      4
-    // info        44      4
-    // alignment   48      8
-    // entry_size  56      8
-
     type Parts = ((u32, u32, u64, u64), (u64, u64, u32, u32), (u64, u64));
 
     ghost parts_of = { λ x. (
@@ -111,15 +110,14 @@ impl<'a> Written for &'a Section {
     }
 }
 
+// field    offset  size
+// name     0       4
+// info     4       1
+// other    5       1
+// section  6       2
+// value    8       8
+// size     16      8
 impl Record for Symbol {
-    // field    offset  size
-    // name     0       4
-    // info     4       1
-    // other    5       1
-    // section  6       2
-    // value    8       8
-    // size     16      8
-
     type Parts = ((u32, u8, u8, u16), (u64, u64));
 
     ghost parts_of = { λ x. ((x.name, x.info, x.other, x.section), (x.value, x.size)) };

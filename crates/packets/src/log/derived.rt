@@ -82,12 +82,11 @@ type RecordParts<'a> = (RecordHead, RecordRest2<'a>);
 
 type RecordCtx = Headed<(), RecordNext, RecordSays>;
 
+// field  offset        size                  notes
+// len    0             2
+// name   2             up to the byte 0      ctx = StrCtx::Required(0)
+// body   after `name`  len - name.len() - 1  ctx = len as usize - name.len() - 1
 impl<'a> Shape for Record<'a> {
-    // field  offset        size                  notes
-    // len    0             2
-    // name   2             up to the byte 0      ctx = StrCtx::Required(0)
-    // body   after `name`  len - name.len() - 1  ctx = len as usize - name.len() - 1
-
     type Ctx = ();
 
     type Inner = RecordCtx;

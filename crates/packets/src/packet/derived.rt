@@ -14,13 +14,12 @@ use scroll_layouts::{Field, Head, Headed, Part, ReadPart, Run, Shape, read_exact
 use std::marker::PhantomData;
 use std::result::Result;
 
+// field        offset  size
+// source       0       2
+// destination  2       2
+// len          4       2
+// checksum     6       2
 impl Record for UdpHeader {
-    // field        offset  size
-    // source       0       2
-    // destination  2       2
-    // len          4       2
-    // checksum     6       2
-
     type Parts = (u16, u16, u16, u16);
 
     ghost parts_of = { λ x. (x.source, x.destination, x.len, x.checksum) };
@@ -68,15 +67,14 @@ impl<'a> Written for &'a UdpHeader {
     }
 }
 
+// field        offset  size
+// id           0       2
+// flags        2       2
+// questions    4       2
+// answers      6       2
+// authorities  8       2
+// additionals  10      2
 impl Record for DnsHeader {
-    // field        offset  size
-    // id           0       2
-    // flags        2       2
-    // questions    4       2
-    // answers      6       2
-    // authorities  8       2
-    // additionals  10      2
-
     type Parts = ((u16, u16, u16, u16), (u16, u16));
 
     ghost parts_of = { λ x. (
@@ -173,13 +171,12 @@ type PacketParts<'a> = (PacketHead, &'a [u8]);
 
 type PacketCtx = Headed<(), PacketNext, PacketSays>;
 
+// error = PacketError::Short
+// field  offset  size          notes
+// udp    0       8
+// dns    8       12
+// body   20      udp.len - 20  ctx = udp.len as usize - 20, else = PacketError::NoMessage
 impl<'a> Shape for Packet<'a> {
-    // error = PacketError::Short
-    // field  offset  size          notes
-    // udp    0       8
-    // dns    8       12
-    // body   20      udp.len - 20  ctx = udp.len as usize - 20, else = PacketError::NoMessage
-
     type Ctx = ();
 
     type Inner = PacketCtx;

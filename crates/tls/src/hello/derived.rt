@@ -86,13 +86,12 @@ type HandshakeParts<'a> = (HandshakeHead, HandshakeRest2<'a>);
 
 type HandshakeCtx = Ordered<Headed<(), HandshakeNext, HandshakeSays>>;
 
+// order = BE
+// field  offset  size                       notes
+// kind   0       1                          is = 1
+// len    1       24 bits
+// hello  4       that of `ClientHello<'a>`  ctx = len as usize
 impl<'a> Shape for Handshake<'a> {
-    // order = BE
-    // field  offset  size                       notes
-    // kind   0       1                          is = 1
-    // len    1       24 bits
-    // hello  4       that of `ClientHello<'a>`  ctx = len as usize
-
     type Ctx = ();
 
     type Inner = HandshakeCtx;
@@ -264,19 +263,18 @@ type ClientHelloParts<'a> = (ClientHelloBefore<'a>, Option<ExtensionList<'a>>);
 
 type ClientHelloCtx = Behind<Headed<(), ClientHelloNext, ClientHelloSays>>;
 
+// given = len: usize
+// field             offset                    size                     notes
+// version           0                         2
+// random            2                         32
+// session_len       34                        1                        check = session_len <= 32
+// session           35                        session_len              ctx = session_len as usize
+// suites_len        after `session`           2
+// suites            after `suites_len`        suites_len / 2 elements  ctx = suites_len as usize / 2
+// compressions_len  after `suites`            1
+// compressions      after `compressions_len`  compressions_len         ctx = compressions_len as usize
+// extensions        after `compressions`      the rest, or 0           if = rest
 impl<'a> Shape for ClientHello<'a> {
-    // given = len: usize
-    // field             offset                    size                     notes
-    // version           0                         2
-    // random            2                         32
-    // session_len       34                        1                        check = session_len <= 32
-    // session           35                        session_len              ctx = session_len as usize
-    // suites_len        after `session`           2
-    // suites            after `suites_len`        suites_len / 2 elements  ctx = suites_len as usize / 2
-    // compressions_len  after `suites`            1
-    // compressions      after `compressions_len`  compressions_len         ctx = compressions_len as usize
-    // extensions        after `compressions`      the rest, or 0           if = rest
-
     type Ctx = usize;
 
     type Inner = ClientHelloCtx;
@@ -390,11 +388,10 @@ type ExtensionListParts<'a> = (ExtensionListHead, ListOf<'a, ExtensionsPart<'a>>
 
 type ExtensionListCtx = Headed<(), ExtensionListNext, ExtensionListSays>;
 
+// field  offset  size  notes
+// len    0       2
+// each   2       len   ctx = len as usize
 impl<'a> Shape for ExtensionList<'a> {
-    // field  offset  size  notes
-    // len    0       2
-    // each   2       len   ctx = len as usize
-
     type Ctx = ();
 
     type Inner = ExtensionListCtx;
@@ -457,10 +454,9 @@ impl IsList for Extensions {
         (⟦<Extension<'static> as ReadPart<'static, (), Error>>⟧.format tt) order s 0 (length s) n };
 }
 
+// values     end
+// Extension  as its field says
 impl<'a> Listed<'a> for Extensions {
-    // values     end
-    // Extension  as its field says
-
     type Error = Error;
 
     type Item = Extension<'a>;
@@ -517,12 +513,11 @@ type ExtensionParts<'a> = (ExtensionHead, ExtensionBody<'a>);
 
 type ExtensionCtx = Headed<(), ExtensionNext, ExtensionSays>;
 
+// field  offset  size                         notes
+// kind   0       2
+// len    2       2
+// body   4       that of `ExtensionBody<'a>`  ctx = (kind, len as usize)
 impl<'a> Shape for Extension<'a> {
-    // field  offset  size                         notes
-    // kind   0       2
-    // len    2       2
-    // body   4       that of `ExtensionBody<'a>`  ctx = (kind, len as usize)
-
     type Ctx = ();
 
     type Inner = ExtensionCtx;
@@ -599,15 +594,14 @@ type ExtensionBodyCtx = Choose<
     Choose<Within<()>, Choose<Within<()>, Choose<Within<()>, usize>>>,
 >;
 
+// given = (kind: u16, len: usize)
+// variant    tag  values            notes
+// Server     0    ServerNames<'a>   within = len
+// Groups     10   LongList<'a>      within = len
+// Protocols  16   ProtocolList<'a>  within = len
+// Versions   43   ShortList<'a>     within = len
+// Other      _    &'a [u8]          ctx = len
 impl<'a> Shape for ExtensionBody<'a> {
-    // given = (kind: u16, len: usize)
-    // variant    tag  values            notes
-    // Server     0    ServerNames<'a>   within = len
-    // Groups     10   LongList<'a>      within = len
-    // Protocols  16   ProtocolList<'a>  within = len
-    // Versions   43   ShortList<'a>     within = len
-    // Other      _    &'a [u8]          ctx = len
-
     ghost use Rattle.tls.specs.declared.hello.ExtensionBody.TheVariants as extension_body_is;
 
     type Ctx = (u16, usize);
@@ -730,11 +724,10 @@ type ServerNamesParts<'a> = (ServerNamesHead, HostName<'a>);
 
 type ServerNamesCtx = Headed<(), ServerNamesNext, ServerNamesSays>;
 
+// field  offset  size  notes
+// len    0       2
+// host   2       len   within = len as usize
 impl<'a> Shape for ServerNames<'a> {
-    // field  offset  size  notes
-    // len    0       2
-    // host   2       len   within = len as usize
-
     type Ctx = ();
 
     type Inner = ServerNamesCtx;
@@ -797,12 +790,11 @@ type HostNameParts<'a> = (HostNameHead, &'a str);
 
 type HostNameCtx = Headed<(), HostNameNext, HostNameSays>;
 
+// field  offset  size  notes
+// kind   0       1     is = 0
+// len    1       2
+// name   3       len   ctx = StrCtx::Length(len as usize)
 impl<'a> Shape for HostName<'a> {
-    // field  offset  size  notes
-    // kind   0       1     is = 0
-    // len    1       2
-    // name   3       len   ctx = StrCtx::Length(len as usize)
-
     type Ctx = ();
 
     type Inner = HostNameCtx;
@@ -870,11 +862,10 @@ type LongListParts<'a> = (LongListHead, Table<'a, u16>);
 
 type LongListCtx = Headed<(), LongListNext, LongListSays>;
 
+// field  offset  size              notes
+// len    0       2
+// each   2       len / 2 elements  ctx = len as usize / 2
 impl<'a> Shape for LongList<'a> {
-    // field  offset  size              notes
-    // len    0       2
-    // each   2       len / 2 elements  ctx = len as usize / 2
-
     type Ctx = ();
 
     type Inner = LongListCtx;
@@ -942,11 +933,10 @@ type ShortListParts<'a> = (ShortListHead, Table<'a, u16>);
 
 type ShortListCtx = Headed<(), ShortListNext, ShortListSays>;
 
+// field  offset  size              notes
+// len    0       1
+// each   1       len / 2 elements  ctx = len as usize / 2
 impl<'a> Shape for ShortList<'a> {
-    // field  offset  size              notes
-    // len    0       1
-    // each   1       len / 2 elements  ctx = len as usize / 2
-
     type Ctx = ();
 
     type Inner = ShortListCtx;
@@ -1008,11 +998,10 @@ type ProtocolListParts<'a> = (ProtocolListHead, ListOf<'a, ProtocolsPart<'a>>);
 
 type ProtocolListCtx = Headed<(), ProtocolListNext, ProtocolListSays>;
 
+// field  offset  size  notes
+// len    0       2
+// each   2       len   ctx = len as usize
 impl<'a> Shape for ProtocolList<'a> {
-    // field  offset  size  notes
-    // len    0       2
-    // each   2       len   ctx = len as usize
-
     type Ctx = ();
 
     type Inner = ProtocolListCtx;
@@ -1072,10 +1061,9 @@ impl IsList for Protocols {
         (⟦<Protocol<'static> as ReadPart<'static, (), Error>>⟧.format tt) order s 0 (length s) n };
 }
 
+// values    end
+// Protocol  as its field says
 impl<'a> Listed<'a> for Protocols {
-    // values    end
-    // Protocol  as its field says
-
     type Error = Error;
 
     type Item = Protocol<'a>;
@@ -1138,11 +1126,10 @@ type ProtocolParts<'a> = (ProtocolHead, &'a [u8]);
 
 type ProtocolCtx = Headed<(), ProtocolNext, ProtocolSays>;
 
+// field  offset  size  notes
+// len    0       1     check = len != 0
+// name   1       len   ctx = len as usize
 impl<'a> Shape for Protocol<'a> {
-    // field  offset  size  notes
-    // len    0       1     check = len != 0
-    // name   1       len   ctx = len as usize
-
     type Ctx = ();
 
     type Inner = ProtocolCtx;

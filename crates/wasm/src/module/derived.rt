@@ -68,14 +68,13 @@ type ModuleParts<'a> = (ModuleBefore, ListOf<'a, SectionsPart<'a>>);
 
 type ModuleCtx = Ordered<Behind<Headed<(), ModuleNext, ModuleSays>>>;
 
+// given = len: usize
+// order = LE
+// field     offset  size      notes
+// magic     0       4         is = b"\0asm"
+// version   4       4         is = 1
+// sections  8       the rest  ctx = rest
 impl<'a> Shape for Module<'a> {
-    // given = len: usize
-    // order = LE
-    // field     offset  size      notes
-    // magic     0       4         is = b"\0asm"
-    // version   4       4         is = 1
-    // sections  8       the rest  ctx = rest
-
     type Ctx = usize;
 
     type Inner = ModuleCtx;
@@ -147,10 +146,9 @@ impl IsList for Sections {
         (⟦<Section<'static> as ReadPart<'static, (), Error>>⟧.format tt) order s 0 (length s) n };
 }
 
+// values   end
+// Section  as its field says
 impl<'a> Listed<'a> for Sections {
-    // values   end
-    // Section  as its field says
-
     type Error = Error;
 
     type Item = Section<'a>;
@@ -234,12 +232,11 @@ type SectionParts<'a> = (SectionHead, SectionRest2<'a>);
 
 type SectionCtx = Headed<(), SectionNext, SectionSays>;
 
+// field     offset        size                    notes
+// id        0             1
+// size      1             1 to 10
+// contents  after `size`  that of `Contents<'a>`  ctx = (id, size as usize)
 impl<'a> Shape for Section<'a> {
-    // field     offset        size                    notes
-    // id        0             1
-    // size      1             1 to 10
-    // contents  after `size`  that of `Contents<'a>`  ctx = (id, size as usize)
-
     type Ctx = ();
 
     type Inner = SectionCtx;
@@ -316,16 +313,15 @@ type ContentsCtx = Choose<
     Choose<Within<()>, Choose<Within<()>, Choose<Within<()>, Choose<Within<()>, usize>>>>,
 >;
 
+// given = (id: u8, size: usize)
+// variant    tag  values       notes
+// Custom     0    Custom<'a>   ctx = size
+// Types      1    Types<'a>    within = size
+// Imports    2    Imports<'a>  within = size
+// Functions  3    Indices<'a>  within = size
+// Exports    7    Exports<'a>  within = size
+// Other      _    &'a [u8]     ctx = size
 impl<'a> Shape for Contents<'a> {
-    // given = (id: u8, size: usize)
-    // variant    tag  values       notes
-    // Custom     0    Custom<'a>   ctx = size
-    // Types      1    Types<'a>    within = size
-    // Imports    2    Imports<'a>  within = size
-    // Functions  3    Indices<'a>  within = size
-    // Exports    7    Exports<'a>  within = size
-    // Other      _    &'a [u8]     ctx = size
-
     ghost use Rattle.wasm.specs.declared.module.Contents.TheVariants as contents_is;
 
     type Ctx = (u8, usize);
@@ -462,11 +458,10 @@ type NameParts<'a> = (NameHead, &'a str);
 
 type NameCtx = Headed<(), NameNext, NameSays>;
 
+// field  offset       size     notes
+// len    0            1 to 10
+// text   after `len`  len      ctx = StrCtx::Length(len as usize)
 impl<'a> Shape for Name<'a> {
-    // field  offset       size     notes
-    // len    0            1 to 10
-    // text   after `len`  len      ctx = StrCtx::Length(len as usize)
-
     type Ctx = ();
 
     type Inner = NameCtx;
@@ -505,12 +500,11 @@ type CustomParts<'a> = (CustomBefore<'a>, &'a [u8]);
 
 type CustomCtx = Behind<()>;
 
+// given = size: usize
+// field  offset        size                notes
+// name   0             that of `Name<'a>`
+// bytes  after `name`  the rest            ctx = rest
 impl<'a> Shape for Custom<'a> {
-    // given = size: usize
-    // field  offset        size                notes
-    // name   0             that of `Name<'a>`
-    // bytes  after `name`  the rest            ctx = rest
-
     type Ctx = usize;
 
     type Inner = CustomCtx;
@@ -572,11 +566,10 @@ type TypesParts<'a> = (TypesHead, ListOf<'a, FunctionTypesPart<'a>>);
 
 type TypesCtx = Headed<(), TypesNext, TypesSays>;
 
+// field  offset         size          notes
+// count  0              1 to 10
+// each   after `count`  count values  ctx = Count(count as usize)
 impl<'a> Shape for Types<'a> {
-    // field  offset         size          notes
-    // count  0              1 to 10
-    // each   after `count`  count values  ctx = Count(count as usize)
-
     type Ctx = ();
 
     type Inner = TypesCtx;
@@ -636,10 +629,9 @@ impl IsList for FunctionTypes {
         (⟦<FunctionType<'static> as ReadPart<'static, (), Error>>⟧.format tt) order s 0 (length s) n };
 }
 
+// values        end
+// FunctionType  as its field says
 impl<'a> Listed<'a> for FunctionTypes {
-    // values        end
-    // FunctionType  as its field says
-
     type Error = Error;
 
     type Item = FunctionType<'a>;
@@ -754,14 +746,13 @@ type FunctionTypeParts<'a> = (FunctionTypeHead, FunctionTypeRest2<'a>);
 
 type FunctionTypeCtx = Headed<(), FunctionTypeNext, FunctionTypeSays>;
 
+// field            offset                   size             notes
+// form             0                        1                is = 0x60
+// parameter_count  1                        1 to 10
+// parameters       after `parameter_count`  parameter_count  ctx = parameter_count as usize
+// result_count     after `parameters`       1 to 10
+// results          after `result_count`     result_count     ctx = result_count as usize
 impl<'a> Shape for FunctionType<'a> {
-    // field            offset                   size             notes
-    // form             0                        1                is = 0x60
-    // parameter_count  1                        1 to 10
-    // parameters       after `parameter_count`  parameter_count  ctx = parameter_count as usize
-    // result_count     after `parameters`       1 to 10
-    // results          after `result_count`     result_count     ctx = result_count as usize
-
     type Ctx = ();
 
     type Inner = FunctionTypeCtx;
@@ -844,11 +835,10 @@ type ImportsParts<'a> = (ImportsHead, ListOf<'a, ImportListPart<'a>>);
 
 type ImportsCtx = Headed<(), ImportsNext, ImportsSays>;
 
+// field  offset         size          notes
+// count  0              1 to 10
+// each   after `count`  count values  ctx = Count(count as usize)
 impl<'a> Shape for Imports<'a> {
-    // field  offset         size          notes
-    // count  0              1 to 10
-    // each   after `count`  count values  ctx = Count(count as usize)
-
     type Ctx = ();
 
     type Inner = ImportsCtx;
@@ -905,10 +895,9 @@ impl IsList for ImportList {
         (⟦<Import<'static> as ReadPart<'static, (), Error>>⟧.format tt) order s 0 (length s) n };
 }
 
+// values  end
+// Import  as its field says
 impl<'a> Listed<'a> for ImportList {
-    // values  end
-    // Import  as its field says
-
     type Error = Error;
 
     type Item = Import<'a>;
@@ -940,12 +929,11 @@ type ImportParts<'a> = (Name<'a>, (Name<'a>, Imported));
 
 type ImportCtx = ((), ((), ()));
 
+// field   offset          size
+// module  0               that of `Name<'a>`
+// name    after `module`  that of `Name<'a>`
+// what    after `name`    that of `Imported`
 impl<'a> Shape for Import<'a> {
-    // field   offset          size
-    // module  0               that of `Name<'a>`
-    // name    after `module`  that of `Name<'a>`
-    // what    after `name`    that of `Imported`
-
     type Ctx = ();
 
     type Inner = ImportCtx;
@@ -1025,14 +1013,13 @@ type ImportedParts = (
 
 type ImportedCtx = Headed<(), ImportedNext, ImportedSays>;
 
+// tag = u8
+// variant   tag  values
+// Function  0    Uleb
+// Table     1    TableType
+// Memory    2    Limits
+// Global    3    u8, u8
 impl Split for Imported {
-    // tag = u8
-    // variant   tag  values
-    // Function  0    Uleb
-    // Table     1    TableType
-    // Memory    2    Limits
-    // Global    3    u8, u8
-
     ghost use Rattle.wasm.specs.declared.module.Imported.TheVariants as imported_is;
 
     type Parts = ImportedParts;
@@ -1136,11 +1123,10 @@ type TableTypeParts = (Run<u8>, Limits);
 
 type TableTypeCtx = ((), ());
 
+// field    offset  size
+// element  0       1
+// limits   1       that of `Limits`
 impl Shape for TableType {
-    // field    offset  size
-    // element  0       1
-    // limits   1       that of `Limits`
-
     type Ctx = ();
 
     type Inner = TableTypeCtx;
@@ -1208,12 +1194,11 @@ type LimitsParts = (LimitsHead, (Uleb, Option<Uleb>));
 
 type LimitsCtx = Headed<(), LimitsNext, LimitsSays>;
 
+// field  offset         size           notes
+// flags  0              1              check = flags <= 1
+// least  1              1 to 10
+// most   after `least`  1 to 10, or 0  if = flags == 1
 impl Shape for Limits {
-    // field  offset         size           notes
-    // flags  0              1              check = flags <= 1
-    // least  1              1 to 10
-    // most   after `least`  1 to 10, or 0  if = flags == 1
-
     type Ctx = ();
 
     type Inner = LimitsCtx;
@@ -1275,11 +1260,10 @@ type IndicesParts<'a> = (IndicesHead, ListOf<'a, IndexListPart<'a>>);
 
 type IndicesCtx = Headed<(), IndicesNext, IndicesSays>;
 
+// field  offset         size          notes
+// count  0              1 to 10
+// each   after `count`  count values  ctx = Count(count as usize)
 impl<'a> Shape for Indices<'a> {
-    // field  offset         size          notes
-    // count  0              1 to 10
-    // each   after `count`  count values  ctx = Count(count as usize)
-
     type Ctx = ();
 
     type Inner = IndicesCtx;
@@ -1336,10 +1320,9 @@ impl IsList for IndexList {
         (⟦<Uleb as ReadPart<'static, (), Error>>⟧.format tt) order s 0 (length s) n };
 }
 
+// values  end
+// Uleb    as its field says
 impl<'a> Listed<'a> for IndexList {
-    // values  end
-    // Uleb    as its field says
-
     type Error = Error;
 
     type Item = Uleb;
@@ -1392,11 +1375,10 @@ type ExportsParts<'a> = (ExportsHead, ListOf<'a, ExportListPart<'a>>);
 
 type ExportsCtx = Headed<(), ExportsNext, ExportsSays>;
 
+// field  offset         size          notes
+// count  0              1 to 10
+// each   after `count`  count values  ctx = Count(count as usize)
 impl<'a> Shape for Exports<'a> {
-    // field  offset         size          notes
-    // count  0              1 to 10
-    // each   after `count`  count values  ctx = Count(count as usize)
-
     type Ctx = ();
 
     type Inner = ExportsCtx;
@@ -1453,10 +1435,9 @@ impl IsList for ExportList {
         (⟦<Export<'static> as ReadPart<'static, (), Error>>⟧.format tt) order s 0 (length s) n };
 }
 
+// values  end
+// Export  as its field says
 impl<'a> Listed<'a> for ExportList {
-    // values  end
-    // Export  as its field says
-
     type Error = Error;
 
     type Item = Export<'a>;
@@ -1521,12 +1502,11 @@ type ExportParts<'a> = (Name<'a>, ExportRest);
 
 type ExportCtx = ((), Headed<(), ExportNext, ExportSays>);
 
+// field  offset        size                notes
+// name   0             that of `Name<'a>`
+// kind   after `name`  1                   check = kind <= 3
+// index  after `kind`  1 to 10
 impl<'a> Shape for Export<'a> {
-    // field  offset        size                notes
-    // name   0             that of `Name<'a>`
-    // kind   after `name`  1                   check = kind <= 3
-    // index  after `kind`  1 to 10
-
     type Ctx = ();
 
     type Inner = ExportCtx;

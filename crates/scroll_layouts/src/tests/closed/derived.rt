@@ -47,13 +47,12 @@ type BlockParts<'a> = ((u16, u16), BlockRest<'a>);
 
 type BlockCtx = (Packed<u16, Low<u16, ()>>, Headed<(), BlockNext, BlockSays>);
 
+// field    offset  size     notes
+// is_last  0       1 bit
+// number   0       15 bits
+// len      2       1
+// data     3       len      ctx = len as usize
 impl<'a> Shape for Block<'a> {
-    // field    offset  size     notes
-    // is_last  0       1 bit
-    // number   0       15 bits
-    // len      2       1
-    // data     3       len      ctx = len as usize
-
     type Ctx = ();
 
     type Inner = BlockCtx;
@@ -142,10 +141,9 @@ impl IsList for Blocks {
         order s (length s) n };
 }
 
+// values  end
+// Block   the value of which is_last == 1
 impl<'a> Listed<'a> for Blocks {
-    // values  end
-    // Block   the value of which is_last == 1
-
     type Error = Error;
 
     type Item = Block<'a>;
@@ -184,11 +182,10 @@ type MetadataParts<'a> = (ListOf<'a, BlocksPart<'a>>, Run<u8>);
 
 type MetadataCtx = (ToLast, ());
 
+// field   offset          size                  notes
+// blocks  0               up to its last value  ctx = ToLast
+// rest    after `blocks`  1
 impl<'a> Shape for Metadata<'a> {
-    // field   offset          size                  notes
-    // blocks  0               up to its last value  ctx = ToLast
-    // rest    after `blocks`  1
-
     type Ctx = ();
 
     type Inner = MetadataCtx;

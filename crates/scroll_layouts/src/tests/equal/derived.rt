@@ -21,11 +21,10 @@ use scroll_formats::Zeros;
 use std::marker::PhantomData;
 use std::result::Result;
 
+// field  offset  size
+// x      0       2
+// y      2       2
 impl Record for Spot {
-    // field  offset  size
-    // x      0       2
-    // y      2       2
-
     type Parts = (i16, i16);
 
     ghost parts_of = { λ x. (x.x, x.y) };
@@ -73,13 +72,12 @@ type EventParts = Choice<Zeros, Choice<Run<(i16, Field<Spot>)>, Uleb>>;
 
 type EventCtx = Choose<usize, Choose<(), ()>>;
 
+// given = kind: u8
+// variant  tag  values
+// Ended    0    none
+// Moved    1    i16, Spot
+// Counted  2    Uleb
 impl Shape for Event {
-    // given = kind: u8
-    // variant  tag  values
-    // Ended    0    none
-    // Moved    1    i16, Spot
-    // Counted  2    Uleb
-
     ghost use Rattle.scroll_layouts.specs.declared.tests.equal.Event.TheVariants as event_is;
 
     type Ctx = u8;
@@ -237,17 +235,16 @@ type LineParts<'a> = (
 
 type LineCtx = Headed<(), LineNext, LineSays>;
 
+// field  offset         size             notes
+// kind   0              1
+// flags  1              1
+// count  2              1 to 10, or 0    if = flags & 1 != 0
+// mode   after `count`  4, or 0          if = flags & 2 != 0
+// spot   after `mode`   4, or 0          if = flags & 4 != 0
+// event  after `spot`   that of `Event`  ctx = kind
+// len    after `event`  1
+// name   after `len`    len              ctx = len as usize
 impl<'a> Shape for Line<'a> {
-    // field  offset         size             notes
-    // kind   0              1
-    // flags  1              1
-    // count  2              1 to 10, or 0    if = flags & 1 != 0
-    // mode   after `count`  4, or 0          if = flags & 2 != 0
-    // spot   after `mode`   4, or 0          if = flags & 4 != 0
-    // event  after `spot`   that of `Event`  ctx = kind
-    // len    after `event`  1
-    // name   after `len`    len              ctx = len as usize
-
     type Ctx = ();
 
     type Inner = LineCtx;

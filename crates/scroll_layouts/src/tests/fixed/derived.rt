@@ -13,11 +13,10 @@ use scroll::{Endian, Error};
 use std::marker::PhantomData;
 use std::result::Result;
 
+// field  offset  size
+// x      0       2
+// y      2       4
 impl Record for Point {
-    // field  offset  size
-    // x      0       2
-    // y      2       4
-
     type Parts = (i16, u32);
 
     ghost parts_of = { λ x. (x.x, x.y) };
@@ -90,14 +89,13 @@ type LineParts<'a> = (LineHead, &'a [u8]);
 
 type LineCtx = Headed<(), LineNext, LineSays>;
 
+// field  offset  size  notes
+// kind   0       1
+// from   1       6
+// to     7       6
+// len    13      2
+// label  15      len   ctx = len as usize
 impl<'a> Shape for Line<'a> {
-    // field  offset  size  notes
-    // kind   0       1
-    // from   1       6
-    // to     7       6
-    // len    13      2
-    // label  15      len   ctx = len as usize
-
     type Ctx = ();
 
     type Inner = LineCtx;

@@ -7,10 +7,9 @@ ghost use Rattle.scroll.specs.Numbers.{number};
 use super::Plane;
 use scroll::ctx::{Record, Written};
 
+// field  offset  size
+// cells  0       4
 impl Record for Plane {
-    // field  offset  size
-    // cells  0       4
-
     type Parts = [[u8; 2]; 2];
 
     ghost parts_of = { λ x. x.cells };

@@ -49,12 +49,11 @@ type MessageFieldParts<'a> = (Run<u8>, MessageFieldRest<'a>);
 
 type MessageFieldCtx = ((), Headed<(), MessageFieldNext, MessageFieldSays>);
 
+// field   offset       size     notes
+// number  0            1
+// len     1            1 to 10
+// data    after `len`  len      ctx = len as usize
 impl<'a> Shape for MessageField<'a> {
-    // field   offset       size     notes
-    // number  0            1
-    // len     1            1 to 10
-    // data    after `len`  len      ctx = len as usize
-
     type Ctx = ();
 
     type Inner = MessageFieldCtx;
@@ -126,10 +125,9 @@ impl IsList for FieldKind {
         (⟦<MessageField<'static> as ReadPart<'static, (), Error>>⟧.format tt) order s 0 (length s) n };
 }
 
+// values        end
+// MessageField  as its field says
 impl<'a> Listed<'a> for FieldKind {
-    // values        end
-    // MessageField  as its field says
-
     type Error = Error;
 
     type Item = MessageField<'a>;
@@ -186,12 +184,11 @@ type MessageParts<'a> = (MessageHead, (CStr<'a>, ListOf<'a, FieldKindPart<'a>>))
 
 type MessageCtx = Headed<(), MessageNext, MessageSays>;
 
+// field   offset        size          notes
+// size    0             2
+// name    2             up to a zero
+// fields  after `name`  size          ctx = size as usize
 impl<'a> Shape for Message<'a> {
-    // field   offset        size          notes
-    // size    0             2
-    // name    2             up to a zero
-    // fields  after `name`  size          ctx = size as usize
-
     type Ctx = ();
 
     type Inner = MessageCtx;
@@ -312,11 +309,10 @@ type ReplyParts<'a> = (ReplyHead, Option<ListOf<'a, FieldKindPart<'a>>>);
 
 type ReplyCtx = Headed<(), ReplyNext, ReplySays>;
 
+// field   offset  size        notes
+// size    0       2
+// fields  2       size, or 0  if = size != 0, ctx = size as usize
 impl<'a> Shape for Reply<'a> {
-    // field   offset  size        notes
-    // size    0       2
-    // fields  2       size, or 0  if = size != 0, ctx = size as usize
-
     ghost use Rattle.scroll_layouts.specs.declared.tests.walk.derived.FieldKindPart.{FieldKindPart};
 
     type Ctx = ();

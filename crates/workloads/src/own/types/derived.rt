@@ -6,11 +6,10 @@ ghost use Rattle.scroll.specs.Numbers.{number, signed_number};
 use super::{Entry, Sample, Slot};
 use scroll::ctx::{Record, Written};
 
+// field  offset  size
+// kind   0       1
+// size   1       4
 impl Record for Entry {
-    // field  offset  size
-    // kind   0       1
-    // size   1       4
-
     type Parts = (u8, u32);
 
     ghost parts_of = { λ x. (x.kind, x.size) };
@@ -54,12 +53,11 @@ impl<'a> Written for &'a Entry {
     }
 }
 
+// field  offset  size
+// key    0       2
+// flags  2       2
+// value  4       8
 impl Record for Slot {
-    // field  offset  size
-    // key    0       2
-    // flags  2       2
-    // value  4       8
-
     type Parts = (u16, u16, u64);
 
     ghost parts_of = { λ x. (x.key, x.flags, x.value) };
@@ -105,13 +103,12 @@ impl<'a> Written for &'a Slot {
     }
 }
 
+// field  offset  size
+// time   0       8
+// level  8       4
+// low    12      4
+// high   16      4
 impl Record for Sample {
-    // field  offset  size
-    // time   0       8
-    // level  8       4
-    // low    12      4
-    // high   16      4
-
     type Parts = (u64, i32, u32, u32);
 
     ghost parts_of = { λ x. (x.time, x.level, x.low, x.high) };
