@@ -158,7 +158,7 @@ pub struct QuestionsPart<'a>(pub Items<'a, Questions>);
 impl<'a> ListPart<'a> for QuestionsPart<'a> {
     type Kind = Questions;
 
-    ghost seen = { λ x. x.0.bytes.now };
+    ghost seen = { λ x. record { bytes = x.0.bytes.now; order = x.0.order; count = x.0.count } };
 
     #[inline(always)]
     fn of(bytes: &'a [u8], order: Endian, count: usize) -> QuestionsPart<'a> {
@@ -177,7 +177,7 @@ pub struct ResourcesPart<'a>(pub Items<'a, Resources>);
 impl<'a> ListPart<'a> for ResourcesPart<'a> {
     type Kind = Resources;
 
-    ghost seen = { λ x. x.0.bytes.now };
+    ghost seen = { λ x. record { bytes = x.0.bytes.now; order = x.0.order; count = x.0.count } };
 
     #[inline(always)]
     fn of(bytes: &'a [u8], order: Endian, count: usize) -> ResourcesPart<'a> {
@@ -404,7 +404,7 @@ pub struct LabelsPart<'a>(pub Items<'a, Labels>);
 impl<'a> ListPart<'a> for LabelsPart<'a> {
     type Kind = Labels;
 
-    ghost seen = { λ x. x.0.bytes.now };
+    ghost seen = { λ x. record { bytes = x.0.bytes.now; order = x.0.order; count = x.0.count } };
 
     #[inline(always)]
     fn of(bytes: &'a [u8], order: Endian, count: usize) -> LabelsPart<'a> {
@@ -950,7 +950,7 @@ pub struct TextsPart<'a>(pub Items<'a, Texts>);
 impl<'a> ListPart<'a> for TextsPart<'a> {
     type Kind = Texts;
 
-    ghost seen = { λ x. x.0.bytes.now };
+    ghost seen = { λ x. record { bytes = x.0.bytes.now; order = x.0.order; count = x.0.count } };
 
     #[inline(always)]
     fn of(bytes: &'a [u8], order: Endian, count: usize) -> TextsPart<'a> {

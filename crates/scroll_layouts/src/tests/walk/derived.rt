@@ -257,7 +257,7 @@ pub struct FieldKindPart<'a>(pub Items<'a, FieldKind>);
 impl<'a> ListPart<'a> for FieldKindPart<'a> {
     type Kind = FieldKind;
 
-    ghost seen = { λ x. x.0.bytes.now };
+    ghost seen = { λ x. record { bytes = x.0.bytes.now; order = x.0.order; count = x.0.count } };
 
     #[inline(always)]
     fn of(bytes: &'a [u8], order: Endian, count: usize) -> FieldKindPart<'a> {
@@ -310,20 +310,22 @@ impl<'a> Shape for Reply<'a> {
 
     ghost parts_of = { λ x. (
       record { 0 = x.size },
-      option_map {U = ListOf FieldKindPart} (λ v. record { 0 = record { 0 = v }; 1 = record {} }) x.fields,
+      option_map {U = ListOf FieldKindPart}
+          (λ v. record { 0 = record { 0 = v }; 1 = record {} }) x.fields,
     ) };
 
     ghost of_parts = { λ p. record { size = p.0.0; fields = option_map (λ v. v.0.0) p.1 } };
 
     ghost again = { λ x i. record {
       size = x.size;
-      fields =
-          option-again {B = ListOf FieldKindPart} (λ v. record { 0 = record { 0 = v }; 1 = record {} }) (λ v. v.0.0) (λ v. refl) x.fields i;
+      fields = option-again {B = ListOf FieldKindPart}
+          (λ v. record { 0 = record { 0 = v }; 1 = record {} }) (λ v. v.0.0) (λ v. refl) x.fields i;
     } };
 
     ghost there = { λ p i. (
       record { 0 = p.0.0 },
-      option-again {A = ListOf FieldKindPart} (λ v. v.0.0) (λ v. record { 0 = record { 0 = v }; 1 = record {} }) (λ v. refl) p.1 i,
+      option-again {A = ListOf FieldKindPart} (λ v. v.0.0)
+          (λ v. record { 0 = record { 0 = v }; 1 = record {} }) (λ v. refl) p.1 i,
     ) };
 
     ghost inner_of = { λ _. record { 0 = tt; 1 = record {}; 2 = record {} } };
