@@ -32,6 +32,13 @@ class Table(Kind):
         return [f"let made = mix_bytes(made, {path}.bytes);"]
 
 
+class ListBytes(bytes):
+    """The bytes of a list that was read, with the order in which its values were read, and their number."""
+
+    order = ""
+    count = 0
+
+
 # The types of marks that are so many zeros.
 ZEROS = {1: "ZeroUleb", 2: "TwoZeroUlebs"}
 
@@ -69,7 +76,7 @@ class Listing(Kind):
         zeros = b"".join(b"\x80" * rng.randint(0, 2) + b"\0" for _ in range(self.zeros))
         final = self.item.put(self.draw_item(rng, order, True), order) if self.last else b""
         whole = b"".join(items) + self.mark + zeros + final
-        if self.how == "mark" and self.end(whole, order, known) != len(whole):
+        if self.how == "mark" and self.end(whole, order, known)[0] != len(whole):
             raise Hopeless
         return whole
 
@@ -103,33 +110,39 @@ class Listing(Kind):
             raise bad(at, "a value has no bytes")
         return value, end
 
-    def end(self, source: bytes, order: str, known: Known) -> int:
-        """Returns where the values in a source end, with their mark."""
+    def end(self, source: bytes, order: str, known: Known) -> Tuple[int, int]:
+        """Returns where the values in a source end, with their mark, and how many they are."""
         at = done = 0
         if self.how == "mark":
             while not self.mark_size(source, at):
-                at = self.take_item(source, at, order)[1]
-            return at + self.mark_size(source, at)
+                at, done = self.take_item(source, at, order)[1], done + 1
+            return at + self.mark_size(source, at), done
         if self.last:
             value, at = self.take_item(source, at, order)
+            done = 1
             while not self.is_last(value):
                 value, at = self.take_item(source, at, order)
-            return at
+                done += 1
+            return at, done
         while at < len(source) if self.how == "bytes" else done < self.count.of(known):
             at, done = self.take_item(source, at, order)[1], done + 1
-        return at
+        return at, done
 
     def take(self, source: bytes, at: int, order: str, known: Known) -> Tuple[bytes, int]:
         left = take_bytes(source, at, self.count.of(known)) if self.how == "bytes" else source[at:]
-        end = self.end(left, order, known)
-        return left[:end], at + end
+        end, count = self.end(left, order, known)
+        found = ListBytes(left[:end])
+        found.order, found.count = order, count
+        return found, at + end
 
     def check(self, value: bytes, order: str, known: Known) -> None:
+        assert isinstance(value, ListBytes)
+        if value.order != order:
+            raise bad(len(value), "another byte order than its values")
         if self.how == "bytes" and len(value) != self.count.of(known):
             raise bad(len(value), "another length than its count")
-        end = self.end(value, order, known)
-        if end != len(value):
-            raise bad(end, "another length than its values")
+        if self.how == "values" and value.count != self.count.of(known):
+            raise bad(value.count, "another number of values than its count")
 
     def lines(self, path: str) -> List[str]:
         return [f"let made = mix_bytes(made, {path}.bytes);"]

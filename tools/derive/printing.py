@@ -231,7 +231,7 @@ pub struct {name}Part<'a>(pub Items<'a, {name}>);
 impl<'a> ListPart<'a> for {name}Part<'a> {{
     type Kind = {name};
 
-    ghost seen = {{ λ x. x.0.bytes.now }};
+    ghost seen = {{ λ x. record {{ bytes = x.0.bytes.now; order = x.0.order; count = x.0.count }} }};
 
     #[inline(always)]
     fn of(bytes: &'a [u8], order: Endian, count: usize) -> {name}Part<'a> {{

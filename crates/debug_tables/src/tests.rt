@@ -216,6 +216,9 @@ const TWO: &str = "Err(Read(BadInput { size: 2, msg: \"another length than its v
 
 const FOUR: &str = "Err(Read(BadInput { size: 4, msg: \"another length than its values\" }))";
 
+const OTHER: &str =
+    "Err(Read(BadInput { size: 4, msg: \"another byte order than its values\" }))";
+
 const MANY: &str = "Some(At { offset: 5, error: Read(TooBig { size: 5, len: 3 }) })";
 
 // Returns a declaration with these attributes.
@@ -232,7 +235,7 @@ fn declaration_of(attributes: &[u8], order: Endian) -> Result<Declaration<'_>, T
 fn check_list(rt: &impl Abort, alloc: Global, attributes: &[u8], order: Endian, wanted: &str) {
     let mut target = [0xee; 16];
     let mut at = 1;
-    let wrote = match declaration_of(attributes, LE) {
+    let wrote = match declaration_of(attributes, order) {
         Ok(declaration) => target.gwrite_with(declaration, &mut at, order),
         Err(error) => Err(error),
     };
@@ -258,6 +261,13 @@ fn check_many(rt: &impl Abort, alloc: Global) {
     check_eq(rt, target, [1, 0x11, 0, 0, 0, 0xee, 0xee, 0xee]);
 }
 
+// Checks the error of a write in another byte order than that of the read.
+fn check_other(rt: &impl Abort, alloc: Global) {
+    let declaration = declaration_of(&[3, 8, 0, 0], LE).expect(rt, "a declaration");
+    let wrote = [0xee; 16].gwrite_with(declaration, &mut 1, BE);
+    check_printed(rt, alloc, wrote, OTHER);
+}
+
 #[test]
 fn lists_without_their_mark_are_refused(rt: HostRuntime) {
     for (attributes, wanted) in LISTS.iter() {
@@ -265,6 +275,7 @@ fn lists_without_their_mark_are_refused(rt: HostRuntime) {
         check_list(&rt, rt.alloc(), attributes, BE, wanted);
     }
     check_many(&rt, rt.alloc());
+    check_other(&rt, rt.alloc());
 }
 
 #[test]

@@ -1,6 +1,6 @@
 -- Fields of some bits in one number of some bytes.
 use Rattle.std.proofs.Common.{refl, arith, length-drop}
-use Rattle.std.specs.Prelude.{◌+◌, ◌<◌, ◌≤◌, ◌⊎◌, ◌^◌, ⊤, ℕ, length, drop, codes}
+use Rattle.std.specs.Prelude.{◌≡◌, ◌+◌, ◌<◌, ◌≤◌, ◌⊎◌, ◌^◌, ⊤, ℕ, length, drop, codes, option_map}
 use Rattle.scroll.specs.Numbers.{number, number_bytes}
 use Rattle.scroll.specs.declared.error.Error.{Error}
 use Rattle.scroll.specs.lemmas.FixedLemmas.{number-back-at, number-kept, number-bound}
@@ -25,6 +25,7 @@ packed_in gives w f = record {
       ⊎ (small f x × (256 ^ w ≤ packed f x)
       × GivesBadInput gives (highest f x) (codes "a field has more bits") e);
   leaf_same = same_bits f;
+  leaf_same_seen = λ see x y. option_map see x ≡ option_map see y;
   leaf_told = ⊤;
   leaf_certain = ⊤;
   leaf_inside = λ order s at x here h. h.0;
@@ -45,5 +46,6 @@ packed_in gives w f = record {
   leaf_one = λ t order s at x y all h k.
       (refl, splits-one f (number order w (drop at s)) x y h.1 k.1);
   leaf_equal = bits-is f;
+  leaf_seen = λ see x y h. h;
   leaf_clash = λ t order s at x e all h r. omega (arith, h.0, r.short, length-drop at s);
 }

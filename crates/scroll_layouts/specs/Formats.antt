@@ -3,7 +3,7 @@
 -- these fit together is proved once, for every format (specs/lemmas/FormatLaws.antt).
 use Rattle.std.proofs.Common.{◌≡◌, ◌+◌, ◌<◌, ◌≤◌, ◌⊎◌, ◌++◌, ◌-◌, ◌^◌, ◌≢◌, ℕ, List, [], length, take, drop}
 use Rattle.std.specs.List.{All}
-use Rattle.std.specs.Prelude.{codes, min, Bool, true, false, Option, Some, None, ⊤, replicate}
+use Rattle.std.specs.Prelude.{codes, min, Bool, true, false, Option, Some, None, option_map, ⊤, replicate}
 use Rattle.scroll.specs.declared.endian.Endian.{Endian}
 use Rattle.scroll.specs.declared.error.Error.{Error}
 use Rattle.scroll_formats.specs.Zeros.{RefusesZeros, padding_len}
@@ -14,8 +14,9 @@ use Rattle.scroll_layouts.specs.declared.choice.Choice.TheVariants.{First, Secon
 
 -- a kind of value that isn't put together from others, such as a number in LEB128: how many bytes a
 -- value has, which these are, what a read gives and refuses, which values a write refuses, what two
--- values have in common that are read at one place, and what has to be so for a source to have one
--- value, and for it to have none where a read is refused; with its laws
+-- values have in common that are read at one place, and two optional ones of which a value is seen,
+-- and what has to be so for a source to have one value, and for it to have none where a read is
+-- refused; with its laws
 pub record Leaf (E X : Type 0) : Type 1 where
   pub leaf_len : X → ℕ
   pub leaf_bytes : Endian → X → List ℕ
@@ -24,6 +25,7 @@ pub record Leaf (E X : Type 0) : Type 1 where
   pub leaf_agrees : Endian → X → Type 0
   pub leaf_differs : Endian → X → E → Type 0
   pub leaf_same : X → X → Type 0
+  pub leaf_same_seen : {Y : Type 0} → (Y → X) → Option Y → Option Y → Type 0
   pub leaf_told : Type 0
   pub leaf_certain : Type 0
   pub leaf_inside : (order : Endian) (s : List ℕ) (at : ℕ) (x : X) → at ≤ length s
@@ -40,6 +42,8 @@ pub record Leaf (E X : Type 0) : Type 1 where
       → All (λ b. b < 256) s → leaf_reads order s at x → leaf_reads order s at y
       → (leaf_len x ≡ leaf_len y) × leaf_same x y
   pub leaf_equal : (x y : X) → leaf_same x y → x ≡ y
+  pub leaf_seen : {Y : Type 0} (see : Y → X) (x y : Option Y)
+      → option_map see x ≡ option_map see y → leaf_same_seen see x y
   pub leaf_clash : leaf_certain → (order : Endian) (s : List ℕ) (at : ℕ) (x : X) (e : E)
       → All (λ b. b < 256) s → leaf_reads order s at x → leaf_refuses order s at e → ⊥
 

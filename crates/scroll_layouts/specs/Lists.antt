@@ -1,5 +1,5 @@
 -- Lists of values of any size, and what is read of them where they lie.
-use Rattle.std.specs.Prelude.{◌≡◌, ◌+◌, ◌<◌, ◌≤◌, ◌⊎◌, ℕ, List, [], ◌∷◌, length, drop, codes, Option, Some, None}
+use Rattle.std.specs.Prelude.{◌≡◌, ◌+◌, ◌<◌, ◌≤◌, ◌⊎◌, ℕ, List, [], ◌∷◌, length, take, drop, codes, Option, Some, None}
 use Rattle.scroll.specs.declared.endian.Endian.{Endian}
 use Rattle.scroll.specs.declared.error.Error.{Error}
 use Rattle.scroll_layouts.specs.Errors.{GivesBadInput}
@@ -19,12 +19,24 @@ pub record SomeItems {E X : Type 0} (f : Format E X) (order : Endian) (s : List 
   pub values : List X
   pub each : Items f order s at values to
 
+-- a list that was read: its bytes, the order in which its values were read, and their number
+pub record ListValue : Type 0 where
+  pub bytes : List ℕ
+  pub order : Endian
+  pub count : ℕ
+
 -- `Items` of `n` values
 pub record CountedItems {E X : Type 0} (f : Format E X) (order : Endian) (s : List ℕ)
     (at to n : ℕ) : Type 0 where
   pub values : List X
   pub each : Items f order s at values to
   pub count : length values ≡ n
+
+-- `StandsIn f order s x`: a value that begins the bytes `s` is read, in the same order, at each
+-- offset of a source from which on it has these bytes
+abbrev pub StandsIn : {E X : Type 0} → Format E X → Endian → List ℕ → X → Type 0
+StandsIn f order s x = (same : Endian) (o : ℕ) (t : List ℕ) → order ≡ same
+    → s ≡ take (length s) (drop o t) → reads f same t o x
 
 -- `YieldsItem f order s found rest`: of a list whose bytes `s` are left, the value at their start
 -- is found, and `rest` is left; or none is. If values that are read in one way use `s` up, others
@@ -33,6 +45,7 @@ abbrev pub YieldsItem : {E X : Type 0} → Format E X → Endian → List ℕ �
     → Type 0
 YieldsItem f order s (Some x) rest =
     reads f order s 0 x × (1 ≤ len f x) × (len f x ≤ length s) × (rest ≡ drop (len f x) s)
+    × StandsIn f order s x
     × (one_way f → ∥ SomeItems f order s 0 (length s) ∥₁
     → ∥ SomeItems f order rest 0 (length rest) ∥₁)
 YieldsItem f order s None rest =

@@ -5,7 +5,7 @@ use Rattle.scroll.specs.declared.error.Error.{Error}
 use Rattle.scroll.specs.declared.error.Error.TheVariants.{NoMemory, BadOffset}
 use Rattle.scroll_layouts.specs.Errors.{GivesBadInput}
 use Rattle.scroll_layouts.specs.Formats.{Format, reads, len}
-use Rattle.scroll_layouts.specs.Lists.{StopsAtItem}
+use Rattle.scroll_layouts.specs.Lists.{StopsAtItem, StandsIn}
 use Rattle.scroll_layouts.specs.OneWay.{one_way}
 
 -- a kind of mark: the size of the one that some bytes begin with, if they begin with one. It is
@@ -112,7 +112,7 @@ abbrev pub YieldsMarked : {E X : Type 0} → Mark → Format E X → Endian → 
     → Type 0
 YieldsMarked mark f order s (Some x) rest =
     (mark.size s ≡ None) × reads f order s 0 x × (1 ≤ len f x) × (len f x ≤ length s)
-    × (rest ≡ drop (len f x) s)
+    × (rest ≡ drop (len f x) s) × StandsIn f order s x
     × (one_way f → ∥ MarkedItems mark f order s (length s) ∥₁
     → ∥ MarkedItems mark f order rest (length rest) ∥₁)
 YieldsMarked mark f order s None rest =

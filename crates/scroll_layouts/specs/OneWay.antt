@@ -45,15 +45,20 @@ same_option P (Some x) None = ⊥
 same_option P None (Some y) = ⊥
 same_option P None None = ⊤
 
--- `same_seen b see x y P`: what is seen of two optional values is equal; or, if `b` is false, `P`
-abbrev pub same_seen : {X Y : Type 0} → Bool → (X → Y) → Option X → Option X → Type 0 → Type 0
-same_seen true see x y P = option_map see x ≡ option_map see y
-same_seen false see x y P = P
+-- `same_seen f see x y`: what is seen of two optional values is equal
+abbrev pub same_seen : {E X Y : Type 0} → Format E Y → (X → Y) → Option X → Option X → Type 0
+same_seen (leaf l) see x y = l.leaf_same_seen see x y
+same_seen f see x y = option_map see x ≡ option_map see y
+
+-- `seen_if b P Q`: `P`; or, if `b` is false, `Q`
+abbrev pub seen_if : Bool → Type 0 → Type 0 → Type 0
+seen_if true P Q = P
+seen_if false P Q = Q
 
 -- two optional values are the same. Of what is borrowed that is an equation, as `search` wants it
 abbrev pub same_optional : {E X : Type 0} → Format E X → (X → X → Type 0) → Option X → Option X
     → Type 0
-same_optional (last f get) P x y = same_seen (plain f) get x y (same_option P x y)
+same_optional (last f get) P x y = seen_if (plain f) (same_seen f get x y) (same_option P x y)
 same_optional f P x y = same_option P x y
 
 -- `same f x y`: each part of the one value is that of the other; where `plain` is true of a struct,

@@ -3,7 +3,7 @@ use Rattle.std.proofs.Common.{◌≡◌, ℕ, ◌<◌, ◌≤◌, ◌++◌, List
 use Rattle.std.proofs.Math.Seq.{drop-append_seam}
 use Rattle.std.proofs.lemmas.List.Elements.{All-drop}
 use Rattle.std.specs.List.{All}
-use Rattle.std.specs.Prelude.{⊤}
+use Rattle.std.specs.Prelude.{⊤, option_map}
 use Rattle.scroll_layouts.specs.Formats.{Leaf}
 
 -- how many bytes a value has and which these are, what a read at the start gives and refuses,
@@ -38,6 +38,7 @@ start k = record {
   leaf_agrees = λ order x. k.start_agrees x;
   leaf_differs = λ order x e. k.start_differs x e;
   leaf_same = λ x y. x ≡ y;
+  leaf_same_seen = λ see x y. option_map see x ≡ option_map see y;
   leaf_told = ⊤;
   leaf_certain = ⊤;
   leaf_inside = λ order s at x here h.
@@ -52,5 +53,6 @@ start k = record {
       k.start_kept (drop at s) x (k.start_len x) (All-drop (λ b. b < 256) at s all) h;
   leaf_one = λ t order s at x y all h r. k.start_one (drop at s) x y h r;
   leaf_equal = λ x y h. h;
+  leaf_seen = λ see x y h. h;
   leaf_clash = λ t order s at x e all h r. k.start_clash (drop at s) x e h r;
 }

@@ -6,6 +6,7 @@ ghost use Rattle.scroll_layouts.specs.Formats.{leaf, last, len, reads, refuses};
 ghost use Rattle.scroll_layouts.specs.ListLeaves.{list_to_last};
 ghost use Rattle.scroll_layouts.specs.Lists.{SomeItems, StopsAtItem};
 
+use crate::lists::check_order;
 use crate::refusals::no_bytes;
 use crate::{Items, ListOf, ListPart, Listed, Part, ReadPart, Values};
 use scroll::{Endian, Error};
@@ -53,8 +54,8 @@ pub struct ToLast;
 
 /// Values up to the one that says that it is the last. The errors are those of the values; a value
 /// without bytes is [`Error::BadInput`] with its offset in the list and the message `a value has no
-/// bytes`. A write of a list with bytes behind its last value is one with the offset where that
-/// ends and the message `another length than its values`.
+/// bytes`. A write in another byte order than that of the read is one with the number of bytes and
+/// the message `another byte order than its values`.
 impl<'a, K: Closed<'a>, L: ListPart<'a, Kind = K>> Part<ToLast, K::Error> for ListOf<'a, L>
 where
     K::Error: From<Error> + Drop,
@@ -64,10 +65,7 @@ where
 
     fn check(&self, order: Endian, _ctx: &ToLast) -> Result<(), K::Error> {
         let (bytes, known, _count) = self.0.parts();
-        if order == known {
-            return Ok(());
-        }
-        let _count = check_last::<K>(bytes, order)?;
+        check_order(order, known, bytes.len())?;
         Ok(())
     }
 

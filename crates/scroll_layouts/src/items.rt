@@ -2,7 +2,7 @@
 ghost use Rattle.std.specs.Prelude.{◌≡◌, ◌≤◌, ◌<◌, ◌+◌, ⊤, ℕ, List, length, IfOk, IfErr, IfSome, IfNone};
 ghost use Rattle.scroll.specs.declared.endian.Endian.{Endian};
 ghost use Rattle.scroll_layouts.specs.Formats.{Format, len, EndsAt, RefusedAt, reads, refuses};
-ghost use Rattle.scroll_layouts.specs.Lists.{SomeItems, CountedItems, RefusesItems};
+ghost use Rattle.scroll_layouts.specs.Lists.{ListValue, SomeItems, CountedItems, RefusesItems};
 
 use crate::steps::check_items;
 use scroll::{Endian, Error};
@@ -126,7 +126,7 @@ pub struct ListOf<'a, L>(pub L, pub PhantomData<&'a [u8]>);
 /// impl<'a> ListPart<'a> for FieldKindPart<'a> {
 ///     type Kind = FieldKind;
 ///
-///     ghost seen = { λ x. x.0.bytes.now };
+///     ghost seen = { λ x. record { bytes = x.0.bytes.now; order = x.0.order; count = x.0.count } };
 ///
 ///     fn of(bytes: &'a [u8], order: Endian, count: usize) -> FieldKindPart<'a> {
 ///         FieldKindPart(Items::of(bytes, order, count))
@@ -141,23 +141,29 @@ pub trait ListPart<'a>: Drop {
     /// The marker of the list.
     type Kind: IsList;
 
-    // The bytes of the list.
-    ghost seen: { Self → List ℕ };
+    // The bytes of the list, the order in which its values were read, and their number.
+    ghost seen: { Self → ListValue };
 
     /// Returns the list of bytes of which the caller ensures that they are one.
     fn of(bytes: &'a [u8], order: Endian, count: usize) -> Self
         requires { ∥ Self.Kind.is_list order bytes.now count ∥₁ }
-        ensures { seen result ≡ bytes.now };
+        ensures bytes { (seen result).bytes ≡ bytes.now }
+        ensures order { (seen result).order ≡ order }
+        ensures count { (seen result).count ≡ count };
 
     /// Returns the bytes of the list, the order in which its values were read, and their number.
     fn parts(&self) -> (&'a [u8], Endian, usize)
-        ensures bytes { result.0.now ≡ seen self.now }
+        ensures bytes { result.0.now ≡ (seen self.now).bytes }
+        ensures order { result.1 ≡ (seen self.now).order }
+        ensures count { result.2 ≡ (seen self.now).count }
         ensures list { ∥ Self.Kind.is_list result.1 result.0.now result.2 ∥₁ };
 }
 
 impl<'a, K: IsList> Copy for Items<'a, K> {}
 
 impl<'a, K: IsList> Clone for Items<'a, K> {
+    ghost is_clone = { λ old new. new ≡ old };
+
     ghost is_infallible = { λ _. ⊤ };
 
     #[inline(always)]

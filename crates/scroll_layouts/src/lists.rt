@@ -1,5 +1,6 @@
 // Lists that are borrowed as their bytes, and read where they lie.
-ghost use Rattle.std.specs.Prelude.{◌≡◌, ◌≢◌, ◌≤◌, ◌<◌, ◌+◌, ◌-◌, ◌^◌, ◌++◌, ◌⊎◌, length, take, drop, min, codes, OnOk};
+ghost use Rattle.std.specs.Prelude.{◌≡◌, ◌≢◌, ◌≤◌, ◌<◌, ◌+◌, ◌-◌, ◌^◌, ◌++◌, ◌⊎◌, length, take, drop, min, codes, OnOk, IfErr};
+ghost use Rattle.scroll_layouts.specs.Errors.{GivesBadInput};
 ghost use Rattle.scroll_layouts.specs.Formats.{leaf, last, len, reads, refuses};
 ghost use Rattle.scroll_layouts.specs.ListLeaves.{list_within, list_of};
 
@@ -18,8 +19,9 @@ pub struct Count(pub usize);
 /// Values that use up as many bytes as the context says. A shorter source is [`Error::TooBig`] with
 /// that number and the number of bytes there; then come the errors of the values. A value without
 /// bytes is [`Error::BadInput`] with its offset in the list and the message `a value has no bytes`.
-/// A write of another number of bytes is one with that number and the message `another length than
-/// its count`.
+/// A write in another byte order than that of the read is one with the number of bytes and the
+/// message `another byte order than its values`, and one of another number of bytes one with that
+/// number and the message `another length than its count`.
 impl<'a, K: Unmarked<'a>, L: ListPart<'a, Kind = K>> Part<usize, K::Error> for ListOf<'a, L>
 where
     K::Error: From<Error> + Drop,
@@ -29,11 +31,8 @@ where
 
     fn check(&self, order: Endian, ctx: &usize) -> Result<(), K::Error> {
         let (bytes, known, _count) = self.0.parts();
+        check_order(order, known, bytes.len())?;
         check_count(*ctx, bytes.len())?;
-        if order == known {
-            return Ok(());
-        }
-        check_items::<K>(bytes, order)?;
         Ok(())
     }
 
@@ -87,8 +86,9 @@ where
 
 /// As many values as the context says. The errors are those of the values; a value without bytes is
 /// [`Error::BadInput`] with its offset in the list and the message `a value has no bytes`. A write
-/// of a list with bytes after its values is one with the offset where they end and the message
-/// `another length than its values`.
+/// in another byte order than that of the read is one with the number of bytes and the message
+/// `another byte order than its values`, and one of another number of values one with that number
+/// and the message `another number of values than its count`.
 impl<'a, K: Unmarked<'a>, L: ListPart<'a, Kind = K>> Part<Count, K::Error> for ListOf<'a, L>
 where
     K::Error: From<Error> + Drop,
@@ -98,14 +98,11 @@ where
 
     fn check(&self, order: Endian, ctx: &Count) -> Result<(), K::Error> {
         let (bytes, known, count) = self.0.parts();
-        if order == known && ctx.0 == count {
-            return Ok(());
-        }
-        let end = read_items::<K>(bytes, order, ctx.0)?;
-        if end != bytes.len() {
+        check_order(order, known, bytes.len())?;
+        if count != ctx.0 {
             return Err(K::Error::from(Error::BadInput {
-                size: end,
-                msg: "another length than its values",
+                size: count,
+                msg: "another number of values than its count",
             }));
         }
         Ok(())
@@ -149,4 +146,20 @@ where
         let _list = ListOf::<'a, L>(L::of(&rest[..end], order, ctx.0), PhantomData);
         Some(offset + end)
     }
+}
+
+// Returns an error if the values of a list of so many bytes were read in another byte order.
+#[inline(always)]
+pub(crate) fn check_order<E: From<Error>>(order: Endian, known: Endian, len: usize) -> Result<(), E>
+    ensures same { OnOk result (known ≡ order) }
+    ensures other { IfErr result (λ e. (known ≢ order)
+        × GivesBadInput E.from_gives len (codes "another byte order than its values") e) }
+{
+    if known != order {
+        return Err(E::from(Error::BadInput {
+            size: len,
+            msg: "another byte order than its values",
+        }));
+    }
+    Ok(())
 }

@@ -14,6 +14,7 @@ pub use self::ends::{EndMark, NameEnd, TwoZeroUlebs, ZeroUleb, begins_with};
 use self::refusals::explain_marked;
 pub use self::until::append_until;
 pub use self::values::MarkedValues;
+use crate::lists::check_order;
 use crate::steps::end_next;
 use crate::{ListOf, ListPart, Listed, Part, ReadPart};
 use scroll::{Endian, Error};
@@ -52,8 +53,8 @@ pub struct ToMark;
 
 /// Values, and the mark that ends them. The errors are those of the values; a value without bytes
 /// is [`Error::BadInput`] with its offset in the list and the message `a value has no bytes`. A
-/// write of a list with bytes after its mark is one with the offset where the mark ends and the
-/// message `another length than its values`.
+/// write in another byte order than that of the read is one with the number of bytes and the
+/// message `another byte order than its values`.
 impl<'a, K: Marked<'a>, L: ListPart<'a, Kind = K>> Part<ToMark, K::Error> for ListOf<'a, L>
 where
     K::Error: From<Error> + Drop,
@@ -63,16 +64,7 @@ where
 
     fn check(&self, order: Endian, _ctx: &ToMark) -> Result<(), K::Error> {
         let (bytes, known, _count) = self.0.parts();
-        if order == known {
-            return Ok(());
-        }
-        let (end, _count) = find_end::<K>(bytes, order)?;
-        if end != bytes.len() {
-            return Err(K::Error::from(Error::BadInput {
-                size: end,
-                msg: "another length than its values",
-            }));
-        }
+        check_order(order, known, bytes.len())?;
         Ok(())
     }
 

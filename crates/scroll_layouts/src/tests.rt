@@ -7,6 +7,7 @@ mod encoded;
 mod equal;
 mod fixed;
 mod many;
+mod orders;
 mod parts;
 mod places;
 mod pointers;

@@ -433,7 +433,7 @@ pub struct AttributesPart<'a>(pub Items<'a, Attributes>);
 impl<'a> ListPart<'a> for AttributesPart<'a> {
     type Kind = Attributes;
 
-    ghost seen = { λ x. x.0.bytes.now };
+    ghost seen = { λ x. record { bytes = x.0.bytes.now; order = x.0.order; count = x.0.count } };
 
     #[inline(always)]
     fn of(bytes: &'a [u8], order: Endian, count: usize) -> AttributesPart<'a> {

@@ -163,7 +163,7 @@ pub struct QuestionsPart<'a>(pub Items<'a, Questions>);
 impl<'a> ListPart<'a> for QuestionsPart<'a> {
     type Kind = Questions;
 
-    ghost seen = { λ x. x.0.bytes.now };
+    ghost seen = { λ x. record { bytes = x.0.bytes.now; order = x.0.order; count = x.0.count } };
 
     #[inline(always)]
     fn of(bytes: &'a [u8], order: Endian, count: usize) -> QuestionsPart<'a> {
@@ -182,7 +182,7 @@ pub struct ResourcesPart<'a>(pub Items<'a, Resources>);
 impl<'a> ListPart<'a> for ResourcesPart<'a> {
     type Kind = Resources;
 
-    ghost seen = { λ x. x.0.bytes.now };
+    ghost seen = { λ x. record { bytes = x.0.bytes.now; order = x.0.order; count = x.0.count } };
 
     #[inline(always)]
     fn of(bytes: &'a [u8], order: Endian, count: usize) -> ResourcesPart<'a> {
@@ -425,7 +425,7 @@ pub struct LabelsPart<'a>(pub Items<'a, Labels>);
 impl<'a> ListPart<'a> for LabelsPart<'a> {
     type Kind = Labels;
 
-    ghost seen = { λ x. x.0.bytes.now };
+    ghost seen = { λ x. record { bytes = x.0.bytes.now; order = x.0.order; count = x.0.count } };
 
     #[inline(always)]
     fn of(bytes: &'a [u8], order: Endian, count: usize) -> LabelsPart<'a> {
@@ -1001,7 +1001,7 @@ pub struct TextsPart<'a>(pub Items<'a, Texts>);
 impl<'a> ListPart<'a> for TextsPart<'a> {
     type Kind = Texts;
 
-    ghost seen = { λ x. x.0.bytes.now };
+    ghost seen = { λ x. record { bytes = x.0.bytes.now; order = x.0.order; count = x.0.count } };
 
     #[inline(always)]
     fn of(bytes: &'a [u8], order: Endian, count: usize) -> TextsPart<'a> {

@@ -347,7 +347,7 @@ pub struct ExtraFieldsPart<'a>(pub Items<'a, ExtraFields>);
 impl<'a> ListPart<'a> for ExtraFieldsPart<'a> {
     type Kind = ExtraFields;
 
-    ghost seen = { λ x. x.0.bytes.now };
+    ghost seen = { λ x. record { bytes = x.0.bytes.now; order = x.0.order; count = x.0.count } };
 
     #[inline(always)]
     fn of(bytes: &'a [u8], order: Endian, count: usize) -> ExtraFieldsPart<'a> {

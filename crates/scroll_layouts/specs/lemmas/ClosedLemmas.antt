@@ -1,5 +1,5 @@
 -- Lists up to a value that says that it is the last. The lemmas are proved, and promise nothing.
-use Rattle.std.proofs.Common.{refl, ◌≡◌, ◌≢◌, ℕ, ◌+◌, ◌<◌, ◌≤◌, ◌++◌, List, [], ◌∷◌, length, take, sym, subst, ◌∙◌, arith, length-append}
+use Rattle.std.proofs.Common.{refl, ◌≡◌, ◌≢◌, ℕ, ◌+◌, ◌<◌, ◌≤◌, ◌++◌, List, [], ◌∷◌, length, take, sym, ap, subst, ◌∙◌, arith, length-append}
 use Rattle.std.proofs.Math.Logic.{∥∥₁_elim}
 use Rattle.std.proofs.Props.{props}
 use Rattle.std.proofs.lemmas.Bool.{true≢false}
@@ -88,14 +88,14 @@ one-closes : {E X : Type 0} (f : Format E X) (closes : X → Bool) → told f �
 one-closes f closes t a order s at x y all h k is_last not_last =
     true≢false (sym is_last ∙ a x y (one-value f t order s at x y all h k) ∙ not_last)
 
--- lists end at one offset
+-- lists end at one offset, and have one number of values
 closed-ends : {E X : Type 0} (f : Format E X) (closes : X → Bool) → told f → alike f closes
     → (order : Endian) (s : List ℕ) (at : ℕ) (xs : List X) (x : X) (ys : List X) (y : X)
     (to stop : ℕ) → All (λ b. b < 256) s → Items f order s at (xs ++ x ∷ []) to
     → All (λ v. closes v ≡ false) xs → closes x ≡ true → Items f order s at (ys ++ y ∷ []) stop
-    → All (λ v. closes v ≡ false) ys → closes y ≡ true → to ≡ stop
+    → All (λ v. closes v ≡ false) ys → closes y ≡ true → (to ≡ stop) × (length xs ≡ length ys)
 closed-ends f closes t a order s at [] x [] y to stop all h on is_last k others last =
-    omega (arith, h.2, k.2, one-len f t order s at x y all h.0 k.0)
+    (omega (arith, h.2, k.2, one-len f t order s at x y all h.0 k.0), refl)
 closed-ends f closes t a order s at [] x (w ∷ ys) y to stop all h on is_last k others last =
     absurd (one-closes f closes t a order s at x w all h.0 k.0 is_last
     (All-head (λ v. closes v ≡ false) w ys others))
@@ -104,22 +104,40 @@ closed-ends f closes t a order s at (v ∷ xs) x [] y to stop all h on is_last k
     (All-head (λ v. closes v ≡ false) v xs on))
 closed-ends f closes t a order s at (v ∷ xs) x (w ∷ ys) y to stop all h on is_last k others last =
     let same : len f w ≡ len f v = one-len f t order s at w v all k.0 h.0 in
+    let rest : (to ≡ stop) × (length xs ≡ length ys) =
     closed-ends f closes t a order s (at + len f v) xs x ys y to stop all h.2
     (All-tail (λ v. closes v ≡ false) v xs on) is_last
     (subst (λ n. Items f order s (at + n) (ys ++ y ∷ []) stop) same k.2)
-    (All-tail (λ v. closes v ≡ false) w ys others) last
+    (All-tail (λ v. closes v ≡ false) w ys others) last in
+    (rest.0, omega (arith, rest.1))
+
+-- all values of a list are one more than those before the last
+one-more : {E X : Type 0} (f : Format E X) (closes : X → Bool) (order : Endian) (s : List ℕ)
+    (values : List X) (to n : ℕ) → (h : ClosedList f closes order s values to) → length values ≡ n
+    → n ≡ length h.others + 1
+one-more f closes order s values to n h is =
+    sym is ∙ ap length h.split ∙ length-append h.others (h.final ∷ [])
 
 -- a source begins with one list
 pub closed-one : {E X : Type 0} (f : Format E X) (closes : X → Bool) → told f → alike f closes
-    → (order : Endian) (s x y : List ℕ) → All (λ b. b < 256) s → length x ≤ length s
+    → (order : Endian) (s x y : List ℕ) (m n : ℕ) → All (λ b. b < 256) s → length x ≤ length s
     → length y ≤ length s → x ≡ take (length x) s → y ≡ take (length y) s
-    → ∥ ClosedItems f closes order x (length x) ∥₁ → ∥ ClosedItems f closes order y (length y) ∥₁
-    → length x ≡ length y
-closed-one f closes t a order s x y all inside within begins starts some others =
+    → ∥ CountedClosed f closes order x (length x) m ∥₁
+    → ∥ CountedClosed f closes order y (length y) n ∥₁ → (length x ≡ length y) × (m ≡ n)
+closed-one f closes t a order s x y m n all inside within begins starts some others =
     ∥∥₁_elim some (hlevel props) (λ h. ∥∥₁_elim others (hlevel props) (λ k.
+    let one : (length x ≡ length y) × (length h.1.others ≡ length k.1.others) =
     closed-ends f closes t a order s 0 h.1.others h.1.final k.1.others k.1.final (length x)
     (length y) all (closed-items f closes order s x h.0 all inside begins h.1) h.1.go_on h.1.closed
-    (closed-items f closes order s y k.0 all within starts k.1) k.1.go_on k.1.closed))
+    (closed-items f closes order s y k.0 all within starts k.1) k.1.go_on k.1.closed in (
+      one.0,
+      omega (
+        arith,
+        one.1,
+        one-more f closes order x h.0 (length x) m h.1 h.2,
+        one-more f closes order y k.0 (length y) n k.1 k.2,
+      ),
+    )))
 
 -- a list isn't cut by values of which none is the last and at whose end none can be read
 ends-clash : {E X : Type 0} (gives : Error → E → Type 0) (f : Format E X) (closes : X → Bool)
@@ -142,10 +160,11 @@ ends-clash gives f closes t a order s at (v ∷ xs) x (w ∷ ys) to stop e all h
 
 -- a source hasn't both a list and an error
 pub closed-clash : {E X : Type 0} (gives : Error → E → Type 0) (f : Format E X) (closes : X → Bool)
-    → one_way f → alike f closes → (order : Endian) (s x : List ℕ) (e : E) → All (λ b. b < 256) s
-    → length x ≤ length s → x ≡ take (length x) s → ∥ ClosedItems f closes order x (length x) ∥₁
-    → RefusesClosed gives f closes order s e → ⊥
-closed-clash gives f closes t a order s x e all inside begins some r =
+    → one_way f → alike f closes → (order : Endian) (s x : List ℕ) (n : ℕ) (e : E)
+    → All (λ b. b < 256) s → length x ≤ length s → x ≡ take (length x) s
+    → ∥ CountedClosed f closes order x (length x) n ∥₁ → RefusesClosed gives f closes order s e
+    → ⊥
+closed-clash gives f closes t a order s x n e all inside begins some r =
     ∥∥₁_elim some (hlevel props) (λ h.
     ends-clash gives f closes t a order s 0 h.1.others h.1.final r.values (length x) r.stop e all
     (closed-items f closes order s x h.0 all inside begins h.1) h.1.closed r.before.each

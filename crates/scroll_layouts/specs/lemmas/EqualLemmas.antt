@@ -43,6 +43,18 @@ pub option-again : {A B : Type 0} (into : A → B) (out : B → A) → ((a : A) 
 option-again into out same (Some a) = ap Some (same a)
 option-again into out same None = refl
 
+seen-twice : {X Y V : Type 0} (see : X → Y) (part : Y → V) (o : Option X)
+    → option_map part (option_map see o) ≡ option_map (λ v. part (see v)) o
+seen-twice see part (Some x) = refl
+seen-twice see part None = refl
+
+-- a part of what is seen of two optional values that is equal
+pub seen-part : {X Y V : Type 0} (see : X → Y) (part : Y → V) (x y : Option X)
+    → option_map see x ≡ option_map see y
+    → option_map (λ v. part (see v)) x ≡ option_map (λ v. part (see v)) y
+seen-part see part x y h =
+    sym (seen-twice see part x) ∙ ap (option_map part) h ∙ seen-twice see part y
+
 -- equal numbers, with the length of their encodings
 pub counted-is : {V : Type 0} (x y : Counted V) → x.value ≡ y.value → x.count ≡ y.count → x ≡ y
 counted-is x y h k =

@@ -10,8 +10,8 @@ use Rattle.scroll.specs.declared.error.Error.{Error}
 use Rattle.scroll_layouts.specs.Errors.{NoRoom}
 use Rattle.scroll_layouts.specs.OneWay.{one_way}
 use Rattle.scroll_layouts.specs.Formats.{Format, reads, len}
-use Rattle.scroll_layouts.specs.Lists.{Items, SomeItems, CountedItems, StopsAtItem, RefusesItems, RefusesCounted}
-use Rattle.scroll_layouts.specs.Marks.{Mark, MarkEnds, ItemsBefore, MarkedItems, RefusesMarked}
+use Rattle.scroll_layouts.specs.Lists.{Items, CountedItems, StopsAtItem, RefusesItems, RefusesCounted}
+use Rattle.scroll_layouts.specs.Marks.{Mark, MarkEnds, ItemsBefore, CountedMarked, RefusesMarked}
 use Rattle.scroll_layouts.specs.lemmas.ListLemmas.{items-grown, ends}
 use Rattle.scroll_layouts.specs.lemmas.MarkLemmas.{marked-there, no-mark}
 use Rattle.scroll_layouts.specs.lemmas.OneWayLemmas.{no-clash}
@@ -41,13 +41,13 @@ items-clash gives f t order s at (x ∷ xs) (y ∷ ys) to stop e all h k l r =
     (subst (λ n. Items f order s (at + n) ys stop) same k.2) l r
 
 pub within-clash : {E X : Type 0} (gives : Error → E → Type 0) (f : Format E X) (n : ℕ)
-    → one_way f → (order : Endian) (s x : List ℕ) (e : E) → All (λ b. b < 256) s
+    → one_way f → (order : Endian) (s x : List ℕ) (m : ℕ) (e : E) → All (λ b. b < 256) s
     → length x ≤ length s → x ≡ take (length x) s
-    → (n ≡ length x) × ∥ SomeItems f order x 0 (length x) ∥₁
+    → (n ≡ length x) × ∥ CountedItems f order x 0 (length x) m ∥₁
     → NoRoom gives n s e ⊎ ((n ≤ length s) × RefusesItems gives f order (take n s) e) → ⊥
-within-clash gives f n t order s x e all inside begins h (inl r) =
+within-clash gives f n t order s x m e all inside begins h (inl r) =
     omega (arith, inside, h.0, r.short)
-within-clash gives f n t order s x e all inside begins h (inr r) =
+within-clash gives f n t order s x m e all inside begins h (inr r) =
     let same : take n s ≡ x = ap (λ k. take k s) h.0 ∙ sym begins in
     let there = subst (λ l. RefusesItems gives f order l e) same r.1 in
     let below : All (λ b. b < 256) x =
@@ -69,11 +69,11 @@ count-clash gives f t order s at (x ∷ xs) (y ∷ ys) to stop e all h k l r =
     (subst (λ n. Items f order s (at + n) ys stop) same k.2) (omega (arith, l)) r
 
 pub counted-clash : {E X : Type 0} (gives : Error → E → Type 0) (f : Format E X) (n : ℕ)
-    → one_way f → (order : Endian) (s x : List ℕ) (e : E) → All (λ b. b < 256) s
-    → length x ≤ length s → x ≡ take (length x) s → ∥ CountedItems f order x 0 (length x) n ∥₁
-    → RefusesCounted gives f order n s e → ⊥
-counted-clash gives f n t order s x e all inside begins some r =
-    ∥∥₁_elim some (hlevel props) (λ h.
+    → one_way f → (order : Endian) (s x : List ℕ) (m : ℕ) (e : E) → All (λ b. b < 256) s
+    → length x ≤ length s → x ≡ take (length x) s
+    → (m ≡ n) × ∥ CountedItems f order x 0 (length x) n ∥₁ → RefusesCounted gives f order n s e → ⊥
+counted-clash gives f n t order s x m e all inside begins some r =
+    ∥∥₁_elim some.1 (hlevel props) (λ h.
     count-clash gives f t order s 0 h.values r.before.values (length x) r.stop e all
     (items-grown f order s 0 h.values (length x) all inside
     (subst (λ l. Items f order l 0 h.values (length x)) begins h.each))
@@ -99,10 +99,10 @@ mark-clash gives mark f t order s at (x ∷ xs) (y ∷ ys) to stop end e all h m
     (subst (λ n. ItemsBefore mark f order s (at + n) ys stop) same k.3) none r
 
 pub marked-clash : {E X : Type 0} (gives : Error → E → Type 0) (mark : Mark) (f : Format E X)
-    → one_way f → (order : Endian) (s x : List ℕ) (e : E) → All (λ b. b < 256) s
-    → length x ≤ length s → x ≡ take (length x) s → ∥ MarkedItems mark f order x (length x) ∥₁
-    → RefusesMarked gives mark f order s e → ⊥
-marked-clash gives mark f t order s x e all inside begins some r =
+    → one_way f → (order : Endian) (s x : List ℕ) (m : ℕ) (e : E) → All (λ b. b < 256) s
+    → length x ≤ length s → x ≡ take (length x) s
+    → ∥ CountedMarked mark f order x (length x) m ∥₁ → RefusesMarked gives mark f order s e → ⊥
+marked-clash gives mark f t order s x m e all inside begins some r =
     ∥∥₁_elim some (hlevel props) (λ h.
     let there = marked-there mark f order s x h.0 all inside begins h.1 in
     mark-clash gives mark f t order s 0 h.0 r.before.values there.stop r.stop (length x) e all

@@ -1,13 +1,13 @@
 -- Lists that are read value by value. The lemmas are proved, and promise nothing.
-use Rattle.std.proofs.Common.{◌≡◌, ◌≢◌, ℕ, ◌+◌, ◌<◌, ◌≤◌, ◌++◌, List, [], ◌∷◌, length, take, sym, ap, subst, ◌∙◌, arith, length-append}
+use Rattle.std.proofs.Common.{refl, ◌≡◌, ◌≢◌, ℕ, ◌+◌, ◌<◌, ◌≤◌, ◌++◌, List, [], ◌∷◌, length, take, drop, sym, ap, subst, ◌∙◌, arith, length-append, length-drop}
 use Rattle.std.proofs.Math.Logic.{∥∥₁_elim}
 use Rattle.std.proofs.Props.{props}
-use Rattle.std.proofs.lemmas.List.{length-take-le}
+use Rattle.std.proofs.lemmas.List.{length-take, length-take-le, take-take}
 use Rattle.std.proofs.lemmas.List.Elements.{All-take}
 use Rattle.std.specs.List.{All}
 use Rattle.scroll.specs.declared.endian.Endian.{Endian}
 use Rattle.scroll_layouts.specs.Formats.{Format, reads, len}
-use Rattle.scroll_layouts.specs.Lists.{Items, SomeItems, CountedItems}
+use Rattle.scroll_layouts.specs.Lists.{ListValue, Items, SomeItems, CountedItems, StandsIn}
 use Rattle.scroll_layouts.specs.OneWay.{told}
 use Rattle.scroll_layouts.specs.lemmas.FormatLaws.{moved}
 use Rattle.scroll_layouts.specs.lemmas.Parts.{same-part}
@@ -77,6 +77,17 @@ items-grown f order s at (x ∷ xs) to all le h =
       items-grown f order s (at + n) xs to all le h.2,
     )
 
+-- a value at the start of bytes stands in each source that has them
+pub stands-in : {E X : Type 0} (f : Format E X) (order : Endian) (s : List ℕ) (x : X)
+    → All (λ b. b < 256) s → reads f order s 0 x → 1 ≤ len f x → len f x ≤ length s
+    → StandsIn f order s x
+stands-in f order s x all h some le = λ same o t alike is.
+    let long : length s ≤ length (drop o t) =
+    omega (arith, ap length is, length-take (length s) (drop o t)) in
+    subst (λ k. reads f k t o x) alike
+    (moved f order s 0 t o x all (omega (arith, long, some, le, length-drop o t))
+    (ap (take (len f x)) is ∙ take-take (len f x) (length s) (drop o t) le) h)
+
 -- as many values end at one offset
 items-one : {E X : Type 0} (f : Format E X) → told f → (order : Endian) (s : List ℕ) (at : ℕ)
     (xs ys : List X) (to stop : ℕ) → All (λ b. b < 256) s → Items f order s at xs to
@@ -89,20 +100,74 @@ items-one f t order s at (x ∷ xs) (y ∷ ys) to stop all h k l =
     items-one f t order s (at + len f x) xs ys to stop all h.2
     (subst (λ n. Items f order s (at + n) ys stop) same k.2) (omega (arith, l))
 
+-- values that end at one offset are as many
+items-count : {E X : Type 0} (f : Format E X) → told f → (order : Endian) (s : List ℕ) (at : ℕ)
+    (xs ys : List X) (to : ℕ) → All (λ b. b < 256) s → Items f order s at xs to
+    → Items f order s at ys to → length xs ≡ length ys
+items-count f t order s at [] [] to all h k = refl
+items-count f t order s at [] (y ∷ ys) to all h k =
+    absurd (omega (arith, h, k.1, ends f order s (at + len f y) ys to k.2))
+items-count f t order s at (x ∷ xs) [] to all h k =
+    absurd (omega (arith, k, h.1, ends f order s (at + len f x) xs to h.2))
+items-count f t order s at (x ∷ xs) (y ∷ ys) to all h k =
+    let same : len f y ≡ len f x = one-len f t order s at y x all k.0 h.0 in
+    omega (
+      arith,
+      items-count f t order s (at + len f x) xs ys to all h.2
+          (subst (λ n. Items f order s (at + n) ys to) same k.2),
+    )
+
+-- values of a list are values of a source that begins with it
+begun : {E X : Type 0} (f : Format E X) (order : Endian) (s x : List ℕ) (values : List X)
+    → All (λ b. b < 256) s → length x ≤ length s → x ≡ take (length x) s
+    → Items f order x 0 values (length x) → Items f order s 0 values (length x)
+begun f order s x values all inside begins each =
+    items-grown f order s 0 values (length x) all inside
+    (subst (λ l. Items f order l 0 values (length x)) begins each)
+
+-- a source begins with one list of so many bytes
+pub within-one : {E X : Type 0} (f : Format E X) → told f → (order : Endian) (s : List ℕ) (n : ℕ)
+    (x y : List ℕ) (k m : ℕ) → All (λ b. b < 256) s → length x ≤ length s → length y ≤ length s
+    → x ≡ take (length x) s → y ≡ take (length y) s
+    → (n ≡ length x) × ∥ CountedItems f order x 0 (length x) k ∥₁
+    → (n ≡ length y) × ∥ CountedItems f order y 0 (length y) m ∥₁
+    → (length x ≡ length y) × (k ≡ m)
+within-one f t order s n x y k m all inside within begins starts some others =
+    let size : length x ≡ length y = sym some.0 ∙ others.0 in (
+      size,
+      ∥∥₁_elim some.1 (hlevel props) (λ h. ∥∥₁_elim others.1 (hlevel props) (λ j.
+          sym h.count ∙ items-count f t order s 0 h.values j.values (length x) all
+          (begun f order s x h.values all inside begins h.each)
+          (subst (λ l. Items f order s 0 j.values l) (sym size)
+          (begun f order s y j.values all within starts j.each)) ∙ j.count)),
+    )
+
 -- a source begins with one list of so many values
 pub counted-one : {E X : Type 0} (f : Format E X) → told f → (order : Endian) (s : List ℕ) (n : ℕ)
-    (x y : List ℕ) → All (λ b. b < 256) s → length x ≤ length s → length y ≤ length s
+    (x y : List ℕ) (k m : ℕ) → All (λ b. b < 256) s → length x ≤ length s → length y ≤ length s
     → x ≡ take (length x) s → y ≡ take (length y) s
-    → ∥ CountedItems f order x 0 (length x) n ∥₁ → ∥ CountedItems f order y 0 (length y) n ∥₁
-    → length x ≡ length y
-counted-one f t order s n x y all inside within begins starts some others =
-    ∥∥₁_elim some (hlevel props) (λ h. ∥∥₁_elim others (hlevel props) (λ k.
-    items-one f t order s 0 h.values k.values (length x) (length y) all
-    (items-grown f order s 0 h.values (length x) all inside
-    (subst (λ l. Items f order l 0 h.values (length x)) begins h.each))
-    (items-grown f order s 0 k.values (length y) all within
-    (subst (λ l. Items f order l 0 k.values (length y)) starts k.each))
-    (h.count ∙ sym k.count)))
+    → (k ≡ n) × ∥ CountedItems f order x 0 (length x) n ∥₁
+    → (m ≡ n) × ∥ CountedItems f order y 0 (length y) n ∥₁ → (length x ≡ length y) × (k ≡ m)
+counted-one f t order s n x y k m all inside within begins starts some others = (
+  ∥∥₁_elim some.1 (hlevel props) (λ h. ∥∥₁_elim others.1 (hlevel props) (λ j.
+      items-one f t order s 0 h.values j.values (length x) (length y) all
+      (begun f order s x h.values all inside begins h.each)
+      (begun f order s y j.values all within starts j.each) (h.count ∙ sym j.count))),
+  some.0 ∙ sym others.0,
+)
+
+-- what is so of some bytes and a number is so of a list that has them
+pub list-has : (P : List ℕ → ℕ → Type 0) {s l : List ℕ} {n m : ℕ} → l ≡ s → m ≡ n → P s n → P l m
+list-has P {s} {l} {n} {m} same is h =
+    subst (λ l. P l m) (sym same) (subst (λ m. P s m) (sym is) h)
+
+-- lists whose parts are equal are equal
+pub list-is : (x y : ListValue) → (x.bytes ≡ y.bytes) × (x.order ≡ y.order) × (x.count ≡ y.count)
+    → x ≡ y
+list-is x y h =
+    ap (λ s. record { bytes = s; order = x.order; count = x.count }) h.0
+    ∙ ap (λ o. record { bytes = y.bytes; order = o; count = x.count }) h.1
+    ∙ ap (λ n. record { bytes = y.bytes; order = y.order; count = n }) h.2
 
 -- values of a number are some
 pub counted-some : {E X : Type 0} {f : Format E X} {order : Endian} {s : List ℕ} {at to n : ℕ}

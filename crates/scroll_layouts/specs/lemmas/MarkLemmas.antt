@@ -1,5 +1,5 @@
 -- Lists that end with a mark are read value by value. The lemmas are proved, and promise nothing.
-use Rattle.std.proofs.Common.{◌≡◌, ◌≢◌, ℕ, ◌+◌, ◌-◌, ◌<◌, ◌≤◌, ◌++◌, List, [], ◌∷◌, length, take, drop, sym, ap, subst, ◌∙◌, arith, length-drop, length-append}
+use Rattle.std.proofs.Common.{refl, ◌≡◌, ◌≢◌, ℕ, ◌+◌, ◌-◌, ◌<◌, ◌≤◌, ◌++◌, List, [], ◌∷◌, length, take, drop, sym, ap, subst, ◌∙◌, arith, length-drop, length-append}
 use Rattle.std.proofs.Math.Logic.{∥∥₁_elim, ∥∥₁_map}
 use Rattle.std.proofs.Props.{props}
 use Rattle.std.proofs.lemmas.List.{drop-drop, length-take-le, take-take, take_all}
@@ -112,12 +112,13 @@ marked-cut mark f order s end n all le h =
 pub no-mark : (r : Option ℕ) (n : ℕ) → r ≡ None → r ≡ Some n → ⊥
 no-mark r n none some = cc
 
--- a source has one mark after values
+-- a source has one mark after values, and one number of these
 before-one : {E X : Type 0} (mark : Mark) (f : Format E X) → told f → (order : Endian)
     (s : List ℕ) (at : ℕ) (xs ys : List X) (to stop end last : ℕ) → All (λ b. b < 256) s
     → ItemsBefore mark f order s at xs to → MarkEnds mark s to end
-    → ItemsBefore mark f order s at ys stop → MarkEnds mark s stop last → to ≡ stop
-before-one mark f t order s at [] [] to stop end last all h m k n = sym h ∙ k
+    → ItemsBefore mark f order s at ys stop → MarkEnds mark s stop last
+    → (to ≡ stop) × (length xs ≡ length ys)
+before-one mark f t order s at [] [] to stop end last all h m k n = (sym h ∙ k, refl)
 before-one mark f t order s at [] (y ∷ ys) to stop end last all h m k n =
     absurd (no-mark (mark.size (drop at s)) m.size k.0
     (subst (λ o. mark.size (drop o s) ≡ Some m.size) (sym h) m.there))
@@ -126,8 +127,10 @@ before-one mark f t order s at (x ∷ xs) [] to stop end last all h m k n =
     (subst (λ o. mark.size (drop o s) ≡ Some n.size) (sym k) n.there))
 before-one mark f t order s at (x ∷ xs) (y ∷ ys) to stop end last all h m k n =
     let same : len f y ≡ len f x = one-len f t order s at y x all k.1 h.1 in
+    let rest : (to ≡ stop) × (length xs ≡ length ys) =
     before-one mark f t order s (at + len f x) xs ys to stop end last all h.3 m
-    (subst (λ a. ItemsBefore mark f order s (at + a) ys stop) same k.3) n
+    (subst (λ a. ItemsBefore mark f order s (at + a) ys stop) same k.3) n in
+    (rest.0, omega (arith, rest.1))
 
 -- so is it in a source that begins with it
 pub marked-there : {E X : Type 0} (mark : Mark) (f : Format E X) (order : Endian) (s x : List ℕ)
@@ -149,20 +152,21 @@ same-size : (r : Option ℕ) (n m : ℕ) → r ≡ Some n → r ≡ Some m → n
 same-size r n m is there = cc
 
 pub marked-one : {E X : Type 0} (mark : Mark) (f : Format E X) → told f → (order : Endian)
-    (s x y : List ℕ) → All (λ b. b < 256) s → length x ≤ length s → length y ≤ length s
-    → x ≡ take (length x) s → y ≡ take (length y) s → ∥ MarkedItems mark f order x (length x) ∥₁
-    → ∥ MarkedItems mark f order y (length y) ∥₁ → length x ≡ length y
-marked-one mark f t order s x y all inside within begins starts some others =
+    (s x y : List ℕ) (m n : ℕ) → All (λ b. b < 256) s → length x ≤ length s → length y ≤ length s
+    → x ≡ take (length x) s → y ≡ take (length y) s
+    → ∥ CountedMarked mark f order x (length x) m ∥₁
+    → ∥ CountedMarked mark f order y (length y) n ∥₁ → (length x ≡ length y) × (m ≡ n)
+marked-one mark f t order s x y m n all inside within begins starts some others =
     ∥∥₁_elim some (hlevel props) (λ h. ∥∥₁_elim others (hlevel props) (λ k.
     let a = marked-there mark f order s x h.0 all inside begins h.1 in
     let b = marked-there mark f order s y k.0 all within starts k.1 in
-    let stops : a.stop ≡ b.stop =
+    let one : (a.stop ≡ b.stop) × (length h.0 ≡ length k.0) =
     before-one mark f t order s 0 h.0 k.0 a.stop b.stop (length x) (length y) all a.each a.ends
     b.each b.ends in
     let sizes : a.ends.size ≡ b.ends.size =
     same-size (mark.size (drop b.stop s)) a.ends.size b.ends.size
-    (subst (λ o. mark.size (drop o s) ≡ Some a.ends.size) stops a.ends.there) b.ends.there in
-    omega (arith, stops, sizes, a.ends.whole, b.ends.whole)))
+    (subst (λ o. mark.size (drop o s) ≡ Some a.ends.size) one.0 a.ends.there) b.ends.there in
+    (omega (arith, one.0, sizes, a.ends.whole, b.ends.whole), sym h.2 ∙ one.1 ∙ k.2)))
 
 -- values of a number are some
 pub counted-marked : {E X : Type 0} {mark : Mark} {f : Format E X} {order : Endian} {s : List ℕ}

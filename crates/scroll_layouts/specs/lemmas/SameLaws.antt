@@ -3,11 +3,11 @@
 use Rattle.std.proofs.Common.{◌≡◌, ℕ, ◌+◌, ◌-◌, ◌<◌, List, refl, sym, ap, subst, ◌∙◌, arith}
 use Rattle.std.proofs.lemmas.Bool.{true≢false, and_parts}
 use Rattle.std.specs.List.{All}
-use Rattle.std.specs.Prelude.{◌&&◌, Bool, true, false, Some, None, ⊤}
+use Rattle.std.specs.Prelude.{◌&&◌, Bool, true, false, Option, Some, None, option_map}
 use Rattle.scroll.specs.declared.endian.Endian.{Endian}
 use Rattle.scroll_formats.specs.Zeros.{padding_len}
 use Rattle.scroll_layouts.specs.Formats.{Format, run, counted, zeros, last, shape, pair, headed, padded, within, behind, ordered, leaf, choice, when, reads, len}
-use Rattle.scroll_layouts.specs.OneWay.{plain, same, same_if, same_choice, same_seen, same_optional, told, one_way}
+use Rattle.scroll_layouts.specs.OneWay.{plain, same, same_if, same_choice, same_seen, seen_if, same_optional, told, one_way}
 use Rattle.scroll_layouts.specs.declared.choice.Choice.{Choice}
 use Rattle.scroll_layouts.specs.declared.choice.Choice.TheVariants.{First, Second}
 use Rattle.scroll_layouts.specs.lemmas.EqualLemmas.{pair-is}
@@ -50,18 +50,38 @@ choice-is f g (Second x) (First y) h is = absurd h
 choice-is f g (Second x) (Second y) h is =
     ap Second (same-is g (and_parts (plain f) (plain g) is).1 x y h)
 
+-- what is seen of optional values is the same if it is equal
+seen-is : {E X Y : Type 0} (f : Format E Y) (see : X → Y) (x y : Option X)
+    → option_map see x ≡ option_map see y → same_seen f see x y
+seen-is (run gives p) see x y h = h
+seen-is (counted gives n) see x y h = h
+seen-is (zeros gives n unique) see x y h = h
+seen-is (last f get) see x y h = h
+seen-is (shape f get unique) see x y h = h
+seen-is (pair f g) see x y h = h
+seen-is (headed f holds fails next rest) see x y h = h
+seen-is (padded gives m f) see x y h = h
+seen-is (within gives n f) see x y h = h
+seen-is (behind gives n f rest) see x y h = h
+seen-is (ordered o f) see x y h = h
+seen-is (leaf l) see x y h = l.leaf_seen see x y h
+seen-is (choice gives b f g) see x y h = h
+seen-is (when gives b f) see x y h = h
+
+if-seen : {P Q : Type 0} (b : Bool) → (b ≡ true → P) → Q → seen_if b P Q
+if-seen true is h = is refl
+if-seen false is h = h
+
 -- optional values that are there, and ones that aren't, are the same
-seen-some : {X Y : Type 0} {x y : X} {P : Type 0} (b : Bool) (see : X → Y)
-    → (b ≡ true → see x ≡ see y) → P → same_seen b see (Some x) (Some y) P
-seen-some true see is h = ap Some (is refl)
-seen-some false see is h = h
 
 some-same : {E X : Type 0} (f : Format E X) (x y : X) → same f x y
     → same_optional f (same f) (Some x) (Some y)
 some-same (run gives p) x y h = h
 some-same (counted gives n) x y h = h
 some-same (zeros gives n unique) x y h = h
-some-same (last f get) x y h = seen-some (plain f) get (λ is. same-is f is (get x) (get y) h) h
+some-same (last f get) x y h =
+    if-seen (plain f)
+    (λ is. seen-is f get (Some x) (Some y) (ap Some (same-is f is (get x) (get y) h))) h
 some-same (shape f get unique) x y h = h
 some-same (pair f g) x y h = h
 some-same (headed f holds fails next rest) x y h = h
@@ -73,15 +93,11 @@ some-same (leaf l) x y h = h
 some-same (choice gives b f g) x y h = h
 some-same (when gives b f) x y h = h
 
-seen-none : {X Y : Type 0} (b : Bool) (see : X → Y) → same_seen b see None None ⊤
-seen-none true see = refl
-seen-none false see = tt
-
 none-same : {E X : Type 0} (f : Format E X) → same_optional f (same f) None None
 none-same (run gives p) = tt
 none-same (counted gives n) = tt
 none-same (zeros gives n unique) = tt
-none-same (last f get) = seen-none (plain f) get
+none-same (last f get) = if-seen (plain f) (λ is. seen-is f get None None refl) tt
 none-same (shape f get unique) = tt
 none-same (pair f g) = tt
 none-same (headed f holds fails next rest) = tt

@@ -79,10 +79,18 @@ fn lists_without_a_last_block_are_refused(rt: HostRuntime) -> result::Result<(),
     let cut = b"\0\x05\x02ab".as_slice();
     let no_last: Result<Metadata> = cut.pread_with(0, BE);
     assert!(rt; matches!(no_last, Err(Error::TooBig { size: 2, len: 0 })));
-    // (a list that was read in one order isn't one in the other)
+    // (a list that was read in one order isn't written in the other)
     let metadata: Metadata = b"\x80\0\0\x01".pread_with(0, BE)?;
     let other = slice::gwrite_with(&mut [0u8; 4], metadata, &mut 0, LE);
-    assert!(rt; matches!(other, Err(Error::TooBig { size: 2, len: 0 })));
+    assert!(rt;
+        matches!(
+            other,
+            Err(Error::BadInput {
+                size: 4,
+                msg: "another byte order than its values"
+            })
+        )
+    );
     let whole = Items::<Blocks>::to_last(b"\x80\0\0", BE)?;
     assert_eq!(rt; whole.count, 1);
     let more = Items::<Blocks>::to_last(b"\x80\0\0\x01", BE);

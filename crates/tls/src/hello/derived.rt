@@ -436,7 +436,7 @@ pub struct ExtensionsPart<'a>(pub Items<'a, Extensions>);
 impl<'a> ListPart<'a> for ExtensionsPart<'a> {
     type Kind = Extensions;
 
-    ghost seen = { λ x. x.0.bytes.now };
+    ghost seen = { λ x. record { bytes = x.0.bytes.now; order = x.0.order; count = x.0.count } };
 
     #[inline(always)]
     fn of(bytes: &'a [u8], order: Endian, count: usize) -> ExtensionsPart<'a> {
@@ -1043,7 +1043,7 @@ pub struct ProtocolsPart<'a>(pub Items<'a, Protocols>);
 impl<'a> ListPart<'a> for ProtocolsPart<'a> {
     type Kind = Protocols;
 
-    ghost seen = { λ x. x.0.bytes.now };
+    ghost seen = { λ x. record { bytes = x.0.bytes.now; order = x.0.order; count = x.0.count } };
 
     #[inline(always)]
     fn of(bytes: &'a [u8], order: Endian, count: usize) -> ProtocolsPart<'a> {

@@ -128,7 +128,7 @@ pub struct SectionsPart<'a>(pub Items<'a, Sections>);
 impl<'a> ListPart<'a> for SectionsPart<'a> {
     type Kind = Sections;
 
-    ghost seen = { λ x. x.0.bytes.now };
+    ghost seen = { λ x. record { bytes = x.0.bytes.now; order = x.0.order; count = x.0.count } };
 
     #[inline(always)]
     fn of(bytes: &'a [u8], order: Endian, count: usize) -> SectionsPart<'a> {
@@ -611,7 +611,7 @@ pub struct FunctionTypesPart<'a>(pub Items<'a, FunctionTypes>);
 impl<'a> ListPart<'a> for FunctionTypesPart<'a> {
     type Kind = FunctionTypes;
 
-    ghost seen = { λ x. x.0.bytes.now };
+    ghost seen = { λ x. record { bytes = x.0.bytes.now; order = x.0.order; count = x.0.count } };
 
     #[inline(always)]
     fn of(bytes: &'a [u8], order: Endian, count: usize) -> FunctionTypesPart<'a> {
@@ -877,7 +877,7 @@ pub struct ImportListPart<'a>(pub Items<'a, ImportList>);
 impl<'a> ListPart<'a> for ImportListPart<'a> {
     type Kind = ImportList;
 
-    ghost seen = { λ x. x.0.bytes.now };
+    ghost seen = { λ x. record { bytes = x.0.bytes.now; order = x.0.order; count = x.0.count } };
 
     #[inline(always)]
     fn of(bytes: &'a [u8], order: Endian, count: usize) -> ImportListPart<'a> {
@@ -1302,7 +1302,7 @@ pub struct IndexListPart<'a>(pub Items<'a, IndexList>);
 impl<'a> ListPart<'a> for IndexListPart<'a> {
     type Kind = IndexList;
 
-    ghost seen = { λ x. x.0.bytes.now };
+    ghost seen = { λ x. record { bytes = x.0.bytes.now; order = x.0.order; count = x.0.count } };
 
     #[inline(always)]
     fn of(bytes: &'a [u8], order: Endian, count: usize) -> IndexListPart<'a> {
@@ -1417,7 +1417,7 @@ pub struct ExportListPart<'a>(pub Items<'a, ExportList>);
 impl<'a> ListPart<'a> for ExportListPart<'a> {
     type Kind = ExportList;
 
-    ghost seen = { λ x. x.0.bytes.now };
+    ghost seen = { λ x. record { bytes = x.0.bytes.now; order = x.0.order; count = x.0.count } };
 
     #[inline(always)]
     fn of(bytes: &'a [u8], order: Endian, count: usize) -> ExportListPart<'a> {

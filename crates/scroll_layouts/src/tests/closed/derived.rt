@@ -261,7 +261,7 @@ pub struct BlocksPart<'a>(pub Items<'a, Blocks>);
 impl<'a> ListPart<'a> for BlocksPart<'a> {
     type Kind = Blocks;
 
-    ghost seen = { λ x. x.0.bytes.now };
+    ghost seen = { λ x. record { bytes = x.0.bytes.now; order = x.0.order; count = x.0.count } };
 
     #[inline(always)]
     fn of(bytes: &'a [u8], order: Endian, count: usize) -> BlocksPart<'a> {

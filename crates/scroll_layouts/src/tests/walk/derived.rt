@@ -267,7 +267,7 @@ pub struct FieldKindPart<'a>(pub Items<'a, FieldKind>);
 impl<'a> ListPart<'a> for FieldKindPart<'a> {
     type Kind = FieldKind;
 
-    ghost seen = { λ x. x.0.bytes.now };
+    ghost seen = { λ x. record { bytes = x.0.bytes.now; order = x.0.order; count = x.0.count } };
 
     #[inline(always)]
     fn of(bytes: &'a [u8], order: Endian, count: usize) -> FieldKindPart<'a> {

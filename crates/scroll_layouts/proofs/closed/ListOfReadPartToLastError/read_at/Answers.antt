@@ -1,7 +1,8 @@
 -- The values are values of their own bytes.
 use Rattle.std.proofs.Common.{◌-◌, length, drop, take, sym, subst, rules}
-use Rattle.scroll_layouts.specs.Closed.{CountedClosed, ClosedItems}
-use Rattle.scroll_layouts.specs.lemmas.ClosedLemmas.{counted-closed, closed-cut}
+use Rattle.scroll_layouts.specs.Closed.{CountedClosed}
+use Rattle.scroll_layouts.specs.lemmas.ClosedLemmas.{closed-cut}
+use Rattle.scroll_layouts.specs.lemmas.ListLemmas.{list-has}
 use Rattle.scroll_layouts.specs.lemmas.Parts.{bytes-taken, cut-there}
 use Rattle.scroll_layouts.specs.lemmas.WholeLemmas.{bytes-below}
 use Rattle.scroll_layouts.proofs.closed.ListOfReadPartToLastError.read_at.Goals as goal
@@ -34,12 +35,13 @@ returns-clause-read g c =
     let closes = g.K.Closed.closes in
     let inside = c.in_ok-end.ensures.inside in
     let list = g.L.ListPart.seen c.of-list.result in
-    let there = cut-there s o end list c.requires inside c.of-list.ensures in (
+    let made = c.of-list.ensures in
+    let there = cut-there s o end list.bytes c.requires inside made.bytes in (
       there.1,
       there.2,
-      subst (λ l. ∥ ClosedItems f closes c.args.order l (length l) ∥₁)
-          (sym c.of-list.ensures)
-          ∣ counted-closed (closed-cut f closes c.args.order rest end c.in_ok-end.count
+      made.order,
+      list-has (λ l n. ∥ CountedClosed f closes c.args.order l (length l) n ∥₁) made.bytes
+          made.count ∣ closed-cut f closes c.args.order rest end c.in_ok-end.count
           (bytes-taken (length s - o) o s (bytes-below s c.type_inv.from)) inside
-          c.in_ok-end.ensures.read) ∣₁,
+          c.in_ok-end.ensures.read ∣₁,
     )

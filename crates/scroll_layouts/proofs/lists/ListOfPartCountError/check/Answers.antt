@@ -1,22 +1,25 @@
 -- A list keeps that its values stand one after another.
-use Rattle.std.proofs.Common.{◌≡◌, length, rules, subst}
+use Rattle.std.proofs.Common.{◌≡◌, length, rules, sym, subst, ◌∙◌}
 use Rattle.std.proofs.Math.Logic.{∥∥₁_map}
 use Rattle.scroll_layouts.specs.Lists.{CountedItems}
+use Rattle.scroll_layouts.specs.lemmas.ListLemmas.{list-has}
 use Rattle.scroll_layouts.proofs.lists.ListOfPartCountError.check.Goals as goal
 
-pub returns-then-ctx-count-clause-agrees : goal.returns-then-ctx-count-clause-agrees
-returns-then-ctx-count-clause-agrees g c =
+pub returns-clause-agrees : goal.returns-clause-agrees
+returns-clause-agrees g c =
     let f = g.K.Listed.item in
     let list = c.parts-known.result in
-    let s = list.0.now in
-    let n = c.args.ctx.now.0 in
-    let same : list.1 ≡ c.args.order = search rules in
-    let counted : list.2 ≡ n = search rules in
-    let seen : s ≡ g.L.ListPart.seen c.args.self.now.0 = search rules in
-    let kept : ∥ g.K.IsList.is_list list.1 s list.2 ∥₁ = search rules in
-    let walks : g.K.IsList.is_list list.1 s list.2 → CountedItems f list.1 s 0 (length s) list.2 =
-    λ h. search rules in
-    subst (λ s. ∥ CountedItems f c.args.order s 0 (length s) n ∥₁) seen
-    (subst (λ n. ∥ CountedItems f c.args.order s 0 (length s) n ∥₁) counted
-    (subst (λ order. ∥ CountedItems f order s 0 (length s) list.2 ∥₁) same
-    (∥∥₁_map kept walks)))
+    let seen = c.parts-known.ensures in
+    let same : list.1 ≡ c.args.order = c.in_ok-check_order.ensures.same in
+    let counted : list.2 ≡ c.args.ctx.now.0 = search rules in
+    let walks : g.K.IsList.is_list list.1 list.0.now list.2
+    → CountedItems f list.1 list.0.now 0 (length list.0.now) list.2 = λ h. search rules in (
+      sym seen.order ∙ same,
+      (
+        sym seen.count ∙ counted,
+        list-has (λ l n. ∥ CountedItems f c.args.order l 0 (length l) n ∥₁) (sym seen.bytes)
+            (sym counted)
+            (subst (λ o. ∥ CountedItems f o list.0.now 0 (length list.0.now) list.2 ∥₁) same
+            (∥∥₁_map seen.list walks)),
+      ),
+    )

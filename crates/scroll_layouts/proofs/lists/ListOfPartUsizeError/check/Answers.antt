@@ -1,22 +1,24 @@
 -- A list keeps that its values stand one after another.
-use Rattle.std.proofs.Common.{◌≡◌, length, rules, subst}
+use Rattle.std.proofs.Common.{◌≡◌, length, rules, sym, ap, subst, ◌∙◌}
 use Rattle.std.proofs.Math.Logic.{∥∥₁_map}
-use Rattle.scroll_layouts.specs.Lists.{CountedItems, SomeItems}
-use Rattle.scroll_layouts.specs.lemmas.ListLemmas.{counted-some}
+use Rattle.scroll_layouts.specs.Lists.{CountedItems}
+use Rattle.scroll_layouts.specs.lemmas.ListLemmas.{list-has}
 use Rattle.scroll_layouts.proofs.lists.ListOfPartUsizeError.check.Goals as goal
 
-pub returns-then-eq-clause-agrees : goal.returns-then-eq-clause-agrees
-returns-then-eq-clause-agrees g c =
+pub returns-clause-agrees : goal.returns-clause-agrees
+returns-clause-agrees g c =
     let f = g.K.Listed.item in
     let list = c.parts-known.result in
-    let s = list.0.now in
-    let same : list.1 ≡ c.args.order = search rules in
-    let seen : s ≡ g.L.ListPart.seen c.args.self.now.0 = search rules in
-    let kept : ∥ g.K.IsList.is_list list.1 s list.2 ∥₁ = search rules in
-    let walks : g.K.IsList.is_list list.1 s list.2 → CountedItems f list.1 s 0 (length s) list.2 =
-    λ h. search rules in (
-      search rules,
-      subst (λ s. ∥ SomeItems f c.args.order s 0 (length s) ∥₁) seen
-          (subst (λ order. ∥ SomeItems f order s 0 (length s) ∥₁) same
-          (∥∥₁_map kept (λ h. counted-some (walks h)))),
+    let seen = c.parts-known.ensures in
+    let same : list.1 ≡ c.args.order = c.in_ok-check_order.ensures.same in
+    let walks : g.K.IsList.is_list list.1 list.0.now list.2
+    → CountedItems f list.1 list.0.now 0 (length list.0.now) list.2 = λ h. search rules in (
+      sym seen.order ∙ same,
+      (
+        search rules,
+        list-has (λ l n. ∥ CountedItems f c.args.order l 0 (length l) n ∥₁) (sym seen.bytes)
+            (sym seen.count)
+            (subst (λ o. ∥ CountedItems f o list.0.now 0 (length list.0.now) list.2 ∥₁) same
+            (∥∥₁_map seen.list walks)),
+      ),
     )

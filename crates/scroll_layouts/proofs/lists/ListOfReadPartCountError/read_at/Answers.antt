@@ -3,7 +3,7 @@ use Rattle.std.proofs.Common.{◌-◌, length, drop, take, sym, subst, rules}
 use Rattle.scroll_layouts.specs.Lists.{CountedItems}
 use Rattle.scroll_layouts.specs.lemmas.Parts.{bytes-taken, cut-there}
 use Rattle.scroll_layouts.specs.lemmas.WholeLemmas.{bytes-below}
-use Rattle.scroll_layouts.specs.lemmas.ListLemmas.{counted-cut}
+use Rattle.scroll_layouts.specs.lemmas.ListLemmas.{counted-cut, list-has}
 use Rattle.scroll_layouts.proofs.lists.ListOfReadPartCountError.read_at.Goals as goal
 
 pub of-list-requires : goal.of-list-requires
@@ -32,12 +32,16 @@ returns-clause-read g c =
     let f = g.K.Listed.item in
     let inside = c.in_ok-end.ensures.inside in
     let list = g.L.ListPart.seen c.of-list.result in
-    let there = cut-there s o end list c.requires inside c.of-list.ensures in (
+    let made = c.of-list.ensures in
+    let there = cut-there s o end list.bytes c.requires inside made.bytes in (
       there.1,
       there.2,
-      subst (λ l. ∥ CountedItems f c.args.order l 0 (length l) c.args.ctx.now.0 ∥₁)
-          (sym c.of-list.ensures)
-          ∣ counted-cut f c.args.order rest end c.args.ctx.now.0
-          (bytes-taken (length s - o) o s (bytes-below s c.type_inv.from)) inside
-          c.in_ok-end.ensures.read ∣₁,
+      made.order,
+      (
+        made.count,
+        list-has (λ l n. ∥ CountedItems f c.args.order l 0 (length l) c.args.ctx.now.0 ∥₁)
+            made.bytes made.count ∣ counted-cut f c.args.order rest end c.args.ctx.now.0
+            (bytes-taken (length s - o) o s (bytes-below s c.type_inv.from)) inside
+            c.in_ok-end.ensures.read ∣₁,
+      ),
     )

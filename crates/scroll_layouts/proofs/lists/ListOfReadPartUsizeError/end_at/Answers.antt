@@ -2,9 +2,9 @@
 use Rattle.std.proofs.Common.{◌≡◌, ◌≤◌, ◌+◌, ◌-◌, length, drop, take, inr, sym, ap, subst, ◌∙◌, arith, rules, length-drop}
 use Rattle.std.proofs.lemmas.List.{length-take-le}
 use Rattle.std.specs.Prelude.{IfNone}
-use Rattle.scroll_layouts.specs.Lists.{SomeItems, RefusesItems}
+use Rattle.scroll_layouts.specs.Lists.{CountedItems, RefusesItems}
 use Rattle.scroll_layouts.specs.lemmas.EndLemmas.{none-map}
-use Rattle.scroll_layouts.specs.lemmas.ListLemmas.{counted-some}
+use Rattle.scroll_layouts.specs.lemmas.ListLemmas.{list-has}
 use Rattle.scroll_layouts.proofs.lists.ListOfReadPartUsizeError.end_at.Goals as goal
 
 pub returns-in_err-found-clause-none : goal.returns-in_err-found-clause-none
@@ -38,19 +38,21 @@ returns-clause-ends g c =
     let room : n ≤ length s - o = search rules in
     let width : (o + n) - o ≡ n = omega arith in
     let list = g.L.ListPart.seen c.of.result in
-    let is : list ≡ take n (drop o s) =
-    c.of.ensures ∙ ap (λ k. take k (drop o s)) width in
-    let long : length list ≡ n =
+    let made = c.of.ensures in
+    let is : list.bytes ≡ take n (drop o s) =
+    made.bytes ∙ ap (λ k. take k (drop o s)) width in
+    let long : length list.bytes ≡ n =
     ap length is ∙ length-take-le n (drop o s) (omega (arith, room, length-drop o s)) in
     record {
       value = record { 0 = c.of.result; 1 = record {} };
       there = (
         omega (arith, long, room, c.requires),
         is ∙ ap (λ k. take k (drop o s)) (sym long),
+        made.order,
         (
           sym long,
-          subst (λ l. ∥ SomeItems f order l 0 (length l) ∥₁) (sym c.of.ensures)
-              ∣ counted-some c.in_ok-found.ensures.read ∣₁,
+          list-has (λ l n. ∥ CountedItems f order l 0 (length l) n ∥₁) made.bytes made.count
+              ∣ c.in_ok-found.ensures.read ∣₁,
         ),
       );
       moves = omega (arith, long);

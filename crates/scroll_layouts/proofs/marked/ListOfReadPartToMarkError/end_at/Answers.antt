@@ -1,9 +1,10 @@
 -- The values are values of their own bytes.
 use Rattle.std.proofs.Common.{◌-◌, length, drop, take, sym, subst, arith, rules}
-use Rattle.scroll_layouts.specs.Marks.{CountedMarked, MarkedItems}
+use Rattle.scroll_layouts.specs.Marks.{CountedMarked}
 use Rattle.scroll_layouts.specs.lemmas.Parts.{bytes-taken, cut-there}
 use Rattle.scroll_layouts.specs.lemmas.WholeLemmas.{bytes-below}
-use Rattle.scroll_layouts.specs.lemmas.MarkLemmas.{counted-marked, marked-cut}
+use Rattle.scroll_layouts.specs.lemmas.MarkLemmas.{marked-cut}
+use Rattle.scroll_layouts.specs.lemmas.ListLemmas.{list-has}
 use Rattle.scroll_layouts.proofs.marked.ListOfReadPartToMarkError.end_at.Goals as goal
 
 pub of-requires : goal.of-requires
@@ -34,17 +35,18 @@ returns-clause-ends g c =
     let mark = g.K.End.EndMark.mark in
     let inside = c.in_ok-end.ensures.inside in
     let list = g.L.ListPart.seen c.of.result in
-    let there = cut-there s o end list c.requires inside c.of.ensures in
+    let made = c.of.ensures in
+    let there = cut-there s o end list.bytes c.requires inside made.bytes in
     record {
       value = record { 0 = c.of.result; 1 = record {} };
       there = (
         there.1,
         there.2,
-        subst (λ l. ∥ MarkedItems mark f c.args.order l (length l) ∥₁)
-            (sym c.of.ensures)
-            ∣ counted-marked (marked-cut mark f c.args.order rest end c.in_ok-end.count
+        made.order,
+        list-has (λ l n. ∥ CountedMarked mark f c.args.order l (length l) n ∥₁) made.bytes
+            made.count ∣ marked-cut mark f c.args.order rest end c.in_ok-end.count
             (bytes-taken (length s - o) o s (bytes-below s c.type_inv.from)) inside
-            c.in_ok-end.ensures.read) ∣₁,
+            c.in_ok-end.ensures.read ∣₁,
       );
       moves = omega (arith, there.0);
     }
