@@ -21,6 +21,8 @@ impl IsList for Codes {
         (⟦<Run<u16> as ReadPart<'static, (), Error>>⟧.format tt) order s 0 (length s) n };
 }
 
+// values  end
+// u16     as its field says
 impl<'a> Listed<'a> for Codes {
     type Error = Error;
 
@@ -74,6 +76,9 @@ type CodeListParts<'a> = (CodeListHead, ListOf<'a, CodesPart<'a>>);
 
 type CodeListCtx = Headed<(), CodeListNext, CodeListSays>;
 
+// field  offset  size          notes
+// count  0       1
+// codes  1       count values  ctx = Count(count as usize)
 impl<'a> Shape for CodeList<'a> {
     type Ctx = ();
 
@@ -192,6 +197,9 @@ type CodeBlockParts<'a> = (CodeBlockHead, ListOf<'a, CodesPart<'a>>);
 
 type CodeBlockCtx = Headed<(), CodeBlockNext, CodeBlockSays>;
 
+// field  offset  size  notes
+// size   0       1
+// codes  1       size  ctx = size as usize
 impl<'a> Shape for CodeBlock<'a> {
     type Ctx = ();
 
