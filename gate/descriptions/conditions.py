@@ -1,6 +1,6 @@
 """Conditions in notes: how they are written, and whether they hold."""
 
-from typing import List, NamedTuple, Union
+from typing import List, NamedTuple, Sequence, Union
 
 from descriptions.counts import Known
 
@@ -13,18 +13,19 @@ class Condition(NamedTuple):
     number: int
     bit: int = 0
     other: str = ""
+    is_letter: bool = False
 
     @property
     def names(self) -> List[str]:
         return [self.name, *([self.other] if self.other else [])]
-
 
     @property
     def parts(self) -> "List[Condition]":
         return [self]
 
     def text(self) -> str:
-        return f"{self.name}{f' & {self.bit}' if self.bit else ''} {self.sign} {self.other or self.number}"
+        number = f"b'{chr(self.number)}'" if self.is_letter else str(self.number)
+        return f"{self.name}{f' & {self.bit}' if self.bit else ''} {self.sign} {self.other or number}"
 
     def holds(self, known: Known) -> bool:
         found, other = known[self.name], known[self.other] if self.other else self.number
@@ -34,20 +35,24 @@ class Condition(NamedTuple):
 
 
 class Joined(NamedTuple):
-    """Conditions that hold together, or of which one holds."""
+    """Conditions that hold together, or of which one holds. Where one of several holds, some may be such as hold together."""
 
-    parts: List[Condition]
+    inside: "Sequence[Union[Condition, Joined]]"
     is_any: bool
 
     @property
     def names(self) -> List[str]:
         return [name for it in self.parts for name in it.names]
 
+    @property
+    def parts(self) -> List[Condition]:
+        return [one for it in self.inside for one in it.parts]
+
     def text(self) -> str:
-        return (" || " if self.is_any else " && ").join(it.text() for it in self.parts)
+        return (" || " if self.is_any else " && ").join(it.text() for it in self.inside)
 
     def holds(self, known: Known) -> bool:
-        return (any if self.is_any else all)(it.holds(known) for it in self.parts)
+        return (any if self.is_any else all)(it.holds(known) for it in self.inside)
 
 
 class IsLeft:

@@ -7,7 +7,7 @@ from typing import Callable, Dict, List, NamedTuple, Optional, Sequence, Union
 from descriptions.conditions import Condition, IsLeft
 from descriptions.counts import FLOATS, KEPT, PART, SIGNED, SMALL, UNSIGNED, Group, Plain, Sum, array, is_count
 from descriptions.draw_numbers import ALL, ANY_TAG, DEEPEST, DEPTH, ENDED, FIELDS, FIELDS_WITHIN, FIELD_ORDER, FIXED, FRESH
-from descriptions.draw_numbers import IS_KEPT, IS_LEFT, LEAVES, LISTS, LOW, NESTED, ORDERED, OWN_TAG, PADDED, POINTER, RANGE
+from descriptions.draw_numbers import IS_KEPT, IS_LEFT, LEAVES, LISTS, LOW, NESTED, ORDERED, OWN_TAG, OWN_TEST, PADDED, POINTER, RANGE
 from descriptions.draw_numbers import REST, SHORT, TEST, TOP_ENUM, WRAPPED, ZERO_MARK, Item, Known, Numbers
 from descriptions.expressions import Rest
 from descriptions.kinds import Ended, Filled, Gap, Kind, Leb, Number, Numeral, Slice
@@ -109,7 +109,8 @@ class Draw(Numbers):
         is_own, name, variants = not own or self.chance(40), name or self.new_type(), []
         tag = Known("tag", self.choice(["u8", "u16", "u32", "u64"]), "") if is_own else own[self.least_used([*own])]
         given = [] if is_own else [Known("given", "usize", "given")]
-        for at, number in enumerate(self.sample(range(200), self.randint(2, 4))):
+        tags = self.sample(range(200), self.randint(2, 4))
+        for at, number in enumerate([0, *tags[1:]] if 0 not in tags and self.chance(40) else tags):
             leaves = [*SHORT, "zeros", *LISTS] if is_own else [*LEAVES, *LISTS]
             kinds = [it for it in leaves if it != "numbers" and not (is_own and it in LISTS and it not in ENDED)]
             kinds += ["struct"] if depth < DEEPEST and self.structs_left else []
@@ -119,7 +120,7 @@ class Draw(Numbers):
             variants.append(Variant(f"{'ABCD'[at]}{name.rpartition('x')[2]}", number, made))
         if not is_own and self.chance(40):
             at = self.randrange(len(variants))
-            above = min([it.tag for it in variants if it.tag > variants[at].tag], default=250)
+            above = min([it.tag for it in variants if it.tag > variants[at].tag], default=self.choice([250, 256 ** UNSIGNED[tag.type]]))
             variants[at] = variants[at]._replace(last=self.randint(variants[at].tag, above - 1))
             self.kinds.append(RANGE)
         if not is_own and self.chance(40):
@@ -178,7 +179,9 @@ class Draw(Numbers):
                 self.kinds += [LOW] if made.is_low else []
             elif kind == "three bytes":
                 # (behind which no other field of bits may stand)
-                numbers = [Number(Plain("u32"), bits=24), Number(Plain("u8"))]
+                lower = self.choice([0, 0, 3, 7])
+                shared = [Number(Plain("u8"), bits=lower)] if lower else []
+                numbers = [Number(Plain("u32"), bits=24 - lower), *shared, Number(Plain("u8"))]
                 made.fields += [Field(f"f{len(made.fields) + at}", it) for at, it in enumerate(numbers)]
             elif kind == "padding":
                 made.fields.append(Field(f"f{len(made.fields)}", Gap(Sum([]), self.choice([2, 4, 8]))))
@@ -227,6 +230,9 @@ class Draw(Numbers):
         if is_free and self.has_tests and self.chance(20):
             self.kinds.append(TEST)
             of.test = self.condition(numbers)
+            first = next(it for it in numbers if it.name == of.test.names[0])
+            if self.error and self.chance(60):
+                of.test_own = f"{self.error.name}::{self.own(first.type, OWN_TEST)}"
 
     @staticmethod
     def says(of: Field) -> List[Known]:

@@ -2,7 +2,7 @@
 
 import random
 from collections import Counter
-from typing import Dict, List, NamedTuple, Sequence
+from typing import Dict, List, NamedTuple, Sequence, Union
 
 from descriptions.conditions import AnyCondition, Condition, Joined
 from descriptions.counts import FLOATS, SIGNED, SMALL, UNSIGNED, Fixed, Group, OwnError, Plain, Sum, array
@@ -10,7 +10,7 @@ from descriptions.expressions import Product, Quotient, Shifted
 from descriptions.kinds import Number
 from descriptions.pointers import Item
 
-MADE = ("a quotient", "a product of two", "a shift", "a shift of bits")
+MADE = ("a quotient", "a product of two", "a wide product", "a shift", "a shift of bits")
 # The kinds of fields, of counts, of conditions and of types of a fixed size.
 SHORT = ("text to a byte", "C string", "ULEB128", "SLEB128", "high groups", "zigzag", "digits", "filled text")
 LEAVES = (*SHORT, "slice", "text", "zeros", "table", "table of records", "numbers")
@@ -21,7 +21,7 @@ NESTED = ("struct", "struct that is given a number", "enum")
 WRAPPED = ("padded", "within", "optional")
 PARTS = (*LEAVES, *LISTS, *NESTED, *WRAPPED, "bits", "three bytes", "padding")
 COUNTS = ("as it is", "a product", "a sum", "a difference", "a length", "in LEB128", "in bits", "in a struct", *MADE)
-CONDITIONS = ("a bit", "no bit", "equal", "not zero", "less", "greater", "another field", "both", "one of two")
+CONDITIONS = ("a bit", "no bit", "equal", "not zero", "less", "greater", "another field", "both", "one of two", "both or one")
 FIXED = ("unsigned", "signed", "array", "array of arrays", "record", "constant", "constant bytes")
 # Those of them that are tested.
 CONSTANTS = FIXED[-2:]
@@ -36,12 +36,14 @@ KINDS = (
 # What is drawn besides.
 OWN_CONSTANT, OWN_COUNT, OWN_TAG = (f"an error of one's own for {it}" for it in ("a constant", "a count", "a tag"))
 PADDED, SMALL_ERROR, IS_KEPT, TOP_ENUM = "a whole struct padded", "a small error", "Kept", "a whole enum"
-ORDERED, FIELD_ORDER, TEST = "a struct's byte order", "a field's byte order", "a check"
+ORDERED, FIELD_ORDER, TEST, OWN_TEST = "a struct's byte order", "a field's byte order", "a check", "an error of one's own for a check"
+NAMED, LETTER, LEAST, GREATEST = "a named constant", "a letter", "a least number", "a greatest number"
 RANGE, ANY_TAG = "enum: several tags", "enum: all other tags"
 LOW, REST, IS_LEFT, ZERO_MARK = "bits from the lowest on", "the rest", "an option of the rest", "a mark of zeros"
 POINTER = "a pointer"
 OTHERS = (
-    *(OWN_CONSTANT, OWN_COUNT, OWN_TAG, PADDED, SMALL_ERROR, IS_KEPT, TOP_ENUM, ORDERED, FIELD_ORDER, TEST, RANGE, ANY_TAG),
+    *(OWN_CONSTANT, OWN_COUNT, OWN_TAG, PADDED, SMALL_ERROR, IS_KEPT, TOP_ENUM, ORDERED, FIELD_ORDER, TEST, OWN_TEST, RANGE, ANY_TAG),
+    *(NAMED, LETTER, LEAST, GREATEST),
     *(LOW, REST, IS_LEFT, ZERO_MARK, POINTER),
     *("enum: its own tag", "enum: an earlier tag"),
 )
@@ -53,6 +55,19 @@ ALL = 24
 # How deep the deep ones are, whose innermost struct stands behind four heads.
 DEPTH = 10
 FIELDS, FIELDS_WITHIN = (2, 13), (1, 4)
+
+
+class NamedConstant(NamedTuple):
+    """A constant, and the value of another one of its name in a function."""
+
+    name: str
+    type: str
+    value: str
+    other: str
+
+    def print(self) -> str:
+        head = f"const {self.name}: {self.type} = "
+        return f"{head}{self.value};\n\nfn other_{self.name.lower()}() -> {self.type} {{\n    {head}{self.other};\n    {self.name}\n}}\n"
 
 
 class Known(NamedTuple):
@@ -76,9 +91,9 @@ class Numbers(random.Random):
         self.error = OwnError(error, []) if error else None
         # (what is tested by itself isn't proved with a small error)
         self.has_tests, has_own = error != SMALL, error not in ("", SMALL)
-        self.items: List[Item] = [self.error] if self.error and has_own else []
+        self.items: List[Union[Item, NamedConstant]] = [self.error] if self.error and has_own else []
         self.kinds: List[str] = [] if self.has_tests else [SMALL_ERROR]
-        self.inner_count, self.structs_left = 0, STRUCTS
+        self.inner_count, self.constant_count, self.structs_left = 0, 0, STRUCTS
         if has_own:
             bag[:0] = ["enum", "field: constant", "slice", "count: a difference"]
         # How often the fields of a struct are named.
@@ -102,8 +117,17 @@ class Numbers(random.Random):
         return found
 
     def new_type(self) -> str:
+        """A name of a type, which other files of the crate have too."""
         self.inner_count += 1
-        return f"{self.name}x{self.inner_count}"
+        return f"Tx{self.inner_count}"
+
+    def new_constant(self, type_: str, value: str, other: str) -> str:
+        """Adds a constant, whose name other files have too, and a function."""
+        self.constant_count += 1
+        name = f"MARK{self.constant_count}"
+        self.items.append(NamedConstant(name, type_, value, other))
+        self.kinds.append(NAMED)
+        return name
 
     def own(self, type_: str, kind: str) -> str:
         """Adds a variant with a number to the error."""
@@ -118,6 +142,7 @@ class Numbers(random.Random):
         """A count, by the numbers that are known; one that `fits` can have any value."""
         free = [it for it in known if it.is_free and it.how != "length"] if fits else list(known)
         small = [it.name for it in free if it.is_small]
+        wide = [it.name for it in free if it.type == "u64" and it.how in ("number", "leb")]
         named = {
             "as it is": [it.name for it in free if it.how in ("number", "given")],
             "a product": small if not fits else [],
@@ -129,6 +154,7 @@ class Numbers(random.Random):
             "in a struct": [it.name for it in free if it.how == "struct"],
             "a quotient": small if self.has_tests else [],
             "a product of two": [] if fits or len(small) < 2 else small,
+            "a wide product": [] if fits or not self.has_tests or len(wide) < 2 else wide,
             "a shift": [] if fits or not self.has_tests else small,
             "a shift of bits": [] if fits else small,
         }
@@ -137,7 +163,7 @@ class Numbers(random.Random):
         kind = self.take("count: ", [it for it, found in named.items() if found])
         name = self.least_used(named[kind])
         if kind in MADE:
-            return self.made(kind, name, [it for it in small if it != name])
+            return self.made(kind, name, [it for it in (wide if kind == "a wide product" else small) if it != name])
         made = Sum([(name, self.choice([2, 3, 4, 8, 12]) if kind == "a product" else 1)])
         others = [it.name for it in known if (it.is_small or it.how == "length") and it.name != name]
         if kind == "a sum":
@@ -156,8 +182,8 @@ class Numbers(random.Random):
         """A count of a number that is no sum."""
         if kind == "a quotient":
             return Quotient([(name, 1)], by=self.choice([2, 3, 4, 8]))
-        if kind == "a product of two":
-            return Product([(name, 1), (self.choice(others), 1)])
+        if kind in ("a product of two", "a wide product"):
+            return Product([(name, 1), (self.choice(others), 1)], is_wide=kind == "a wide product")
         is_bits = kind == "a shift of bits"
         return Shifted([(name, 1)], of_number=self.choice([1, 1, 3]), modulus=8 * is_bits, more=self.randint(0, 1))
 
@@ -165,18 +191,26 @@ class Numbers(random.Random):
         """A condition on the numbers that are known. Two may hold together, or one of two."""
         names = [it.name for it in known if it.how != "length"]
         name, kind = self.least_used(names), self.take("condition: ", kinds if len(names) > 1 else CONDITIONS[:6])
-        if kind in ("both", "one of two"):
-            parts = [self.condition(known, CONDITIONS[:6]) for _ in range(2)]
-            return Joined([it for one in parts for it in one.parts], kind == "one of two")
+        if kind in ("both", "one of two", "both or one"):
+            first, second, *others = [self.condition(known, CONDITIONS[:6]) for _ in range(3 if kind == "both or one" else 2)]
+            return Joined([Joined([first, second], False), *others], True) if others else Joined([first, second], kind == "one of two")
         if kind == "another field":
             other_name = self.choice([it for it in names if it != name])
             return Condition(name, self.choice(["==", "!=", "<", "<=", ">", ">="]), 0, other=other_name)
         bit, other = 1 << self.randint(0, 7), self.randint(1, 200)
+        of = next(it for it in known if it.name == name)
+        if self.chance(25) and of.how != "bits":
+            other = self.choice([0, 256 ** UNSIGNED[of.type] - 1]) if of.type in UNSIGNED and kind == "equal" else other
+            other = 256 ** UNSIGNED[of.type] - 1 if of.type in UNSIGNED and kind in ("less", "greater") else other
         signs = {"a bit": ["!="], "not zero": ["!="], "less": ["<", "<="], "greater": [">", ">="]}
         sign = self.choice(signs.get(kind, ["=="]))
         if kind in ("a bit", "no bit"):
             return Condition(name, sign, 0, bit)
-        return Condition(name, sign, 0 if kind == "not zero" else other)
+        # (a number isn't greater than the greatest one of its type)
+        sign = ">=" if sign == ">" and other > 200 else sign
+        is_letter = 64 < other < 91 and kind != "not zero"
+        self.kinds += [LETTER] * is_letter + [LEAST] * (other == 0) + [GREATEST] * (other > 200)
+        return Condition(name, sign, 0 if kind == "not zero" else other, is_letter=is_letter)
 
     # Fields of a fixed size
 
@@ -198,12 +232,17 @@ class Numbers(random.Random):
         kind = self.take("field: ", [*fixed, *["unsigned"] * 4, *(FLOATING if self.has_floats else ())])
         if kind == "constant bytes":
             text = self.choice(["PK", "RIFF", "GIF89a", "x"])
-            return Number(array(Plain("u8"), len(text)), [*text.encode()])
+            named = self.new_constant(f"[u8; {len(text)}]", f'*b"{text}"', f'*b"{text.lower()}"') if self.chance(40) else ""
+            return Number(array(Plain("u8"), len(text)), [*text.encode()], named=named)
         if kind != "constant":
             return Number(self.fixed(kind))
         of = self.choice(["u8", "u16", "u32", "u64"])
         own = f"{self.error.name}::{self.own(of, OWN_CONSTANT)}" if self.error and self.chance(85) else ""
-        return Number(Plain(of), self.choice([self.randint(0, 255), 256 ** UNSIGNED[of] - 1]), own)
+        value = self.choice([self.randint(0, 255), self.randint(65, 90), 256 ** UNSIGNED[of] - 1])
+        named = self.new_constant(of, str(value), str(value ^ 1)) if self.chance(40) else ""
+        is_letter = not named and 64 < value < 91
+        self.kinds += [LETTER] * is_letter
+        return Number(Plain(of), value, own, named=named, is_letter=is_letter)
 
     def bits(self, is_low: bool) -> List[Number]:
         word = self.choice(["u8", "u16", "u32", *([] if is_low else ["u64"])])

@@ -57,9 +57,9 @@ class Number(Kind):
     """A field of a fixed size, perhaps of some bits, or with a constant, a number or the bytes of a text, whose other values may
     have an error of one's own."""
 
-    def __init__(self, of: Fixed, constant: Any = None, own: str = "", bits: int = 0) -> None:
-        self.text = bytes(constant).decode() if isinstance(constant, list) else str(constant)
-        said = f'b"{self.text}"' if isinstance(constant, list) else self.text
+    def __init__(self, of: Fixed, constant: Any = None, own: str = "", bits: int = 0, named: str = "", is_letter: bool = False) -> None:
+        self.text = named or (bytes(constant).decode() if isinstance(constant, list) else chr(constant) if is_letter else str(constant))
+        said = named or (f'b"{self.text}"' if isinstance(constant, list) else f"b'{self.text}'" if is_letter else self.text)
         notes = [f"bits = {bits}"] if bits else [f"is = {said}"] if constant is not None else []
         super().__init__(of.type, [*notes, *([f"else = {own}"] if own else [])])
         self.of, self.constant, self.own, self.bits = of, constant, own, bits
@@ -73,7 +73,7 @@ class Number(Kind):
                 return
             number, own = known[name], self.own.partition("::")[2]
             if number != self.constant:
-                raise Refused(f"{own} {number}") if own else bad(number, f"{name} is not {self.constant}")
+                raise Refused(f"{own} {number}") if own else bad(number, f"{name} is not {self.text}")
 
         return [([name], check)] if self.constant is not None else []
 

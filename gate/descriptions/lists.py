@@ -3,8 +3,8 @@
 import random
 from typing import Any, List, Tuple
 
-from descriptions.counts import GREATEST, MARK, Fixed, Hopeless, Known, Sum, bad, take_bytes
-from descriptions.kinds import Kind
+from descriptions.counts import GREATEST, MARK, Fixed, Group, Hopeless, Known, Sum, bad, take_bytes
+from descriptions.kinds import Kind, Number
 
 
 class Table(Kind):
@@ -39,6 +39,8 @@ class ListBytes(bytes):
     count = 0
 
 
+# How a list is walked, if not by `values`.
+WALKS = {"mark": "values_to_mark", "last": "values_to_last"}
 # The types of marks that are so many zeros.
 ZEROS = {1: "ZeroUleb", 2: "TwoZeroUlebs"}
 
@@ -145,4 +147,22 @@ class Listing(Kind):
             raise bad(value.count, "another number of values than its count")
 
     def lines(self, path: str) -> List[str]:
-        return [f"let made = mix_bytes(made, {path}.bytes);"]
+        of = "one.0.0" if isinstance(self.item, Number) and isinstance(self.item.of, Group) and self.item.of.is_struct else "one"
+        of = "one.0" if isinstance(self.item, Number) and of == "one" else of
+        inside = [f"    {it}" for it in ["let made = walked;", *self.item.lines(of), "walked = made;"]]
+        head = [f"let made = mix(made, &{path}.count.to_le_bytes());", "let mut walked = made;"]
+        return [*head, f"for one in {path}.{WALKS.get(self.how, 'values')}() {{", *inside, "}", "let made = walked;"]
+
+    def values(self, value: ListBytes) -> List[Any]:
+        """Returns the values of a list that was read."""
+        found, at = [], 0
+        while len(found) < value.count:
+            one, at = self.take_item(value, at, value.order)
+            found.append(one)
+        return found
+
+    def mixed(self, value: Any, order: str) -> bytes:
+        return value.count.to_bytes(8, "little") + b"".join(self.item.mixed(it, order) for it in self.values(value))
+
+    def is_nan(self, value: Any) -> bool:
+        return any(map(self.item.is_nan, self.values(value)))

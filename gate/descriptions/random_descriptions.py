@@ -3,8 +3,8 @@
 
     python3 gate/descriptions/random_descriptions.py [SEED [COUNT]]
 
-COUNT structs (8) are drawn from SEED (34:9) by gate/descriptions/draw.py, of 2 to 14 fields of all kinds that tools/derive takes,
-nested to depth 3; the last of twenty-four is nested to depth 10. (`34:9` is the tenth draw from 34, which has lists to their last
+COUNT structs (8) are drawn from SEED (34:24) by gate/descriptions/draw.py, of 2 to 14 fields of all kinds that tools/derive takes,
+nested to depth 3; the last of twenty-four is nested to depth 10. (`34:24` is the twenty-fifth draw from 34, which has lists to their last
 values, and a pointer to a struct of a fixed size.) `python3 tools/derive` prints what they need, in crates of some structs over
 the libraries as `rt lib` proves them in this repository. Each struct has functions that use it, with no proof by hand: a reader that
 says where fields stand and which error a short source is, a writer that reads a field back, a walk over a list, a read of what
@@ -45,7 +45,7 @@ from edits.judge import WAITS
 from step import FOLDERS, TOP, Ran, Step, Stop, below, copy_kept, count_workers, read_crates, run_step
 
 LIBRARY = "scroll_layouts"
-SEED, COUNT = "34:9", 8
+SEED, COUNT = "34:24", 8
 # How often structs are drawn again, so that they have all kinds.
 AGAIN = 500
 # How many structs are in a crate at most: the more, the more memory a check takes.
@@ -190,6 +190,7 @@ def every_case(struct: Struct, seed: str) -> Iterator[Case]:
         sources = [made, made + b"\x00\xff", *(made[:cut] for cut in rng.sample(range(len(made)), min(CUTS, len(made))))]
         sources += wrong_numbers(struct, value, order)
         sources += [damaged(made, rng) for _ in range(DAMAGES)]
+        sources.append(struct.put(value, "little" if order == "big" else "big"))
         for source in sources:
             yield ask(struct, name, source, order, 0, len(source) + 8)
         for change in range(1, len(changes_of(struct)) + 1):
@@ -223,9 +224,12 @@ def wrong_numbers(struct: Struct, value: Dict[str, object], order: str) -> Itera
 
 
 def damaged(made: bytes, rng: random.Random) -> bytes:
-    """Returns bytes of which one to three are others."""
+    """Returns bytes of which one bit, or one to three bytes are others."""
     found = bytearray(made)
-    for _ in range(rng.randint(1, 3)):
+    if rng.random() < 0.4:
+        found[rng.randrange(len(found))] ^= 1 << rng.randrange(8)
+        return bytes(found)
+    for _ in range(rng.choice([1, 1, 2, 3])):
         found[rng.randrange(len(found))] = rng.choice([0, 1, 127, 128, 255, rng.randrange(256)])
     return bytes(found)
 

@@ -6,7 +6,7 @@ from functools import cached_property
 from typing import Any, Dict, List, Optional, Tuple
 
 from descriptions.conditions import AnyCondition
-from descriptions.counts import GREATEST, MARK, PART, UNSIGNED, Hopeless, Known, Misfit, OwnError, Plain, Rule, Sum, bad, padding, take_bytes
+from descriptions.counts import GREATEST, MARK, PART, UNSIGNED, Hopeless, Known, Misfit, OwnError, Plain, Refused, Rule, Sum, bad, padding, take_bytes
 from descriptions.counts import take_zeros
 from descriptions.kinds import Gap, Kind, Leb, Number, Numeral
 
@@ -30,6 +30,8 @@ class Field:
     test: Optional[AnyCondition] = None
     # Whether it has what the fields before it leave.
     is_rest: bool = False
+    # The error's variant where the test doesn't hold.
+    test_own: str = ""
 
     @property
     def type(self) -> str:
@@ -47,6 +49,7 @@ class Field:
         notes = [f"if = {self.condition.text()}"] if self.condition else []
         notes += [f"order = {ORDERS[self.order]}"] if self.order else []
         notes += [f"check = {self.test.text()}"] if self.test else []
+        notes += [f"else = {self.test_own}"] if self.test_own else []
         notes += [f"within = {self.within.text()}"] if self.within and not self.is_rest else []
         notes += [*([f"padded = {self.padded}"] if self.padded else []), *self.kind.notes()]
         return (f"    // #[scroll({', '.join(notes)})]\n" if notes else "") + f"    pub {self.name}: {self.type},\n"
@@ -101,6 +104,8 @@ class Field:
 
     def check_test(self, known: Known) -> None:
         if self.test and not self.test.holds(known):
+            if self.test_own:
+                raise Refused(f"{self.test_own.partition('::')[2]} {known[self.test.names[0]]}")
             raise bad(known[self.test.names[0]], f"it is not so that {self.test.text()}")
 
     def want_test(self, known: Known) -> None:

@@ -7,7 +7,7 @@ from typing import List, NamedTuple, Optional, Sequence
 from descriptions.counts import KEPT, SIGNED, UNSIGNED, Group, Sum, bracket
 from descriptions.draw import Drawn
 from descriptions.kinds import Ended, Filled, Gap, Kind, Leb, Number, Numeral, Slice
-from descriptions.lists import Listing, Table
+from descriptions.lists import WALKS, Listing, Table
 from descriptions.nested import Enum, Inner, Tagged
 from descriptions.pointers import pointer_of
 from descriptions.structs import Field, Struct
@@ -241,7 +241,7 @@ pub fn keep_{name}{life}(to: &mut [u8], value: {made.top.type}, at: usize, order
 """
     walked = next((it for it in struct.fields if isinstance(it.kind, Listing) and not it.condition), None)
     if walked:
-        values = {"mark": "values_to_mark", "last": "values_to_last"}.get(walked.kind.how, "values")
+        values = WALKS.get(walked.kind.how, "values")
         text += f"""
 pub fn count_{name}(value: {struct.name}) -> usize {{
     let mut count: usize = 0;
