@@ -40,14 +40,14 @@ pub record DiffersOne {E X : Type 0} (f : Format E X) (order : Endian) (all : Li
   pub before : All (agrees f order) values
   pub error : differs f order value e
 
--- the target is unchanged: the head doesn't agree, or one of the values, or their bytes have no
--- room, which is `TooBig` with their number, at most the greatest `usize`, and the length of the
--- target
+-- the target is unchanged: the head doesn't agree, or one of the values; or all agree, and their
+-- bytes have no room, which is `TooBig` with their number, at most the greatest `usize`, and the
+-- length of the target
 abbrev pub KeepsList : {E A X : Type 0} → (Error → E → Type 0) → Format E A → Format E X → Endian
     → A → List X → List ℕ → List ℕ → E → Type 0
 KeepsList gives h f order head xs old new e =
     (differs h order head e × (new ≡ old))
     ⊎ (agrees h order head × DiffersOne f order xs e × (new ≡ old))
-    ⊎ ((inner : Error)
+    ⊎ (agrees h order head × All (agrees f order) xs × (inner : Error)
     × FailsShort (min (length (list_bytes h f order head xs)) (2 ^ 64 - 1)) old new inner
     × gives inner e)

@@ -61,14 +61,14 @@ pub record WritesWhole {E X : Type 0} (f : Format E X) (order : Endian) (x : X) 
   pub again : AtStart f order new x
   pub kept : (rest : List ℕ) → AtStart f order (take n new ++ rest) x
 
--- the target is unchanged: the value doesn't agree, or its bytes have no room, which is `TooBig`
--- with their number, at most the greatest `usize`, and the length of the target
+-- the target is unchanged: the value doesn't agree; or it agrees, and its bytes have no room, which
+-- is `TooBig` with their number, at most the greatest `usize`, and the length of the target
 abbrev pub KeepsWhole : {E X : Type 0} → (Error → E → Type 0) → Format E X → Endian → X → List ℕ
     → List ℕ → E → Type 0
 KeepsWhole gives f order x old new e =
     (differs f order x e × (new ≡ old))
-    ⊎ ((inner : Error) × FailsShort (min (length (bytes f order x)) (2 ^ 64 - 1)) old new inner
-    × gives inner e)
+    ⊎ (agrees f order x × (inner : Error)
+    × FailsShort (min (length (bytes f order x)) (2 ^ 64 - 1)) old new inner × gives inner e)
 
 -- the bytes of a value that agrees stand behind those that were there, and it is read there,
 -- whatever is appended after it
@@ -91,8 +91,15 @@ AppendsEach f order old (x ∷ xs) new =
     × AtStart f order (drop (length old) new) x
     × ((mid : List ℕ) × AppendsWhole f order x old mid × AppendsEach f order mid xs new)
 
+-- `LacksRoom gives room f order old x e`: a value agrees, and there is no memory for it behind
+-- `old`, and no room in a vector of the capacity `room`
+abbrev pub LacksRoom : {E X : Type 0} → (Error → E → Type 0) → ℕ → Format E X → Endian → List ℕ
+    → X → E → Type 0
+LacksRoom gives room f order old x e =
+    agrees f order x × (room < length old + len f x) × gives NoMemory e
+
 -- the values of `all` before some value are appended, and that one doesn't agree, or there is no
--- memory for it, and no room in a vector of the capacity `room`
+-- memory for it
 pub record FailsEach {E X : Type 0} (gives : Error → E → Type 0) (room : ℕ) (f : Format E X)
     (order : Endian) (old : List ℕ) (all : List X) (new : List ℕ) (e : E) : Type 0 where
   pub values : List X
@@ -100,4 +107,4 @@ pub record FailsEach {E X : Type 0} (gives : Error → E → Type 0) (room : ℕ
   pub others : List X
   pub split : all ≡ values ++ value ∷ others
   pub each : AppendsEach f order old values new
-  pub error : differs f order value e ⊎ ((room < length new + len f value) × gives NoMemory e)
+  pub error : differs f order value e ⊎ LacksRoom gives room f order new value e

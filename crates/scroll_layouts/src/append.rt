@@ -1,8 +1,7 @@
 // Parts that are appended to a vector.
-ghost use Rattle.std.specs.Prelude.{◌≡◌, ◌≤◌, ◌+◌, ◌-◌, ◌^◌, ◌++◌, ◌<◌, ◌⊎◌, length, vec_capacity, drop, min, IfErr, OnOk, OnErr};
-ghost use Rattle.scroll.specs.declared.error.Error.TheVariants.{NoMemory};
+ghost use Rattle.std.specs.Prelude.{◌≡◌, ◌≤◌, ◌+◌, ◌-◌, ◌^◌, ◌++◌, ◌⊎◌, length, vec_capacity, drop, min, IfErr, OnOk, OnErr};
 ghost use Rattle.scroll_layouts.specs.Formats.{len, bytes, agrees, differs};
-ghost use Rattle.scroll_layouts.specs.Wholes.{AppendsWhole, AppendsEach, FailsEach};
+ghost use Rattle.scroll_layouts.specs.Wholes.{AppendsWhole, AppendsEach, FailsEach, LacksRoom};
 
 use crate::Part;
 use scroll::{Endian, Error};
@@ -30,8 +29,8 @@ pub fn append_whole<C, E: From<Error>, L: Part<C, E>>(
         target.old.items target.new.items) }
     ensures unchanged { OnErr result (target.new.items ≡ target.old.items) }
     ensures refused { IfErr result (λ e. differs (L.format ctx.now) order value.now e
-        ⊎ ((vec_capacity target.old < length target.old.items + len (L.format ctx.now) value.now)
-        × E.from_gives NoMemory e)) }
+        ⊎ LacksRoom E.from_gives (vec_capacity target.old) (L.format ctx.now) order
+        target.old.items value.now e) }
     ensures capacity { vec_capacity target.old ≤ vec_capacity target.new }
 {
     value.check(order, ctx)?;

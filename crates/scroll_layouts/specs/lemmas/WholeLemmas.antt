@@ -7,10 +7,9 @@ use Rattle.scroll.specs.Bytes.{WritesPrefix}
 use Rattle.scroll.specs.lemmas.Frames.{WritesPrefix-back}
 use Rattle.scroll.specs.declared.endian.Endian.{Endian}
 use Rattle.scroll.specs.declared.error.Error.{Error}
-use Rattle.scroll.specs.declared.error.Error.TheVariants.{NoMemory}
 use Rattle.scroll_layouts.specs.Formats.{Format, reads, len, bytes, agrees, differs, exact}
 use Rattle.scroll_layouts.specs.OneWay.{told}
-use Rattle.scroll_layouts.specs.Wholes.{AtStart, at_start, ReadsWhole, ReadsExact, ReadsBack, WritesWhole, AppendsWhole, AppendsEach, FailsEach}
+use Rattle.scroll_layouts.specs.Wholes.{AtStart, at_start, ReadsWhole, ReadsExact, ReadsBack, WritesWhole, AppendsWhole, AppendsEach, FailsEach, LacksRoom}
 use Rattle.scroll_layouts.specs.lemmas.FormatLaws.{inside, made-agrees, bytes-len, back, kept}
 use Rattle.scroll_layouts.specs.lemmas.LayoutLaws.{layout-len}
 use Rattle.scroll_layouts.specs.lemmas.SameLaws.{one-value}
@@ -172,18 +171,18 @@ each-next f order old xs i x mid new inside is h last =
 -- there is no room in a vector that had less
 less-room : {E X : Type 0} (gives : Error → E → Type 0) (room now : ℕ) (f : Format E X)
     (order : Endian) (x : X) (mid new : List ℕ) (e : E) → new ≡ mid → room ≤ now
-    → differs f order x e ⊎ ((now < length mid + len f x) × gives NoMemory e)
-    → differs f order x e ⊎ ((room < length new + len f x) × gives NoMemory e)
+    → differs f order x e ⊎ LacksRoom gives now f order mid x e
+    → differs f order x e ⊎ LacksRoom gives room f order new x e
 less-room gives room now f order x mid new e same more (inl d) = inl d
 less-room gives room now f order x mid new e same more (inr h) =
-    inr (omega (arith, more, h.0, ap length same), h.1)
+    inr (h.0, omega (arith, more, h.1, ap length same), h.2)
 
 -- one of them fails
 pub each-fails : {E X : Type 0} (gives : Error → E → Type 0) (room now : ℕ) (f : Format E X)
     (order : Endian) (old : List ℕ) (xs : List X) (i : ℕ) (x : X) (mid new : List ℕ) (e : E)
     → i < length xs → x ≡ slice_index_or xs i x → AppendsEach f order old (take i xs) mid
     → new ≡ mid → room ≤ now
-    → differs f order x e ⊎ ((now < length mid + len f x) × gives NoMemory e)
+    → differs f order x e ⊎ LacksRoom gives now f order mid x e
     → FailsEach gives room f order old xs new e
 each-fails gives room now f order old xs i x mid new e inside is h same more-room error = record {
   values = take i xs;
