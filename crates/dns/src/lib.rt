@@ -8,13 +8,14 @@
 //! ```
 #![tactic(auto)]
 
-ghost use Rattle.std.specs.Prelude.{◌≡◌, IfOk, IfErr, IfSome};
+ghost use Rattle.std.specs.Prelude.{◌≡◌, ◌<◌, ◌+◌, length, take, drop, IfOk, IfErr, IfSome, IfNone};
+ghost use Rattle.std.specs.List.{All};
 ghost use Rattle.scroll.specs.Errors.{IsBadOffset};
 ghost use Rattle.scroll.specs.Numbers.{number};
 ghost use Rattle.scroll.specs.Reads.{ReadsSome, RefusesAt};
 ghost use Rattle.scroll.specs.Writes.{WritesAt, RefusesWriteAt};
 ghost use Rattle.scroll.specs.declared.endian.Endian.TheVariants.{Big};
-ghost use Rattle.dns.specs.Messages.{PointsTo};
+ghost use Rattle.dns.specs.Messages.{PointsTo, EndsWithZero};
 
 mod message;
 #[cfg(test)]
@@ -25,7 +26,8 @@ pub use crate::message::{
     Resource, Resources, Text, Texts,
 };
 use scroll::ctx::{TryFromCtx, TryIntoCtx};
-use scroll::{BE, Endian, Error, Pread, Result, slice};
+use scroll::{BE, Cread, Endian, Error, Pread, Result, slice};
+use scroll_layouts::ReadPart;
 
 /// Reads the message at the start of some bytes. These are the bytes by which it is written; what
 /// stands behind them is ignored.
@@ -33,6 +35,13 @@ pub fn read_message<'a>(bytes: &'a [u8]) -> Result<Message<'a>>
     ensures read { IfOk result (ReadsSome (⟦<Message<'a> as TryFromCtx<'a, Endian>>⟧.reads Big)
         bytes.now 0) }
     ensures id { IfOk result (λ x. x.header.id ≡ number Big 2 bytes.now) }
+    ensures question_count { IfOk result (λ x. x.header.questions
+        ≡ number Big 2 (drop 4 bytes.now)) }
+    ensures answer_count { IfOk result (λ x. x.header.answers ≡ number Big 2 (drop 6 bytes.now)) }
+    ensures questions { IfOk result (λ x. x.questions.bytes.now
+        ≡ take (length x.questions.bytes.now) (drop 12 bytes.now)) }
+    ensures records { IfOk result (λ x. x.records.bytes.now ≡ take (length x.records.bytes.now)
+        (drop (12 + length x.questions.bytes.now) bytes.now)) }
     ensures refused { IfErr result (RefusesAt
         (⟦<Message<'a> as TryFromCtx<'a, Endian>>⟧.refuses Big) IsBadOffset bytes.now 0) }
 {
@@ -54,20 +63,25 @@ pub fn write_message<'a>(target: &mut [u8], message: Message<'a>) -> Result<usiz
     Ok(size)
 }
 
-/// Returns the offset in the message at which a name goes on, if it ends with a pointer.
-pub fn pointer(name: &Name) -> Option<u16>
-    ensures { IfSome result (PointsTo name.now.labels.bytes.now) }
+/// Returns the offset in the message at which a name goes on if a pointer stands behind its labels,
+/// or `None` if a zero byte does.
+pub fn pointer<'a>(name: &Name<'a>) -> Option<u16>
+    ensures some { IfSome result (PointsTo (⟦<Label<'a> as ReadPart<'a, (), Error>>⟧.format tt)
+        name.now.labels.order name.now.labels.bytes.now) }
+    ensures none { IfNone result (EndsWithZero (⟦<Label<'a> as ReadPart<'a, (), Error>>⟧.format tt)
+        name.now.labels.order name.now.labels.bytes.now) }
 {
-    let bytes = name.labels.bytes;
+    below(name.labels.bytes);
     let mut labels = name.labels.values_to_mark();
-    for _label in 0..bytes.len() {
-        if labels.next().is_none() {
-            break;
-        }
-    }
-    if labels.bytes.len() != 2 {
+    while let Some(_label) = labels.next() {}
+    if labels.bytes.len() < 2 {
         return None;
     }
-    let end: u16 = bytes.pread_with(bytes.len().checked_sub(2)?, BE).ok()?;
-    end.checked_sub(0xc000)
+    let mark: u16 = labels.bytes.cread_with(0, BE);
+    Some(mark - 0xc000)
 }
+
+// Does nothing, and says that bytes are below 256.
+fn below(bytes: &[u8])
+    ensures { All (λ b. b < 256) bytes.now }
+{}

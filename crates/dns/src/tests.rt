@@ -3,6 +3,7 @@
 //     head = struct.pack(">6H", 0x28b1, 0x8180, 1, 1, 0, 0); name = b"\7example\3com\0"
 //     head + name + struct.pack(">2H", 1, 1) + struct.pack(">3HIH", 0xc00c, 1, 1, 3600, 4) + bytes([192, 0, 2, 1])
 use super::*;
+use scroll_layouts::Items;
 
 static ANSWER: [u8; 45] = [
     0x28, 0xb1, 0x81, 0x80, 0x00, 0x01, 0x00, 0x01, 0x00, 0x00, 0x00, 0x00, 0x07, 0x65, 0x78, 0x61,
@@ -32,6 +33,22 @@ fn an_answer_is_read_and_written(rt: HostRuntime) {
     let mut target = [0xff; 46];
     let size = write_message(&mut target, message).expect(&rt, "room");
     assert!(rt; size == 45 && target.starts_with(&ANSWER) && target[45] == 0xff);
+}
+
+// Names, and where they go on.
+static NAMES: [(&[u8], Option<u16>); 4] = [
+    (b"\x01a\x01b\xc0\x0c", Some(12)),
+    (b"\xc1\x00", Some(256)),
+    (b"\x01\xc3\x00", None),
+    (b"\x00", None),
+];
+
+#[test]
+fn names_that_go_on(rt: HostRuntime) {
+    for (bytes, wanted) in &NAMES {
+        let labels = Items::to_mark(bytes, BE).expect(&rt, "a name");
+        assert!(rt; pointer(&Name { labels }) == *wanted);
+    }
 }
 
 // Bytes that are others, and the error of reading the message.

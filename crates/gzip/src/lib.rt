@@ -9,7 +9,7 @@
 //! ```
 #![tactic(auto)]
 
-ghost use Rattle.std.specs.Prelude.{◌≡◌, ◌+◌, ◌-◌, ◌<◌, IfOk, IfErr, OnOk, OnErr, length, drop};
+ghost use Rattle.std.specs.Prelude.{◌≡◌, ◌+◌, ◌-◌, ◌<◌, IfOk, IfErr, IfSome, OnOk, OnErr, length, drop};
 ghost use Rattle.scroll.specs.Errors.{IsBadOffset};
 ghost use Rattle.scroll.specs.Numbers.{number};
 ghost use Rattle.scroll.specs.Reads.{ReadsBetween, RefusesAt};
@@ -33,6 +33,12 @@ pub const TRAILER: usize = 8;
 pub fn read_header<'a>(file: &'a [u8], offset: &mut usize) -> Result<Header<'a>>
     ensures read { IfOk result (ReadsBetween (⟦<Header<'a> as TryFromCtx<'a, Endian>>⟧.reads Little)
         file.now offset.old offset.new) }
+    ensures method { IfOk result (λ x. x.method ≡ number Little 1 (drop (offset.old + 2) file.now)) }
+    ensures flags { IfOk result (λ x. x.flags ≡ number Little 1 (drop (offset.old + 3) file.now)) }
+    ensures modified { IfOk result (λ x. x.modified
+        ≡ number Little 4 (drop (offset.old + 4) file.now)) }
+    ensures extra_len { IfOk result (λ x. IfSome x.extra (λ extra. extra.len
+        ≡ number Little 2 (drop (offset.old + 10) file.now))) }
     ensures refused { IfErr result (RefusesAt
         (⟦<Header<'a> as TryFromCtx<'a, Endian>>⟧.refuses Little) IsBadOffset file.now offset.old) }
     ensures stays { OnErr result (offset.new ≡ offset.old) }

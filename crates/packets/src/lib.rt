@@ -22,7 +22,7 @@
 //! The module [`log`] reads and writes logs of such packets, or of anything else.
 #![tactic(auto)]
 
-ghost use Rattle.std.specs.Prelude.{◌≡◌, ◌≤◌, length, IfOk, IfErr, IsOk, OnOk, OnErr};
+ghost use Rattle.std.specs.Prelude.{◌≡◌, ◌≤◌, ◌-◌, length, take, drop, IfOk, IfErr, IsOk, OnOk, OnErr};
 ghost use Rattle.scroll.specs.declared.endian.Endian.TheVariants.{Big};
 ghost use Rattle.packets.specs.Headers.{field};
 ghost use Rattle.packets.specs.declared.packet.PacketError.TheVariants.{Short};
@@ -44,6 +44,11 @@ pub use crate::packet::{DnsHeader, Packet, PacketError, UdpHeader};
 pub fn read_packet<'a>(bytes: &'a [u8]) -> Result<Packet<'a>, PacketError>
     ensures read { IfOk result (IsPacket (⟦<Packet<'a> as ReadPart<'a, (), PacketError>>⟧.format tt)
         bytes.now) }
+    ensures udp_len { IfOk result (λ x. x.udp.len ≡ field 4 bytes.now) }
+    ensures source { IfOk result (λ x. x.udp.source ≡ field 0 bytes.now) }
+    ensures id { IfOk result (λ x. x.dns.id ≡ field 8 bytes.now) }
+    ensures flags { IfOk result (λ x. x.dns.flags ≡ field 10 bytes.now) }
+    ensures body { IfOk result (λ x. x.body.now ≡ take (x.udp.len - 20) (drop 20 bytes.now)) }
     ensures refused { IfErr result (refuses (⟦<Packet<'a> as ReadPart<'a, (), PacketError>>⟧.format tt) Big bytes.now 0) }
     ensures accepted { 20 ≤ field 4 bytes.now → field 4 bytes.now ≤ length bytes.now → IsOk result }
 {

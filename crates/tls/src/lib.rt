@@ -8,14 +8,15 @@
 //! ```
 #![tactic(auto)]
 
-ghost use Rattle.std.specs.Prelude.{◌≡◌, drop, IfOk, IfErr, IfSome};
+ghost use Rattle.std.specs.Prelude.{◌≡◌, ◌<◌, drop, IfOk, IfErr, IfSome, IfNone};
+ghost use Rattle.std.specs.List.{All};
 ghost use Rattle.std.specs.Option.{IsSomeAnd};
 ghost use Rattle.scroll.specs.Errors.{IsBadOffset};
 ghost use Rattle.scroll.specs.Numbers.{number};
 ghost use Rattle.scroll.specs.Reads.{ReadsSome, RefusesAt};
 ghost use Rattle.scroll.specs.Writes.{WritesAt, RefusesWriteAt};
 ghost use Rattle.scroll.specs.declared.endian.Endian.TheVariants.{Big};
-ghost use Rattle.tls.specs.Hello.{HasServer, NamesServer};
+ghost use Rattle.tls.specs.Hello.{HasServer, HasNoServer, FirstServer, NoServer};
 
 mod hello;
 #[cfg(test)]
@@ -26,7 +27,8 @@ pub use crate::hello::{
     LongList, Protocol, ProtocolList, Protocols, ServerNames, ShortList,
 };
 use scroll::ctx::{TryFromCtx, TryIntoCtx};
-use scroll::{BE, Endian, Pread, Result, slice};
+use scroll::{BE, Endian, Error, Pread, Result, slice};
+use scroll_layouts::{Items, ReadPart};
 
 /// Reads the message at the start of some bytes. These are the bytes by which it is written; what
 /// stands behind them is ignored.
@@ -55,23 +57,34 @@ pub fn write_hello<'a>(target: &mut [u8], message: Handshake<'a>) -> Result<usiz
     Ok(size)
 }
 
-/// Returns the name of the server that a ClientHello asks for: that of the first of its extensions
-/// that has one.
+/// Returns the name of the server that a ClientHello asks for: the name in the first extension that
+/// has one, or `None` if no extension has one.
 pub fn server_name<'a>(hello: &ClientHello<'a>) -> Option<&'a str>
-    ensures { IfSome result (λ name. IsSomeAnd hello.now.extensions (λ list. NamesServer
-        (⟦<Extension<'a> as TryFromCtx<'a, Endian>>⟧.reads Big) list.each.bytes.now name.now)) }
+    ensures some { IfSome result (λ name. IsSomeAnd hello.now.extensions (λ list. FirstServer
+        (⟦<Extension<'a> as ReadPart<'a, (), Error>>⟧.format tt) list.each.order
+        list.each.bytes.now name.now)) }
+    ensures none { IfNone result (IfSome hello.now.extensions (λ list. NoServer
+        (⟦<Extension<'a> as ReadPart<'a, (), Error>>⟧.format tt) list.each.order
+        list.each.bytes.now)) }
 {
-    first_server(hello.extensions?.each.bytes)
+    match hello.extensions {
+        Some(list) => first_server(&list.each),
+        None => None,
+    }
 }
 
 // Returns the name in the first extension that has one.
-fn first_server<'a>(list: &'a [u8]) -> Option<&'a str>
-    ensures { IfSome result (λ name. NamesServer
-        (⟦<Extension<'a> as TryFromCtx<'a, Endian>>⟧.reads Big) list.now name.now) }
+fn first_server<'a>(list: &Items<'a, Extensions>) -> Option<&'a str>
+    ensures some { IfSome result (λ name. FirstServer
+        (⟦<Extension<'a> as ReadPart<'a, (), Error>>⟧.format tt) list.now.order
+        list.now.bytes.now name.now) }
+    ensures none { IfNone result (NoServer
+        (⟦<Extension<'a> as ReadPart<'a, (), Error>>⟧.format tt) list.now.order
+        list.now.bytes.now) }
 {
-    let mut offset = 0;
-    for _turn in 0..list.len() {
-        let extension: Extension<'a> = list.gread_with(&mut offset, BE).ok()?;
+    below(list.bytes);
+    let mut values = list.values();
+    while let Some(extension) = values.next() {
         if let Some(name) = server_of(&extension) {
             return Some(name);
         }
@@ -79,9 +92,15 @@ fn first_server<'a>(list: &'a [u8]) -> Option<&'a str>
     None
 }
 
+// Does nothing, and says that bytes are below 256.
+fn below(bytes: &[u8])
+    ensures { All (λ b. b < 256) bytes.now }
+{}
+
 // Returns the name of a server, if an extension has it.
 fn server_of<'a>(extension: &Extension<'a>) -> Option<&'a str>
-    ensures { IfSome result (λ name. HasServer extension.now name.now) }
+    ensures some { IfSome result (λ name. HasServer extension.now name.now) }
+    ensures none { IfNone result (HasNoServer extension.now) }
 {
     match extension.body {
         ExtensionBody::Server(names) => Some(names.host.name),

@@ -73,3 +73,17 @@ fn extensions_are_walked(rt: HostRuntime) {
     }
     assert_eq!(rt; count, 7);
 }
+
+// An extension without bytes (RFC 7627), and the name of a server behind it.
+static SECOND: [u8; 22] = [
+    0x00, 0x17, 0x00, 0x00, 0x00, 0x00, 0x00, 0x0e, 0x00, 0x0c, 0x00, 0x00, 0x09, 0x6c, 0x6f, 0x63,
+    0x61, 0x6c, 0x68, 0x6f, 0x73, 0x74,
+];
+
+#[test]
+fn a_name_in_the_second_extension(rt: HostRuntime) {
+    let list: Items<Extensions> = Items::new(&SECOND, BE).expect(&rt, "a list");
+    assert!(rt; first_server(&list) == Some("localhost"));
+    let others: Items<Extensions> = Items::new(&SECOND[..4], BE).expect(&rt, "a list");
+    assert!(rt; first_server(&others).is_none());
+}

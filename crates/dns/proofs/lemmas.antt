@@ -1,0 +1,2 @@
+pub mod NameEnds
+pub mod Walks
