@@ -18,7 +18,7 @@ BRACKET = r"[\[({]"
 ATTRIBUTE = re.compile(rf"#\s*!?\s*{BRACKET}")
 CALLED = re.compile(rf"(\w+)\s*{BRACKET}\s*(\w+)\s*=(?!=)")
 BRACKETED = re.compile(rf"{BRACKET}\s*(\w+)\s*{BRACKET}")
-ASSIGNED = re.compile(rf"^\W*({'|'.join(WORDS)})\s*=(?!=)")
+ASSIGNED = re.compile(rf"(?m)^\W*({'|'.join(WORDS)})\s*=(?!=)")
 ASSIGNED_INSIDE = re.compile(rf"{BRACKET}\s*({'|'.join(WORDS)})\s*=(?!=)")
 
 

@@ -4,10 +4,11 @@ import re
 from pathlib import Path
 from typing import Any, Dict, Iterator, List, NamedTuple, Set, Tuple
 
+from crates import Crate
 from fixed_types import is_exact_type, names_of
 from floats import too_much
 from items import Item, SourceFile
-from model import Crate, Enum, ListType, Struct
+from model import Enum, ListType, Struct
 from names import CHOICE, CODE, GHOST, qualified
 from printing import Printer
 from readers import read_form
@@ -23,7 +24,7 @@ HEAD = "// Printed by tools/derive from "
 def derived_path(path: str) -> Path:
     """Returns where the implementations for a file stand."""
     file = Path(path)
-    return file.with_name("derived.rt") if file.stem in ("lib", "main") else file.with_suffix("") / "derived.rt"
+    return file.with_name("derived.rt") if file.stem in ("lib", "main", "mod") else file.with_suffix("") / "derived.rt"
 
 
 class Written(NamedTuple):

@@ -232,6 +232,8 @@ def skip_attribute(tokens: Tokens, line: int) -> str:
         tokens.refuse(line, f"`#[{name}(..)]` has to be a comment: `// #[scroll(..)]`")
     if name == "derive" and any(it.text in ("Pread", "Pwrite", "Part") for it in inside.tokens):
         tokens.refuse(line, f"`#[{name}(..)]` has to be a comment: `// #[{name}(..)]`")
+    if name == "path":
+        tokens.refuse(line, "`#[path = ..]` isn't read, so names in this module may be others: move the file")
     if name in OTHERS:
         tokens.refuse(line, f"`#[{name}(..)]` isn't read: write `// #[scroll(..)]`")
     return name
@@ -307,6 +309,8 @@ def read_variant(tokens: Tokens, notes: Notes) -> RawField:
     made = RawField(tokens.path, "variant", name.text, name.line, notes, [], has_names=inside.next.text == "{")
     if inside.next.text == "(":
         made.types = [read_type(it) for it in inside.inside().split()]
+    if inside.next.text == "=":
+        made.refuse("has a number of its own, which no bytes have: write its tag, `// #[scroll(is = ..)]`")
     return made
 
 

@@ -7,7 +7,7 @@ from fixed_types import PLAIN, Pointer
 from items import Item, RawField, Type
 
 if TYPE_CHECKING:
-    from model import Crate
+    from crates import Crate
 
 # The numbers that may say an offset.
 OFFSETS = ("u16", "u32", "u64")

@@ -6,11 +6,12 @@ from math import prod
 from typing import Any, List, Optional, Sequence, Tuple
 
 from conditions import Both, Condition, read_condition
+from crates import Crate
 from fields import KINDS, FixedSize, Nested
 from fixed_types import PLAIN, Fixed, names_of
 from forms import Number, Part, Rule, numbers
 from items import Item, Named, Note, Notes, RawField, Type
-from model import Crate, Form, Known
+from model import Form, Known
 from rules import below_rule, great_rule, multiple_rule
 from scopes import Target
 from sums import PLACE, Sum, Term, Value, read_sum

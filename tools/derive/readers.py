@@ -3,12 +3,13 @@
 from dataclasses import replace
 from typing import Dict, List, Optional, Tuple, Type as TypeOf
 
+from crates import Crate
 from fields import FixedSize, counting
 from fixed_types import PLAIN, Record, is_counter, numbers_of
 from forms import NOTHING, Number, Part, bits, nothing, numbers, optional
 from items import Item, Note, RawField, read_type
 from literals import bytes_of, number_of
-from model import Crate, Enum, Form, ListType, Struct, Tags, Variant
+from model import Enum, Form, ListType, Struct, Tags, Variant
 from reader import Reader
 from rules import check_rule, own_variant, tag_rule
 from shapes import Chain, leaving, resolve, together

@@ -3,10 +3,10 @@
 import re
 from typing import Dict, List, Optional, Tuple
 
+from crates import Crate
 from fixed_types import width_of
 from items import Item, Note, RawField, Type
 from literals import number_of
-from model import Crate
 from tokens import OWN
 
 HEAD = ("field", "offset", "size", "notes")
