@@ -13,6 +13,7 @@
 #![tactic(auto)]
 
 ghost use Rattle.std.specs.Prelude.{◌≡◌, IfOk, IfErr, OnOk};
+ghost use Rattle.git_index.specs.Entries.{HasEntries};
 ghost use Rattle.git_index.specs.Indexes.{IsIndex, RefusesIndex, HasHeader, RefusesHeader, entry_count};
 ghost use Rattle.git_index.specs.declared.IndexError.TheVariants.{Short, Refused};
 
@@ -85,6 +86,7 @@ fn read_header(file: &[u8]) -> Result<u32, IndexError>
 pub fn read_index<'a>(alloc: Global, file: &'a [u8]) -> Result<Vec<Entry<'a>>, IndexError>
     ensures read { IfOk result (λ entries. IsIndex
         (⟦<Entry<'a> as ReadPart<'a, (), Error>>⟧.format tt) file.now entries.items) }
+    ensures fields { IfOk result (λ entries. HasEntries file.now entries.items) }
     ensures refused { IfErr result (RefusesIndex
         (⟦<Entry<'a> as ReadPart<'a, (), Error>>⟧.format tt) file.now) }
 {

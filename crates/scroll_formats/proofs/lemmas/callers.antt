@@ -1,2 +1,3 @@
 pub mod Sequences
 pub mod Written
+pub mod Weaker
