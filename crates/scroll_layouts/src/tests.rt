@@ -11,6 +11,7 @@ mod orders;
 mod parts;
 mod places;
 mod pointers;
+mod printed;
 mod rest;
 mod results;
 mod stored;

@@ -1,9 +1,9 @@
 // The printed lines.
-use crate::SmallError;
+use crate::{SmallError, Table};
 use crate::tests::results::check_eq;
 use arrayvec::ArrayString;
 use scroll::Error;
-use std::fmt::{Display, Write};
+use std::fmt::{Debug, Display, Write};
 use std::mem;
 use std::process::Abort;
 
@@ -38,4 +38,17 @@ fn check_there_and_back(rt: &impl Abort, small: SmallError, wanted: &str) {
     check_line(rt, small, wanted);
     check_line(rt, Error::from(small), wanted);
     check_eq(rt, SmallError::from(Error::from(small)), small);
+}
+
+#[test]
+fn tables_are_printed_with_their_bytes(rt: HostRuntime) {
+    let table: Table<'_, u16> = Table::new(&[1, 2]);
+    check_fields(&rt, table, "Table { bytes: [1, 2], of: PhantomData<_> }");
+}
+
+// Checks what a value prints of its fields.
+fn check_fields<T: Debug + Drop>(rt: &impl Abort, value: T, wanted: &str) {
+    let mut line: ArrayString<80> = ArrayString::new();
+    let _ = write!(line, "{value:?}");
+    check_eq(rt, line.as_str(), wanted);
 }

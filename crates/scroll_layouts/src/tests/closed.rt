@@ -86,7 +86,7 @@ fn lists_without_a_last_block_are_refused(rt: HostRuntime) -> result::Result<(),
         matches!(
             other,
             Err(Error::BadInput {
-                size: 4,
+                size: 3,
                 msg: "another byte order than its values"
             })
         )
