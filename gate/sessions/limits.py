@@ -12,7 +12,8 @@ gate/sessions/stored.py.
 
 `--edits` plants the bugs of gate/sessions/limits/CRATE.edits, which the prover passes: of a crate all that break different inputs or
 tests in one copy of it, which `rt try` builds. Their form is that of CONTRIBUTING, with a line `file:`. The program must then run out
-of memory at the input that `breaks:` names, `KIND, N`; or the tests that it names must fail, and no others.
+of memory at the input that `breaks:` names, `KIND, N`; or the tests that it names must fail, and no others. The tests of another
+crate stand after its name, as in "zip: `tests::records_are_read`".
 
 A kind of input, or an edit, is a check.
 """
@@ -111,6 +112,12 @@ def is_tested(edit: Edit) -> bool:
     return "`" in edit.breaks
 
 
+def crate_of(edit: Edit) -> str:
+    """Returns the crate whose tests tell an edit."""
+    other = re.match(r"(\w+): `", edit.breaks)
+    return other[1] if other else edit.crate
+
+
 def names_of(edit: Edit) -> Set[str]:
     """Returns the input, or the tests, that an edit breaks."""
     return {*re.findall(r"`(.*?)`", edit.breaks)} or {edit.breaks}
@@ -123,7 +130,8 @@ def batches(edits: List[Edit]) -> List[List[Edit]]:
         return names_of(edit) | {f"{it.file}: {it.old}" for it in edit.pairs}
 
     def fits(edit: Edit, batch: List[Edit]) -> bool:
-        return is_tested(edit) == is_tested(batch[0]) and not parts(edit) & {part for it in batch for part in parts(it)}
+        alike = (is_tested(edit), crate_of(edit)) == (is_tested(batch[0]), crate_of(batch[0]))
+        return alike and not parts(edit) & {part for it in batch for part in parts(it)}
 
     found: List[List[Edit]] = []
     for edit in edits:
@@ -151,7 +159,7 @@ def run_broken(step: Step, crate: str, edits: List[Edit]) -> str:
                 raise Bad(f"{edit.name}: there is no input `{edit.breaks}`")
             (cases / edit.name).write_bytes(given[edit.breaks])
         words = ["--cases", str(cases)]
-    return step.run(tree / "crates" / crate, "rt", "try", *words).said
+    return step.run(tree / "crates" / crate_of(edits[0]), "rt", "try", *words).said
 
 
 def is_caught(edit: Edit, said: str) -> bool:

@@ -1,10 +1,13 @@
 -- A log of records, one after another from the first byte to the last. The relations take the
 -- format of a record.
-use Rattle.std.specs.Prelude.{◌≡◌, ℕ, List, length}
+use Rattle.std.specs.Prelude.{◌≡◌, ◌+◌, ◌-◌, ℕ, List, length, take, drop}
 use Rattle.std.specs.List.{flat_map}
 use Rattle.scroll.specs.Arrays.{WritesAll}
 use Rattle.scroll_formats.specs.Many.{RefusesToEnd, FailsMany}
+use Rattle.scroll.specs.Numbers.{number}
 use Rattle.scroll.specs.Reads.{ReadsAll}
+use Rattle.scroll.specs.Texts.{ReadsText}
+use Rattle.scroll.specs.declared.ctx.str_ctx.StrCtx.TheVariants.{Required}
 use Rattle.scroll.specs.declared.endian.Endian.{Endian}
 use Rattle.scroll.specs.declared.error.Error.{Error}
 use Rattle.scroll_formats.specs.declared.located.At.{At}
@@ -15,6 +18,13 @@ use Rattle.packets.specs.declared.log.Record.{Record}
 -- the whole log is these records
 abbrev pub IsLog : Format Error Record → Endian → List ℕ → List Record → Type 0
 IsLog format order log records = ReadsAll (ReadsBack format order) log 0 records (length log)
+
+-- a record at the start of a source, in `n` bytes, field by field
+pub record ReadsRecord (order : Endian) (s : List ℕ) (x : Record) (n : ℕ) : Type 0 where
+  pub len : x.len ≡ number order 2 s
+  pub name : ReadsText (Required 0) (drop 2 s) x.name.now (length x.name.now + 1)
+  pub body : x.body.now ≡ take (x.len - length x.name.now - 1) (drop (3 + length x.name.now) s)
+  pub whole : n ≡ 2 + x.len
 
 -- the error of reading a log: that of a record after those before it, or out of memory
 abbrev pub RefusesLog : Format Error Record → Endian → List ℕ → At Error → Type 0

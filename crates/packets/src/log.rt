@@ -11,7 +11,8 @@
 //! let first: Record = bytes.pread_with(0, LE)?;
 //! ```
 ghost use Rattle.std.specs.Prelude.{◌≡◌, length, take, IfOk, IfErr};
-ghost use Rattle.packets.specs.Logs.{IsLog, RefusesLog, WritesLog, FailsLog, log_bytes};
+ghost use Rattle.scroll.specs.Reads.{ReadsAll};
+ghost use Rattle.packets.specs.Logs.{IsLog, ReadsRecord, RefusesLog, WritesLog, FailsLog, log_bytes};
 
 mod derived;
 
@@ -42,6 +43,8 @@ pub fn read_records<'a>(
 ) -> Result<Vec<Record<'a>>, At<Error>>
     ensures read { IfOk result (λ records. IsLog
         (⟦<Record<'a> as ReadPart<'a, (), Error>>⟧.format tt) order log.now records.items) }
+    ensures fields { IfOk result (λ records. ReadsAll (ReadsRecord order) log.now 0 records.items
+        (length log.now)) }
     ensures back { IfOk result (λ records. log_bytes
         (⟦<Record<'a> as ReadPart<'a, (), Error>>⟧.format tt) order records.items ≡ log.now) }
     ensures refused { IfErr result (RefusesLog (⟦<Record<'a> as ReadPart<'a, (), Error>>⟧.format tt)

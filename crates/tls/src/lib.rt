@@ -8,7 +8,7 @@
 //! ```
 #![tactic(auto)]
 
-ghost use Rattle.std.specs.Prelude.{◌≡◌, ◌<◌, drop, IfOk, IfErr, IfSome, IfNone};
+ghost use Rattle.std.specs.Prelude.{◌≡◌, ◌<◌, ◌+◌, take, drop, IfOk, IfErr, IfSome, IfNone};
 ghost use Rattle.std.specs.List.{All};
 ghost use Rattle.std.specs.Option.{IsSomeAnd};
 ghost use Rattle.scroll.specs.Errors.{IsBadOffset};
@@ -35,7 +35,13 @@ use scroll_layouts::{Items, ReadPart};
 pub fn read_hello<'a>(bytes: &'a [u8]) -> Result<Handshake<'a>>
     ensures read { IfOk result (ReadsSome (⟦<Handshake<'a> as TryFromCtx<'a, Endian>>⟧.reads Big)
         bytes.now 0) }
+    ensures len { IfOk result (λ x. x.len ≡ number Big 3 (drop 1 bytes.now)) }
     ensures version { IfOk result (λ x. x.hello.version ≡ number Big 2 (drop 4 bytes.now)) }
+    ensures session_len { IfOk result (λ x. x.hello.session_len ≡ number Big 1 (drop 38 bytes.now)) }
+    ensures session { IfOk result (λ x. x.hello.session.now
+        ≡ take x.hello.session_len (drop 39 bytes.now)) }
+    ensures suites_len { IfOk result (λ x. x.hello.suites_len
+        ≡ number Big 2 (drop (39 + x.hello.session_len) bytes.now)) }
     ensures refused { IfErr result (RefusesAt
         (⟦<Handshake<'a> as TryFromCtx<'a, Endian>>⟧.refuses Big) IsBadOffset bytes.now 0) }
 {

@@ -7,9 +7,10 @@
 //! ```
 #![tactic(auto)]
 
-ghost use Rattle.std.specs.Prelude.{◌≡◌, ◌+◌, length, IfOk, IfErr};
+ghost use Rattle.std.specs.Prelude.{◌≡◌, ◌+◌, length, take, drop, IfOk, IfErr};
 ghost use Rattle.std.proofs.Common.{rules};
 ghost use Rattle.scroll.specs.Errors.{IsBadOffset};
+ghost use Rattle.scroll.specs.Numbers.{number};
 ghost use Rattle.scroll.specs.Reads.{ReadsSome, RefusesAt};
 ghost use Rattle.scroll.specs.Writes.{WritesAt, RefusesWriteAt};
 ghost use Rattle.scroll.specs.declared.endian.Endian.TheVariants.{Little};
@@ -70,6 +71,9 @@ impl<'a> TryIntoCtx<()> for Module<'a> {
 pub fn read_module<'a>(file: &'a [u8]) -> Result<Module<'a>>
     ensures read { IfOk result (ReadsSome (⟦<Module<'a> as TryFromCtx<'a, ()>>⟧.reads tt) file.now
         0) }
+    ensures version { IfOk result (λ x. x.version ≡ number Little 4 (drop 4 file.now)) }
+    ensures sections { IfOk result (λ x. x.sections.bytes.now
+        ≡ take (length x.sections.bytes.now) (drop 8 file.now)) }
     ensures refused { IfErr result (RefusesAt (⟦<Module<'a> as TryFromCtx<'a, ()>>⟧.refuses tt)
         IsBadOffset file.now 0) }
 {

@@ -53,14 +53,14 @@ fn values_of_each_count(rt: HostRuntime) {
     for len in 0..1101 {
         check_count(&rt, rt.alloc(), len);
     }
-    check_count(&rt, rt.alloc(), 5000);
+    check_count(&rt, rt.alloc(), 100_001);
 }
 
 // Checks that so many values are read.
 fn check_count(rt: &impl Abort, alloc: Global, len: usize)
-    requires { len ≤ 5000 }
+    requires { len ≤ 100001 }
 {
-    let bytes = &[7u8; 5000][..len];
+    let bytes = &[7u8; 100_001][..len];
     let many: Result<Vec<u8>> = read_many(alloc, bytes, &mut 0, len, BE).map_err(Error::from);
     check_eq(rt, expect_value(rt, many).as_slice(), bytes);
 }
@@ -70,14 +70,14 @@ fn values_up_to_each_end(rt: HostRuntime) {
     for len in 0..1101 {
         check_end(&rt, rt.alloc(), len);
     }
-    check_end(&rt, rt.alloc(), 5000);
+    check_end(&rt, rt.alloc(), 100_001);
 }
 
 // Checks that the values up to the end of so many bytes are read.
 fn check_end(rt: &impl Abort, alloc: Global, len: usize)
-    requires { len ≤ 5000 }
+    requires { len ≤ 100001 }
 {
-    let bytes = &[7u8; 5000][..len];
+    let bytes = &[7u8; 100_001][..len];
     let rest: Result<Vec<u8>> = read_to_end(alloc, bytes, &mut 0, BE).map_err(Error::from);
     check_eq(rt, expect_value(rt, rest).as_slice(), bytes);
 }
@@ -87,14 +87,14 @@ fn vectors_of_each_length(rt: HostRuntime) {
     for len in 0..1101 {
         check_length(&rt, rt.alloc(), len);
     }
-    check_length(&rt, rt.alloc(), 5000);
+    check_length(&rt, rt.alloc(), 100_001);
 }
 
 // Checks that so many bytes are appended to a vector with and without values.
 fn check_length(rt: &impl Abort, alloc: Global, len: usize)
-    requires { len ≤ 5000 }
+    requires { len ≤ 100001 }
 {
-    let bytes = &[7u8; 5000][..len];
+    let bytes = &[7u8; 100_001][..len];
     let mut file: Vec<u8> = Vec::new(alloc);
     check_value(rt, append(&mut file, bytes, LE), ());
     check_eq(rt, file.as_slice(), bytes);
@@ -106,10 +106,10 @@ fn check_length(rt: &impl Abort, alloc: Global, len: usize)
 #[test]
 fn a_vector_of_many_values(rt: HostRuntime) {
     let mut file: Vec<u8> = Vec::new(rt.alloc());
-    for _ in 0..5000 {
+    for _ in 0..100_001 {
         check_value(&rt, append(&mut file, Value(7u8), LE), ());
     }
-    check_eq(&rt, file.as_slice(), [7; 5000].as_slice());
+    check_eq(&rt, file.as_slice(), [7; 100_001].as_slice());
 }
 
 #[test]
