@@ -3,8 +3,15 @@
 import random
 from typing import Any, List, Tuple
 
-from descriptions.counts import GREATEST, MARK, Fixed, Group, Hopeless, Known, Sum, bad, take_bytes
+from descriptions.counts import GREATEST, MARK, Fixed, Group, Hopeless, Known, Sum, bad, lines_of, take_bytes
 from descriptions.kinds import Kind, Number
+
+
+class ListBytes(bytes):
+    """The bytes of a list or a table that was read, with the order in which its values were read, and their number."""
+
+    order = ""
+    count = 0
 
 
 class Table(Kind):
@@ -21,22 +28,30 @@ class Table(Kind):
         return b"".join(self.element.put(self.element.draw(rng), order) for _ in range(self.count.draw(known)))
 
     def take(self, source: bytes, at: int, order: str, known: Known) -> Tuple[bytes, int]:
-        found = take_bytes(source, at, self.size(known))
+        found = ListBytes(take_bytes(source, at, self.size(known)))
+        found.order, found.count = order, len(found) // self.element.width
         return found, at + len(found)
 
     def check(self, value: bytes, order: str, known: Known) -> None:
+        assert isinstance(value, ListBytes)
+        if value.order != order:
+            raise bad(len(value), "another byte order than its values")
         if len(value) != self.size(known):
             raise bad(len(value), "another length than its count")
 
     def lines(self, path: str) -> List[str]:
-        return [f"let made = mix_bytes(made, {path}.bytes);"]
+        inside = [f"    {it}" for it in ["let made = walked;", *lines_of(self.element, "one"), "walked = made;"]]
+        head = [f"let made = mix(made, &{path}.len().to_le_bytes());", "let mut walked = made;"]
+        return [*head, f"for one in {path}.elements() {{", *inside, "}", "let made = walked;"]
 
+    def values(self, value: "ListBytes") -> List[Any]:
+        return [self.element.take(value, at * self.element.width, value.order) for at in range(value.count)]
 
-class ListBytes(bytes):
-    """The bytes of a list that was read, with the order in which its values were read, and their number."""
+    def mixed(self, value: Any, order: str) -> bytes:
+        return value.count.to_bytes(8, "little") + b"".join(self.element.put(it, "little") for it in self.values(value))
 
-    order = ""
-    count = 0
+    def is_nan(self, value: Any) -> bool:
+        return any(map(self.element.is_nan, self.values(value)))
 
 
 # How a list is walked, if not by `values`.

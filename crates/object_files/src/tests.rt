@@ -237,9 +237,9 @@ const ADD: &str = "Symbol { name: 1, info: 18, other: 0, section: 1, value: 0, s
 #[test]
 fn symbols_are_read(rt: HostRuntime) {
     let alloc = rt.alloc();
-    let symbols: Table<Symbol> = Table::new(&SYMBOLS);
+    let symbols: Table<Symbol> = Table::new(&SYMBOLS, LE);
     check_printed(&rt, alloc, symbols.len(), "2");
-    let symbol = symbols.get(1, LE).expect(&rt, "a symbol");
+    let symbol = symbols.get(1).expect(&rt, "a symbol");
     check_text(&rt, symbol_name(b"\0add\0", &symbol), "add");
     check_printed(&rt, alloc, symbol, ADD);
 }

@@ -11,18 +11,19 @@ use std::result::Result;
 
 /// The elements of a table, each of the same size, in bytes that are borrowed.
 ///
-/// An element is read where it lies, without memory. Bytes after the last whole element are no part
-/// of the table.
+/// An element is read where it lies, without memory, in the byte order of the table. Bytes after the
+/// last whole element are no part of the table.
 ///
 /// ```rust
 /// let file: &[u8] = &[3, 1, 0, 2, 0, 3, 0];
 /// let mut offset = 1;
-/// let table: Table<u16> = Table::new(file.gread_with(&mut offset, 3 * 2)?);
+/// let table: Table<u16> = Table::new(file.gread_with(&mut offset, 3 * 2)?, LE);
 /// assert_eq!(rt; table.len(), 3);
-/// assert_eq!(rt; table.get(1, LE), Some(2));
-/// assert_eq!(rt; table.get(3, LE), None);
+/// assert_eq!(rt; table.get(1), Some(2));
+/// assert_eq!(rt; table.get(3), None);
+/// assert_eq!(rt; table.get_with(1, BE), Some(0x200));
 /// let mut sum = 0;
-/// for number in table.elements(LE) {
+/// for number in table.elements() {
 ///     sum += u32::from(number);
 /// }
 /// assert_eq!(rt; sum, 6);
@@ -31,6 +32,8 @@ use std::result::Result;
 pub struct Table<'a, T> {
     /// The bytes of the elements.
     pub bytes: &'a [u8],
+    /// The byte order in which the elements are read.
+    pub order: Endian,
     of: PhantomData<T>,
 }
 
@@ -48,13 +51,15 @@ impl<'a, T> Clone for Table<'a, T> {
 }
 
 impl<'a, T: Plain> Table<'a, T> {
-    /// Returns the table of the elements in some bytes.
+    /// Returns the table of the elements in some bytes, which are read in a byte order.
     #[inline(always)]
-    pub fn new(bytes: &'a [u8]) -> Table<'a, T>
-        ensures { result.bytes.now ≡ bytes.now }
+    pub fn new(bytes: &'a [u8], order: Endian) -> Table<'a, T>
+        ensures bytes { result.bytes.now ≡ bytes.now }
+        ensures order { result.order ≡ order }
     {
         Table {
             bytes,
+            order,
             of: PhantomData,
         }
     }
@@ -70,9 +75,20 @@ impl<'a, T: Plain> Table<'a, T> {
         }
     }
 
-    /// Returns the element with an index in a byte order, or `None` if there are fewer.
+    /// Returns the element with an index, or `None` if there are fewer.
     #[inline(always)]
-    pub fn get(&self, index: usize, order: Endian) -> Option<T>
+    pub fn get(&self, index: usize) -> Option<T>
+        ensures element { IfSome result
+            (T.makes self.now.order (drop (T.width * index) self.now.bytes.now) 0) }
+        ensures inside { OnSome result (index < length self.now.bytes.now / T.width) }
+        ensures none { IfNone result (length self.now.bytes.now / T.width ≤ index) }
+    {
+        self.get_with(index, self.order)
+    }
+
+    /// Returns the element with an index, read in another byte order, or `None` if there are fewer.
+    #[inline(always)]
+    pub fn get_with(&self, index: usize, order: Endian) -> Option<T>
         ensures element { IfSome result
             (T.makes order (drop (T.width * index) self.now.bytes.now) 0) }
         ensures inside { OnSome result (index < length self.now.bytes.now / T.width) }
@@ -84,15 +100,15 @@ impl<'a, T: Plain> Table<'a, T> {
         Some(T::read_at(&self.bytes[T::width() * index..], 0, order))
     }
 
-    /// Returns the elements in a byte order, in order.
+    /// Returns the elements, in order.
     #[inline(always)]
-    pub fn elements(&self, order: Endian) -> Elements<'a, T>
+    pub fn elements(&self) -> Elements<'a, T>
         ensures bytes { result.bytes.now ≡ self.now.bytes.now }
-        ensures order { result.order ≡ order }
+        ensures order { result.order ≡ self.now.order }
     {
         Elements {
             bytes: self.bytes,
-            order,
+            order: self.order,
             of: PhantomData,
         }
     }

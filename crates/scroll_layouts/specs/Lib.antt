@@ -16,6 +16,7 @@ pub mod Marks
 pub mod ListEnds
 pub mod Closed
 pub mod ListLeaves
+pub mod TableLeaves
 pub mod Fields
 pub mod Bits
 pub mod Wholes

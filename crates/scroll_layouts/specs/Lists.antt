@@ -25,6 +25,11 @@ pub record ListValue : Type 0 where
   pub order : Endian
   pub count : ℕ
 
+-- a table that was read: its bytes, and the order in which its elements are read
+pub record TableValue : Type 0 where
+  pub bytes : List ℕ
+  pub order : Endian
+
 -- `Items` of `n` values
 pub record CountedItems {E X : Type 0} (f : Format E X) (order : Endian) (s : List ℕ)
     (at to n : ℕ) : Type 0 where

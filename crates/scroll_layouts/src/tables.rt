@@ -1,8 +1,10 @@
 // Tables: elements of one size, read where they lie.
 ghost use Rattle.std.specs.Prelude.{◌≡◌, ◌≢◌, ◌≤◌, ◌<◌, ◌+◌, ◌*◌, ◌-◌, ◌^◌, ◌++◌, length, take, drop, min, codes};
-ghost use Rattle.scroll_layouts.specs.Formats.{counted, last};
+ghost use Rattle.scroll_layouts.specs.Formats.{leaf, last};
+ghost use Rattle.scroll_layouts.specs.TableLeaves.{table_of};
 
 use crate::bytes::check_count;
+use crate::lists::check_order;
 use crate::{Part, ReadPart};
 use scroll::ctx::Plain;
 use scroll::{Endian, Error, check_room};
@@ -10,14 +12,17 @@ use scroll_formats::Table;
 use std::result::Result;
 
 /// A table of as many elements as the context says. A shorter source is [`Error::TooBig`] with the
-/// number of their bytes, at most the greatest `usize`, and the number of bytes there. A write of a
-/// table of another number of bytes is [`Error::BadInput`] with that number and the message
-/// `another length than its count`.
+/// number of their bytes, at most the greatest `usize`, and the number of bytes there. A write in
+/// another byte order than that of the read is [`Error::BadInput`] with the number of bytes and the
+/// message `another byte order than its values`, and one of a table of another number of bytes one
+/// with that number and the message `another length than its count`.
 impl<'a, E: From<Error>, T: Plain> Part<usize, E> for Table<'a, T> {
     ghost format = { λ n.
-        last (counted E.from_gives (min (n * T.width) (2 ^ 64 - 1))) (λ x. x.bytes.now) };
+        last (leaf (table_of E.from_gives (min (n * T.width) (2 ^ 64 - 1))))
+        (λ x. record { bytes = x.bytes.now; order = x.order }) };
 
-    fn check(&self, _order: Endian, ctx: &usize) -> Result<(), E> {
+    fn check(&self, order: Endian, ctx: &usize) -> Result<(), E> {
+        check_order(order, self.order, self.bytes.len())?;
         check_count(ctx.saturating_mul(T::width()), self.bytes.len())
     }
 
@@ -34,18 +39,20 @@ impl<'a, E: From<Error>, T: Plain> Part<usize, E> for Table<'a, T> {
 
 impl<'a, E: From<Error> + Drop, T: Plain> ReadPart<'a, usize, E> for Table<'a, T> {
     ghost format = { λ n.
-        last (counted E.from_gives (min (n * T.width) (2 ^ 64 - 1))) (λ x. x.bytes.now) };
+        last (leaf (table_of E.from_gives (min (n * T.width) (2 ^ 64 - 1))))
+        (λ x. record { bytes = x.bytes.now; order = x.order }) };
 
     #[inline(always)]
     fn read_at(
         from: &'a [u8],
         offset: usize,
-        _order: Endian,
+        order: Endian,
         ctx: &usize,
     ) -> Result<(Table<'a, T>, usize), E> {
         let size = ctx.saturating_mul(T::width());
         check_room(size, from.len() - offset)?;
-        Ok((Table::new(&from[offset..offset + size]), offset + size))
+        let bytes = &from[offset..offset + size];
+        Ok((Table::new(bytes, order), offset + size))
     }
 
     #[inline(always)]

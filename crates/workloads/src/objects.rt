@@ -261,8 +261,8 @@ fn add_symbols(
         return Ok(());
     };
     let names = section_bytes(file, &linked)?;
-    let symbols: Table<Symbol> = Table::new(section_bytes(file, section)?);
-    for symbol in symbols.elements(header.order) {
+    let symbols: Table<Symbol> = Table::new(section_bytes(file, section)?, header.order);
+    for symbol in symbols.elements() {
         digest.add(symbol.value ^ u64::from(symbol.name) << 32);
         digest.add(symbol.size);
         digest.add(

@@ -115,10 +115,10 @@ fn a_vector_of_many_values(rt: HostRuntime) {
 #[test]
 fn a_table_of_numbers(rt: HostRuntime) {
     let rt = &rt;
-    let table: Table<'_, u16> = Table::new(&BYTES[1..]);
+    let table: Table<'_, u16> = Table::new(&BYTES[1..], BE);
     check_eq(rt, table.len(), 3);
-    check_eq(rt, [table.get(2, BE), table.get(3, BE)], [Some(9), None]);
-    let mut elements = table.elements(BE);
+    check_eq(rt, [table.get(2), table.get(3)], [Some(9), None]);
+    let mut elements = table.elements();
     let first = [elements.next(), elements.next()];
     check_eq(rt, first, [Some(258), Some(772)]);
 }

@@ -42,8 +42,8 @@ fn check_there_and_back(rt: &impl Abort, small: SmallError, wanted: &str) {
 
 #[test]
 fn tables_are_printed_with_their_bytes(rt: HostRuntime) {
-    let table: Table<'_, u16> = Table::new(&[1, 2]);
-    check_fields(&rt, table, "Table { bytes: [1, 2], of: PhantomData<_> }");
+    let table: Table<'_, u16> = Table::new(&[1, 2], BE);
+    check_fields(&rt, table, "Table { bytes: [1, 2], order: Big, of: PhantomData<_> }");
 }
 
 // Checks what a value prints of its fields.

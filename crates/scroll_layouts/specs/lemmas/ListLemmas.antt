@@ -7,7 +7,7 @@ use Rattle.std.proofs.lemmas.List.Elements.{All-take}
 use Rattle.std.specs.List.{All}
 use Rattle.scroll.specs.declared.endian.Endian.{Endian}
 use Rattle.scroll_layouts.specs.Formats.{Format, reads, len}
-use Rattle.scroll_layouts.specs.Lists.{ListValue, Items, SomeItems, CountedItems, StandsIn}
+use Rattle.scroll_layouts.specs.Lists.{ListValue, TableValue, Items, SomeItems, CountedItems, StandsIn}
 use Rattle.scroll_layouts.specs.OneWay.{told}
 use Rattle.scroll_layouts.specs.lemmas.FormatLaws.{moved}
 use Rattle.scroll_layouts.specs.lemmas.Parts.{same-part}
@@ -168,6 +168,11 @@ list-is x y h =
     ap (λ s. record { bytes = s; order = x.order; count = x.count }) h.0
     ∙ ap (λ o. record { bytes = y.bytes; order = o; count = x.count }) h.1
     ∙ ap (λ n. record { bytes = y.bytes; order = y.order; count = n }) h.2
+
+pub table-is : (x y : TableValue) → (x.bytes ≡ y.bytes) × (x.order ≡ y.order) → x ≡ y
+table-is x y h =
+    ap (λ s. record { bytes = s; order = x.order }) h.0
+    ∙ ap (λ o. record { bytes = y.bytes; order = o }) h.1
 
 -- values of a number are some
 pub counted-some : {E X : Type 0} {f : Format E X} {order : Endian} {s : List ℕ} {at to n : ℕ}

@@ -124,7 +124,7 @@ fn an_offset_is_read_in_the_whole_file(rt: HostRuntime) {
 fn pointers_stand_in_structs(rt: HostRuntime) -> Result<()> {
     let header: Header = FILE.pread_with(0, LE)?;
     check_value(&rt, told(header.name.read(&FILE, LE)).1, b"ab");
-    let entry = header.entries.get(0, LE);
+    let entry = header.entries.get(0);
     check_eq(&rt, entry.map(|entry| entry.label.offset), Some(25));
     check_eq(&rt, header.more.map(|more| more.offset), Some(22));
     let second = second_link(b"\x01\x05\0\0\0\x02\0\0");

@@ -76,8 +76,8 @@ fn add_error(digest: &mut Digest, error: &ElfError) {
 
 #[inline(never)]
 fn add_symbols(table: &[u8], names: &[u8], digest: &mut Digest) {
-    let symbols: Table<Symbol> = Table::new(table);
-    for symbol in symbols.elements(LE) {
+    let symbols: Table<Symbol> = Table::new(table, LE);
+    for symbol in symbols.elements() {
         digest.add(symbol.value ^ u64::from(symbol.name) << 32);
         digest.add(symbol.size ^ u64::from(symbol.section) << 48);
         digest.add(u64::from(symbol.info) ^ u64::from(symbol.other) << 8);

@@ -6,13 +6,14 @@ ghost use Rattle.scroll_layouts.specs.Formats.{refuses};
 ghost use Rattle.scroll_layouts.specs.Lists.{CountedItems};
 ghost use Rattle.scroll_layouts.specs.Wholes.{KeepsWhole, ReadsExact, WritesWhole};
 
-use super::{CodeBlock, CodeList, Codes};
+use super::{CodeBlock, CodeList, CodeTable, Codes};
 use crate::{
     Count, Head, Headed, IsList, Items, ListOf, ListPart, Listed, Part, ReadPart, Run, Shape,
     Unmarked, read_exact, write_whole,
 };
 use scroll::ctx::{TryFromCtx, TryIntoCtx};
 use scroll::{Endian, Error};
+use scroll_formats::Table;
 use std::marker::PhantomData;
 use std::result::Result;
 
@@ -267,5 +268,104 @@ impl<'a> TryIntoCtx<Endian> for CodeBlock<'a> {
     #[inline(always)]
     fn try_into_ctx(self, dst: &mut [u8], ctx: Endian) -> Result<usize, Error> {
         write_whole::<(), Error, CodeBlock<'a>>(&self, dst, ctx, &())
+    }
+}
+
+type CodeTableHead = Run<u8>;
+
+type CodeTableNext = usize;
+
+#[derive(Drop)]
+pub struct CodeTableSays;
+
+impl Head<CodeTableHead, Error> for CodeTableSays {
+    type Next = CodeTableNext;
+
+    ghost holds = { λ _ h. Unit {0} };
+
+    ghost fails = { λ _ h e. ⊥ };
+
+    ghost next = { λ _ h. h.0 };
+
+    fn obey(&self, _head: &CodeTableHead) -> Result<(), Error> {
+        Ok(())
+    }
+
+    fn next(&self, head: &CodeTableHead) -> CodeTableNext {
+        head.0 as usize
+    }
+}
+
+type CodeTableParts<'a> = (CodeTableHead, Table<'a, u16>);
+
+type CodeTableCtx = Headed<(), CodeTableNext, CodeTableSays>;
+
+// field  offset  size            notes
+// count  0       1
+// codes  1       count elements  ctx = count as usize
+impl<'a> Shape for CodeTable<'a> {
+    type Ctx = ();
+
+    type Inner = CodeTableCtx;
+
+    type Parts = CodeTableParts<'a>;
+
+    ghost parts_of = { λ x. (record { 0 = x.count }, x.codes) };
+
+    ghost of_parts = { λ p. record { count = p.0.0; codes = p.1 } };
+
+    ghost again = { λ x. refl };
+
+    ghost there = { λ p. refl };
+
+    ghost inner_of = { λ _. record { 0 = tt; 1 = record {}; 2 = record {} } };
+
+    fn split(&self) -> CodeTableParts<'a> {
+        (Run(self.count), self.codes)
+    }
+
+    fn join(parts: CodeTableParts<'a>) -> CodeTable<'a> {
+        let (Run(count), codes) = parts;
+        CodeTable { count, codes }
+    }
+
+    fn inner(_ctx: &()) -> CodeTableCtx
+        ensures { result ≡ ⟦<CodeTable<'a> as Shape>⟧.inner_of _ctx.now }
+    {
+        Headed((), CodeTableSays, PhantomData)
+    }
+}
+
+impl<'a> TryFromCtx<'a, Endian> for CodeTable<'a> {
+    type Error = Error;
+
+    ghost reads = { ReadsExact (⟦<CodeTable<'a> as ReadPart<'a, (), Error>>⟧.format tt) };
+
+    ghost refuses = { λ order s.
+        refuses (⟦<CodeTable<'a> as ReadPart<'a, (), Error>>⟧.format tt) order s 0 };
+
+    ghost reads_bounded = { λ order s x n h. Prim.search rules };
+
+    #[inline(always)]
+    fn try_from_ctx(from: &'a [u8], ctx: Endian) -> Result<(CodeTable<'a>, usize), Error> {
+        read_exact::<(), Error, CodeTable<'a>>(from, ctx, &())
+    }
+}
+
+impl<'a> TryIntoCtx<Endian> for CodeTable<'a> {
+    type Error = Error;
+
+    ghost writes = { WritesWhole (⟦<CodeTable<'a> as Part<(), Error>>⟧.format tt) };
+
+    ghost refuses = { KeepsWhole (λ e d. d ≡ e)
+        (⟦<CodeTable<'a> as Part<(), Error>>⟧.format tt) };
+
+    ghost writes_bounded = { λ order x old new n h. Prim.search rules };
+
+    ghost writes_keeps = { λ order x old new n h. WritesPrefix-keeps _ old new n h.wrote };
+
+    #[inline(always)]
+    fn try_into_ctx(self, dst: &mut [u8], ctx: Endian) -> Result<usize, Error> {
+        write_whole::<(), Error, CodeTable<'a>>(&self, dst, ctx, &())
     }
 }
