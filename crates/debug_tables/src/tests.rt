@@ -216,8 +216,7 @@ const TWO: &str = "Err(Read(BadInput { size: 2, msg: \"another length than its v
 
 const FOUR: &str = "Err(Read(BadInput { size: 4, msg: \"another length than its values\" }))";
 
-const OTHER: &str =
-    "Err(Read(BadInput { size: 4, msg: \"another byte order than its values\" }))";
+const OTHER: &str = "Err(Read(BadInput { size: 4, msg: \"another byte order than its values\" }))";
 
 const MANY: &str = "Some(At { offset: 5, error: Read(TooBig { size: 5, len: 3 }) })";
 

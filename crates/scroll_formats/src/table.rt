@@ -11,8 +11,8 @@ use std::result::Result;
 
 /// The elements of a table, each of the same size, in bytes that are borrowed.
 ///
-/// An element is read where it lies, without memory, in the byte order of the table. Bytes after the
-/// last whole element are no part of the table.
+/// An element is read where it lies, without memory, in the byte order of the table. Bytes after
+/// the last whole element are no part of the table.
 ///
 /// ```rust
 /// let file: &[u8] = &[3, 1, 0, 2, 0, 3, 0];

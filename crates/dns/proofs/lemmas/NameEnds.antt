@@ -54,7 +54,8 @@ zero-left f order name rest h few =
       stop = h.stop;
       each = h.each;
       end = omega (arith, end.0, ap length h.is, length-drop h.stop name, h.inside);
-      zero = ap (λ k. get_or name k 0) (omega arith) ∙ sym (get_or-drop h.stop name 0 0) ∙ ap (λ l. get_or l 0 0) (sym h.is) ∙ end.1;
+      zero = ap (λ k. get_or name k 0) (omega arith) ∙ sym (get_or-drop h.stop name 0 0)
+          ∙ ap (λ l. get_or l 0 0) (sym h.is) ∙ end.1;
     }
 
 pub pointer-high : (f : Format Error Label) (order : Endian) (name rest : List ℕ) (mark : ℕ)

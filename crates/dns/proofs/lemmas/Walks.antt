@@ -1,5 +1,5 @@
--- What the calls of an iterator over a list up to a mark yielded stands in the list, one value after
--- another.
+-- What the calls of an iterator over a list up to a mark yielded stands in the list, one value
+-- after another.
 use Rattle.std.proofs.Common.{◌≡◌, ℕ, ◌+◌, ◌<◌, ◌≤◌, List, [], ◌∷◌, length, drop, refl, ap, subst, sym, ◌∙◌, arith, length-drop}
 use Rattle.std.proofs.lemmas.List.{drop-drop}
 use Rattle.std.proofs.lemmas.List.Elements.{All-drop}

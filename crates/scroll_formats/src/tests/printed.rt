@@ -1,8 +1,8 @@
 // The printed lines.
-use crate::{SmallError, Table};
 use crate::tests::results::check_eq;
+use crate::{SmallError, Table};
 use arrayvec::ArrayString;
-use scroll::Error;
+use scroll::{BE, Error};
 use std::fmt::{Debug, Display, Write};
 use std::mem;
 use std::process::Abort;
@@ -43,7 +43,11 @@ fn check_there_and_back(rt: &impl Abort, small: SmallError, wanted: &str) {
 #[test]
 fn tables_are_printed_with_their_bytes(rt: HostRuntime) {
     let table: Table<'_, u16> = Table::new(&[1, 2], BE);
-    check_fields(&rt, table, "Table { bytes: [1, 2], order: Big, of: PhantomData<_> }");
+    check_fields(
+        &rt,
+        table,
+        "Table { bytes: [1, 2], order: Big, of: PhantomData<_> }",
+    );
 }
 
 // Checks what a value prints of its fields.
