@@ -161,10 +161,14 @@ class Listing(Kind):
         if self.how == "values" and value.count != self.count.of(known):
             raise bad(value.count, "another number of values than its count")
 
+    def item_lines(self, path: str) -> List[str]:
+        """Returns the lines that add a value of the list to a digest."""
+        if isinstance(self.item, Number):
+            path += ".0.0" if isinstance(self.item.of, Group) and self.item.of.is_struct else ".0"
+        return self.item.lines(path)
+
     def lines(self, path: str) -> List[str]:
-        of = "one.0.0" if isinstance(self.item, Number) and isinstance(self.item.of, Group) and self.item.of.is_struct else "one"
-        of = "one.0" if isinstance(self.item, Number) and of == "one" else of
-        inside = [f"    {it}" for it in ["let made = walked;", *self.item.lines(of), "walked = made;"]]
+        inside = [f"    {it}" for it in ["let made = walked;", *self.item_lines("one"), "walked = made;"]]
         head = [f"let made = mix(made, &{path}.count.to_le_bytes());", "let mut walked = made;"]
         return [*head, f"for one in {path}.{WALKS.get(self.how, 'values')}() {{", *inside, "}", "let made = walked;"]
 

@@ -2,9 +2,9 @@
 
 import random
 import re
-from typing import List, Optional, Tuple, Union
+from typing import Any, List, Optional, Tuple, Union
 
-from descriptions.counts import Group, OwnError, Plain, Sum
+from descriptions.counts import Group, OwnError, Plain, Refused, Sum, lines_of
 from descriptions.kinds import Kind, Leb, Number
 from descriptions.lists import Listing
 from descriptions.nested import Enum, Inner
@@ -23,6 +23,21 @@ class Pointer(Number):
         name = target.name if isinstance(target, Listing) else target.type
         super().__init__(Group(f"Pointer<{of.type}, {name}>", ((".offset", of),)))
         self.target = target
+
+
+    def found(self, source: bytes, offset: int, order: str) -> Optional[Tuple[Kind, Any]]:
+        """Returns the kind and the value of what stands at an offset, or nothing where that is refused."""
+        item = self.target.item if isinstance(self.target, Listing) else Number(self.target)
+        try:
+            if offset > len(source):
+                raise Refused
+            return item, item.take(source, offset, order, {})[0]
+        except Refused:
+            return None
+
+    def lines_found(self) -> List[str]:
+        """Returns the lines that add that value, `one`, to a digest."""
+        return self.target.item_lines("one") if isinstance(self.target, Listing) else lines_of(self.target, "one")
 
 
 def add_pointers(items: List[Item], rng: random.Random) -> bool:
@@ -54,6 +69,6 @@ def can_point(struct: Struct, of: Field, inner: "set[str]") -> bool:
     return not (kind.bits or kind.constant is not None or of.name in inner or any(re.search(rf"\b{of.name}\b", it) for it in notes))
 
 
-def pointer_of(struct: Struct) -> Optional[Tuple[str, Pointer]]:
-    """Returns a field of a struct that is a pointer, if it has one."""
-    return next(((it.name, it.kind) for it in struct.fields if isinstance(it.kind, Pointer) and not it.condition), None)
+def pointers_of(struct: Struct) -> List[Tuple[str, Pointer]]:
+    """Returns the fields of a struct that are pointers."""
+    return [(it.name, it.kind) for it in struct.fields if isinstance(it.kind, Pointer) and not it.condition]

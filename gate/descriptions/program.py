@@ -5,7 +5,9 @@ from typing import List, Sequence, Tuple, Union
 from descriptions.counts import UNSIGNED
 from descriptions.draw import Drawn
 from descriptions.kinds import Ended, Filled, Number, Slice
+from descriptions.lists import Listing
 from descriptions.nested import Enum
+from descriptions.pointers import Pointer, pointers_of
 from descriptions.structs import Field, Struct
 from descriptions.users import read
 
@@ -43,6 +45,13 @@ def print_digest(of: Union[Struct, Enum]) -> str:
     return f"fn digest_{name}({value}: &{of.type.replace(chr(39) + 'a', chr(39) + '_')}, made: u64) -> u64 {{\n{body}}}\n"
 
 
+def print_pointed(name: str, kind: Pointer) -> List[str]:
+    """Prints the lines that add what a pointer says to a digest."""
+    read = "read" if isinstance(kind.target, Listing) else "read_fixed"
+    inside = [f"        {it}" for it in [*kind.lines_found(), "made"]]
+    return [f"let made = match value.{name}.{read}(from, order) {{", "    Ok(one) => {", *inside, "    }", "    Err(_) => mix(made, &[2]),", "};"]
+
+
 def print_try(made: Drawn) -> str:
     """Prints what the program runs: a value is read, changed, and written."""
     struct, error = made.struct, made.struct.error
@@ -50,6 +59,7 @@ def print_try(made: Drawn) -> str:
     changes = changes_of(struct)
     arms = "".join(f"        {at} => made.{it.name} = {to},\n" for at, (it, to) in enumerate(changes, 1))
     refusal = "Refusal::Library(Error::from(error))" if error and error.is_small else "Refusal::Library(error)"
+    pointed = "".join(f"            {line}\n" for it in pointers_of(struct) for line in print_pointed(*it))
     more = ""
     if error and not error.is_small:
         own = "".join(f'        {error.name}::{it}(number) => Refusal::Own("{it}", number as u64),\n' for it, _ in error.variants)
@@ -70,7 +80,8 @@ pub fn try_{name}(from: &[u8], order: Endian, change: usize, to: &mut [u8]) -> T
     match read {{
         Err(error) => Told::Unread({refusal}),
         Ok(value) => {{
-            let digest = digest_{name}(&value, 0);
+            let made = digest_{name}(&value, 0);
+{pointed}            let digest = made;
             match slice::gwrite_with(to, change_{name}(value, change), &mut 0, order) {{
                 Err(error) => Told::Unwritten(digest, end, {refusal}),
                 Ok(size) => Told::Written(digest, end, size),

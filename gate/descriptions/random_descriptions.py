@@ -38,6 +38,7 @@ sys.path.insert(0, str(Path(__file__).resolve().parents[1]))
 from descriptions import draw, draw_numbers
 from descriptions.counts import UNSIGNED, Hopeless, Plain, Refused, Sum
 from descriptions.kinds import Leb, Number, Slice
+from descriptions.pointers import pointers_of
 from descriptions.program import changes_of, print_main, print_tried
 from descriptions.structs import Field, Struct
 from descriptions.users import print_module, read
@@ -140,9 +141,11 @@ def answer(struct: Struct, source: bytes, order: str, change: int, room: int) ->
         value, end = struct.take(source, 0, order)
     except Refused as refused:
         return str(refused)
-    if struct.is_nan(value):
+    pointed = [kind.found(source, value[name][0], order) for name, kind in pointers_of(struct)]
+    if struct.is_nan(value) or any(it and it[0].is_nan(it[1]) for it in pointed):
         return NAN
-    said = f"{digest(struct.mixed(value, order))} {end}"
+    mixed = b"".join(it[0].mixed(it[1], order) if it else b"\2" for it in pointed)
+    said = f"{digest(struct.mixed(value, order) + mixed)} {end}"
     changes = changes_of(struct)
     if change:
         of = changes[change - 1][0]

@@ -9,7 +9,7 @@ from descriptions.draw import Drawn
 from descriptions.kinds import Ended, Filled, Gap, Kind, Leb, Number, Numeral, Slice
 from descriptions.lists import WALKS, Listing, Table
 from descriptions.nested import Enum, Inner, Tagged
-from descriptions.pointers import pointer_of
+from descriptions.pointers import pointers_of
 from descriptions.structs import Field, Struct
 
 # How a field is said.
@@ -251,9 +251,7 @@ pub fn count_{name}(value: {struct.name}) -> usize {{
     count
 }}
 """
-    pointer = pointer_of(struct)
-    if pointer:
-        field, kind = pointer
+    for field, kind in pointers_of(struct)[:1]:
         entry, target = ".entry" if "'a" in made.top.type else "", kind.target
         is_fixed = isinstance(target, Group)
         read, item, its_error = ("read_fixed", target.type, "Error") if is_fixed else ("read", target.item.type, error)

@@ -119,6 +119,8 @@ class StructReader(Reader):
             field.refuse(f"has `bits = {note.text}`, and is of {field.type.text}: {said}", note)
         if self.bits_are_three_bytes and (count > 8 or of.width > 4):
             self.close_bits()
+        if self.is_low and not self.bits and of.width > 4:
+            field.refuse("is the first of fields of bits from the lowest on, in 64 bits: take a number of at most 32", note)
         if self.bits and of.width > 4:
             field.refuse("is a lower field of bits of 64 bits: take one of at most 32", note)
         self.bits.append((field, count))
