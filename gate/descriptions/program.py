@@ -52,6 +52,37 @@ def print_pointed(name: str, kind: Pointer) -> List[str]:
     return [f"let made = match value.{name}.{read}(from, order) {{", "    Ok(one) => {", *inside, "    }", "    Err(_) => mix(made, &[2]),", "};"]
 
 
+def print_appended(struct: Struct, type_: str) -> str:
+    """Prints a function that adds to a digest what a value is behind others: by a stream where it has a fixed size, which is read
+    again, and else behind a vector, and as a list behind itself."""
+    name, error = struct.name.lower(), struct.error.name if struct.error else "Error"
+    if struct.is_fixed:
+        body = f"""    let Ok(()) = bytes.iowrite_with(*value, order) else {{
+        return mix(made, &[3]);
+    }};
+    let made = mix_bytes(made, bytes.as_slice());
+    let mut left = bytes.as_slice();
+    match left.ioread_with::<{struct.name}>(order) {{
+        Ok(again) => digest_{name}(&again, made),
+        Err(_) => mix(made, &[4]),
+    }}"""
+    else:
+        body = f"""    let Ok(()) = append_whole::<(), {error}, {type_}>(&mut bytes, value, order, &()) else {{
+        return mix(made, &[3]);
+    }};
+    let made = mix_bytes(made, bytes.as_slice());
+    let Ok(mut target) = vec![in alloc; 0u8; 3 * bytes.len()] else {{
+        return mix(made, &[4]);
+    }};
+    let values = [*value, *value];
+    match write_list::<(), (), {error}, {type_}, {type_}>(value, &values, target.as_mut_slice(), order, &(), &()) {{
+        Ok(size) => mix_bytes(made, &target[..size]),
+        Err(_) => mix(made, &[5]),
+    }}"""
+    head = f"fn appended_{name}(alloc: Global, value: &{type_}, order: Endian, made: u64) -> u64"
+    return f"{head} {{\n    let mut bytes: Vec<u8> = Vec::new(alloc);\n{body}\n}}\n"
+
+
 def print_try(made: Drawn) -> str:
     """Prints what the program runs: a value is read, changed, and written."""
     struct, error = made.struct, made.struct.error
@@ -74,14 +105,15 @@ def print_try(made: Drawn) -> str:
     made
 }}
 
-pub fn try_{name}(from: &[u8], order: Endian, change: usize, to: &mut [u8]) -> Told {{
+{print_appended(struct, type_)}
+pub fn try_{name}(alloc: Global, from: &[u8], order: Endian, change: usize, to: &mut [u8]) -> Told {{
     let mut end = 0;
     let read: Result<{struct.name}, {error.name if error else "Error"}> = from.gread_with(&mut end, order);
     match read {{
         Err(error) => Told::Unread({refusal}),
         Ok(value) => {{
             let made = digest_{name}(&value, 0);
-{pointed}            let digest = made;
+{pointed}            let digest = appended_{name}(alloc, &value, order, made);
             match slice::gwrite_with(to, change_{name}(value, change), &mut 0, order) {{
                 Err(error) => Told::Unwritten(digest, end, {refusal}),
                 Ok(size) => Told::Written(digest, end, size),
@@ -103,6 +135,6 @@ def print_tried(made: Drawn) -> str:
 
 def print_main(names: Sequence[str]) -> str:
     """Prints the program over modules that have the names of their structs."""
-    arms = "".join(f'        "{it}" => try_{it}::try_{it}(from, order, change, target),\n' for it in names)
+    arms = "".join(f'        "{it}" => try_{it}::try_{it}(alloc, from, order, change, target),\n' for it in names)
     mods = "".join(f"mod {it};\nmod try_{it};\n" for it in names)
     return read("main").replace("@arms@", arms).replace("@mods@", mods)

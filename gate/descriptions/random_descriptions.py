@@ -145,6 +145,9 @@ def answer(struct: Struct, source: bytes, order: str, change: int, room: int) ->
     if struct.is_nan(value) or any(it and it[0].is_nan(it[1]) for it in pointed):
         return NAN
     mixed = b"".join(it[0].mixed(it[1], order) if it else b"\2" for it in pointed)
+    whole = struct.put(value, order)
+    mixed += appended(whole)
+    mixed += struct.mixed(value, order) if struct.is_fixed else appended(3 * whole)
     said = f"{digest(struct.mixed(value, order) + mixed)} {end}"
     changes = changes_of(struct)
     if change:
@@ -158,6 +161,11 @@ def answer(struct: Struct, source: bytes, order: str, change: int, room: int) ->
     except Refused as refused:
         return f"{said} {refused}"
     return f"{said} {made.hex()}"
+
+
+def appended(made: bytes) -> bytes:
+    """Returns what bytes that were appended add to a digest."""
+    return len(made).to_bytes(8, "little") + made
 
 
 def changed(of: Field, value: object) -> object:
