@@ -39,6 +39,10 @@ def is_open(kind: Kind) -> bool:
     return isinstance(kind, Numeral) or (isinstance(kind, Leb) and not kind.is_signed)
 
 
+def has_record(kind: Number) -> bool:
+    return isinstance(kind.of, Group) and kind.of.is_struct
+
+
 class Draw(Numbers):
     """Draws a struct with those in it."""
 
@@ -180,7 +184,8 @@ class Draw(Numbers):
             elif kind == "three bytes":
                 # (behind which no other field of bits may stand)
                 lower = self.choice([0, 0, 3, 7])
-                shared = [Number(Plain("u8"), bits=lower)] if lower else []
+                # (the highest ones are of the number's own type)
+                shared = [Number(Plain("u32" if made.is_low else "u8"), bits=lower)] if lower else []
                 numbers = [Number(Plain("u32"), bits=24 - lower), *shared, Number(Plain("u8"))]
                 made.fields += [Field(f"f{len(made.fields) + at}", it) for at, it in enumerate(numbers)]
             elif kind == "padding":
@@ -190,6 +195,9 @@ class Draw(Numbers):
                 self.add_notes(made.fields[-1], known)
             known = [Known("given", "usize", "given")] if is_given else []
             known += [said for it in made.fields for said in self.says(it)]
+        if depth > 1 and made.is_fixed and any(isinstance(it.kind, Number) and has_record(it.kind) for it in made.fields):
+            # (a struct of a fixed size with a struct in it is no part of another one)
+            made.fields.append(Field(f"f{len(made.fields)}", Leb("Uleb")))
         if is_given and made.fields and self.chance(60):
             made.fields.append(self.rest(f"f{len(made.fields)}", depth))
         self.uses = uses
