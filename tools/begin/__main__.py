@@ -82,6 +82,10 @@ def main(names: List[str]) -> int:
     name, *clients = names
     used = list(dict.fromkeys(it for top in [*LIBRARIES, *clients] for it in with_those_below(top, crates)))
     copied = [it for it in used if it not in there]
+    taken = next((it for it in copied if Path("crates", it).exists()), None)
+    if taken:
+        print(f"begin: there is a folder crates/{taken} that no line of crates.txt names", file=sys.stderr)
+        return 2
     for it in copied:
         shutil.copytree(TOP / "crates" / it, Path("crates", it), symlinks=True, ignore=LEFT_OUT)
     Path("crates", name, "src").mkdir(parents=True, exist_ok=True)

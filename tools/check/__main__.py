@@ -28,7 +28,8 @@ def main(words: List[str]) -> int:
     try:
         if subprocess.run(["rt", "fmt"], cwd=folder, stdout=subprocess.DEVNULL, check=False).returncode:
             return 2
-        return subprocess.run(["rt", *(rest or ["check"])], cwd=folder, check=False).returncode
+        words = rest if rest and not rest[0].startswith("-") else ["check", *rest]
+        return subprocess.run(["rt", *words], cwd=folder, check=False).returncode
     except FileNotFoundError:
         print("check: there is no `rt`", file=sys.stderr)
         return 2

@@ -16,9 +16,11 @@ TRAITS = ("pread", "pwrite")
 MARKS = ("derivepart", "derivepreadpwrite", "derivepreadpwritekept")
 BRACKET = r"[\[({]"
 ATTRIBUTE = re.compile(rf"#\s*!?\s*{BRACKET}")
-CALLED = re.compile(rf"(\w+)\s*{BRACKET}\s*(\w+)\s*=(?!=)")
+CALLED = re.compile(rf"(\w+)\s*{BRACKET}\s*\w+\s*=(?!=)")
 BRACKETED = re.compile(rf"{BRACKET}\s*(\w+)\s*{BRACKET}")
 ASSIGNED = re.compile(rf"(?m)^\W*({'|'.join(WORDS)})\s*=(?!=)")
+NAMED = re.compile(rf"(?m)(?:^|[,\[({{])\W*(\w+)\s*:?=(?!=)\s*\S")
+SAID = re.compile(rf"^\W*({'|'.join(it for it in WORDS if len(it) > 2)}|ctx)\s*:\s*\S+\W*$")
 ASSIGNED_INSIDE = re.compile(rf"{BRACKET}\s*({'|'.join(WORDS)})\s*=(?!=)")
 
 
@@ -53,8 +55,7 @@ def is_doc(comment: str) -> bool:
 def looks_like_note(comment: str) -> bool:
     """Returns whether a comment that is no note looks like one. Documentation may name `scroll`, and only an attribute in it counts."""
     text = plain(comment)
-    called = [(name, word) for name, word in CALLED.findall(text)]
-    if any(is_near(name, "scroll", 2) for name, _ in called):
+    if any(is_near(name, "scroll", 2) for name in CALLED.findall(text)):
         return True
     attributes = re.findall(rf"#\s*!?\s*{BRACKET}\s*(\w+)", text)
     if any(is_near(it, "scroll", 2) or it in OTHERS for it in attributes):
@@ -68,7 +69,14 @@ def looks_like_note(comment: str) -> bool:
         or any(is_near(it, "scroll", 1) for it in re.findall(r"\w+", text))
         or ASSIGNED.search(text)
         or ASSIGNED_INSIDE.search(text)
+        or SAID.search(text)
+        or any(is_close(it) for it in NAMED.findall(text))
     )
+
+
+def is_close(word: str) -> bool:
+    """Returns whether a word is one of notes, or one with a slip."""
+    return any(word == it or is_near(word, it, 2 if len(it) > 5 else 1) for it in WORDS if len(it) > 2) or word in ("is", "if", "iz", "si", "fi")
 
 
 def looks_like_mark(comment: str) -> bool:

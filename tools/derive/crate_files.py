@@ -43,7 +43,7 @@ def derived_files(folder: Path) -> Written:
         items = crate.marked(file)
         if items:
             files[derived_path(file.path)] = print_file(crate, file, [(it, forms[id(it)]) for it in items])
-    with_floats = [item.name for _, item in marked if not is_exact(crate, item, forms[id(item)])]
+    with_floats = [item.name.replace(OWN, "") for _, item in marked if not is_exact(crate, item, forms[id(item)])]
     return Written(dict(zip(files, formatted([*files.values()]))), too_much(crate.texts, with_floats))
 
 
@@ -66,9 +66,8 @@ def left_over(folder: Path, files: Dict[Path, str]) -> List[Path]:
 
 def print_file(crate: Crate, file: SourceFile, items: List[Tuple[Item, Any]]) -> str:
     texts: List[str] = []
-    # The constants that are named, by their modules in the logic, and in code where these are others.
+    # The constants that are named, by their modules in the logic.
     inside: Dict[str, Set[str]] = {}
-    outside: Dict[str, Set[str]] = {}
     # (a C string is that of the crate or of std, as the file imports it)
     own: Set[str] = {"CStr", *(item.name for item, _ in items)}
     modules: Dict[str, str] = {}
@@ -78,7 +77,6 @@ def print_file(crate: Crate, file: SourceFile, items: List[Tuple[Item, Any]]) ->
     around: Set[str] = set()
     constants: List[Target] = []
     for item, form in items:
-        constants += crate.lengths.get((item.path, item.name), [])
         if form is None:
             record = crate.record(item)
             texts.append(record_text(record))
@@ -100,14 +98,12 @@ def print_file(crate: Crate, file: SourceFile, items: List[Tuple[Item, Any]]) ->
                 item.refuse(f"has a type {name} printed, whose name another has")
         texts += [Printer.print_part(it) for it in lists if it not in around]
         around |= {*lists}
+    constants += [it for item, _ in items for it in crate.lengths.get((item.path, item.name), [])]
     for it in constants:
         assert it.file
         module = crate.module(it.file.path)
         inside.setdefault(".".join(["Rattle", crate.name, "specs.declared", *module, "TheConstants"]), set()).add(it.name)
-        if it.file is file:
-            own.add(it.name)
-        else:
-            outside.setdefault("::".join(["crate", *module]), set()).add(it.name)
+        own.add(it.name)
     here = ".".join(["Rattle", crate.name, "specs.declared", *crate.module(file.path), "derived"])
     inner |= {f"{it}Part": f"{here}.{it}Part.{{{it}Part}}" for it in around}
     texts = [with_imports(it, inner) for it in texts]
@@ -116,7 +112,7 @@ def print_file(crate: Crate, file: SourceFile, items: List[Tuple[Item, Any]]) ->
     tables = {it.name.replace(OWN, ""): table(crate, it, form.words if isinstance(form, Struct) else {}) for it, form in items}
     texts = [with_table(it, tables) for it in texts]
     body = "\n".join(row for line in "\n\n".join(texts).split("\n") for row in lay_out(line))
-    lines = [*constant_lines(inside, body), *imports(crate, own, modules, body), *(row for it in outside.items() for row in use_lines(*it))]
+    lines = [*constant_lines(inside, body), *imports(crate, own, modules, body)]
     return "\n".join([f"{HEAD}{Path(file.path).name}.", *lines, "", body, ""]).replace(OWN, "")
 
 

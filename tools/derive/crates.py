@@ -12,7 +12,7 @@ from names import PLACES
 from pointers import read_pointer
 from scopes import Scopes, Target
 from sums import Value
-from tokens import MARK, Refused
+from tokens import MARK, OWN, Refused
 
 
 class Crate:
@@ -33,12 +33,17 @@ class Crate:
         for path in sorted(source.rglob("*.rt")):
             if path.name != "derived.rt":
                 try:
-                    text = path.read_text(encoding="utf-8")
+                    text = path.read_bytes().decode("utf-8")
                 except (OSError, UnicodeDecodeError) as error:
                     raise Refused(str(path), 0, str(error)) from error
                 self.texts[str(path)] = text
                 self.files[str(path)] = read_file(str(path), text)
         self.scopes = Scopes(source, self.files)
+        roots = [it for path, it in self.files.items() if Path(path).parent == source and Path(path).stem in ("lib", "main")]
+        if len(roots) > 1:
+            for it in roots[1].items:
+                if it.is_marked:
+                    it.refuse("stands in main.rt beside a lib.rt: put it into a module of lib.rt")
         own = {path: {it for it in PLACES if self.is_own(it, path)} for path in self.files}
         self.files = {path: read_file(path, text, own[path]) for path, text in self.texts.items()}
         self.scopes = Scopes(source, self.files)
@@ -82,7 +87,10 @@ class Crate:
 
     def find(self, name: str, at: Named) -> Optional[Item]:
         """Returns the struct or the enum that a name means where something stands."""
-        found = [it for target in self.scopes.lookup(self.files[at.path], name) for it in target.items]
+        targets = self.scopes.lookup(self.files[at.path], name)
+        if any(it.is_conditional and it.items for it in targets):
+            at.refuse(f"names {name}, which is imported only under a condition")
+        found = [it for target in targets for it in target.items]
         if found and found[0].name != name:
             at.refuse(f"names {name}, which is {found[0].name} of {found[0].path}: import it by its own name")
         if len(found) > 1:
@@ -97,6 +105,11 @@ class Crate:
         if home == self.name:
             return any(it.file and it.name == name for it in targets)
         return any(not it.file and it.name == name and it.path[0] in (home, "scroll_layouts", "std", "core") for it in targets)
+
+    def check_library(self, name: str, at: Named, note: Optional[Note] = None) -> None:
+        """Refuses a name that a note takes for the libraries', where the file has another one."""
+        if self.scopes.lookup(self.files[at.path], name) and not self.is_library(name, at.path):
+            at.refuse(f"names {name}, which in this file isn't that of `{PLACES[name]}`", note)
 
     def is_own(self, name: str, path: str) -> bool:
         """Returns whether such a name means what the crate itself has, and isn't a library's crate."""
@@ -115,9 +128,13 @@ class Crate:
 
     def constant(self, at: Named, text: str, note: Optional[Note] = None) -> Optional[Target]:
         """Returns the constant that a name means where something stands, if it means one."""
-        if not re.fullmatch(r"[A-Za-z_]\w*(::\w+)*", text):
+        if not re.fullmatch(rf"{OWN}?[A-Za-z_]\w*(::\w+)*", text):
             return None
         found = [it for it in self.scopes.lookup(self.files[at.path], text) if it.constants]
+        if any(it.is_conditional for it in found):
+            at.refuse(f"names the constant {text}, which is imported only under a condition", note)
+        if len(found) == 1 and found[0].name != text:
+            at.refuse(f"names the constant {found[0].name} as {text}: import it, and write its own name", note)
         if len(found) > 1 or (found and len(found[0].constants) > 1):
             at.refuse(f"names the constant {text}, of which there are two", note)
         if found and found[0].constants[0].is_conditional:
@@ -154,14 +171,14 @@ class Crate:
 
     # Types of a fixed size
 
-    def is_fixed(self, item: Item, outer: Tuple[str, ...] = ()) -> bool:
+    def is_fixed(self, item: Item, outer: Tuple[Item, ...] = ()) -> bool:
         """Returns whether a struct is of a fixed size: no field has a note or borrows, and each has a fixed size."""
-        if item.is_enum or item.lifetime or item.notes or item.name in outer or not item.fields:
+        if item.is_enum or item.lifetime or item.notes or any(it is item for it in outer) or not item.fields:
             return False
-        within = (*outer, item.name)
+        within = (*outer, item)
         return all(not it.notes and not it.is_ghost and self.is_fixed_type(item, it.type, within) for it in item.fields)
 
-    def is_fixed_type(self, item: Item, of: Type, outer: Tuple[str, ...] = ()) -> bool:
+    def is_fixed_type(self, item: Item, of: Type, outer: Tuple[Item, ...] = ()) -> bool:
         if of.name in PLAIN:
             return True
         if of.name == "[;]":

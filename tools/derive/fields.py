@@ -41,7 +41,7 @@ class Kind:
     def __init__(self, reader: "Reader", at: RawField, of: Type) -> None:
         self.reader, self.at, self.of = reader, at, of
         for word, note in at.notes.items():
-            if word not in (*self.words, *WRAPPERS):
+            if word not in (*self.words, *WRAPPERS) and not (word == "else" and "check" in at.notes and "ctx" not in at.notes):
                 words = " or ".join(f"`{it} = ..`" for it in self.words) or f"no note but {', '.join(WRAPPERS)}"
                 at.refuse(f"has the note `{word} = ..`; {of.text} takes {words}", note)
         if of.has_lifetime and not reader.item.lifetime:

@@ -4,7 +4,7 @@ import re
 from dataclasses import dataclass, field
 from typing import AbstractSet, Dict, List, NamedTuple, NoReturn, Optional, Set, Tuple
 
-from comments import OTHERS, is_near, spelled
+from comments import ATTRIBUTE, OTHERS, is_near, spelled
 from tokens import KEPT, MARK, PART, Comment, Refused, Token, Tokens, read_tokens, tokens_of
 
 
@@ -88,10 +88,12 @@ class Item(Named):
 
 
 class Import(NamedTuple):
-    """What a `use` line names: a path, of which the last name is `*` where all that a module has is imported, and its name here."""
+    """What a `use` line names: a path, of which the last name is `*` where all that a module has is imported, its name here, and whether
+    it is imported only under a condition."""
 
     path: Tuple[str, ...]
     name: str
+    is_conditional: bool = False
 
 
 class Constant(NamedTuple):
@@ -130,9 +132,12 @@ def read_file(path: str, text: str, own: AbstractSet[str] = frozenset()) -> Sour
             if mark:
                 tokens.refuse(token.line, f"this is a second line `// {MARK}` before one struct")
             mark = token
+            tokens.read.add(token.line)
         elif token.kind == "name" and token.text in ("struct", "enum") and tokens.next.kind == "name":
             item = read_item(tokens, token, notes, mark)
             item.begin, item.end = begin, tokens.line
+            if is_conditional and item.is_marked:
+                item.refuse("is there only under a condition, as its implementations aren't")
             refuse_comments(item, comments)
             if depth and item.is_marked:
                 item.refuse("stands inside a module, a function or a block of this file: write it at the top of a file")
@@ -145,8 +150,9 @@ def read_file(path: str, text: str, own: AbstractSet[str] = frozenset()) -> Sour
             if mark or notes:
                 tokens.refuse((mark or next(iter(notes.values()))).line, "the note stands before no struct, enum or field")
             if token.kind == "end":
+                tokens.refuse_unread()
                 return file
-            depth += (token.text == "{") - (token.text == "}")
+            depth += (token.text in ("(", "[", "{")) - (token.text in (")", "]", "}"))
             if not depth:
                 read_other(tokens, token, file, is_conditional)
             begin, is_conditional = tokens.line, False
@@ -155,7 +161,9 @@ def read_file(path: str, text: str, own: AbstractSet[str] = frozenset()) -> Sour
 def refuse_comments(item: Item, comments: List[Comment]) -> None:
     """Refuses comments above a struct or an enum, or inside it, that look like notes and are none."""
     for it in comments:
-        if not item.begin < it.line <= item.end:
+        # (behind the code before it an attribute alone may be meant for it)
+        begin = item.begin if ATTRIBUTE.search(it.text) else item.begin + 1
+        if not begin <= it.line <= item.end:
             continue
         if it.is_mark:
             said = f"this line isn't read, and looks like one of `// {MARK}`, `// {KEPT}` and `// {PART}`: write one of them"
@@ -173,14 +181,14 @@ def read_other(tokens: Tokens, token: Token, file: SourceFile, is_conditional: b
     elif token.text == "use":
         inside = tokens.until(";")
         inside.has("::")
-        file.imports += read_use(inside, ())
+        file.imports += [it._replace(is_conditional=is_conditional) for it in read_use(inside, ()) if it.path]
     elif token.text == "mod" and tokens.next.text == "derived":
         file.has_module = True
     elif token.text == "const" and tokens.next.kind == "name" and tokens.before not in ("<", ",") and tokens.next.text != "fn":
         name, line = tokens.take().text, token.line
         inside = tokens.until(";")
         inside.has(":")
-        type_, value = inside.until("=").said, Tokens(inside.path, inside.tokens[inside.place :]).said
+        type_, value = inside.until("=").said, inside.part(inside.place).said
         file.constants.setdefault(name, []).append(Constant(type_, value, line, is_conditional))
     elif token.text in ("type", "trait", "union", "static") and tokens.next.kind == "name":
         file.others.add(tokens.next.text)
@@ -241,6 +249,7 @@ def skip_attribute(tokens: Tokens, line: int) -> str:
 
 def read_note(tokens: Tokens, text: str, line: int, notes: Notes) -> None:
     """Adds what a note says."""
+    tokens.read.add(line)
     inside = tokens_of(tokens.path, text, line, tokens.own)
     if inside.is_done:
         tokens.refuse(line, "the note is empty")
@@ -250,7 +259,7 @@ def read_note(tokens: Tokens, text: str, line: int, notes: Notes) -> None:
             tokens.refuse(line, f"`{said.said}` is not `NAME = ..`")
         if name in notes:
             tokens.refuse(line, f"there are two notes `{name} = ..`")
-        value = Tokens(tokens.path, said.tokens[said.place :], tokens.own)
+        value = said.part(said.place)
         notes[name] = Note(value, value.said, line)
 
 
@@ -270,6 +279,7 @@ def read_item(tokens: Tokens, word: Token, notes: Notes, mark: Optional[Token]) 
     item.is_tuple = tokens.next.text == "("
     if tokens.next.text in ("{", "("):
         read_fields(tokens.inside(), item)
+    tokens.has(";")
     return item
 
 
@@ -300,12 +310,14 @@ def read_field(tokens: Tokens, item: Item, notes: Notes) -> RawField:
         made.name = tokens.take().text if made.is_ghost else name.text
         tokens.has(":")
     inside = tokens.until_comma()
+    inside.refuse_unread()
     made.types = [] if made.is_ghost else [read_type(inside)]
     return made
 
 
 def read_variant(tokens: Tokens, notes: Notes) -> RawField:
     name, inside = tokens.take(), tokens.until_comma()
+    inside.refuse_unread()
     made = RawField(tokens.path, "variant", name.text, name.line, notes, [], has_names=inside.next.text == "{")
     if inside.next.text == "(":
         made.types = [read_type(it) for it in inside.inside().split()]
@@ -335,7 +347,7 @@ def parse_type(tokens: Tokens) -> Optional[Type]:
         element = parse_type(inside)
         if not element or not inside.has(";"):
             return None
-        length = Tokens(inside.path, inside.tokens[inside.place :]).said
+        length = inside.part(inside.place).said
         return Type("[;]", (element,), False, length, f"[{element.text}; {length}]")
     if tokens.next.kind != "name":
         return None

@@ -35,14 +35,15 @@ def bytes_of(text: str) -> Optional[bytes]:
 
 def bytes_in_list(text: str) -> Optional[bytes]:
     """Returns the bytes between the brackets of an array, `1, 2` or `0; 4`."""
-    element, sign, count = text.partition(";")
-    found = [number_of(it.strip()) for it in (element if sign else text).split(",") if it.strip()]
-    if any(not 0 <= it < 256 for it in found):
+    literal = rf"(?:{LETTER.pattern}|\w+)"
+    repeated = re.fullmatch(rf"\s*({literal})\s*;\s*(\w+)\s*", text, re.A)
+    if repeated:
+        byte, length = number_of(repeated[1]), number_of(repeated[repeated.re.groups])
+        return bytes([byte] * length) if 0 <= byte < 256 and 0 <= length < 2**16 else None
+    if text.strip() and not re.fullmatch(rf"\s*{literal}(?:\s*,\s*{literal})*\s*,?\s*", text, re.A):
         return None
-    if not sign:
-        return bytes(found)
-    length = number_of(count.strip())
-    return bytes(found * length) if len(found) == 1 and 0 <= length < 2**16 else None
+    found = [number_of(it[0]) for it in re.finditer(literal, text, re.A)]
+    return bytes(found) if all(0 <= it < 256 for it in found) else None
 
 
 def bytes_within(text: str, quote: str) -> Optional[bytes]:

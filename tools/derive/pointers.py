@@ -1,10 +1,11 @@
 """Fields that are offsets, with what stands there."""
 
 import re
-from typing import TYPE_CHECKING, Tuple
+from typing import TYPE_CHECKING
 
 from fixed_types import PLAIN, Pointer
 from items import Item, RawField, Type
+from tokens import OWN
 
 if TYPE_CHECKING:
     from crates import Crate
@@ -19,7 +20,7 @@ def read_pointer(crate: "Crate", item: Item, at: RawField, of: Type) -> Pointer:
     if number not in OFFSETS:
         said = f"write its number, {', '.join(OFFSETS)}, and what stands there, as `Pointer<u32, Section>`"
         at.refuse(f"is of {of.text}: {said}")
-    if target in PLAIN or not re.fullmatch(r"[A-Za-z_]\w*", target):
+    if target in PLAIN or not re.fullmatch(rf"{OWN}?[A-Za-z_]\w*", target):
         pointed = of.arguments[1].text
         at.refuse(f"points to {pointed}, which is no struct: put what stands there into one, and point to that, `Pointer<{number}, Section>`")
     found = crate.find(target, item)
@@ -34,7 +35,7 @@ def leads_to(crate: "Crate", item: Item, name: str) -> bool:
     """Returns whether a struct, or one that its fields name, has a name. (The prover doesn't cover such types in a cycle.)"""
     names, left = {item.name}, [item]
     while left:
-        words = {it for field in left.pop().fields for it in re.findall(r"\w+", field.type.text)}
+        words = {it for field in left.pop().fields for it in re.findall(rf"{OWN}?\w+", field.type.text)}
         left += [found for found in (crate.find(it, item) for it in words - names) if found]
         names |= words
     return name in names

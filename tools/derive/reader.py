@@ -15,6 +15,7 @@ from model import Form, Known
 from rules import below_rule, great_rule, multiple_rule
 from scopes import Target
 from sums import PLACE, Sum, Term, Value, read_sum
+from tokens import OWN
 
 
 class Reader:
@@ -166,6 +167,8 @@ class Reader:
         if tokens.next.text == "(":
             inside = tokens.inside()
             if tokens.is_done:
+                # (a call of a note is none of the crate's own types)
+                name = name.replace(OWN, "")
                 return name, [Note(it, it.said, note.line) for it in inside.split()] or [note]
         return "", [note]
 
@@ -226,9 +229,10 @@ class Reader:
         order, big = at.notes.get("order"), at.notes.get("big")
         if order and big:
             at.refuse("has both `order = ..` and `big = ..`", big)
-        if order and order.text not in ("LE", "BE"):
+        if order and order.text.replace(OWN, "") not in ("LE", "BE"):
             at.refuse(f"is in the order {order.text}: write `order = LE`, `order = BE`, or `big = ..` a condition", order)
         if order:
+            self.crate.check_library(order.text.replace(OWN, ""), self.item, order)
             return f"endian_is.{'Big' if order.text == 'BE' else 'Little'}", order.text
         if not big or not isinstance(at, RawField):
             return ()
@@ -258,6 +262,8 @@ class Reader:
             said = "kind: u8`, its tag, or `given = (kind: u8, len: usize)`" if self.item.is_enum else "len: usize`"
             self.item.refuse(f"is given {note.text}: write `given = {said}", note)
         found = re.findall(r"(\w+): (\w+)", note.text)
+        if len(found) > 1 and found[0][0] == found[1][0]:
+            self.item.refuse(f"is given two numbers of the name {found[0][0]}", note)
         if any(name in self.item.names for name, _ in found):
             self.item.refuse(f"is given {note.text}, which is the name of a field too", note)
         self.given = [Number(name, "usize") for name, kind in found if kind == "usize"]

@@ -10,6 +10,7 @@ from forms import NOTHING, Number, Part, bits, nothing, numbers, optional
 from items import Item, Note, RawField, read_type
 from literals import bytes_of, number_of
 from model import Enum, Form, ListType, Struct, Tags, Variant
+from names import HOMES
 from reader import Reader
 from rules import check_rule, own_variant, tag_rule
 from shapes import Chain, leaving, resolve, together
@@ -276,6 +277,9 @@ class ListReader(Reader):
         is_fixed = self.crate.is_fixed_type(item, of)
         found = self.crate.find(of.name, item)
         if of.name in ("Uleb", "Sleb", "Vlq", "Zigzag", "CStr"):
+            self.crate.check_library(of.name, item, note)
+            if of.name == "CStr" and not self.crate.is_library("CStr", item.path):
+                item.refuse(f"is a list of CStr, which this file doesn't import: `use {HOMES['CStr']}::CStr;`", note)
             return self.list(of.text if of.name != "CStr" else "CStr<'a>")
         if is_fixed:
             made = FixedSize(self, at, of).fixed()
@@ -327,7 +331,9 @@ class ListReader(Reader):
             return f"[{', '.join(map(str, found))}]"
         if self.crate.find(note.text, self.item):
             self.used.append(note.text)
-        elif note.text not in ("NameEnd", "TwoZeroUlebs", "ZeroUleb"):
+        elif note.text in ("NameEnd", "TwoZeroUlebs", "ZeroUleb"):
+            self.crate.check_library(note.text, self.item, note)
+        else:
             said = "write the mark's bytes, as `ends = 0` or `ends = [0, 0]`, or a type that says it, as `ends = ZeroUleb`"
             self.item.refuse(f"ends a list at {note.text}: {said}", note)
         return note.text

@@ -105,7 +105,7 @@ def check_rule(reader: "Reader", at: RawField, note: Note, condition: Condition)
     if "else" in at.notes and not {"is", "ctx"} & at.notes.keys():
         error = own_error(reader, own_variant(reader, at, at.notes["else"]), f"@{first}@")
     else:
-        text = re.sub(r" ?([<>]=?) ?", r" \1 ", note.text)
+        text = re.sub(r" ?([<>]=?) ?", r" \1 ", re.sub(r"b'(?:\\.[^']*|[\"<>])'", lambda it: str(number_of(it[0])), note.text))
         error = bad_input(reader, at, f"@{first}@", as_usize(first), f"it is not so that {text}")
     return tested(condition.holds()[1:-1], other.holds(), other.said().code, error)
 

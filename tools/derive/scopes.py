@@ -3,7 +3,7 @@
 from pathlib import Path
 from typing import Dict, List, NamedTuple, Sequence, Set, Tuple
 
-from items import Constant, Item, SourceFile
+from items import Constant, Import, Item, SourceFile
 
 # A module, by the names on the way to it from the crate's root.
 Module = Tuple[str, ...]
@@ -14,6 +14,8 @@ class Target(NamedTuple):
 
     file: "SourceFile | None"
     path: Tuple[str, ...]
+    # Whether an import on the way is there only under a condition.
+    is_conditional: bool = False
 
     @property
     def name(self) -> str:
@@ -39,7 +41,8 @@ class Scopes:
         """Returns the module of a file."""
         parts = Path(path).relative_to(self.source).with_suffix("").parts
         parts = parts[:-1] if parts[-1] == "mod" else parts
-        return () if parts in (("lib",), ("main",)) else tuple(parts)
+        is_root = parts == ("lib",) or (parts == ("main",) and not (self.source / "lib.rt").exists())
+        return () if is_root else tuple(parts)
 
     def lookup(self, file: SourceFile, text: str) -> List[Target]:
         """Returns what a name or a path may mean in a file, each once."""
@@ -61,8 +64,8 @@ class Scopes:
             return self.below((*module, first), others, seen)
         # (a module may be imported by its name)
         modules = [it.path for it in self.modules[module].imports if it.name == first] if module in self.modules else []
-        if modules and modules[0] != tuple(path[: len(modules[0])]):
-            return self.along(module, (*modules[0], *others), seen)
+        if modules and modules[0] != tuple(path[: len(modules[0])]) and (module, first) not in seen:
+            return self.along(module, (*modules[0], *others), seen | {(module, first)})
         return [Target(None, tuple(path))]
 
     def below(self, module: Module, path: Sequence[str], seen: Set[Tuple[Module, str]]) -> List[Target]:
@@ -82,6 +85,10 @@ class Scopes:
             return [Target(file, (name,))]
         named = [it for it in file.imports if it.name == name and it.path[-1] != "*"]
         if named:
-            return [found for it in named for found in self.along(module, it.path, seen)]
-        every = [it.path[:-1] for it in file.imports if it.path[-1] == "*"]
-        return [found for path in every for found in self.along(module, (*path, name), seen)]
+            return [found for it in named for found in self.by(it, module, it.path, seen)]
+        every = [it for it in file.imports if it.path[-1] == "*"]
+        return [found for it in every for found in self.by(it, module, (*it.path[:-1], name), seen)]
+
+    def by(self, of: Import, module: Module, path: Sequence[str], seen: Set[Tuple[Module, str]]) -> List[Target]:
+        """Returns where a path leads by an import."""
+        return [it._replace(is_conditional=it.is_conditional or of.is_conditional) for it in self.along(module, path, seen)]

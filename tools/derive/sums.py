@@ -188,6 +188,8 @@ def read_shift(tokens: Tokens) -> Optional[Term]:
     by.has("as", "usize")
     if by.has("%"):
         modulus = number_of(by.take().text)
+        if modulus < 1:
+            raise NoSum
     if by is not tokens and by.has("+"):
         more = number_of(by.take().text)
     if number < 1 or not name or name.endswith("()") or min(modulus, more) < 0 or not (by.is_done and tokens.is_done):
@@ -227,6 +229,8 @@ def times(one: Sum, other: Sum) -> Sum:
     """Returns a product, of which one is a number, or both are terms."""
     if not one.terms:
         one, other = other, one
+    if not other.terms and not other.number:
+        raise NoSum  # (nothing is counted)
     if other.terms and (other.number or one.number or len(one.terms) + len(other.terms) > 2):
         raise NoSum
     by = other.terms[0] if other.terms else Term((), other.number)

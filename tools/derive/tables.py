@@ -20,7 +20,7 @@ def table(crate: Crate, item: Item, words: Dict[str, int]) -> List[str]:
     if "items" in item.notes:
         return comments([("values", "end"), (said(item.notes["items"]), end_of(item))])
     if item.is_enum:
-        rows = [(it.name, it.notes["is"].text, values_of(it), notes_of(it, ("is",))) for it in item.fields]
+        rows = [(it.name, said(it.notes["is"]), values_of(it), notes_of(it, ("is",))) for it in item.fields]
         own = [f"// {word} = {said(note)}" for word, note in item.notes.items()]
         return [*own, *comments([("variant", "tag", "values", "notes"), *rows])]
     own = [f"// {word} = {said(note)}" for word, note in item.notes.items()]
@@ -37,8 +37,12 @@ def comments(rows: List[Tuple[str, ...]]) -> List[str]:
 
 def said(note: Note) -> str:
     """Returns what a note says, on one line, with spaces around its signs."""
-    text = re.sub(r"\s*(<<|>>|<=|>=|<|>)\s*", r" \1 ", " ".join(note.text.split()))
-    return re.sub(r"\.\. ?=? ?", lambda it: it[0].replace(" ", ""), text)
+    parts = re.split(r"""(b?"(?:\\.|[^"\\])*"|b'(?:\\.[^']*|[^'\\])')""", note.text)
+    for at, it in enumerate(parts):
+        if at % 2 == 0:
+            it = re.sub(r"\s*(<<|>>|<=|>=|<|>)\s*", r" \1 ", re.sub(r"\s+", " ", it))
+            parts[at] = re.sub(r"\.\. ?=? ?", lambda found: found[0].replace(" ", ""), it)
+    return "".join(parts).replace("\n", "\\n").strip()
 
 
 def notes_of(at: RawField, left_out: Tuple[str, ...] = ()) -> str:
@@ -81,9 +85,9 @@ def size_of(crate: Crate, item: Item, field: RawField, of: Type) -> Tuple[str, O
     if of.name == "Option":
         there = "the rest" if notes.get("if") == "rest" else size_of(crate, item, field, of.arguments[0])[0]
         return f"{there}, or 0", None
-    if "within" in notes:
-        return short(notes["within"]), None
     padding = f", and zeros to a multiple of {notes['padded']}" if "padded" in notes else ""
+    if "within" in notes:
+        return f"{short(notes['within'])}{padding}", None
     if crate.is_fixed_type(item, of):
         width = width_of(crate.fixed(item, field, of))
         return f"{width}{padding}", None if padding else width

@@ -1,7 +1,7 @@
 """The tokens of Rattle code, and notes, which are comments of one line."""
 
 import re
-from typing import AbstractSet, Iterator, List, NamedTuple, NoReturn, Sequence, Tuple
+from typing import AbstractSet, Iterator, List, NamedTuple, NoReturn, Optional, Sequence, Set, Tuple
 
 from comments import is_doc, looks_like_mark, looks_like_note
 
@@ -22,6 +22,8 @@ TOKEN = re.compile(
     re.S | re.X,
 )
 OPENING, CLOSING = "([{<", ")]}>"
+# What stands in the place of a string while text is laid out.
+STRING = "\ue001"
 
 
 # What stands before a name of the crate's own that the libraries have too (`names.qualified`).
@@ -52,13 +54,25 @@ class Comment(NamedTuple):
 
 
 class Tokens:
-    """The tokens of a file, with a place among them. `own` are the names of the crate's own that the libraries have too."""
+    """The tokens of a file, with a place among them. `own` are the names of the crate's own that the libraries have too, and `read` the
+    lines of the notes that were read."""
 
-    def __init__(self, path: str, tokens: Sequence[Token], own: AbstractSet[str] = frozenset()) -> None:
+    def __init__(self, path: str, tokens: Sequence[Token], own: AbstractSet[str] = frozenset(), read: Optional[Set[int]] = None) -> None:
         self.path, self.tokens, self.place, self.own = path, tokens, 0, own
+        self.read: Set[int] = set() if read is None else read
 
     def refuse(self, line: int, message: str) -> NoReturn:
         raise Refused(self.path, line, message)
+
+    def part(self, begin: int, end: Optional[int] = None) -> "Tokens":
+        """Returns the tokens from a place to another one, or to the end."""
+        return Tokens(self.path, self.tokens[begin:end], self.own, self.read)
+
+    def refuse_unread(self) -> None:
+        """Refuses a note, or a line that asks for implementations, that nothing read."""
+        left = next((it for it in self.tokens if it.kind in ("note", "mark") and it.line not in self.read), None)
+        if left:
+            self.refuse(left.line, "the note stands where none is read: write it before a struct, an enum, a field or a variant")
 
     @property
     def is_done(self) -> bool:
@@ -100,7 +114,7 @@ class Tokens:
             depth += (text in opening) - (text in closing)
             if depth == 0:
                 break
-        return Tokens(self.path, self.tokens[begin : self.place - 1], self.own)
+        return self.part(begin, self.place - 1)
 
     def until_comma(self, opening: str = OPENING, closing: str = CLOSING) -> "Tokens":
         """Takes what stands before the next comma outside brackets, which is returned, and the comma."""
@@ -111,7 +125,7 @@ class Tokens:
                 continue
             text = self.take().text
             depth += (text in opening) - (text in closing)
-        found = Tokens(self.path, self.tokens[begin : self.place], self.own)
+        found = self.part(begin, self.place)
         self.has(",")
         return found
 
@@ -121,7 +135,7 @@ class Tokens:
         while not self.is_done and (depth or self.next.text != sign):
             text = self.take().text
             depth += (text in "([{") - (text in ")]}")
-        found = Tokens(self.path, self.tokens[begin : self.place], self.own)
+        found = self.part(begin, self.place)
         self.has(sign)
         return found
 
@@ -132,11 +146,13 @@ class Tokens:
 
     @property
     def said(self) -> str:
-        """Returns the tokens as code."""
-        text = " ".join(it.text for it in self.tokens)
+        """Returns the tokens as code. (What stands between quotes stays.)"""
+        strings = [it.text for it in self.tokens if it.kind == "string"]
+        text = " ".join(STRING if it.kind == "string" else it.text for it in self.tokens)
         text = re.sub(r" ?(<|::) ?| (\.) |(?<=[(\[]) | (?=[)\],;:>])", lambda it: it[1] or it[2] or "", text)
         text = re.sub(r"& (?=['\[]|str\b)", "&", text)
-        return re.sub(r"(?<=[\w>]) \((?=\))|(?<=[a-z]) \(", "(", text)
+        text = re.sub(r"(?<=[\w>]) \((?=\))|(?<=[a-z]) \(", "(", text)
+        return re.sub(STRING, lambda _: strings.pop(0), text)
 
 
 def read_tokens(path: str, text: str, own: AbstractSet[str]) -> Tuple[Tokens, List[Comment]]:
@@ -146,8 +162,8 @@ def read_tokens(path: str, text: str, own: AbstractSet[str]) -> Tuple[Tokens, Li
 
 
 def tokens_of(path: str, text: str, line: int = 1, own: AbstractSet[str] = frozenset()) -> Tokens:
-    """Returns the tokens of a text in which no comment stands."""
-    return Tokens(path, marked(scan(path, text, line, []), own), own)
+    """Returns the tokens of a note, in which no comment stands."""
+    return Tokens(path, marked(scan(path, text, line), own), own)
 
 
 def marked(tokens: List[Token], own: AbstractSet[str]) -> List[Token]:
@@ -155,7 +171,7 @@ def marked(tokens: List[Token], own: AbstractSet[str]) -> List[Token]:
     return [it._replace(text=OWN + it.text) if it.kind == "name" and it.text in own else it for it in tokens]
 
 
-def scan(path: str, text: str, line: int, comments: List[Comment]) -> List[Token]:
+def scan(path: str, text: str, line: int, comments: Optional[List[Comment]] = None) -> List[Token]:
     tokens: List[Token] = []
     place = 0
     while place < len(text):
@@ -165,11 +181,14 @@ def scan(path: str, text: str, line: int, comments: List[Comment]) -> List[Token
             found = TOKEN.match(text, place)
             assert found
             said, kind = found[0], found.lastgroup or ""
+        if kind == "comment" and comments is None:
+            raise Refused(path, line, "there is a comment in the note: write it on a line of its own")
         if kind == "comment":
             is_behind = bool(tokens) and tokens[-1].line == line and tokens[-1].kind not in ("note", "mark")
             read = read_comment(path, said, line, is_behind)
             tokens += read
             if not read and not said.startswith("//!") and (looks_like_note(said) or looks_like_mark(said)):
+                assert comments is not None
                 comments.append(Comment(said, line, looks_like_mark(said)))
         elif kind != "space":
             tokens.append(Token(kind, said, line))

@@ -140,7 +140,7 @@ class Derive(unittest.TestCase):
                 printed = self.derived.read_text(encoding="utf-8")
                 home = {3: "alpha", 5: "beta"}[tag]
                 self.assertIn(f"(h.1 ≡ {tag})" if "(h.1" in printed else f"≡ {tag})", printed)
-                self.assertIn(f"use crate::{home}::MARK;", printed)
+                self.assertIn("use super::{Body, MARK, Outer};", printed)
                 self.assertIn(f"ghost use Rattle.formats.specs.declared.{home}.TheConstants.{{MARK}};", printed)
         for line, at, said in (
             ("use crate::beta::MARK;\n", 9, "the field body is of Body, which this file doesn't import: `use crate::alpha::Body;`"),
