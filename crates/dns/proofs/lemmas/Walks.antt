@@ -61,7 +61,7 @@ walk mark f order list at (x ∷ xs) old new below left inside is (mid, step, la
       same = later.same;
       rest = λ t h. later.rest t
           (subst (λ o. ∥ MarkedItems mark f o mid.bytes.now (length mid.bytes.now) ∥₁) is
-          (step.1.5 t (subst (λ o. ∥ MarkedItems mark f o old.bytes.now (length old.bytes.now) ∥₁)
+          (step.1.6 t (subst (λ o. ∥ MarkedItems mark f o old.bytes.now (length old.bytes.now) ∥₁)
           (sym is) h)));
     }
 

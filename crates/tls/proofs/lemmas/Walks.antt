@@ -73,7 +73,7 @@ walk f order list at (x ∷ xs) old new below left inside is (mid, step, later) 
       same = rest.same;
       rest = λ t h. rest.rest t
           (subst (λ o. ∥ SomeItems f o mid.bytes.now 0 (length mid.bytes.now) ∥₁) is
-          (step.1.4 t (subst (λ o. ∥ SomeItems f o old.bytes.now 0 (length old.bytes.now) ∥₁)
+          (step.1.5 t (subst (λ o. ∥ SomeItems f o old.bytes.now 0 (length old.bytes.now) ∥₁)
           (sym is) h)));
     }
 
